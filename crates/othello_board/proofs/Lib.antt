@@ -1,0 +1,6 @@
+pub mod BitLemmas
+pub mod CellLemmas
+pub mod RunLemmas
+pub mod PlayLemmas
+pub mod CountLemmas
+pub mod FlipLemmas

@@ -1,0 +1,27 @@
+//! The Othello board of a player to move: two words of 64 bits, and the flipping of discs.
+//!
+//! A [`Board`] stands for a list of 64 cells, each empty, the mover's own or the opponent's
+//! (`cells` of `specs/Words.antt`): bit `s` of `own` is an own disc on square `s`, bit `s` of `opp`
+//! an opposing one. Squares are numbered 0 to 63, row by row from a1. The invariant that makes this
+//! true is that the two words share no bit. What a move flips is said over the list of cells by
+//! `specs/Rules.antt`, with the rules of the World Othello Federation and no bit in sight.
+//!
+//! ```text
+//! // the opening, with Black to move: d3 (square 19) flips d4 (square 27)
+//! let opening = Board::new(0x0000_0008_1000_0000, 0x0000_0010_0800_0000)?;
+//! opening.flips(19) == 1 << 27
+//! ```
+#![tactic(auto)]
+
+mod boards;
+mod cells;
+mod directions;
+pub mod rows;
+mod sides;
+
+pub use boards::Board;
+pub use cells::Cell;
+pub use directions::{DIRECTIONS, Direction};
+
+#[cfg(test)]
+mod tests;
