@@ -1,0 +1,190 @@
+//! A slow program of its own that answers the lines of `othello solve`, for comparison.
+//!
+//! It shares no code with the crates: a board is 8 rows of 8 letters, the players are letters, and the
+//! value of a position is the recursion of its definition, without windows.
+//!
+//!     oracle solve              answers lines `depth position` from standard input
+//!     oracle positions N SEED   writes N lines with positions from random games, depth 1 to 3
+use std::io::{self, BufRead, Write};
+
+type Board = [[char; 8]; 8];
+
+const DIRECTIONS: [(i32, i32); 8] = [(-1, -1), (-1, 0), (-1, 1), (0, -1), (0, 1), (1, -1), (1, 0), (1, 1)];
+
+const WEIGHTS: [[i64; 8]; 8] = [
+    [100, -20, 10, 5, 5, 10, -20, 100],
+    [-20, -50, -2, -2, -2, -2, -50, -20],
+    [10, -2, -1, -1, -1, -1, -2, 10],
+    [5, -2, -1, -1, -1, -1, -2, 5],
+    [5, -2, -1, -1, -1, -1, -2, 5],
+    [10, -2, -1, -1, -1, -1, -2, 10],
+    [-20, -50, -2, -2, -2, -2, -50, -20],
+    [100, -20, 10, 5, 5, 10, -20, 100],
+];
+
+fn other(player: char) -> char {
+    if player == 'X' { 'O' } else { 'X' }
+}
+
+fn at(board: &Board, row: i32, column: i32) -> Option<char> {
+    if (0..8).contains(&row) && (0..8).contains(&column) {
+        Some(board[row as usize][column as usize])
+    } else {
+        None
+    }
+}
+
+fn flipped(board: &Board, player: char, row: i32, column: i32) -> Vec<(i32, i32)> {
+    let mut all = Vec::new();
+    for (down, right) in DIRECTIONS {
+        let mut run = Vec::new();
+        let (mut r, mut c) = (row + down, column + right);
+        while at(board, r, c) == Some(other(player)) {
+            run.push((r, c));
+            r += down;
+            c += right;
+        }
+        if at(board, r, c) == Some(player) {
+            all.extend(run);
+        }
+    }
+    all
+}
+
+fn is_legal(board: &Board, player: char, row: i32, column: i32) -> bool {
+    at(board, row, column) == Some('-') && !flipped(board, player, row, column).is_empty()
+}
+
+/// The legal squares: the corners a1, h1, a8, h8 first, then row by row.
+fn legal(board: &Board, player: char) -> Vec<(i32, i32)> {
+    let corners = [(0, 0), (0, 7), (7, 0), (7, 7)];
+    let mut order: Vec<(i32, i32)> = corners.to_vec();
+    for row in 0..8 {
+        for column in 0..8 {
+            if !corners.contains(&(row, column)) {
+                order.push((row, column));
+            }
+        }
+    }
+    order.into_iter().filter(|&(r, c)| is_legal(board, player, r, c)).collect()
+}
+
+fn played(board: &Board, player: char, row: i32, column: i32) -> Board {
+    let mut next = *board;
+    next[row as usize][column as usize] = player;
+    for (r, c) in flipped(board, player, row, column) {
+        next[r as usize][c as usize] = player;
+    }
+    next
+}
+
+fn discs(board: &Board, player: char) -> i64 {
+    board.iter().flatten().filter(|&&cell| cell == player).count() as i64
+}
+
+fn evaluation(board: &Board, player: char) -> i64 {
+    let mut sum = 0;
+    for row in 0..8 {
+        for column in 0..8 {
+            if board[row][column] == player {
+                sum += WEIGHTS[row][column];
+            } else if board[row][column] == other(player) {
+                sum -= WEIGHTS[row][column];
+            }
+        }
+    }
+    sum + 4 * (legal(board, player).len() as i64 - legal(board, other(player)).len() as i64)
+}
+
+/// The minimax value, and the first choice that attains it.
+fn solve(board: &Board, player: char, depth: u32) -> (i64, String) {
+    let moves = legal(board, player);
+    if moves.is_empty() && legal(board, other(player)).is_empty() {
+        return (2000 * (discs(board, player) - discs(board, other(player))), "-".to_string());
+    }
+    if depth == 0 {
+        return (evaluation(board, player), "-".to_string());
+    }
+    if moves.is_empty() {
+        return (-solve(board, other(player), depth - 1).0, "pass".to_string());
+    }
+    let mut best: Option<(i64, String)> = None;
+    for (row, column) in moves {
+        let value = -solve(&played(board, player, row, column), other(player), depth - 1).0;
+        if best.as_ref().map_or(true, |(top, _)| value > *top) {
+            let name = format!("{}{}", (b'a' + column as u8) as char, row + 1);
+            best = Some((value, name));
+        }
+    }
+    best.unwrap()
+}
+
+fn text(board: &Board, player: char) -> String {
+    let cells: String = board.iter().flatten().collect();
+    format!("{cells} {player}")
+}
+
+fn answer(line: &str) -> Option<String> {
+    let (depth, rest) = line.split_once(' ')?;
+    let letters: Vec<char> = rest.chars().collect();
+    let mut board = [['-'; 8]; 8];
+    for (i, &letter) in letters.iter().take(64).enumerate() {
+        board[i / 8][i % 8] = letter;
+    }
+    let (value, name) = solve(&board, *letters.get(65)?, depth.parse().ok()?);
+    Some(format!("{value} {name}"))
+}
+
+/// A linear congruential generator, so that a seed gives the same positions everywhere.
+struct Random(u64);
+
+impl Random {
+    fn below(&mut self, n: usize) -> usize {
+        self.0 = self.0.wrapping_mul(6364136223846793005).wrapping_add(1442695040888963407);
+        ((self.0 >> 33) as usize) % n
+    }
+}
+
+fn opening() -> Board {
+    let mut board = [['-'; 8]; 8];
+    board[3][3] = 'O';
+    board[3][4] = 'X';
+    board[4][3] = 'X';
+    board[4][4] = 'O';
+    board
+}
+
+/// One position from a random game, after a random number of plies.
+fn position(random: &mut Random) -> String {
+    let (mut board, mut player) = (opening(), 'X');
+    let plies = random.below(60);
+    for _ in 0..plies {
+        let moves = legal(&board, player);
+        if !moves.is_empty() {
+            let (row, column) = moves[random.below(moves.len())];
+            board = played(&board, player, row, column);
+        } else if legal(&board, other(player)).is_empty() {
+            break;
+        }
+        player = other(player);
+    }
+    format!("{} {}", 1 + random.below(3), text(&board, player))
+}
+
+fn main() {
+    let words: Vec<String> = std::env::args().collect();
+    let mut out = io::BufWriter::new(io::stdout().lock());
+    if words.get(1).map(String::as_str) == Some("positions") {
+        let count: usize = words[2].parse().expect("a count");
+        let mut random = Random(words[3].parse().expect("a seed"));
+        for _ in 0..count {
+            let line = position(&mut random);
+            writeln!(out, "{line}").unwrap();
+        }
+        return;
+    }
+    for line in io::stdin().lock().lines() {
+        let reply = answer(&line.expect("a line")).expect("a line `depth position`");
+        writeln!(out, "{reply}").unwrap();
+    }
+}

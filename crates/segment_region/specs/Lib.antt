@@ -1,0 +1,3 @@
+pub mod Segments
+pub mod Lending
+pub mod Slots

@@ -1,0 +1,34 @@
+//! A region of segments: memory in pieces of sixteen words, each lent out and given back as a whole.
+//!
+//! Whoever keeps lists of words of many owners in one piece of memory, as a cactus stack does, takes
+//! a segment for each sixteen words, chains the segments of one owner by their links, and gives them
+//! back one by one. What is done to one segment never shows in another.
+//!
+//! **What a `Region` stands for.** A finite map from the numbers of the taken segments to their words
+//! and links, and the count of all segments. Contracts see it as a list of that many entries: at place
+//! `n` stands the segment of number `n` where it is taken, and nothing where it is free. They name
+//! nothing of what the region is made of.
+//!
+//! **Why it holds.** A region keeps a slot and sixteen words for each number, and a stack of the free
+//! numbers: each of these is the number of a free slot, none stands there twice, and they are as many
+//! as the slots that aren't taken. So the number on top is always free, and none is ever lost.
+//!
+//! Only [`Region::new`] takes memory; every other call takes constant time.
+//!
+//! ```text
+//! let mut region = Region::new(alloc, 4)?;
+//! if let Some(first) = region.take() {
+//!     region.words_mut(first)[3] = 7; // no other segment changes
+//!     region.give(first);             // and all four are free again
+//! }
+//! ```
+#![tactic(auto)]
+
+pub mod laws;
+mod region;
+mod slot;
+#[cfg(test)]
+mod tests;
+
+pub use region::Region;
+pub use slot::SegNo;

@@ -1,0 +1,35 @@
+use super::*;
+use std::test::Fail;
+
+#[test]
+fn segments_are_taken_written_and_given_back(rt: HostRuntime) -> Result<(), Fail> {
+    let mut region = Region::new(rt.alloc(), 2)?;
+    assert_eq!(rt; region.free_count(), 2);
+    let first = region.take().ok_or("two are free")?;
+    let second = region.take().ok_or("one is free")?;
+    assert!(rt; first != second);
+    assert_eq!(rt; region.free_count(), 0);
+    assert_eq!(rt; region.take(), None);
+    region.words_mut(first)[3] = 7;
+    region.set_link(first, Some(second));
+    assert_eq!(rt;
+        region.words(first),
+        [0, 0, 0, 7, 0, 0, 0, 0, 0, 0, 0, 0, 0, 0, 0, 0].as_slice()
+    );
+    assert_eq!(rt; region.words(second), [0; 16].as_slice());
+    assert_eq!(rt; region.link(first), Some(second));
+    assert_eq!(rt; region.link(second), None);
+    region.give(first);
+    assert_eq!(rt; region.free_count(), 1);
+    let again = region.take().ok_or("one is free again")?;
+    assert_eq!(rt; region.words(again), [0; 16].as_slice());
+    assert_eq!(rt; region.link(again), None);
+    Ok(())
+}
+
+#[test]
+fn a_region_of_the_greatest_count(rt: HostRuntime) -> Result<(), Fail> {
+    let region = Region::new(rt.alloc(), 65536)?;
+    assert_eq!(rt; region.free_count(), 65536);
+    Ok(())
+}
