@@ -1,0 +1,3 @@
+pub mod Choices
+pub mod Sequence
+pub mod Rows

@@ -1,0 +1,49 @@
+//! The choices of a board, and the board after each.
+ghost use Rattle.std.specs.Prelude.{◌≡◌, ◌<◌, ◌↔◌, [], IsTrue, Contains, length, slice_get};
+ghost use Rattle.othello_board.specs.Words.{cells};
+ghost use Rattle.othello_moves.specs.Choices.{choices, after};
+
+use super::choices::Choice;
+use super::sequence::Choices;
+use othello_board::Board;
+
+/// Whether the game is over: neither side can move.
+pub fn over(board: Board) -> bool
+    ensures { IsTrue result ↔ (choices (cells board) ≡ []) }
+{
+    Choices::new(board).is_empty()
+}
+
+/// How many choices the player to move has; a pass is one.
+pub fn choice_count(board: Board) -> usize
+    ensures { result ≡ length (choices (cells board)) }
+{
+    Choices::new(board).len()
+}
+
+/// The choice at a place of the order, from 0.
+pub fn choice(board: Board, index: usize) -> Choice
+    requires { index < length (choices (cells board)) }
+    ensures value { slice_get (choices (cells board)) index ≡ Some result }
+    ensures chosen { Contains (choices (cells board)) result }
+{
+    let mut left = Choices::new(board);
+    for _ in 0..index {
+        let _ = left.pop_first();
+    }
+    match left.pop_first() {
+        Some(first) => first,
+        None => unreachable!(),
+    }
+}
+
+/// The board after a choice, seen by the other player.
+pub fn after(board: Board, choice: Choice) -> Board
+    requires { Contains (choices (cells board)) choice }
+    ensures { cells result ≡ after (cells board) choice }
+{
+    match choice {
+        Choice::Square(square) => board.play(square),
+        Choice::Pass => board.swap(),
+    }
+}

@@ -1,0 +1,30 @@
+//! What a player to move may choose on an Othello board, and the board after each choice.
+//!
+//! The choices of a board are a list (`choices` of `specs/Choices.antt`): the legal squares, corners
+//! first (a1, h1, a8, h8), then the others by rising index; a pass alone where there is no legal
+//! square but the opponent has one; nothing where the game is over. The code finds them in one word,
+//! in which the bits of exactly the legal squares are set ([`moves`]). [`Choices`] stands for the
+//! choices that are left of such a list, and takes them from two words in order.
+//!
+//! ```text
+//! // the opening, with Black to move: d3, c4, f5, e6
+//! let opening = Board::new(0x0000_0008_1000_0000, 0x0000_0010_0800_0000)?;
+//! choice_count(opening) == 4
+//! choice(opening, 0) == Choice::Square(19)
+//! ```
+#![tactic(auto)]
+
+mod choices;
+mod game;
+pub mod laws;
+mod legal;
+pub mod rows;
+mod sequence;
+
+pub use choices::Choice;
+pub use game::{after, choice, choice_count, over};
+pub use legal::{move_count, moves};
+pub use sequence::Choices;
+
+#[cfg(test)]
+mod tests;
