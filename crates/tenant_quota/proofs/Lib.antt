@@ -1,0 +1,4 @@
+pub mod Places
+pub mod Edits
+pub mod Effects
+pub mod Standing

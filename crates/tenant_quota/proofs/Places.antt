@@ -1,0 +1,72 @@
+-- Where a tenant's account stands in a list that rises.
+use Rattle.std.proofs.Common.{◌≡◌, ◌≢◌, ℕ, zero, suc, ◌<◌, ◌≤◌, true, false, cond, eqb, ltb, List, [], ◌∷◌, length, get_or, Some, None, refl, ap, subst, arith}
+use Rattle.std.proofs.lemmas.Bool.{ltb-true, ltb-false, eq-eqb, ne_eqb, eqb-true}
+use Rattle.tenant_quota.specs.declared.account.Account.{Account}
+use Rattle.tenant_quota.specs.Accounts.{account_of, count_below, AllEntries, IsRising}
+
+pub AllEntries-at : (P : ℕ × Account → Type 0) (es : List (ℕ × Account)) (k : ℕ) (d : ℕ × Account) → AllEntries P es → k < length es → P (get_or es k d)
+AllEntries-at P [] k d all lt = absurd (omega arith)
+AllEntries-at P (e ∷ es) zero d all lt = all.0
+AllEntries-at P (e ∷ es) (suc k) d all lt = AllEntries-at P es k d all.1 (omega arith)
+
+-- the first tenant is below this one, or it is not
+count_below_cases : (t : ℕ) (e : ℕ × Account) (es : List (ℕ × Account)) (P : ℕ → Type 0) → (e.0 < t → P (suc (count_below t es))) → (t ≤ e.0 → P 0) → P (count_below t (e ∷ es))
+count_below_cases t e es P below above =
+    elim (ltb e.0 t) as (λ b. ltb e.0 t ≡ b → P (cond b (suc (count_below t es)) 0)) [
+      | true ↦ λ is. below (ltb-true e.0 t is)
+      | false ↦ λ is. above (ltb-false e.0 t is)
+    ] refl
+
+pub count_below-le-length : (t : ℕ) (es : List (ℕ × Account)) → count_below t es ≤ length es
+count_below-le-length t [] = omega arith
+count_below-le-length t (e ∷ es) = count_below_cases t e es (λ i. i ≤ suc (length es)) (λ _. omega (arith, count_below-le-length t es)) (λ _. omega arith)
+
+-- what is not below the tenant stands at its place or later
+pub count_below-le : (t : ℕ) (es : List (ℕ × Account)) (k : ℕ) (d : ℕ × Account) → k < length es → t ≤ (get_or es k d).0 → count_below t es ≤ k
+count_below-le t [] k d lt above = absurd (omega arith)
+count_below-le t (e ∷ es) zero d lt above = count_below_cases t e es (λ i. i ≤ 0) (λ below. absurd (omega arith)) (λ _. omega arith)
+count_below-le t (e ∷ es) (suc k) d lt above = count_below_cases t e es (λ i. i ≤ suc k) (λ below. omega (arith, count_below-le t es k d (omega arith) above)) (λ _. omega arith)
+
+-- what is below the tenant stands before its place
+pub count_below-gt : (t : ℕ) (es : List (ℕ × Account)) (k : ℕ) (d : ℕ × Account) → IsRising es → k < length es → (get_or es k d).0 < t → k < count_below t es
+count_below-gt t [] k d rising lt below = absurd (omega arith)
+count_below-gt t (e ∷ es) zero d rising lt below = count_below_cases t e es (λ i. 0 < i) (λ _. omega arith) (λ above. absurd (omega arith))
+count_below-gt t (e ∷ es) (suc k) d rising lt below =
+    let first : e.0 < (get_or es k d).0 = AllEntries-at (λ later. e.0 < later.0) es k d rising.0 (omega arith) in
+    count_below_cases t e es (λ i. suc k < i) (λ _. omega (arith, count_below-gt t es k d rising.1 (omega arith) below)) (λ above. absurd (omega arith))
+
+-- an entry is its tenant with its account
+pub entry_is : (e : ℕ × Account) (t : ℕ) (a : Account) → e.0 ≡ t → e.1 ≡ a → e ≡ (t, a)
+entry_is e t a p q = λ i. (p i, q i)
+
+-- at the place of a tenant that is there stands its account
+pub place_found : (t : ℕ) (es : List (ℕ × Account)) (d : ℕ × Account) (a : Account) → IsRising es → account_of t es ≡ Some a → (count_below t es < length es) × (get_or es (count_below t es) d ≡ (t, a))
+place_found t [] d a rising is = absurd cc
+place_found t (e ∷ es) d a rising is =
+    elim (eqb e.0 t) as (λ b. eqb e.0 t ≡ b → cond b (Some e.1) (account_of t es) ≡ Some a → (count_below t (e ∷ es) < suc (length es)) × (get_or (e ∷ es) (count_below t (e ∷ es)) d ≡ (t, a))) [
+      | true ↦ λ same here.
+          let tenant_is : e.0 ≡ t = eqb-true e.0 t same in
+          let account_is : e.1 ≡ a = cc in
+          count_below_cases t e es (λ i. (i < suc (length es)) × (get_or (e ∷ es) i d ≡ (t, a))) (λ below. absurd (omega arith)) (λ above. (omega arith, entry_is e t a tenant_is account_is))
+      | false ↦ λ other later.
+          let found = place_found t es d a rising.1 later in
+          let first = AllEntries-at (λ entry. e.0 < entry.0) es (count_below t es) d rising.0 found.0 in
+          let less : e.0 < t = subst (λ (entry : ℕ × Account). e.0 < entry.0) found.1 first in
+          count_below_cases t e es (λ i. (i < suc (length es)) × (get_or (e ∷ es) i d ≡ (t, a))) (λ below. (omega arith, found.1)) (λ above. absurd (omega arith))
+    ] refl is
+
+-- where the entry at a tenant's place is its own, its account is that entry's
+pub place_read : (t : ℕ) (es : List (ℕ × Account)) (d : ℕ × Account) → count_below t es < length es → (get_or es (count_below t es) d).0 ≡ t → account_of t es ≡ Some (get_or es (count_below t es) d).1
+place_read t [] d lt is = absurd (omega arith)
+place_read t (e ∷ es) d lt is =
+    count_below_cases t e es (λ i. i < suc (length es) → (get_or (e ∷ es) i d).0 ≡ t → account_of t (e ∷ es) ≡ Some (get_or (e ∷ es) i d).1)
+    (λ below within same. rw (ne_eqb e.0 t (omega arith)) (place_read t es d (omega arith) same))
+    (λ above within same. rw (eq-eqb e.0 t same)) lt is
+
+-- where the entry at a tenant's place is another's, or there is none, the tenant isn't there
+pub place_absent : (t : ℕ) (es : List (ℕ × Account)) → IsRising es → ((d : ℕ × Account) → count_below t es < length es → (get_or es (count_below t es) d).0 ≢ t) → account_of t es ≡ None
+place_absent t es rising other =
+    elim (account_of t es) as (λ o. account_of t es ≡ o → o ≡ None) [
+      | None ↦ λ is. refl
+      | Some a ↦ λ is. let found = place_found t es (t, a) a rising is in absurd (other (t, a) found.0 (ap (λ e. e.0) found.1))
+    ] refl

@@ -1,0 +1,83 @@
+-- What each tenant has reserved and used: a list of tenants with their accounts, in rising order of tenants.
+use Rattle.std.specs.Prelude.{ℕ, suc, ◌+◌, ◌-◌, ◌*◌, ◌<◌, ◌≤◌, ◌==◌, nat_lt, if◌then◌else◌, List, [], ◌∷◌, Option, Some, None, sum_by}
+use Rattle.tenant_quota.specs.Quota.{Quota}
+use Rattle.tenant_quota.specs.declared.account.Account.{Account}
+use Rattle.tenant_quota.specs.declared.account.Left.{Left}
+
+-- the account of a tenant that has reserved this much and used nothing of it
+abbrev pub fresh : Quota → Account
+fresh quota = record { reserve = quota; charged = 0; opened = 0; ticks = 0 }
+
+-- the account after a charge of so many segments, for so many newly opened nodes
+abbrev pub charged_by : ℕ → ℕ → Account → Account
+charged_by segments nodes a = record a { charged = a.charged + segments; opened = a.opened + nodes }
+
+-- the account after so many charged segments were given back; the nodes stay opened
+abbrev pub credited_by : ℕ → Account → Account
+credited_by segments a = record a { charged = a.charged - segments }
+
+-- the account after one step
+abbrev pub ticked : Account → Account
+ticked a = record a { ticks = a.ticks + 1 }
+
+-- what is left: the segments reserved less those charged, the nodes reserved less those ever opened,
+-- and 16 times the nodes reserved less the steps taken
+abbrev pub left_in : Account → Left
+left_in a = record { segments = a.reserve.segments - a.charged; nodes = a.reserve.nodes - a.opened; steps = 16 * a.reserve.nodes - a.ticks }
+
+-- nothing is used beyond what is reserved
+pub record IsWithinReserve (a : Account) : Type 0 where
+  pub some_segments : 1 ≤ a.reserve.segments
+  pub segments_within : a.reserve.segments ≤ 4096
+  pub some_nodes : 1 ≤ a.reserve.nodes
+  pub nodes_within : a.reserve.nodes ≤ 65536
+  pub charged_within : a.charged ≤ a.reserve.segments
+  pub opened_within : a.opened ≤ a.reserve.nodes
+  pub ticks_within : a.ticks ≤ 16 * a.reserve.nodes
+
+-- the tenant's account, if the tenant is there
+abbrev pub account_of : ℕ → List (ℕ × Account) → Option Account
+account_of tenant [] = None
+account_of tenant (e ∷ es) = if e.0 == tenant then Some e.1 else account_of tenant es
+
+-- the accounts with that of a new tenant, in front of the first tenant that isn't below it
+abbrev pub with_new : ℕ → Account → List (ℕ × Account) → List (ℕ × Account)
+with_new tenant a [] = (tenant, a) ∷ []
+with_new tenant a (e ∷ es) = if nat_lt e.0 tenant then e ∷ with_new tenant a es else (tenant, a) ∷ e ∷ es
+
+-- the accounts with the tenant's own changed by f, and all others as they were
+abbrev pub with_changed : ℕ → (Account → Account) → List (ℕ × Account) → List (ℕ × Account)
+with_changed tenant f [] = []
+with_changed tenant f (e ∷ es) = if e.0 == tenant then (e.0, f e.1) ∷ es else e ∷ with_changed tenant f es
+
+-- the accounts without the tenant's
+abbrev pub without : ℕ → List (ℕ × Account) → List (ℕ × Account)
+without tenant [] = []
+without tenant (e ∷ es) = if e.0 == tenant then es else e ∷ without tenant es
+
+-- how many tenants at the front are below this one: the place of its account, or that where it would stand
+abbrev pub count_below : ℕ → List (ℕ × Account) → ℕ
+count_below tenant [] = 0
+count_below tenant (e ∷ es) = if nat_lt e.0 tenant then suc (count_below tenant es) else 0
+
+-- each entry has P
+abbrev pub AllEntries : (ℕ × Account → Type 0) → List (ℕ × Account) → Type 0
+AllEntries P [] = Unit {0}
+AllEntries P (e ∷ es) = P e × AllEntries P es
+
+-- each tenant is below all later ones, so none stands twice
+abbrev pub IsRising : List (ℕ × Account) → Type 0
+IsRising [] = Unit {0}
+IsRising (e ∷ es) = AllEntries (λ later. e.0 < later.0) es × IsRising es
+
+-- the segments that all tenants together have reserved
+abbrev pub reserved_segments : List (ℕ × Account) → ℕ
+reserved_segments es = sum_by (λ e. e.1.reserve.segments) es
+
+-- the nodes that all tenants together have reserved
+abbrev pub reserved_nodes : List (ℕ × Account) → ℕ
+reserved_nodes es = sum_by (λ e. e.1.reserve.nodes) es
+
+-- the segments that all tenants together are charged
+abbrev pub charged_segments : List (ℕ × Account) → ℕ
+charged_segments es = sum_by (λ e. e.1.charged) es

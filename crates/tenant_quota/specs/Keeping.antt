@@ -1,0 +1,17 @@
+-- What a book's fields stand for, and what they keep.
+use Rattle.std.specs.Prelude.{◌≡◌, ◌≤◌}
+use Rattle.std.specs.Vec.{vec_capacity}
+use Rattle.tenant_quota.specs.Accounts.{reserved_segments, reserved_nodes}
+use Rattle.tenant_quota.specs.Reservations.{Reservations, IsSound}
+use Rattle.tenant_quota.specs.declared.book.Book.TheInside.{Inside}
+
+-- the totals and the accounts; the kept sums and the capacity aren't seen
+abbrev pub held_by : Inside → Reservations
+held_by b = record { segments = b.segments; nodes = b.nodes; accounts = b.accounts.items }
+
+-- the book is sound, the kept sums are those of the accounts, and there are places for 64
+pub record IsKept (b : Inside) : Type 0 where
+  pub sound : IsSound (held_by b)
+  pub segments : b.reserved_segments ≡ reserved_segments b.accounts.items
+  pub nodes : b.reserved_nodes ≡ reserved_nodes b.accounts.items
+  pub places : 64 ≤ vec_capacity b.accounts

@@ -1,0 +1,6 @@
+pub mod Quota
+pub mod Accounts
+pub mod Reservations
+pub mod Refusals
+pub mod Keeping
+pub mod Rows

@@ -1,0 +1,14 @@
+-- An amount of segments and nodes, and the limits of what one tenant may reserve.
+use Rattle.std.specs.Prelude.{ℕ, ◌≤◌}
+
+-- so many segments and so many nodes
+pub record Quota : Type 0 where
+  pub segments : ℕ
+  pub nodes : ℕ
+
+-- what one tenant may reserve: 1 to 4,096 segments and 1 to 65,536 nodes
+pub record IsWithinLimits (quota : Quota) : Type 0 where
+  pub some_segments : 1 ≤ quota.segments
+  pub segments_within : quota.segments ≤ 4096
+  pub some_nodes : 1 ≤ quota.nodes
+  pub nodes_within : quota.nodes ≤ 65536

@@ -1,0 +1,39 @@
+-- The states of a worked example: a book of 8 segments and 32 nodes.
+use Rattle.std.specs.Prelude.{ℕ}
+use Rattle.tenant_quota.specs.Quota.{Quota}
+use Rattle.tenant_quota.specs.declared.account.Left.{Left}
+use Rattle.tenant_quota.specs.declared.book.Rest.{Rest}
+use Rattle.tenant_quota.specs.Accounts.{charged_by, credited_by, ticked}
+use Rattle.tenant_quota.specs.Reservations.{Reservations, empty_of, admitted, changed, released}
+
+-- so many segments and nodes, as reserved
+abbrev pub quota : ℕ → ℕ → Quota
+quota segments nodes = record { segments = segments; nodes = nodes }
+
+-- so many segments, nodes and steps, as left to a tenant
+abbrev pub left : ℕ → ℕ → ℕ → Left
+left segments nodes steps = record { segments = segments; nodes = nodes; steps = steps }
+
+-- so many places, segments and nodes, as not reserved
+abbrev pub rest : ℕ → ℕ → ℕ → Rest
+rest tenants segments nodes = record { tenants = tenants; segments = segments; nodes = nodes }
+
+-- tenant 2 has reserved 3 segments and 8 nodes, then tenant 1 has reserved 5 and 8
+abbrev pub two_tenants : Reservations
+two_tenants = admitted (admitted (empty_of 8 32) 2 (quota 3 8)) 1 (quota 5 8)
+
+-- tenant 1 is then charged 5 segments for one node
+abbrev pub after_charge : Reservations
+after_charge = changed two_tenants 1 (charged_by 5 1)
+
+-- it takes a step
+abbrev pub after_tick : Reservations
+after_tick = changed after_charge 1 ticked
+
+-- it gives the 5 segments back
+abbrev pub after_credit : Reservations
+after_credit = changed after_tick 1 (credited_by 5)
+
+-- and tenant 2 is released
+abbrev pub after_release : Reservations
+after_release = released after_credit 2

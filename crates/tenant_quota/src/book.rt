@@ -1,0 +1,235 @@
+ghost use Rattle.std.specs.Prelude.{◌≡◌, ℕ, ◌+◌, ◌<◌, ◌≤◌, ◌↔◌, IfOk, OnOk, OnErr, IsOk, IsSome, IfSome, option_map, length};
+ghost use Rattle.tenant_quota.specs.Accounts.{account_of, count_below, IsRising};
+
+use crate::account::{Account, Left};
+use crate::refusal::Refusal;
+use crate::reserve::Reserve;
+use std::alloc::{AllocError, Global};
+use std::marker::Model;
+
+/// The number of places for tenants.
+const PLACES: usize = 64;
+
+/// What isn't reserved yet.
+#[derive(Clone, Copy, Debug, PartialEq, Eq)]
+pub struct Rest {
+    /// Places for tenants, of 64.
+    pub tenants: u32,
+    /// Segments of the total.
+    pub segments: u32,
+    /// Nodes of the total.
+    pub nodes: u32,
+}
+
+/// A book of reservations of segments (of 16 words) and nodes, with places for 64 tenants.
+///
+/// A tenant is named by any number. What a call asks of a tenant is decided by its own account
+/// alone, and only [`Book::reserve`] looks at the totals. A refused call changes nothing.
+#[derive(Debug, Drop)]
+pub struct Book {
+    segments: u32,
+    nodes: u32,
+    reserved_segments: u32,
+    reserved_nodes: u32,
+    accounts: Vec<(u64, Account)>,
+}
+
+// Clauses see the totals and the accounts in rising order of tenants.
+impl Model for Book {
+    ghost use Rattle.tenant_quota.specs.Reservations.{Reservations};
+
+    ghost Value = { Reservations };
+
+    ghost use Rattle.tenant_quota.specs.Keeping.{held_by, IsKept};
+
+    ghost view = { held_by };
+
+    ghost invariant = { IsKept };
+}
+
+/// The place of the tenant's account, or that where it would stand.
+fn place_of(accounts: &[(u64, Account)], tenant: u64) -> usize
+    requires { IsRising accounts.now }
+    ensures { result ≡ count_below tenant accounts.now }
+{
+    let mut low = 0;
+    let mut high = accounts.len();
+    while low < high {
+        let middle = low + (high - low) / 2;
+        if accounts[middle].0 < tenant {
+            low = middle + 1;
+        } else {
+            high = middle;
+        }
+    }
+    low
+}
+
+impl Book {
+    ghost use Rattle.tenant_quota.specs.Accounts.{fresh, charged_by, credited_by, ticked, charged_segments};
+    ghost use Rattle.tenant_quota.specs.Reservations.{empty_of, left_of, reserve_of, rest_of, HasRoom, IsFull, HasLeft, IsShort, HasStepLeft, IsOutOfSteps, HasCharged, KeepsOthers, Admits, ChangesOnly, Releases, IsSound};
+
+    /// A book of so many segments (1 to 65,536) and nodes (1 to 4,194,304) in all, with no tenant.
+    /// It makes the places of all 64 tenants, so no other call takes memory.
+    pub fn new(alloc: Global, segments: u32, nodes: u32) -> Result<Book, AllocError>
+        requires some_segments { 1 ≤ segments }
+        requires segments_within { segments ≤ 65536 }
+        requires some_nodes { 1 ≤ nodes }
+        requires nodes_within { nodes ≤ 4194304 }
+        ensures empty { IfOk result (λ book. book ≡ empty_of segments nodes) }
+        ensures sound { IfOk result IsSound }
+    {
+        let accounts = Vec::with_capacity(alloc, PLACES)?;
+        Ok(Book {
+            segments,
+            nodes,
+            reserved_segments: 0,
+            reserved_nodes: 0,
+            accounts,
+        })
+    }
+
+    /// Enters a new tenant with what it reserves.
+    ///
+    /// Refused as `Full` exactly where 64 tenants are there or a total doesn't allow the reservation.
+    pub fn reserve(&mut self, tenant: u64, reserve: Reserve) -> Result<(), Refusal>
+        requires { account_of tenant self.old.accounts ≡ None }
+        ensures ok { IsOk result ↔ HasRoom self.old reserve }
+        ensures full { (result ≡ Err Refusal.Full) ↔ IsFull self.old reserve }
+        ensures admits { OnOk result (Admits self.old self.new tenant reserve) }
+        ensures others { KeepsOthers self.old self.new tenant }
+        ensures err { OnErr result (self.new ≡ self.old) }
+        ensures sound { IsSound self.new }
+    {
+        let rest = self.rest();
+        let segments = reserve.segments();
+        let nodes = reserve.nodes();
+        if rest.tenants == 0 || rest.segments < segments || rest.nodes < nodes {
+            return Err(Refusal::Full);
+        }
+        let place = place_of(&self.accounts, tenant);
+        let account = Account::new(reserve);
+        self.accounts.insert(place, (tenant, account)).unwrap();
+        self.reserved_segments += segments;
+        self.reserved_nodes += nodes;
+        Ok(())
+    }
+
+    /// Charges the tenant so many segments, and counts so many newly opened nodes.
+    ///
+    /// Refused as `Short` exactly where the tenant hasn't as many segments or nodes left.
+    pub fn charge(&mut self, tenant: u64, segments: u32, nodes: u32) -> Result<(), Refusal>
+        requires { IsSome (account_of tenant self.old.accounts) }
+        ensures ok { IsOk result ↔ HasLeft self.old tenant segments nodes }
+        ensures short { (result ≡ Err Refusal.Short) ↔ IsShort self.old tenant segments nodes }
+        ensures charges { OnOk result (ChangesOnly self.old self.new tenant (charged_by segments nodes)) }
+        ensures sum { OnOk result (
+            charged_segments self.new.accounts ≡ charged_segments self.old.accounts + segments) }
+        ensures others { KeepsOthers self.old self.new tenant }
+        ensures err { OnErr result (self.new ≡ self.old) }
+        ensures sound { IsSound self.new }
+    {
+        let place = place_of(&self.accounts, tenant);
+        let account = &mut self.accounts[place].1;
+        let left = account.left();
+        if left.segments < segments || left.nodes < nodes {
+            return Err(Refusal::Short);
+        }
+        account.charged += segments;
+        account.opened += nodes;
+        Ok(())
+    }
+
+    /// Gives back so many of the segments that the tenant is charged. Its nodes stay opened.
+    pub fn give_back(&mut self, tenant: u64, segments: u32)
+        requires { HasCharged self.old tenant segments }
+        ensures credits { ChangesOnly self.old self.new tenant (credited_by segments) }
+        ensures sum { charged_segments self.new.accounts + segments ≡ charged_segments self.old.accounts }
+        ensures others { KeepsOthers self.old self.new tenant }
+        ensures sound { IsSound self.new }
+    {
+        let place = place_of(&self.accounts, tenant);
+        self.accounts[place].1.charged -= segments;
+    }
+
+    /// Counts one step of the tenant.
+    ///
+    /// Refused as `Short` exactly where the tenant has no step left.
+    pub fn tick(&mut self, tenant: u64) -> Result<(), Refusal>
+        requires { IsSome (account_of tenant self.old.accounts) }
+        ensures ok { IsOk result ↔ HasStepLeft self.old tenant }
+        ensures short { (result ≡ Err Refusal.Short) ↔ IsOutOfSteps self.old tenant }
+        ensures ticks { OnOk result (ChangesOnly self.old self.new tenant ticked) }
+        ensures sum { charged_segments self.new.accounts ≡ charged_segments self.old.accounts }
+        ensures others { KeepsOthers self.old self.new tenant }
+        ensures err { OnErr result (self.new ≡ self.old) }
+        ensures sound { IsSound self.new }
+    {
+        let place = place_of(&self.accounts, tenant);
+        let account = &mut self.accounts[place].1;
+        if account.left().steps == 0 {
+            return Err(Refusal::Short);
+        }
+        account.ticks += 1;
+        Ok(())
+    }
+
+    /// Takes the tenant out of the book. What it had reserved is free again.
+    pub fn release(&mut self, tenant: u64)
+        requires { IsSome (account_of tenant self.old.accounts) }
+        ensures releases { IfSome (account_of tenant self.old.accounts) (Releases self.old self.new tenant) }
+        ensures others { KeepsOthers self.old self.new tenant }
+        ensures sound { IsSound self.new }
+    {
+        let place = place_of(&self.accounts, tenant);
+        let (_, account) = self.accounts.remove(place);
+        self.reserved_segments -= account.reserve.segments();
+        self.reserved_nodes -= account.reserve.nodes();
+    }
+
+    /// What the tenant has left, or None where it isn't there.
+    pub fn left(&self, tenant: u64) -> Option<Left>
+        ensures left { result ≡ left_of tenant self.now }
+
+        // What the tenant has left is there, whatever others are charged.
+        ensures there { IfSome result (λ left.
+            charged_segments self.now.accounts + left.segments ≤ self.now.segments) }
+        ensures sound { IsSound self.now }
+    {
+        let account = self.account(tenant)?;
+        Some(account.left())
+    }
+
+    /// What the tenant has reserved, or None where it isn't there.
+    pub fn reserved(&self, tenant: u64) -> Option<Reserve>
+        ensures reserved { result ≡ reserve_of tenant self.now }
+        ensures sound { IsSound self.now }
+    {
+        let account = self.account(tenant)?;
+        Some(account.reserve)
+    }
+
+    /// What isn't reserved yet.
+    pub fn rest(&self) -> Rest
+        ensures rest { result ≡ rest_of self.now }
+        ensures sound { IsSound self.now }
+    {
+        Rest {
+            tenants: (PLACES - self.accounts.len()) as u32,
+            segments: self.segments - self.reserved_segments,
+            nodes: self.nodes - self.reserved_nodes,
+        }
+    }
+
+    /// The tenant's account, or None where it isn't there.
+    fn account(&self, tenant: u64) -> Option<Account>
+        ensures account { result ≡ account_of tenant self.now.accounts }
+        ensures sound { IsSound self.now }
+    {
+        let place = place_of(&self.accounts, tenant);
+        if place < self.accounts.len() && self.accounts[place].0 == tenant {
+            return Some(self.accounts[place].1);
+        }
+        None
+    }
+}

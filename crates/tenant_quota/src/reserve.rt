@@ -1,0 +1,61 @@
+ghost use Rattle.std.specs.Prelude.{◌≡◌, ◌≤◌, ◌↔◌, IsSome, IfSome};
+
+use std::marker::Model;
+
+/// What a tenant reserves when it is admitted: 1 to 4,096 segments and 1 to 65,536 nodes.
+/// A segment is 16 words of 64 bits, a node is one frame opened.
+#[derive(Clone, Copy, Debug, PartialEq, Eq)]
+pub struct Reserve {
+    segments: u32,
+    nodes: u32,
+}
+
+// Clauses see the two amounts.
+impl Model for Reserve {
+    ghost use Rattle.tenant_quota.specs.Quota.{Quota, IsWithinLimits};
+
+    ghost Value = { Quota };
+
+    ghost view = { λ r. record { segments = r.segments; nodes = r.nodes } };
+
+    ghost invariant = { λ r. IsWithinLimits (record { segments = r.segments; nodes = r.nodes }) };
+
+    ghost inverse = { λ q. record { segments = q.segments; nodes = q.nodes } };
+}
+
+impl Reserve {
+    ghost use Rattle.tenant_quota.specs.Quota.{Quota, IsWithinLimits};
+
+    /// The most segments that one tenant may reserve.
+    pub const MAX_SEGMENTS: u32 = 4096;
+
+    /// The most nodes that one tenant may reserve.
+    pub const MAX_NODES: u32 = 65536;
+
+    /// The reservation of so many segments and nodes, or None outside the limits.
+    pub fn new(segments: u32, nodes: u32) -> Option<Reserve>
+        ensures within { IsSome result ↔ IsWithinLimits (record { segments = segments; nodes = nodes }) }
+        ensures value { IfSome result (λ r. r ≡ record { segments = segments; nodes = nodes }) }
+    {
+        if segments < 1 || segments > Self::MAX_SEGMENTS || nodes < 1 || nodes > Self::MAX_NODES {
+            return None;
+        }
+        Some(Reserve { segments, nodes })
+    }
+
+    /// The segments reserved, 1 to 4,096.
+    pub fn segments(&self) -> u32
+        ensures value { result ≡ self.now.segments }
+        ensures limits { IsWithinLimits self.now }
+    {
+        self.segments
+    }
+
+    /// The nodes reserved, 1 to 65,536.
+    pub fn nodes(&self) -> u32
+        ensures value { result ≡ self.now.nodes }
+        ensures limits { IsWithinLimits self.now }
+    {
+        self.nodes
+    }
+}
