@@ -1,0 +1,4 @@
+pub mod BoardCells
+pub mod DiscLemmas
+pub mod WrittenText
+pub mod Readings

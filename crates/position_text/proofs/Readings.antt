@@ -1,0 +1,108 @@
+-- The position of a text: at most one, and that of the discs that it holds.
+use Rattle.std.proofs.Common.{◌≡◌, ◌↔◌, ℕ, ◌<◌, zero, suc, Bool, true, false, cond, nat_eq, min, bit_and, List, length, get_or, Some, Result, Ok, refl, sym, subst, ap, ◌∙◌, arith}
+use Rattle.std.specs.Int.{bit_at}
+use Rattle.std.proofs.lemmas.Nat.Bits.{bit_at-lt}
+use Rattle.othello_board.specs.declared.cells.Cell.{Cell}
+use Rattle.othello_board.specs.declared.cells.Cell.TheVariants.{Empty, Own, Opp}
+use Rattle.othello_board.specs.declared.boards.Board.{Board}
+use Rattle.othello_board.specs.Rules.{cell_at}
+use Rattle.othello_board.specs.Words.{cells, cell_of}
+use Rattle.position_text.specs.declared.positions.Side.{Side}
+use Rattle.position_text.specs.declared.positions.Side.TheVariants.{Black, White}
+use Rattle.position_text.specs.declared.positions.Position.{Position}
+use Rattle.position_text.specs.declared.faults.TextFault.{TextFault}
+use Rattle.position_text.specs.declared.marks.Mark.TheVariants.{Disc, Blank}
+use Rattle.position_text.specs.Spelling.{side_spelled, mark_of, Spells, FitsWords}
+use Rattle.position_text.specs.Discs.{mark_at, HoldsFirst}
+use Rattle.position_text.proofs.DiscLemmas.{apart}
+use Rattle.position_text.proofs.BoardCells.{cell_at-cells_of, board_same_from_cells}
+
+-- a side sees different cells where different marks stand
+mark_of-injective : (side : Side) (a b : Cell) → mark_of side a ≡ mark_of side b → a ≡ b
+mark_of-injective Black Own Own h = refl
+mark_of-injective Black Own Opp h = cc
+mark_of-injective Black Own Empty h = cc
+mark_of-injective Black Opp Own h = cc
+mark_of-injective Black Opp Opp h = refl
+mark_of-injective Black Opp Empty h = cc
+mark_of-injective Black Empty Own h = cc
+mark_of-injective Black Empty Opp h = cc
+mark_of-injective Black Empty Empty h = refl
+mark_of-injective White Own Own h = refl
+mark_of-injective White Own Opp h = cc
+mark_of-injective White Own Empty h = cc
+mark_of-injective White Opp Own h = cc
+mark_of-injective White Opp Opp h = refl
+mark_of-injective White Opp Empty h = cc
+mark_of-injective White Empty Own h = cc
+mark_of-injective White Empty Opp h = cc
+mark_of-injective White Empty Empty h = refl
+
+position_same : (p q : Position) → p.board ≡ q.board → p.side ≡ q.side → p ≡ q
+position_same p q e f =
+    let with_board : Board → Position = λ b. record { board = b; side = p.side } in
+    let with_side : Side → Position = λ s. record { board = q.board; side = s } in
+    ap with_board e ∙ ap with_side f
+
+-- a text spells at most one position
+pub one_position : (text : List ℕ) (p q : Position) → FitsWords p → FitsWords q → Spells text p → Spells text q → p ≡ q
+one_position text p q fits fits_too this that =
+    let side : p.side ≡ q.side = cc (this.side, that.side) in
+    position_same p q
+    (board_same_from_cells p.board q.board fits.0 fits.1 fits_too.0 fits_too.1 (λ s below.
+    let marks : mark_of p.side (cell_at (cells p.board) s) ≡ mark_of p.side (cell_at (cells q.board) s) =
+    rw side (cc (this.each s below, that.each s below, side)) in
+    sym (cell_at-cells_of p.board.own p.board.opp s below)
+    ∙ mark_of-injective p.side (cell_at (cells p.board) s) (cell_at (cells q.board) s) marks
+    ∙ cell_at-cells_of q.board.own q.board.opp s below))
+    side
+
+-- the cell of two bits, seen by black and by white
+seen_by_black : (x y : Bool) → mark_of Black (cond x Own (cond y Opp Empty)) ≡ cond x (Disc Black) (cond y (Disc White) Blank)
+seen_by_black true true = refl
+seen_by_black true false = refl
+seen_by_black false true = refl
+seen_by_black false false = refl
+
+seen_by_white : (a b : ℕ) → a < 2 → b < 2 → min a b ≡ 0 → mark_of White (cond (nat_eq b 1) Own (cond (nat_eq a 1) Opp Empty)) ≡ cond (nat_eq a 1) (Disc Black) (cond (nat_eq b 1) (Disc White) Blank)
+seen_by_white zero zero p q h = refl
+seen_by_white zero (suc zero) p q h = refl
+seen_by_white (suc zero) zero p q h = refl
+seen_by_white (suc zero) (suc zero) p q h = absurd (omega arith)
+seen_by_white (suc (suc a)) b p q h = absurd (omega arith)
+seen_by_white a (suc (suc b)) p q h = absurd (omega arith)
+
+-- what stands on a square, from the board that a side sees
+mark_seen : (black white : ℕ) (b : Board) (side : Side) (s : ℕ) → bit_and black white ≡ 0
+    → (side ≡ Black → (b.own ≡ black) × (b.opp ≡ white)) → (side ≡ White → (b.own ≡ white) × (b.opp ≡ black))
+    → mark_of side (cell_of b.own b.opp s) ≡ mark_at black white s
+mark_seen black white b Black s disjoint if_black if_white =
+    rw ((if_black refl).0, (if_black refl).1) (seen_by_black (nat_eq (bit_at black s) 1) (nat_eq (bit_at white s) 1))
+mark_seen black white b White s disjoint if_black if_white =
+    rw ((if_white refl).0, (if_white refl).1) (seen_by_white (bit_at black s) (bit_at white s) (bit_at-lt black s) (bit_at-lt white s) (apart black white s disjoint))
+
+-- a text spells the board of the discs that it holds, seen by the side that it ends with
+pub spells_seen : (text : List ℕ) (black white : ℕ) (b : Board) (side : Side) → length text ≡ 66
+    → HoldsFirst black white text 64 → bit_and black white ≡ 0
+    → (side ≡ Black → (b.own ≡ black) × (b.opp ≡ white)) → (side ≡ White → (b.own ≡ white) × (b.opp ≡ black))
+    → get_or text 64 0 ≡ 32 → side_spelled (get_or text 65 0) ≡ Some side
+    → (p : Position) → p.board ≡ b → p.side ≡ side → Spells text p
+spells_seen text black white b side len held disjoint if_black if_white space end p board_is side_is = record {
+  len = len;
+  each = λ s below. held.marks s below ∙ ap Some (sym (
+      rw (side_is, board_is, cell_at-cells_of b.own b.opp s below) (mark_seen black white b side s disjoint if_black if_white)));
+  space = space;
+  side = end ∙ ap Some (sym side_is);
+}
+
+-- the answer with a position
+abbrev pub answer : Position → Result Position TextFault
+answer p = Ok p
+
+-- an answer with a spelled position has another exactly where the text spells that one
+pub ok_exactly : (text : List ℕ) (q : Position) → FitsWords q → Spells text q
+    → (p : Position) → FitsWords p → (answer q ≡ answer p) ↔ Spells text p
+ok_exactly text q fits this p fits_too = (
+  (λ same. let positions : q ≡ p = cc same in subst (λ (r : Position). Spells text r) positions this),
+  (λ that. ap answer (one_position text q p fits fits_too this that)),
+)

@@ -1,0 +1,18 @@
+-- What the words of the black and the white discs stand for, while a text is read.
+use Rattle.std.specs.Prelude.{◌≡◌, ℕ, ◌<◌, ◌≤◌, ◌==◌, if◌then◌else◌, Some, List, slice_index}
+use Rattle.std.specs.Int.{bit_at}
+use Rattle.position_text.specs.declared.positions.Side.TheVariants.{Black, White}
+use Rattle.position_text.specs.declared.marks.Mark.{Mark}
+use Rattle.position_text.specs.declared.marks.Mark.TheVariants.{Disc, Blank}
+use Rattle.position_text.specs.Spelling.{spelled}
+
+-- bit s of each word is square s: black, else white, else blank
+abbrev pub mark_at : ℕ → ℕ → ℕ → Mark
+mark_at black white s =
+    if bit_at black s == 1 then Disc Black else (if bit_at white s == 1 then Disc White else Blank)
+
+-- the words hold what the first n bytes spell, and nothing beyond
+pub record HoldsFirst (black white : ℕ) (text : List ℕ) (n : ℕ) : Type 0 where
+  pub marks : (s : ℕ) → s < n → spelled (slice_index text s) ≡ Some (mark_at black white s)
+  pub no_black : (s : ℕ) → n ≤ s → bit_at black s ≡ 0
+  pub no_white : (s : ℕ) → n ≤ s → bit_at white s ≡ 0

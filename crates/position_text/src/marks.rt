@@ -1,0 +1,69 @@
+//! What one byte of a text spells.
+ghost use Rattle.std.specs.Prelude.{◌≡◌};
+ghost use Rattle.position_text.specs.Spelling.{spelled, side_spelled, mark_of, byte_of, other_side};
+
+use super::positions::Side;
+use othello_board::Cell;
+
+/// What stands on a cell, whoever looks at it.
+#[derive(Clone, Copy, Debug, PartialEq, Eq)]
+pub enum Mark {
+    /// A disc of this side.
+    Disc(Side),
+    /// No disc.
+    Blank,
+}
+
+/// What a byte spells, if it spells a cell.
+pub fn spelled(byte: u8) -> Option<Mark>
+    ensures { result ≡ spelled byte }
+{
+    match byte {
+        b'X' | b'x' | b'*' => Some(Mark::Disc(Side::Black)),
+        b'O' | b'o' => Some(Mark::Disc(Side::White)),
+        b'-' | b'.' => Some(Mark::Blank),
+        _ => None,
+    }
+}
+
+/// The side whose disc a byte spells, if it spells a disc.
+pub fn side_spelled(byte: u8) -> Option<Side>
+    ensures { result ≡ side_spelled byte }
+{
+    match spelled(byte) {
+        Some(Mark::Disc(side)) => Some(side),
+        Some(Mark::Blank) | None => None,
+    }
+}
+
+/// The byte that a mark is written as.
+pub fn byte_of(mark: Mark) -> u8
+    ensures { result ≡ byte_of mark }
+{
+    match mark {
+        Mark::Disc(Side::Black) => b'X',
+        Mark::Disc(Side::White) => b'O',
+        Mark::Blank => b'-',
+    }
+}
+
+/// The opponent of a side.
+fn other_side(side: Side) -> Side
+    ensures { result ≡ other_side side }
+{
+    match side {
+        Side::Black => Side::White,
+        Side::White => Side::Black,
+    }
+}
+
+/// What stands on a cell that is seen by this side.
+pub fn mark_of(side: Side, cell: Cell) -> Mark
+    ensures { result ≡ mark_of side cell }
+{
+    match cell {
+        Cell::Own => Mark::Disc(side),
+        Cell::Opp => Mark::Disc(other_side(side)),
+        Cell::Empty => Mark::Blank,
+    }
+}
