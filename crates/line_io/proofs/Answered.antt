@@ -1,0 +1,110 @@
+-- The answers to some lines, and their writes.
+use Rattle.std.proofs.Common.{◌≡◌, ℕ, List, [], ◌∷◌, ◌++◌, map, refl, sym, ap, ◌∙◌, subst, append_assoc, Result, Ok, Err}
+use Rattle.std.proofs.lemmas.List.{append-nil, map-append}
+use Rattle.std.proofs.lemmas.List.Folds.{concat-append}
+use Rattle.std.proofs.lemmas.List.Concat.{flat_map-append}
+use Rattle.std.specs.List.{concat}
+use Rattle.line_io.specs.declared.faults.WriteFailed.{WriteFailed}
+use Rattle.line_io.specs.Lines.{LineText}
+use Rattle.line_io.specs.Leads.{Leads}
+use Rattle.line_io.specs.Streams.{WriteAnswer, Took, Refused}
+use Rattle.line_io.specs.Writes.{IsWritten, LinesAnswered, IsAnswered, with_end, written_texts, writes_of}
+use Rattle.line_io.proofs.Chains.{Leads-append, Answers-append}
+
+-- no line
+pub LinesAnswered-none : {K A : Type 0} (takes : K → WriteAnswer → K → Type 0) (answers : A → LineText → List ℕ → A → Type 0) (k : K) (a : A) (u : Unit {0}) → LinesAnswered takes answers k a [] k a (Ok u)
+LinesAnswered-none takes answers k a u =
+    record {
+      answered = [];
+      texts = [];
+      pieces = [];
+      rest = [];
+      answers_lead = refl;
+      writes = refl;
+      taken = refl;
+      ends = (refl, refl);
+    }
+
+-- one line, whose answer was written
+pub LinesAnswered-one : {K A : Type 0} (takes : K → WriteAnswer → K → Type 0) (answers : A → LineText → List ℕ → A → Type 0) (k : K) (a : A) (line : LineText) (text bytes : List ℕ) (k' : K) (a' : A) (r : Result (Unit {0}) WriteFailed) → answers a line text a' → bytes ≡ with_end text → IsWritten takes k bytes k' r → LinesAnswered takes answers k a (line ∷ []) k' a' r
+LinesAnswered-one takes answers k a line text bytes k' a' (Ok u) h e w =
+    record {
+      answered = line ∷ [];
+      texts = text ∷ [];
+      pieces = w.pieces;
+      rest = w.rest;
+      answers_lead = (a', h, refl);
+      writes = w.writes;
+      taken = w.taken ∙ (e ∙ sym (append-nil (with_end text)));
+      ends = (refl, w.ends);
+    }
+LinesAnswered-one takes answers k a line text bytes k' a' (Err d) h e w =
+    record {
+      answered = line ∷ [];
+      texts = text ∷ [];
+      pieces = w.pieces;
+      rest = w.rest;
+      answers_lead = (a', h, refl);
+      writes = w.writes;
+      taken = w.taken ∙ (e ∙ sym (append-nil (with_end text)));
+      ends = (([], refl), record { before = []; last = text; begun = concat w.pieces; texts_are = refl; last_is = w.taken ∙ e; left = w.ends });
+    }
+
+-- the writes of two lists of pieces
+pub writes_of-append : (ps qs : List (List ℕ)) (r : Result (Unit {0}) WriteFailed) → writes_of (ps ++ qs) r ≡ map Took ps ++ writes_of qs r
+writes_of-append ps qs (Ok u) = map-append Took ps qs
+writes_of-append ps qs (Err e) =
+    ap (λ z. z ++ Refused ∷ []) (map-append Took ps qs) ∙ append_assoc (map Took ps) (map Took qs) (Refused ∷ [])
+
+-- what is taken of two lists of texts
+taken-append : (ps qs : List (List ℕ)) (rest rest' : List ℕ) (ts us : List (List ℕ)) → concat ps ++ rest ≡ written_texts ts → rest ≡ [] → concat qs ++ rest' ≡ written_texts us → concat (ps ++ qs) ++ rest' ≡ written_texts (ts ++ us)
+taken-append ps qs rest rest' ts us p e q =
+    ap (λ z. z ++ rest') (concat-append ps qs) ∙ (append_assoc (concat ps) (concat qs) rest' ∙ (ap (λ z. concat ps ++ z) q ∙ (ap (λ z. z ++ written_texts us) (sym (append-nil (concat ps)) ∙ (ap (λ z. concat ps ++ z) (sym e) ∙ p)) ∙ sym (flat_map-append with_end ts us))))
+
+-- how the answers to two lists of lines end
+ends-append : (r : Result (Unit {0}) WriteFailed) (ls ls' ms ms' : List LineText) (ts us : List (List ℕ)) (rest : List ℕ) → ls' ≡ ls → IsAnswered r ms ms' us rest → IsAnswered r (ls ++ ms) (ls' ++ ms') (ts ++ us) rest
+ends-append (Ok u) ls ls' ms ms' ts us rest e h = (ap (λ z. z ++ ms') e ∙ ap (λ z. ls ++ z) h.0, h.1)
+ends-append (Err d) ls ls' ms ms' ts us rest e h = (
+  (h.0.0, append_assoc ls' ms' h.0.0 ∙ (ap (λ z. z ++ (ms' ++ h.0.0)) e ∙ ap (λ z. ls ++ z) h.0.1)),
+  record {
+    before = ts ++ h.1.before;
+    last = h.1.last;
+    begun = h.1.begun;
+    texts_are = ap (λ z. ts ++ z) h.1.texts_are ∙ sym (append_assoc ts h.1.before (h.1.last ∷ []));
+    last_is = h.1.last_is;
+    left = h.1.left;
+  },
+)
+
+-- two lists of lines, one after the other
+pub LinesAnswered-append : {K A : Type 0} (takes : K → WriteAnswer → K → Type 0) (answers : A → LineText → List ℕ → A → Type 0) (k : K) (a : A) (ls : List LineText) (k' : K) (a' : A) (u : Unit {0}) (ms : List LineText) (k'' : K) (a'' : A) (r : Result (Unit {0}) WriteFailed) → LinesAnswered takes answers k a ls k' a' (Ok u) → LinesAnswered takes answers k' a' ms k'' a'' r → LinesAnswered takes answers k a (ls ++ ms) k'' a'' r
+LinesAnswered-append takes answers k a ls k' a' u ms k'' a'' r x y =
+    record {
+      answered = x.answered ++ y.answered;
+      texts = x.texts ++ y.texts;
+      pieces = x.pieces ++ y.pieces;
+      rest = y.rest;
+      answers_lead = Answers-append answers a x.answered x.texts a' y.answered y.texts a'' x.answers_lead y.answers_lead;
+      writes = subst (λ ws. Leads takes k ws k'') (sym (writes_of-append x.pieces y.pieces r)) (Leads-append takes k (map Took x.pieces) k' (writes_of y.pieces r) k'' x.writes y.writes);
+      taken = taken-append x.pieces y.pieces x.rest y.rest x.texts y.texts x.taken x.ends.1 y.taken;
+      ends = ends-append r ls x.answered ms y.answered x.texts y.texts y.rest x.ends.0 y.ends;
+    }
+
+-- where a write failed, more lines may follow
+pub LinesAnswered-before : {K A : Type 0} (takes : K → WriteAnswer → K → Type 0) (answers : A → LineText → List ℕ → A → Type 0) (k : K) (a : A) (ls more : List LineText) (k' : K) (a' : A) (e : WriteFailed) → LinesAnswered takes answers k a ls k' a' (Err e) → LinesAnswered takes answers k a (ls ++ more) k' a' (Err e)
+LinesAnswered-before takes answers k a ls more k' a' e x =
+    record {
+      answered = x.answered;
+      texts = x.texts;
+      pieces = x.pieces;
+      rest = x.rest;
+      answers_lead = x.answers_lead;
+      writes = x.writes;
+      taken = x.taken;
+      ends = ((x.ends.0.0 ++ more, sym (append_assoc x.answered x.ends.0.0 more) ∙ ap (λ z. z ++ more) x.ends.0.1), x.ends.1);
+    }
+
+-- the same lines by another name
+pub LinesAnswered-same : {K A : Type 0} (takes : K → WriteAnswer → K → Type 0) (answers : A → LineText → List ℕ → A → Type 0) (k : K) (a : A) (ls ms : List LineText) (k' : K) (a' : A) (r : Result (Unit {0}) WriteFailed) → ls ≡ ms → LinesAnswered takes answers k a ls k' a' r → LinesAnswered takes answers k a ms k' a' r
+LinesAnswered-same takes answers k a ls ms k' a' r e x =
+    subst (λ zs. LinesAnswered takes answers k a zs k' a' r) e x

@@ -1,0 +1,8 @@
+pub mod Chains
+pub mod Written
+pub mod Answered
+pub mod Streamed
+pub mod Blocks
+pub mod Whole
+pub mod ByFunction
+pub mod Known

@@ -1,0 +1,127 @@
+-- Lines that are cut byte by byte are the lines of all bytes.
+use Rattle.std.proofs.Common.{◌≡◌, ℕ, ◌+◌, ◌-◌, ◌≤◌, List, [], ◌∷◌, ◌++◌, length, map, take, cond, eqb, Bool, true, false, refl, sym, ap, ◌∙◌, append_assoc, arith, Option, Some, None, nat_le, slice_index, length-append}
+use Rattle.std.proofs.lemmas.List.{append-nil, length-take}
+use Rattle.std.proofs.lemmas.Bool.Decides.{nat_tests}
+use Rattle.std.specs.List.{slice_split, onto_first}
+use Rattle.std.specs.Option.{option_to_list}
+use Rattle.std.specs.Str.Lines.{lines_of_parts, strip_carriage_return}
+use Rattle.line_io.specs.Lines.{Whole, TooLong, line_text, lines_of, ended_parts, ended_lines_of}
+use Rattle.line_io.specs.Held.{held, with_byte, ended_line, last_line, held_after, ended_within}
+
+-- what is cut off is one byte at most
+strip-least : (l : List ℕ) → length l ≤ length (strip_carriage_return l) + 1
+strip-least l =
+    elim (eqb (slice_index l (length l - 1)) 13) as (λ b. length l ≤ length (cond b (take (length l - 1) l) l) + 1) [ true ↦ omega (arith, length-take (length l - 1) l) | false ↦ omega arith ]
+
+strip-most : (l : List ℕ) → length (strip_carriage_return l) ≤ length l
+strip-most l =
+    elim (eqb (slice_index l (length l - 1)) 13) as (λ b. length (cond b (take (length l - 1) l) l) ≤ length l) [ true ↦ omega (arith, length-take (length l - 1) l) | false ↦ omega arith ]
+
+-- a test that fails stays failed
+held-none : (t : Bool) (raw : List ℕ) (b : ℕ) → nat_le (length (strip_carriage_return raw)) 128 ≡ t → with_byte (cond t (Some raw) None) b ≡ held (raw ++ b ∷ [])
+held-none true raw b e = refl
+held-none false raw b e =
+    let more = strip-least (raw ++ b ∷ []) in
+    let less = strip-most raw in
+    let len = length-append raw (b ∷ []) in
+    grind (arith, nat_tests)
+
+-- one more byte
+pub with_byte-held : (raw : List ℕ) (b : ℕ) → with_byte (held raw) b ≡ held (raw ++ b ∷ [])
+with_byte-held raw b = held-none (nat_le (length (strip_carriage_return raw)) 128) raw b refl
+
+-- the line that an LF ends
+pub ended_line-held : (raw : List ℕ) → ended_line (held raw) ≡ line_text (strip_carriage_return raw)
+ended_line-held raw =
+    elim (nat_le (length (strip_carriage_return raw)) 128) as (λ t. ended_line (cond t (Some raw) None) ≡ cond t (Whole (strip_carriage_return raw)) TooLong) [ true ↦ refl | false ↦ refl ]
+
+last-held : (t : Bool) (b : ℕ) (bs : List ℕ) → nat_le (length (strip_carriage_return (b ∷ bs))) 128 ≡ t → option_to_list (last_line (cond t (Some (b ∷ bs)) None)) ≡ line_text (b ∷ bs) ∷ []
+last-held true b bs e = refl
+last-held false b bs e =
+    let less = strip-most (b ∷ bs) in
+    let long : nat_le (length (b ∷ bs)) 128 ≡ false = grind (arith, nat_tests) in
+    ap (λ t. cond t (Whole (b ∷ bs)) TooLong ∷ []) (sym long)
+
+not_empty : (b : ℕ) (bs : List ℕ) → eqb (length (b ∷ bs)) 0 ≡ false
+not_empty b bs = grind (arith, nat_tests)
+
+-- the line that the end of the input ends
+pub last_line-held : (raw : List ℕ) → option_to_list (last_line (held raw)) ≡ map line_text (lines_of_parts (raw ∷ []))
+last_line-held [] = refl
+last_line-held (b ∷ bs) =
+    last-held (nat_le (length (strip_carriage_return (b ∷ bs))) 128) b bs refl ∙ ap (λ t. map line_text (cond t [] ((b ∷ bs) ∷ []))) (sym (not_empty b bs))
+
+-- the bytes before the first of the parts
+abbrev onto : List ℕ → List (List ℕ) → List (List ℕ)
+onto raw [] = raw ∷ []
+onto raw (s ∷ ss) = (raw ++ s) ∷ ss
+
+-- there is a first part
+split_some : (bs : List ℕ) → (s : List ℕ) × (ss : List (List ℕ)) × (slice_split (λ b. eqb b 10) bs ≡ s ∷ ss)
+split_some [] = ([], [], refl)
+split_some (b ∷ bs) =
+    let p = split_some bs in
+    elim (eqb b 10) as (λ t. (s : List ℕ) × (ss : List (List ℕ)) × (cond t ([] ∷ slice_split (λ b. eqb b 10) bs) (onto_first b (slice_split (λ b. eqb b 10) bs)) ≡ s ∷ ss)) [ true ↦ ([], slice_split (λ b. eqb b 10) bs, refl) | false ↦ (b ∷ p.0, p.1, ap (onto_first b) p.2) ]
+
+onto-first : (raw : List ℕ) (b : ℕ) (parts : List (List ℕ)) → onto (raw ++ b ∷ []) parts ≡ onto raw (onto_first b parts)
+onto-first raw b [] = refl
+onto-first raw b (s ∷ ss) = ap (λ z. z ∷ ss) (append_assoc raw (b ∷ []) s)
+
+-- the lines that an LF ended, with an LF next
+ended-lf : (raw bs : List ℕ) (s : List ℕ) (ss : List (List ℕ)) → slice_split (λ b. eqb b 10) bs ≡ s ∷ ss → ended_within (held []) bs ≡ map line_text (ended_parts (onto [] (slice_split (λ b. eqb b 10) bs))) → ended_line (held raw) ∷ ended_within (Some []) bs ≡ map line_text (ended_parts (onto raw ([] ∷ slice_split (λ b. eqb b 10) bs)))
+ended-lf raw bs s ss e ih =
+    ap (λ z. z ∷ ended_within (Some []) bs) (ended_line-held raw) ∙ (ap (λ z. line_text (strip_carriage_return raw) ∷ z) (ih ∙ ap (λ z. map line_text (ended_parts (onto [] z))) e) ∙ (ap (λ z. line_text (strip_carriage_return z) ∷ map line_text (ended_parts (s ∷ ss))) (sym (append-nil raw)) ∙ ap (λ z. map line_text (ended_parts ((raw ++ []) ∷ z))) (sym e)))
+
+ended-step : (t : Bool) (raw : List ℕ) (b : ℕ) (bs : List ℕ) → ended_within (held []) bs ≡ map line_text (ended_parts (onto [] (slice_split (λ b. eqb b 10) bs))) → ended_within (held (raw ++ b ∷ [])) bs ≡ map line_text (ended_parts (onto (raw ++ b ∷ []) (slice_split (λ b. eqb b 10) bs))) → cond t (ended_line (held raw) ∷ ended_within (Some []) bs) (ended_within (with_byte (held raw) b) bs) ≡ map line_text (ended_parts (onto raw (cond t ([] ∷ slice_split (λ b. eqb b 10) bs) (onto_first b (slice_split (λ b. eqb b 10) bs)))))
+ended-step true raw b bs ih ih' =
+    let p = split_some bs in
+    ended-lf raw bs p.0 p.1 p.2 ih
+ended-step false raw b bs ih ih' =
+    ap (λ h. ended_within h bs) (with_byte-held raw b) ∙ (ih' ∙ ap (λ z. map line_text (ended_parts z)) (onto-first raw b (slice_split (λ b. eqb b 10) bs)))
+
+ended-onto : (raw bs : List ℕ) → ended_within (held raw) bs ≡ map line_text (ended_parts (onto raw (slice_split (λ b. eqb b 10) bs)))
+ended-onto raw [] = refl
+ended-onto raw (b ∷ bs) = ended-step (eqb b 10) raw b bs (ended-onto [] bs) (ended-onto (raw ++ b ∷ []) bs)
+
+-- what is cut byte by byte are the lines that an LF ended
+pub ended_within-all : (bs : List ℕ) → ended_within (Some []) bs ≡ ended_lines_of bs
+ended_within-all bs =
+    let p = split_some bs in
+    ended-onto [] bs ∙ (ap (λ z. map line_text (ended_parts (onto [] z))) p.2 ∙ ap (λ z. map line_text (ended_parts z)) (sym p.2))
+
+-- all lines, with an LF next
+all-lf : (raw bs : List ℕ) (s : List ℕ) (ss : List (List ℕ)) → slice_split (λ b. eqb b 10) bs ≡ s ∷ ss → ended_within (held []) bs ++ option_to_list (last_line (held_after (held []) bs)) ≡ map line_text (lines_of_parts (onto [] (slice_split (λ b. eqb b 10) bs))) → ended_line (held raw) ∷ (ended_within (Some []) bs ++ option_to_list (last_line (held_after (Some []) bs))) ≡ map line_text (lines_of_parts (onto raw ([] ∷ slice_split (λ b. eqb b 10) bs)))
+all-lf raw bs s ss e ih =
+    ap (λ z. z ∷ (ended_within (Some []) bs ++ option_to_list (last_line (held_after (Some []) bs)))) (ended_line-held raw) ∙ (ap (λ z. line_text (strip_carriage_return raw) ∷ z) (ih ∙ ap (λ z. map line_text (lines_of_parts (onto [] z))) e) ∙ (ap (λ z. line_text (strip_carriage_return z) ∷ map line_text (lines_of_parts (s ∷ ss))) (sym (append-nil raw)) ∙ ap (λ z. map line_text (lines_of_parts ((raw ++ []) ∷ z))) (sym e)))
+
+all-step : (t : Bool) (raw : List ℕ) (b : ℕ) (bs : List ℕ) → ended_within (held []) bs ++ option_to_list (last_line (held_after (held []) bs)) ≡ map line_text (lines_of_parts (onto [] (slice_split (λ b. eqb b 10) bs))) → ended_within (held (raw ++ b ∷ [])) bs ++ option_to_list (last_line (held_after (held (raw ++ b ∷ [])) bs)) ≡ map line_text (lines_of_parts (onto (raw ++ b ∷ []) (slice_split (λ b. eqb b 10) bs))) → cond t (ended_line (held raw) ∷ ended_within (Some []) bs) (ended_within (with_byte (held raw) b) bs) ++ option_to_list (last_line (held_after (cond t (Some []) (with_byte (held raw) b)) bs)) ≡ map line_text (lines_of_parts (onto raw (cond t ([] ∷ slice_split (λ b. eqb b 10) bs) (onto_first b (slice_split (λ b. eqb b 10) bs)))))
+all-step true raw b bs ih ih' =
+    let p = split_some bs in
+    all-lf raw bs p.0 p.1 p.2 ih
+all-step false raw b bs ih ih' =
+    ap (λ h. ended_within h bs ++ option_to_list (last_line (held_after h bs))) (with_byte-held raw b) ∙ (ih' ∙ ap (λ z. map line_text (lines_of_parts z)) (onto-first raw b (slice_split (λ b. eqb b 10) bs)))
+
+all-onto : (raw bs : List ℕ) → ended_within (held raw) bs ++ option_to_list (last_line (held_after (held raw) bs)) ≡ map line_text (lines_of_parts (onto raw (slice_split (λ b. eqb b 10) bs)))
+all-onto raw [] = last_line-held raw ∙ ap (λ z. map line_text (lines_of_parts (z ∷ []))) (sym (append-nil raw))
+all-onto raw (b ∷ bs) = all-step (eqb b 10) raw b bs (all-onto [] bs) (all-onto (raw ++ b ∷ []) bs)
+
+-- with the line that the end of the input ends they are all lines
+pub lines_of-all : (bs : List ℕ) → ended_within (Some []) bs ++ option_to_list (last_line (held_after (Some []) bs)) ≡ lines_of bs
+lines_of-all bs =
+    let p = split_some bs in
+    all-onto [] bs ∙ (ap (λ z. map line_text (lines_of_parts (onto [] z))) p.2 ∙ ap (λ z. map line_text (lines_of_parts z)) (sym p.2))
+
+-- one block more
+pub held_after-append : (h : Option (List ℕ)) (xs ys : List ℕ) → held_after h (xs ++ ys) ≡ held_after (held_after h xs) ys
+held_after-append h [] ys = refl
+held_after-append h (b ∷ bs) ys =
+    held_after-append (cond (eqb b 10) (Some []) (with_byte h b)) bs ys
+
+within-step : (t : Bool) (h : Option (List ℕ)) (b : ℕ) (bs ys : List ℕ) → ended_within (Some []) (bs ++ ys) ≡ ended_within (Some []) bs ++ ended_within (held_after (Some []) bs) ys → ended_within (with_byte h b) (bs ++ ys) ≡ ended_within (with_byte h b) bs ++ ended_within (held_after (with_byte h b) bs) ys → cond t (ended_line h ∷ ended_within (Some []) (bs ++ ys)) (ended_within (with_byte h b) (bs ++ ys)) ≡ cond t (ended_line h ∷ ended_within (Some []) bs) (ended_within (with_byte h b) bs) ++ ended_within (held_after (cond t (Some []) (with_byte h b)) bs) ys
+within-step true h b bs ys ih ih' = ap (λ z. ended_line h ∷ z) ih
+within-step false h b bs ys ih ih' = ih'
+
+pub ended_within-append : (h : Option (List ℕ)) (xs ys : List ℕ) → ended_within h (xs ++ ys) ≡ ended_within h xs ++ ended_within (held_after h xs) ys
+ended_within-append h [] ys = refl
+ended_within-append h (b ∷ bs) ys =
+    within-step (eqb b 10) h b bs ys (ended_within-append (Some []) bs ys) (ended_within-append (with_byte h b) bs ys)

@@ -1,0 +1,34 @@
+use Rattle.std.proofs.lemmas.Result.{err_from_is_err_and}
+use Rattle.line_io.proofs.Whole.{read-gave, read-ended, length-front, Run-start, Run-more, Run-read_failed, Run-too_much, Run-ended, Run-last_failed, Run-write_failed}
+use Rattle.line_io.proofs.answering.answer_lines.Goals as goal
+
+pub loop-total-init : goal.loop-total-init
+loop-total-init g c =
+    Run-start g.S.Source.gives g.K.Sink.takes g.A.Answer.answers _ _ _ _ c.new-cutter.ensures
+
+pub returns-in_err-count : goal.returns-in_err-count
+returns-in_err-count g c =
+    let p = err_from_is_err_and c.from_residual.result c.from_residual.ensures.1 in
+    rw (p.1, p.2) (Run-read_failed g.S.Source.gives g.K.Sink.takes g.A.Answer.answers _ _ _ _ _ _ _ _ _ c.loop-total.invariant c.in_err-count.ensures.answer)
+
+pub returns-in_err-answer_last : goal.returns-in_err-answer_last
+returns-in_err-answer_last g c =
+    let p = err_from_is_err_and c.from_residual-in_err-answer_last.result c.from_residual-in_err-answer_last.ensures.1 in
+    rw (p.1, p.2) (Run-last_failed g.S.Source.gives g.K.Sink.takes g.A.Answer.answers _ _ _ _ _ _ _ _ _ _ _ _ c.loop-total.invariant (read-ended g.S.Source.gives _ _ _ _ c.if-count-eq0.true c.in_ok-count.ensures.answer) c.in_err-answer_last.ensures)
+
+pub returns-then-count-eq0 : goal.returns-then-count-eq0
+returns-then-count-eq0 g c =
+    Run-ended g.S.Source.gives g.K.Sink.takes g.A.Answer.answers _ _ _ _ _ _ _ _ _ _ _ _ _ c.loop-total.invariant (read-ended g.S.Source.gives _ _ _ _ c.if-count-eq0.true c.in_ok-count.ensures.answer) c.in_ok-answer_last.ensures
+
+pub returns-in_err-answer_block : goal.returns-in_err-answer_block
+returns-in_err-answer_block g c =
+    let p = err_from_is_err_and c.from_residual-in_err-answer_block.result c.from_residual-in_err-answer_block.ensures.1 in
+    rw (p.1, p.2) (Run-write_failed g.S.Source.gives g.K.Sink.takes g.A.Answer.answers _ _ _ _ _ _ _ _ _ _ _ _ _ c.loop-total.invariant (read-gave g.S.Source.gives _ _ _ _ c.if-count-eq0.false c.in_ok-count.ensures.answer) c.in_err-answer_block.ensures.lines)
+
+pub loop-total-preserved : goal.loop-total-preserved
+loop-total-preserved g c =
+    Run-more g.S.Source.gives g.K.Sink.takes g.A.Answer.answers _ _ _ _ _ _ _ _ _ _ _ _ _ _ _ c.loop-total.invariant (read-gave g.S.Source.gives _ _ _ _ c.if-count-eq0.false c.in_ok-count.ensures.answer) (length-front _ _ c.in_ok-count.ensures.bound) c.in_ok-answer_block.ensures.lines c.in_ok-answer_block.ensures.cutter
+
+pub returns : goal.returns
+returns g c =
+    Run-too_much g.S.Source.gives g.K.Sink.takes g.A.Answer.answers _ _ _ _ _ _ _ _ c.loop-total.invariant c.loop-total-test.false

@@ -1,0 +1,5 @@
+use Rattle.line_io.proofs.Known.{known-write}
+use Rattle.line_io.proofs.laws.known_contents_grow.Goals as goal
+
+pub returns : goal.returns
+returns g c = λ old new pieces r bytes e p. known-write (λ s. g.W.Write.contents s.writer) old pieces new r bytes e p

@@ -1,0 +1,55 @@
+-- A whole run: what was read, which lines were answered, and what was written.
+use Rattle.std.specs.Prelude.{◌≡◌, ◌⊎◌, ℕ, ◌≤◌, ◌^◌, List, [], ◌∷◌, ◌++◌, map, length, Result, Ok, Err, OnOk}
+use Rattle.std.specs.List.{concat, flat_map}
+use Rattle.line_io.specs.declared.faults.LineFault.{LineFault}
+use Rattle.line_io.specs.declared.faults.LineFault.TheVariants.{Read, Write, TooMuch}
+use Rattle.line_io.specs.declared.faults.WriteFailed.{WriteFailed}
+use Rattle.line_io.specs.Lines.{LineText, lines_of, ended_lines_of}
+use Rattle.line_io.specs.Leads.{Leads, IsPrefixOf}
+use Rattle.line_io.specs.Streams.{ReadAnswer, Gave, Ended, Failed, WriteAnswer}
+use Rattle.line_io.specs.Writes.{LinesAnswered, with_end, writes_of}
+
+-- the lines that are to be answered: all, where the end of the input was read or a write failed, and else those that an LF ended
+abbrev pub lines_due : Result (Unit {0}) LineFault → List ℕ → List LineText
+lines_due (Ok _) bytes = lines_of bytes
+lines_due (Err Read) bytes = ended_lines_of bytes
+lines_due (Err Write) bytes = lines_of bytes
+lines_due (Err TooMuch) bytes = ended_lines_of bytes
+
+-- how the writes ended: by a failure at fault 2 alone
+abbrev pub write_result : Result (Unit {0}) LineFault → Result (Unit {0}) WriteFailed
+write_result (Ok _) = Ok tt
+write_result (Err Read) = Ok tt
+write_result (Err Write) = Err (record {})
+write_result (Err TooMuch) = Ok tt
+
+-- the read after those that gave bytes: at Ok it gave the end, and at fault 1 it failed. At fault 2 it gave the end or there was none.
+-- At fault 3 there was none, and at least 2^62 bytes were read
+abbrev pub IsEnding : Result (Unit {0}) LineFault → List ℕ → List ReadAnswer → Type 0
+IsEnding (Ok _) bytes last = last ≡ Ended ∷ []
+IsEnding (Err Read) bytes last = last ≡ Failed ∷ []
+IsEnding (Err Write) bytes last = (last ≡ []) ⊎ (last ≡ Ended ∷ [])
+IsEnding (Err TooMuch) bytes last = (last ≡ []) × (2 ^ 62 ≤ length bytes)
+
+-- these blocks were read, and the lines in them answered
+pub record Run {S K A : Type 0} (gives : S → ReadAnswer → S → Type 0) (takes : K → WriteAnswer → K → Type 0) (answers : A → LineText → List ℕ → A → Type 0) (source : S) (sink : K) (answerer : A) (source' : S) (sink' : K) (answerer' : A) (r : Result (Unit {0}) LineFault) : Type 0 where
+  pub blocks : List (List ℕ)
+  pub last : List ReadAnswer
+  pub reads : Leads gives source (map Gave blocks ++ last) source'
+  pub ends : IsEnding r (concat blocks) last
+  pub lines : LinesAnswered takes answers sink answerer (lines_due r (concat blocks)) sink' answerer' (write_result r)
+
+-- these lines, each answered by this function, with LF after each answer
+abbrev pub answers_to : (LineText → List ℕ) → List LineText → List ℕ
+answers_to answer lines = flat_map (λ line. with_end (answer line)) lines
+
+-- these blocks were read and these pieces written: the answers by this function to all lines, or at a fault a beginning of them
+pub record FunctionRun {S K : Type 0} (gives : S → ReadAnswer → S → Type 0) (takes : K → WriteAnswer → K → Type 0) (answer : LineText → List ℕ) (source : S) (sink : K) (source' : S) (sink' : K) (r : Result (Unit {0}) LineFault) : Type 0 where
+  pub blocks : List (List ℕ)
+  pub last : List ReadAnswer
+  pub pieces : List (List ℕ)
+  pub reads : Leads gives source (map Gave blocks ++ last) source'
+  pub ends : IsEnding r (concat blocks) last
+  pub writes : Leads takes sink (writes_of pieces (write_result r)) sink'
+  pub written : IsPrefixOf (concat pieces) (answers_to answer (lines_of (concat blocks)))
+  pub all_written : OnOk r (concat pieces ≡ answers_to answer (lines_of (concat blocks)))

@@ -1,0 +1,18 @@
+-- What contracts see of the types of the code.
+use Rattle.std.specs.Prelude.{ℕ}
+use Rattle.line_io.specs.declared.faults.LineFault.{LineFault}
+use Rattle.line_io.specs.declared.faults.LineFault.TheVariants.{Read, Write, TooMuch}
+use Rattle.line_io.specs.declared.cutting.Line.{Line}
+use Rattle.line_io.specs.declared.cutting.Line.TheVariants.{Whole as whole_line, TooLong as long_line}
+use Rattle.line_io.specs.Lines.{LineText, Whole, TooLong}
+
+-- the number of a fault
+abbrev pub number_of : LineFault → ℕ
+number_of Read = 1
+number_of Write = 2
+number_of TooMuch = 3
+
+-- a line as data
+abbrev pub text_of : Line → LineText
+text_of (whole_line bytes) = Whole bytes.now
+text_of long_line = TooLong

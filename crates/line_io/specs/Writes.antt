@@ -1,0 +1,58 @@
+-- The writes of a text, and of the answers to some lines.
+use Rattle.std.specs.Prelude.{◌≡◌, ℕ, ◌<◌, List, [], ◌∷◌, ◌++◌, map, length, Result, Ok, Err}
+use Rattle.std.specs.List.{concat, flat_map}
+use Rattle.line_io.specs.declared.faults.WriteFailed.{WriteFailed}
+use Rattle.line_io.specs.Lines.{LineText}
+use Rattle.line_io.specs.Leads.{Leads, Answers, IsPrefixOf}
+use Rattle.line_io.specs.Streams.{WriteAnswer, Took, Refused}
+
+-- a text and its LF
+abbrev pub with_end : List ℕ → List ℕ
+with_end text = text ++ 10 ∷ []
+
+-- these texts, each followed by LF
+abbrev pub written_texts : List (List ℕ) → List ℕ
+written_texts texts = flat_map with_end texts
+
+-- the writes: each took one of these pieces, and at an error one more failed
+abbrev pub writes_of : List (List ℕ) → Result (Unit {0}) WriteFailed → List WriteAnswer
+writes_of pieces (Ok _) = map Took pieces
+writes_of pieces (Err _) = map Took pieces ++ Refused ∷ []
+
+-- at Ok nothing is left, and at an error something is
+abbrev pub IsRest : Result (Unit {0}) WriteFailed → List ℕ → Type 0
+IsRest (Ok _) rest = rest ≡ []
+IsRest (Err _) rest = 0 < length rest
+
+-- these bytes were written: in some pieces, one after another, up to a rest
+pub record IsWritten {K : Type 0} (takes : K → WriteAnswer → K → Type 0) (from : K) (bytes : List ℕ) (to : K) (r : Result (Unit {0}) WriteFailed) : Type 0 where
+  pub pieces : List (List ℕ)
+  pub rest : List ℕ
+  pub writes : Leads takes from (writes_of pieces r) to
+  pub taken : concat pieces ++ rest ≡ bytes
+  pub ends : IsRest r rest
+
+-- the write that failed was one of the last text, whose rest this is: the texts before it were taken
+pub record IsCutShort (texts : List (List ℕ)) (rest : List ℕ) : Type 0 where
+  pub before : List (List ℕ)
+  pub last : List ℕ
+  pub begun : List ℕ
+  pub texts_are : texts ≡ before ++ last ∷ []
+  pub last_is : begun ++ rest ≡ with_end last
+  pub left : 0 < length rest
+
+-- at Ok all of these lines are answered and all answers taken; at an error the answer to the last of the first lines isn't
+abbrev pub IsAnswered : Result (Unit {0}) WriteFailed → List LineText → List LineText → List (List ℕ) → List ℕ → Type 0
+IsAnswered (Ok _) lines answered texts rest = (answered ≡ lines) × (rest ≡ [])
+IsAnswered (Err _) lines answered texts rest = IsPrefixOf answered lines × IsCutShort texts rest
+
+-- some of these lines, from the first on, were answered by these texts, which were written in these pieces up to a rest
+pub record LinesAnswered {K A : Type 0} (takes : K → WriteAnswer → K → Type 0) (answers : A → LineText → List ℕ → A → Type 0) (sink : K) (answerer : A) (lines : List LineText) (sink' : K) (answerer' : A) (r : Result (Unit {0}) WriteFailed) : Type 0 where
+  pub answered : List LineText
+  pub texts : List (List ℕ)
+  pub pieces : List (List ℕ)
+  pub rest : List ℕ
+  pub answers_lead : Answers answers answerer answered texts answerer'
+  pub writes : Leads takes sink (writes_of pieces r) sink'
+  pub taken : concat pieces ++ rest ≡ written_texts texts
+  pub ends : IsAnswered r lines answered texts rest

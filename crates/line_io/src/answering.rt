@@ -1,0 +1,114 @@
+//! Answering each line as soon as it is complete.
+ghost use Rattle.std.specs.Prelude.{◌≡◌, ℕ, List, [], ◌∷◌, OnOk};
+ghost use Rattle.std.specs.Option.{option_to_list};
+ghost use Rattle.line_io.specs.Lines.{LineText};
+ghost use Rattle.line_io.specs.Held.{held_after, ended_within, last_line};
+ghost use Rattle.line_io.specs.Views.{text_of};
+ghost use Rattle.line_io.specs.Writes.{LinesAnswered};
+ghost use Rattle.line_io.specs.Runs.{Run};
+
+use crate::cutting::{LF, Line, LineCutter};
+use crate::faults::{LineFault, WriteFailed};
+use crate::input::Source;
+use crate::output::{Sink, write_text};
+use arrayvec::ArrayVec;
+
+/// The most bytes of an answer without its LF.
+const TEXT_BYTES: usize = 63;
+
+/// The bytes of an answer with its LF.
+const WRITE_BYTES: usize = TEXT_BYTES + 1;
+
+/// The bytes that one read asks for at most.
+const BLOCK_BYTES: usize = 4096;
+
+/// A run that has read so many bytes reads no more.
+const MOST_BYTES: u64 = 1 << 62;
+
+/// The answer to a line, without LF.
+pub type Text = ArrayVec<u8, TEXT_BYTES>;
+
+/// Answers lines, one after another.
+pub trait Answer {
+    /// Which texts may answer a line, and the states before and after it.
+    ghost answers: { Self → LineText → List ℕ → Self → Type 0 };
+
+    /// Answers the next line.
+    fn answer(&mut self, line: Line<'_>) -> Text
+        ensures { answers self.old (text_of line.entry) result.items self.new };
+}
+
+/// Answers one line, and writes the answer with its LF.
+fn answer_line<K: Sink, A: Answer>(
+    sink: &mut K,
+    answerer: &mut A,
+    line: Line<'_>,
+) -> Result<(), WriteFailed>
+    ensures { LinesAnswered K.takes A.answers sink.old answerer.old (text_of line.entry ∷ []) sink.new answerer.new result }
+{
+    let text = answerer.answer(line);
+    let mut bytes: ArrayVec<u8, WRITE_BYTES> = ArrayVec::new();
+    bytes.try_extend_from_slice(text.as_slice()).unwrap();
+    bytes.push(LF);
+    write_text(sink, bytes.as_slice())
+}
+
+/// Answers each line that ends in this block.
+fn answer_block<K: Sink, A: Answer>(
+    sink: &mut K,
+    answerer: &mut A,
+    cutter: &mut LineCutter,
+    block: &[u8],
+) -> Result<(), WriteFailed>
+    ensures lines { LinesAnswered K.takes A.answers sink.old answerer.old (ended_within cutter.old block.now) sink.new answerer.new result }
+    ensures cutter { OnOk result (cutter.new ≡ held_after cutter.old block.now) }
+{
+    for byte in block {
+        if *byte == LF {
+            answer_line(sink, answerer, cutter.line())?;
+            cutter.clear();
+        } else {
+            cutter.push(*byte);
+        }
+    }
+    Ok(())
+}
+
+/// Answers the line that the end of the input ends, if there is one.
+fn answer_last<K: Sink, A: Answer>(
+    sink: &mut K,
+    answerer: &mut A,
+    cutter: &LineCutter,
+) -> Result<(), WriteFailed>
+    ensures { LinesAnswered K.takes A.answers sink.old answerer.old (option_to_list (last_line cutter.now)) sink.new answerer.new result }
+{
+    match cutter.last() {
+        Some(line) => answer_line(sink, answerer, line),
+        None => Ok(()),
+    }
+}
+
+/// Answers each line of the input as soon as it is complete, before anything more is read.
+///
+/// Fault 1 comes where the source failed, and fault 2 where the sink did. Fault 3 comes once 2^62 bytes were read.
+pub fn answer_lines<S: Source, K: Sink, A: Answer>(
+    source: &mut S,
+    sink: &mut K,
+    answerer: &mut A,
+) -> Result<(), LineFault>
+    ensures { Run S.gives K.takes A.answers source.old sink.old answerer.old source.new sink.new answerer.new result }
+{
+    let mut block = [0u8; BLOCK_BYTES];
+    let mut cutter = LineCutter::new();
+    let mut total: u64 = 0;
+    while total < MOST_BYTES {
+        let count = source.fill(&mut block)?;
+        if count == 0 {
+            answer_last(sink, answerer, &cutter)?;
+            return Ok(());
+        }
+        answer_block(sink, answerer, &mut cutter, &block[..count])?;
+        total += count as u64;
+    }
+    Err(LineFault::TooMuch)
+}

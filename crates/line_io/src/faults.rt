@@ -1,0 +1,57 @@
+//! Why a run ended before its input did.
+ghost use Rattle.std.specs.Prelude.{◌≡◌};
+ghost use Rattle.line_io.specs.Views.{number_of};
+ghost use Rattle.line_io.specs.declared.faults.LineFault.TheVariants.{Read, Write};
+
+use thiserror::Error;
+
+/// A source has failed.
+#[derive(Clone, Copy, Debug, PartialEq, Eq)]
+pub struct ReadFailed;
+
+/// A sink has failed, or has taken no byte of a write.
+#[derive(Clone, Copy, Debug, PartialEq, Eq)]
+pub struct WriteFailed;
+
+/// Why a run ended before its input did. Each fault has a number.
+#[derive(Clone, Copy, Debug, PartialEq, Eq, Error)]
+pub enum LineFault {
+    /// Number 1: the source has failed.
+    #[error("the input could not be read")]
+    Read,
+    /// Number 2: the sink has failed, or has taken no byte of a write.
+    #[error("the output could not be written")]
+    Write,
+    /// Number 3: 2^62 bytes or more were read.
+    #[error("the input is too long")]
+    TooMuch,
+}
+
+impl LineFault {
+    /// The number of the fault.
+    pub fn number(self) -> u8
+        ensures { result ≡ number_of self }
+    {
+        match self {
+            LineFault::Read => 1,
+            LineFault::Write => 2,
+            LineFault::TooMuch => 3,
+        }
+    }
+}
+
+impl From<ReadFailed> for LineFault {
+    ghost from_gives = { λ _ fault. fault ≡ Read };
+
+    fn from(_: ReadFailed) -> LineFault {
+        LineFault::Read
+    }
+}
+
+impl From<WriteFailed> for LineFault {
+    ghost from_gives = { λ _ fault. fault ≡ Write };
+
+    fn from(_: WriteFailed) -> LineFault {
+        LineFault::Write
+    }
+}

@@ -1,0 +1,57 @@
+//! Laws of lines and of runs. A function here does nothing: its contract is the law.
+ghost use Rattle.std.specs.Prelude.{◌≡◌, ℕ, List, [], ◌∷◌, ◌++◌, map, Result, Some, replicate};
+ghost use Rattle.std.specs.List.{concat};
+ghost use Rattle.line_io.specs.declared.faults.WriteFailed.{WriteFailed};
+ghost use Rattle.line_io.specs.declared.input.FromReader.{FromReader};
+ghost use Rattle.line_io.specs.declared.output.FromWriter.{FromWriter};
+ghost use Rattle.line_io.specs.Leads.{Leads};
+ghost use Rattle.line_io.specs.Streams.{Gave, Ended};
+ghost use Rattle.line_io.specs.Writes.{writes_of};
+ghost use Rattle.line_io.specs.declared.faults.LineFault.{LineFault};
+ghost use Rattle.line_io.specs.Lines.{LineText, Whole, TooLong, lines_of, ended_lines_of};
+ghost use Rattle.line_io.specs.Runs.{Run, FunctionRun};
+
+use crate::answering::Answer;
+use crate::input::{FromReader, Source};
+use crate::output::{FromWriter, Sink};
+use std::io::{Read, Write};
+
+/// Small texts and their lines, worked by hand: `a` is 97, `b` is 98, CR is 13 and LF is 10.
+pub fn lines_of_small_texts()
+    ensures no_byte { lines_of [] ≡ [] }
+    ensures an_empty_line { lines_of (10 ∷ []) ≡ Whole [] ∷ [] }
+    ensures no_end { lines_of (97 ∷ 10 ∷ 98 ∷ []) ≡ Whole (97 ∷ []) ∷ Whole (98 ∷ []) ∷ [] }
+    ensures one_return { lines_of (97 ∷ 13 ∷ 10 ∷ []) ≡ Whole (97 ∷ []) ∷ [] }
+    ensures two_returns { lines_of (13 ∷ 13 ∷ 10 ∷ []) ≡ Whole (13 ∷ []) ∷ [] }
+    ensures inner_return { lines_of (13 ∷ 97 ∷ 10 ∷ []) ≡ Whole (13 ∷ 97 ∷ []) ∷ [] }
+    ensures last_return { lines_of (97 ∷ 13 ∷ []) ≡ Whole (97 ∷ 13 ∷ []) ∷ [] }
+    ensures ended { ended_lines_of (97 ∷ 10 ∷ 98 ∷ []) ≡ Whole (97 ∷ []) ∷ [] }
+    ensures most { lines_of (replicate 128 97 ++ 13 ∷ 10 ∷ []) ≡ Whole (replicate 128 97) ∷ [] }
+    ensures longer { lines_of (replicate 129 97 ++ 10 ∷ 98 ∷ []) ≡ TooLong ∷ Whole (98 ∷ []) ∷ [] }
+    ensures return_and_no_end { lines_of (replicate 128 97 ++ 13 ∷ []) ≡ TooLong ∷ [] }
+{}
+
+/// Where each answer is a function of its line, what a run writes is a function of what it reads.
+pub fn run_by_function<S: Source, K: Sink, A: Answer>()
+    ensures { (answer : LineText → List ℕ)
+        → ((a : A) (line : LineText) (text : List ℕ) (b : A) → A.answers a line text b → text ≡ answer line)
+        → (source source' : S) (sink sink' : K) (answerer answerer' : A) (r : Result (Unit {0}) LineFault)
+        → Run S.gives K.takes A.answers source sink answerer source' sink' answerer' r
+        → FunctionRun S.gives K.takes answer source sink source' sink' r }
+{}
+
+/// Where the bytes that a reader has left are known, its reads up to the end give all of them.
+pub fn known_bytes_are_read<R: Read>()
+    ensures { (old new : FromReader R) (blocks : List (List ℕ)) (bytes : List ℕ)
+        → R.remaining old.reader ≡ Some bytes
+        → Leads ⟦<FromReader<R> as Source>⟧.gives old (map Gave blocks ++ Ended ∷ []) new
+        → concat blocks ≡ bytes }
+{}
+
+/// Where the bytes that a writer holds are known, its writes add what they took to them.
+pub fn known_contents_grow<W: Write>()
+    ensures { (old new : FromWriter W) (pieces : List (List ℕ)) (r : Result (Unit {0}) WriteFailed) (bytes : List ℕ)
+        → W.contents old.writer ≡ Some bytes
+        → Leads ⟦<FromWriter<W> as Sink>⟧.takes old (writes_of pieces r) new
+        → W.contents new.writer ≡ Some (bytes ++ concat pieces) }
+{}

@@ -1,0 +1,38 @@
+//! Lines in, answers out: reads bytes in blocks, cuts them into lines, and writes the answer to each line
+//! with an LF as soon as the line is complete, by one call, before anything more is read. Nothing here takes
+//! memory: a block, a line and an answer are held in arrays.
+//!
+//! A line ends with LF, and one CR directly before that LF is dropped. Bytes after the last LF, if there are
+//! any, are a line too, and keep a CR at their end. A line of more than 128 bytes without its end is
+//! `TooLong`: its bytes are skipped, and the next line is cut as usual.
+//!
+//! Values and what they stand for. A `LineCutter` is the bytes since the last LF, or `None` where they are too
+//! many for a line; its invariant is that only beyond 128 kept bytes does it note a CR or more. A `Source`, a
+//! `Sink` and an `Answer` are states, each with a relation of its own: what one read may give, what one write
+//! may take, and which text may answer a line. What a run did is told by chains of these states
+//! (`specs/Leads.antt`, `specs/Runs.antt`), so that no read, no write and no fault can be made up: each is that
+//! of a call. Where each answer is a function of its line, what was written is a function of what was read
+//! (`run_by_function`).
+//!
+//! ```text
+//! let mut source = FromReader { reader: b"one\r\ntwo".as_slice() };
+//! let mut sink = FromWriter { writer: Vec::new(alloc) };
+//! answer_lines(&mut source, &mut sink, &mut answerer)?;   // asks for `one`, writes, asks for `two`, writes
+//! ```
+#![tactic(auto)]
+
+mod answering;
+mod cutting;
+mod faults;
+mod input;
+mod laws;
+mod output;
+#[cfg(test)]
+mod tests;
+
+pub use answering::{Answer, Text, answer_lines};
+pub use cutting::{Line, LineCutter};
+pub use faults::{LineFault, ReadFailed, WriteFailed};
+pub use input::{FromReader, Source};
+pub use laws::{known_bytes_are_read, known_contents_grow, lines_of_small_texts, run_by_function};
+pub use output::{FromWriter, Sink, write_text};

@@ -1,0 +1,56 @@
+//! Where answers go.
+ghost use Rattle.std.specs.Prelude.{◌≡◌, ◌<◌, ◌≤◌, length, IfOk};
+ghost use Rattle.line_io.specs.Streams.{WriteAnswer, write_answer, WritesKnown};
+ghost use Rattle.line_io.specs.Writes.{IsWritten};
+
+use crate::faults::WriteFailed;
+use std::io::{ErrorKind, Write};
+
+/// How often a write that a signal interrupts is made again.
+const WRITE_TRIES: u32 = 65536;
+
+/// Takes the bytes of an output.
+pub trait Sink {
+    /// What one call of `put` may do, and the states before and after it.
+    ghost takes: { Self → WriteAnswer → Self → Type 0 };
+
+    /// Takes the first of these bytes, at least one, and gives their number.
+    fn put(&mut self, bytes: &[u8]) -> Result<usize, WriteFailed>
+        requires { 0 < length bytes.now }
+        ensures some { IfOk result (λ n. 0 < n) }
+        ensures bound { IfOk result (λ n. n ≤ length bytes.now) }
+        ensures answer { takes self.old (write_answer result bytes.now) self.new };
+}
+
+/// A writer of std as a sink. A write that takes no byte has failed.
+#[derive(Drop)]
+pub struct FromWriter<W> {
+    pub writer: W,
+}
+
+impl<W: Write> Sink for FromWriter<W> {
+    ghost takes = { λ s answer t. WritesKnown (W.contents s.writer) answer (W.contents t.writer) };
+
+    fn put(&mut self, bytes: &[u8]) -> Result<usize, WriteFailed> {
+        for _ in 0..WRITE_TRIES {
+            match self.writer.write(bytes) {
+                Ok(0) => return Err(WriteFailed),
+                Ok(count) => return Ok(count),
+                Err(error) if error.kind() == ErrorKind::Interrupted => {}
+                Err(_) => return Err(WriteFailed),
+            }
+        }
+        Err(WriteFailed)
+    }
+}
+
+/// Writes all of these bytes, by one call where the sink takes them all at once.
+pub fn write_text<K: Sink>(sink: &mut K, bytes: &[u8]) -> Result<(), WriteFailed>
+    ensures { IsWritten K.takes sink.old bytes.now sink.new result }
+{
+    let mut sent = 0;
+    while sent < bytes.len() {
+        sent += sink.put(&bytes[sent..])?;
+    }
+    Ok(())
+}
