@@ -14,6 +14,6 @@ bytes_and bytes More = None
 abbrev pub bytes_held : Inside → Option (List ℕ)
 bytes_held c = bytes_and (take c.len c.bytes) c.beyond
 
--- only beyond 128 bytes is there anything
+-- at most 128 bytes are kept, and only where they are 128 has more come beyond them
 abbrev pub IsCutter : Inside → Type 0
 IsCutter c = (c.len ≤ 128) × (c.beyond ≢ Nothing → c.len ≡ 128)

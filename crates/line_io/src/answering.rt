@@ -25,7 +25,7 @@ const BLOCK_BYTES: usize = 4096;
 /// A run that has read so many bytes reads no more.
 const MOST_BYTES: u64 = 1 << 62;
 
-/// The answer to a line, without LF.
+/// The answer to a line, without LF: at most 63 bytes.
 pub type Text = ArrayVec<u8, TEXT_BYTES>;
 
 /// Answers lines, one after another.
@@ -90,7 +90,10 @@ fn answer_last<K: Sink, A: Answer>(
 
 /// Answers each line of the input as soon as it is complete, before anything more is read.
 ///
-/// Fault 1 comes where the source failed, and fault 2 where the sink did. Fault 3 comes once 2^62 bytes were read.
+/// At Ok the source has given its end, and every line is answered and written, the last one too where no LF
+/// ends it. Fault 1 comes where the source failed, and fault 3 once 2^62 bytes were read: the lines that an LF
+/// ended are answered and written then. Fault 2 comes where the sink failed: the first lines are answered, and
+/// what was written of the last answer is a beginning.
 pub fn answer_lines<S: Source, K: Sink, A: Answer>(
     source: &mut S,
     sink: &mut K,

@@ -14,7 +14,8 @@ pub trait Sink {
     /// What one call of `put` may do, and the states before and after it.
     ghost takes: { Self → WriteAnswer → Self → Type 0 };
 
-    /// Takes the first of these bytes, at least one, and gives their number.
+    /// Takes the first of these bytes, at least one, and gives their number. It is refused where the output
+    /// fails.
     fn put(&mut self, bytes: &[u8]) -> Result<usize, WriteFailed>
         requires { 0 < length bytes.now }
         ensures some { IfOk result (λ n. 0 < n) }
@@ -22,9 +23,11 @@ pub trait Sink {
         ensures answer { takes self.old (write_answer result bytes.now) self.new };
 }
 
-/// A writer of std as a sink. A write that takes no byte has failed.
+/// A writer of std as a sink. A write that a signal interrupts is made again, up to 65,536 times; each other
+/// error, and a write that takes no byte, is a failure. Nothing is flushed.
 #[derive(Drop)]
 pub struct FromWriter<W> {
+    /// The writer, which has what `put` took.
     pub writer: W,
 }
 
@@ -44,7 +47,8 @@ impl<W: Write> Sink for FromWriter<W> {
     }
 }
 
-/// Writes all of these bytes, by one call where the sink takes them all at once.
+/// Writes all of these bytes: the first call offers them all, and each further one what is left. It is refused
+/// at the first write that fails, and a beginning of the bytes is written then.
 pub fn write_text<K: Sink>(sink: &mut K, bytes: &[u8]) -> Result<(), WriteFailed>
     ensures { IsWritten K.takes sink.old bytes.now sink.new result }
 {

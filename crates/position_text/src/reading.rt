@@ -1,5 +1,5 @@
 //! From a text to its position.
-ghost use Rattle.std.specs.Prelude.{◌≡◌, ◌≢◌, ◌≤◌, ◌↔◌, ℕ, length, Ok, Err, IfOk, IfErr};
+ghost use Rattle.std.specs.Prelude.{◌≡◌, ◌≢◌, ◌↔◌, ℕ, length, Ok, Err, IfOk, IfErr};
 ghost use Rattle.position_text.specs.declared.positions.Position.{Position};
 ghost use Rattle.position_text.specs.Spelling.{Spells, FitsWords, IsBadCell, IsBadSide};
 ghost use Rattle.position_text.specs.Discs.{HoldsFirst};

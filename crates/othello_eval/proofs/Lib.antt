@@ -1,0 +1,5 @@
+pub mod ValueLemmas
+pub mod CodeLemmas
+pub mod MinimaxLemmas
+pub mod BestLemmas
+pub mod PlainLemmas

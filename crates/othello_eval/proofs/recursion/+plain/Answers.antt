@@ -1,0 +1,83 @@
+use Rattle.std.proofs.Common.{◌-◌, ◌<◌, sym, ap, ◌∙◌, subst, to_z, w32, Some, arith}
+use Rattle.othello_board.specs.Words.{cells}
+use Rattle.othello_moves.specs.Choices.{choices}
+use Rattle.othello_moves.proofs.AllowedLemmas.{length-cells}
+use Rattle.othello_eval.specs.Values.{IsWithin}
+use Rattle.othello_eval.specs.Minimax.{choice_value}
+use Rattle.othello_eval.proofs.MinimaxLemmas.{minimax-over, best_choice-over, minimax_within}
+use Rattle.othello_eval.proofs.PlainLemmas.{same_bits, within_more, child_value, leaf_value_at, leaf_choice_at, start_value, start_choice, running_more, running_same, running_all, left_chosen, next_chosen}
+use Rattle.othello_eval.proofs.recursion.+plain.Goals as goal
+
+pub returns-in_default : goal.returns-in_default
+returns-in_default t c =
+    let board = cells c.args.board in
+    let over = sym c.new-left.ensures ∙ c.in_default.ensures.cases in
+    let same = same_bits c.final_value.result c.final_value.ensures.within in
+    record {
+      value = same ∙ c.final_value.ensures.value ∙ sym (minimax-over c.args.depth board over);
+      within = subst (IsWithin 128000) (sym same) c.final_value.ensures.within;
+      choice = sym (best_choice-over c.args.depth board over);
+    }
+
+pub returns-then-depth-eq0 : goal.returns-then-depth-eq0
+returns-then-depth-eq0 t c =
+    let board = cells c.args.board in
+    let is = sym c.new-left.ensures ∙ c.in-Some.ensures.cases in
+    let within = within_more c.eval.result c.eval.ensures.within in
+    let same = same_bits c.eval.result within in
+    record {
+      value = same ∙ c.eval.ensures.value ∙ leaf_value_at c.args.depth board _ _ is c.if-depth-eq0.true;
+      within = subst (IsWithin 128000) (sym same) within;
+      choice = leaf_choice_at c.args.depth board c.if-depth-eq0.true;
+    }
+
+pub loop-next-init : goal.loop-next-init
+loop-next-init t c =
+    let board = cells c.args.board in
+    let deep : 0 < c.args.depth = omega arith in
+    let is = sym c.new-left.ensures ∙ c.in-Some.ensures.cases in
+    let worth = child_value (c.args.depth - 1) board (cells c.after.result) c.in-Some.first c.plain-value.result.value c.after.ensures c.plain-value.ensures.value c.plain-value.ensures.within in
+    record {
+      value = start_value c.args.depth board _ c.in-Some.first c.pop_first.new.self is deep worth;
+      choice = start_choice c.args.depth board _ c.in-Some.first c.pop_first.new.self is deep worth;
+      chosen = left_chosen (choices board) c.pop_first.new.self c.in-Some.first is;
+    }
+
+pub after-requires-in-Some-pop_first : goal.after-requires-in-Some-pop_first
+after-requires-in-Some-pop_first t c =
+    (next_chosen (choices (cells c.args.board)) c.loop-next.left _ c.in-Some-pop_first.next c.loop-next.invariant.chosen c.in-Some-pop_first.ensures.cases).0
+
+pub loop-next-preserved-then-other-value : goal.loop-next-preserved-then-other-value
+loop-next-preserved-then-other-value t c =
+    let board = cells c.args.board in
+    let next = c.in-Some-pop_first.next in
+    let worth = child_value (c.args.depth - 1) board (cells c.after-in-Some-pop_first.result) next c.plain-other.result.value c.after-in-Some-pop_first.ensures c.plain-other.ensures.value c.plain-other.ensures.within in
+    let step = running_more (choice_value (c.args.depth - 1) board) (to_z w32 c.loop-next.value-bits) _ c.loop-next.best next c.loop-next.left c.pop_first-in-loop-next.new.self c.in-Some-pop_first.ensures.cases worth c.if-other-value.true in
+    record {
+      value = ap (λ p. p.0) step ∙ c.loop-next.invariant.value;
+      choice = ap (λ p. Some p.1) step ∙ c.loop-next.invariant.choice;
+      chosen = (next_chosen (choices board) c.loop-next.left _ next c.loop-next.invariant.chosen c.in-Some-pop_first.ensures.cases).1;
+    }
+
+pub loop-next-preserved : goal.loop-next-preserved
+loop-next-preserved t c =
+    let board = cells c.args.board in
+    let next = c.in-Some-pop_first.next in
+    let worth = child_value (c.args.depth - 1) board (cells c.after-in-Some-pop_first.result) next c.plain-other.result.value c.after-in-Some-pop_first.ensures c.plain-other.ensures.value c.plain-other.ensures.within in
+    let step = running_same (choice_value (c.args.depth - 1) board) (to_z w32 c.loop-next.value-bits) _ c.loop-next.best next c.loop-next.left c.pop_first-in-loop-next.new.self c.in-Some-pop_first.ensures.cases worth c.if-other-value.false in
+    record {
+      value = ap (λ p. p.0) step ∙ c.loop-next.invariant.value;
+      choice = ap (λ p. Some p.1) step ∙ c.loop-next.invariant.choice;
+      chosen = (next_chosen (choices board) c.loop-next.left _ next c.loop-next.invariant.chosen c.in-Some-pop_first.ensures.cases).1;
+    }
+
+pub returns : goal.returns
+returns t c =
+    let board = cells c.args.board in
+    let end = running_all (choice_value (c.args.depth - 1) board) (to_z w32 c.loop-next.value-bits) c.loop-next.best c.loop-next.left c.in_default-pop_first.ensures.cases in
+    let value = ap (λ p. p.0) (sym end) ∙ c.loop-next.invariant.value in
+    record {
+      value = value;
+      within = subst (IsWithin 128000) (sym value) (minimax_within c.args.depth board (length-cells c.args.board));
+      choice = ap (λ p. Some p.1) (sym end) ∙ c.loop-next.invariant.choice;
+    }

@@ -1,0 +1,40 @@
+-- The minimax value of a board to a depth, and the best choice.
+use Rattle.std.specs.Prelude.{ℕ, zero, suc, ℤ, neg_ℤ, Bool, ◌&&◌, List, [], ◌∷◌, map, Option, None, find, int_le}
+use Rattle.std.specs.Int.{int_max}
+use Rattle.othello_board.specs.declared.cells.Cell.{Cell}
+use Rattle.othello_moves.specs.declared.choices.Choice.{Choice}
+use Rattle.othello_moves.specs.Choices.{choices, after}
+use Rattle.othello_eval.specs.Values.{eval, final_value}
+
+-- the greatest of these numbers, of which x is one
+abbrev pub greatest : ℤ → List ℤ → ℤ
+greatest x [] = x
+greatest x (y ∷ more) = int_max x (greatest y more)
+
+-- the greatest of these numbers, or another where there is none
+abbrev pub greatest_or : ℤ → List ℤ → ℤ
+greatest_or other [] = other
+greatest_or other (x ∷ more) = greatest x more
+
+-- the value of a board at depth 0: of the finished game where there is no choice, else the evaluation
+abbrev pub leaf_value : List Cell → List Choice → ℤ
+leaf_value board [] = final_value board
+leaf_value board (c ∷ more) = eval board
+
+-- the minimax value of a board to a depth: the value of the finished game where there is no choice, else
+-- at depth 0 the evaluation, else the greatest of what the choices are worth to the mover
+unfoldable pub minimax : ℕ → List Cell → ℤ
+minimax zero board = leaf_value board (choices board)
+minimax (suc depth) board = greatest_or (final_value board) (map (λ c. neg_ℤ (minimax depth (after board c))) (choices board))
+
+-- what a choice is worth to the mover, with this many plies to follow it
+abbrev pub choice_value : ℕ → List Cell → Choice → ℤ
+choice_value depth board c = neg_ℤ (minimax depth (after board c))
+
+abbrev pub int_equal : ℤ → ℤ → Bool
+int_equal x y = int_le x y && int_le y x
+
+-- the first choice in order that attains the minimax value; none at depth 0 and in a finished game
+unfoldable pub best_choice : ℕ → List Cell → Option Choice
+best_choice zero board = None
+best_choice (suc depth) board = find (λ c. int_equal (choice_value depth board c) (minimax (suc depth) board)) (choices board)

@@ -1,0 +1,58 @@
+//! What holds of the values of every board: each contract is a law. A board is a list of cells here.
+ghost use Rattle.std.specs.Prelude.{◌≡◌, ◌≢◌, ◌<◌, ◌≤ℤ◌, ◌<ℤ◌, ℕ, ℤ, suc, List, [], ◌∷◌, ◌++◌, Some, None, IsSome, All, Contains, count_by, length};
+ghost use Rattle.othello_board.specs.declared.cells.Cell.{Cell};
+ghost use Rattle.othello_board.specs.Rules.{is_own_cell, is_opp_cell};
+ghost use Rattle.othello_moves.specs.declared.choices.Choice.{Choice};
+ghost use Rattle.othello_moves.specs.Choices.{choices};
+ghost use Rattle.othello_eval.specs.Values.{eval, final_value, IsWithin};
+ghost use Rattle.othello_eval.specs.Minimax.{minimax, choice_value, best_choice};
+
+/// An evaluation lies within -1,184 and 1,184, and every minimax value of a board of 64 cells, so a
+/// final value too, within -128,000 and 128,000.
+pub fn values_are_bounded()
+    ensures evaluation { (board : List Cell) → IsWithin 1184 (eval board) }
+    ensures last { (board : List Cell) → length board ≡ 64 → IsWithin 128000 (final_value board) }
+    ensures minimax { (depth : ℕ) (board : List Cell) → length board ≡ 64 → IsWithin 128000 (minimax depth board) }
+{}
+
+/// One disc of difference in a finished game outranks every evaluation.
+pub fn a_disc_outranks_evaluations()
+    ensures won { (board other : List Cell)
+        → count_by is_opp_cell board < count_by is_own_cell board → eval other <ℤ final_value board }
+    ensures lost { (board other : List Cell)
+        → count_by is_own_cell board < count_by is_opp_cell board → final_value board <ℤ eval other }
+{}
+
+/// A finished game has its final value at every depth, and no best choice.
+pub fn finished_games()
+    ensures value { (depth : ℕ) (board : List Cell) → choices board ≡ [] → minimax depth board ≡ final_value board }
+    ensures choice { (depth : ℕ) (board : List Cell) → choices board ≡ [] → best_choice depth board ≡ None }
+{}
+
+/// At depth 0 a game that goes on has its evaluation, and no best choice.
+pub fn games_at_depth_0()
+    ensures value { (board : List Cell) → choices board ≢ [] → minimax 0 board ≡ eval board }
+    ensures choice { (board : List Cell) → best_choice 0 board ≡ None }
+{}
+
+/// At depth 1 and more the value of a game that goes on is the greatest of what the choices are worth:
+/// it is one of these, no choice is worth more, and a number that no choice exceeds isn't less.
+pub fn value_is_the_greatest()
+    ensures attained { (depth : ℕ) (board : List Cell) → choices board ≢ []
+        → IsSome (best_choice (suc depth) board) }
+    ensures above { (depth : ℕ) (board : List Cell)
+        → All (λ c. choice_value depth board c ≤ℤ minimax (suc depth) board) (choices board) }
+    ensures least { (depth : ℕ) (board : List Cell) (s : ℤ) → choices board ≢ []
+        → All (λ c. choice_value depth board c ≤ℤ s) (choices board) → minimax (suc depth) board ≤ℤ s }
+{}
+
+/// The best choice is a choice that attains the value, and the first in order that does.
+pub fn best_choice_is_the_first()
+    ensures attains { (depth : ℕ) (board : List Cell) (c : Choice) → best_choice (suc depth) board ≡ Some c
+        → (choice_value depth board c ≡ minimax (suc depth) board) × Contains (choices board) c }
+    ensures first { (depth : ℕ) (board : List Cell) (done : List Choice) (c : Choice) (rest : List Choice)
+        → choices board ≡ done ++ c ∷ rest
+        → choice_value depth board c ≡ minimax (suc depth) board
+        → All (λ e. choice_value depth board e <ℤ minimax (suc depth) board) done
+        → best_choice (suc depth) board ≡ Some c }
+{}

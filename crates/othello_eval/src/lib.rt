@@ -1,0 +1,27 @@
+//! The values of an Othello board, seen by the player to move: of a finished game, of a game that goes
+//! on, and the minimax value to a depth.
+//!
+//! [`final_value`] and [`eval`] are the two sums of `specs/Values.antt` over the 64 cells of a board:
+//! 2000 for each disc of difference in a finished game, and else the weights of the own discs less
+//! those of the opposing ones, and 4 for each legal square more than the opponent has. An evaluation
+//! lies within -1,184 and 1,184, so that one disc in a finished game outranks it; every value lies
+//! within -128,000 and 128,000. `minimax` and `best_choice` of `specs/Minimax.antt` are plain
+//! recursions over these and the choices of a board; [`plain`] computes both as they are written.
+//! Boards are values, and nothing here keeps a state.
+//!
+//! ```text
+//! // the opening, with Black to move, one ply deep: d3 is the first of four equal moves
+//! plain(opening, 1) == Valued { value: -3, choice: Some(Choice::Square(19)) }
+//! ```
+#![tactic(auto)]
+
+pub mod laws;
+mod recursion;
+pub mod rows;
+mod values;
+
+pub use recursion::{Valued, plain};
+pub use values::{eval, final_value};
+
+#[cfg(test)]
+mod tests;

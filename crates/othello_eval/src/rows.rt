@@ -1,0 +1,54 @@
+//! The definitions of values, tried on boards: each contract is computed from the definitions alone.
+ghost use Rattle.std.specs.Prelude.{◌≡◌, pos, negsuc, Some, None};
+ghost use Rattle.othello_board.specs.Rows.{opening};
+ghost use Rattle.othello_moves.specs.declared.choices.Choice.TheVariants.{Square, Pass};
+ghost use Rattle.othello_moves.specs.Rows.{two_discs, two_discs_from_there};
+ghost use Rattle.othello_eval.specs.Minimax.{minimax, best_choice};
+ghost use Rattle.othello_eval.specs.Rows.{all_opposing, no_discs, corner_or_edge};
+
+/// The opening is worth nothing to either side.
+pub fn opening_at_depth_0()
+    ensures value { minimax 0 opening ≡ pos 0 }
+    ensures choice { best_choice 0 opening ≡ None }
+{}
+
+/// One ply from the opening the four moves are equal, and d3 (19) comes first: -3.
+pub fn opening_at_depth_1()
+    ensures value { minimax 1 opening ≡ negsuc 2 }
+    ensures choice { best_choice 1 opening ≡ Some (Square 19) }
+{}
+
+/// Two plies deep White answers d3 best by c3, which is worth 4 to White; d3 still comes first: -4.
+pub fn opening_at_depth_2()
+    ensures value { minimax 2 opening ≡ negsuc 3 }
+    ensures choice { best_choice 2 opening ≡ Some (Square 19) }
+{}
+
+/// Two discs in the corner: c1 (2) ends the game by 3 discs to none, with empty squares left.
+pub fn game_ends_with_empty_squares()
+    ensures value { minimax 1 two_discs ≡ pos 6000 }
+    ensures choice { best_choice 1 two_discs ≡ Some (Square 2) }
+{}
+
+/// The other side passes: one ply deep the weights of a1 and b1 and the one move decide, -100 - 20 - 4;
+/// two plies deep the end of the game does.
+pub fn pass_takes_one_ply()
+    ensures shallow { minimax 1 two_discs_from_there ≡ negsuc 123 }
+    ensures shallow_choice { best_choice 1 two_discs_from_there ≡ Some Pass }
+    ensures deep { minimax 2 two_discs_from_there ≡ negsuc 5999 }
+    ensures deep_choice { best_choice 2 two_discs_from_there ≡ Some Pass }
+{}
+
+/// A lost board is worth -128,000 at every depth, and an empty one nothing; neither has a choice.
+pub fn finished_boards()
+    ensures lost { minimax 12 all_opposing ≡ negsuc 127999 }
+    ensures lost_choice { best_choice 12 all_opposing ≡ None }
+    ensures empty { minimax 5 no_discs ≡ pos 0 }
+    ensures empty_choice { best_choice 5 no_discs ≡ None }
+{}
+
+/// The corner a1 (0) is worth 89, and e1 only 40.
+pub fn corner_outweighs_edge()
+    ensures value { minimax 1 corner_or_edge ≡ pos 89 }
+    ensures choice { best_choice 1 corner_or_edge ≡ Some (Square 0) }
+{}
