@@ -31,6 +31,7 @@ minimax (suc depth) board = greatest_or (final_value board) (map (λ c. neg_ℤ 
 abbrev pub choice_value : ℕ → List Cell → Choice → ℤ
 choice_value depth board c = neg_ℤ (minimax depth (after board c))
 
+-- whether two numbers are the same
 abbrev pub int_equal : ℤ → ℤ → Bool
 int_equal x y = int_le x y && int_le y x
 

@@ -5,16 +5,19 @@ use Rattle.othello_board.specs.declared.cells.Cell.TheVariants.{Empty, Own, Opp}
 use Rattle.othello_board.specs.Rules.{exchanged, is_own_cell, is_opp_cell}
 use Rattle.othello_moves.specs.Choices.{legal_squares}
 
--- the weights of the squares of each row, a to h (negsuc 19 is -20)
+-- the weights of the squares of rows 1 and 8, a to h (negsuc 19 is -20)
 abbrev pub edge_row : List ℤ
 edge_row = pos 100 ∷ negsuc 19 ∷ pos 10 ∷ pos 5 ∷ pos 5 ∷ pos 10 ∷ negsuc 19 ∷ pos 100 ∷ []
 
+-- of rows 2 and 7
 abbrev pub second_row : List ℤ
 second_row = negsuc 19 ∷ negsuc 49 ∷ negsuc 1 ∷ negsuc 1 ∷ negsuc 1 ∷ negsuc 1 ∷ negsuc 49 ∷ negsuc 19 ∷ []
 
+-- of rows 3 and 6
 abbrev pub third_row : List ℤ
 third_row = pos 10 ∷ negsuc 1 ∷ negsuc 0 ∷ negsuc 0 ∷ negsuc 0 ∷ negsuc 0 ∷ negsuc 1 ∷ pos 10 ∷ []
 
+-- of rows 4 and 5
 abbrev pub middle_row : List ℤ
 middle_row = pos 5 ∷ negsuc 1 ∷ negsuc 0 ∷ negsuc 0 ∷ negsuc 0 ∷ negsuc 0 ∷ negsuc 1 ∷ pos 5 ∷ []
 

@@ -1,0 +1,198 @@
+//! Serial window search of Othello positions, twice: by the proved crate `leaf_search`, linked as a
+//! static library, and by this program's own bit boards. Both take the choices in one order (legal
+//! corners a1, h1, a8, h8, then the other squares by rising index) with the same windows, so values,
+//! moves and counts must agree. The two alternate over the same positions; the best round of each counts.
+//!
+//! usage: search_peer DEPTH ROUNDS
+use std::time::Instant;
+
+#[repr(C)]
+#[derive(Clone, Copy, PartialEq, Eq, Debug)]
+struct Found {
+    score: i32,
+    choice: u8,
+    visited: u64,
+}
+
+unsafe extern "C" {
+    fn kernel_search(own: u64, opp: u64, depth: u8, found: *mut Found);
+}
+
+const INF: i32 = 200_000;
+const POSITIONS: usize = 60;
+const CORNERS: u64 = 0x8100_0000_0000_0081;
+const NOT_A: u64 = 0xfefe_fefe_fefe_fefe;
+const NOT_H: u64 = 0x7f7f_7f7f_7f7f_7f7f;
+const PASS: u8 = 64;
+const NONE: u8 = 65;
+
+const WEIGHTS: [i32; 6] = [100, -20, 10, 5, -50, -2];
+
+/// The squares of each weight, as words.
+const CLASSES: [u64; 6] = [
+    0x8100_0000_0000_0081,
+    0x4281_0000_0000_8142,
+    0x2400_8100_0081_0024,
+    0x1800_0081_8100_0018,
+    0x0042_0000_0000_4200,
+    0x003c_4242_4242_3c00,
+];
+
+fn shift(discs: u64, direction: usize) -> u64 {
+    match direction {
+        0 => (discs & NOT_H) << 1,
+        1 => (discs & NOT_A) >> 1,
+        2 => discs << 8,
+        3 => discs >> 8,
+        4 => (discs & NOT_H) << 9,
+        5 => (discs & NOT_A) << 7,
+        6 => (discs & NOT_H) >> 7,
+        _ => (discs & NOT_A) >> 9,
+    }
+}
+
+fn moves(own: u64, opp: u64) -> u64 {
+    let empty = !(own | opp);
+    let mut found = 0;
+    for direction in 0..8 {
+        let mut run = shift(own, direction) & opp;
+        for _ in 0..5 {
+            run |= shift(run, direction) & opp;
+        }
+        found |= shift(run, direction) & empty;
+    }
+    found
+}
+
+fn play(own: u64, opp: u64, square: u32) -> (u64, u64) {
+    let disc = 1u64 << square;
+    let mut flips = 0;
+    for direction in 0..8 {
+        let mut run = 0;
+        let mut at = shift(disc, direction);
+        while at & opp != 0 {
+            run |= at;
+            at = shift(at, direction);
+        }
+        if at & own != 0 {
+            flips |= run;
+        }
+    }
+    (opp & !flips, own | flips | disc)
+}
+
+fn discs_value(discs: u64) -> i32 {
+    let others = !CLASSES.iter().fold(0, |all, class| all | class);
+    let classes: i32 = CLASSES.iter().zip(WEIGHTS).map(|(class, weight)| weight * (discs & class).count_ones() as i32).sum();
+    classes - (discs & others).count_ones() as i32
+}
+
+fn final_value(own: u64, opp: u64) -> i32 {
+    2000 * (own.count_ones() as i32 - opp.count_ones() as i32)
+}
+
+fn leaf_value(own: u64, opp: u64) -> i32 {
+    let own_moves = moves(own, opp);
+    let opp_moves = moves(opp, own);
+    if own_moves | opp_moves == 0 {
+        return final_value(own, opp);
+    }
+    discs_value(own) - discs_value(opp) + 4 * (own_moves.count_ones() as i32 - opp_moves.count_ones() as i32)
+}
+
+fn search(own: u64, opp: u64, depth: u8, alpha: i32, beta: i32) -> Found {
+    if depth == 0 {
+        return Found { score: leaf_value(own, opp), choice: NONE, visited: 1 };
+    }
+    let word = moves(own, opp);
+    if word == 0 {
+        if moves(opp, own) == 0 {
+            return Found { score: final_value(own, opp), choice: NONE, visited: 1 };
+        }
+        let child = search(opp, own, depth - 1, -beta, -alpha);
+        return Found { score: -child.score, choice: PASS, visited: 1 + child.visited };
+    }
+    let mut best = Found { score: -INF, choice: NONE, visited: 1 };
+    for mut part in [word & CORNERS, word & !CORNERS] {
+        while part != 0 {
+            let square = part.trailing_zeros();
+            part &= part - 1;
+            let (next_own, next_opp) = play(own, opp, square);
+            let child = search(next_own, next_opp, depth - 1, -beta, -alpha.max(best.score));
+            best.visited += child.visited;
+            if -child.score > best.score {
+                best.score = -child.score;
+                best.choice = square as u8;
+            }
+            if best.score >= beta {
+                return best;
+            }
+        }
+    }
+    best
+}
+
+fn proved(own: u64, opp: u64, depth: u8) -> Found {
+    let mut found = Found { score: 0, choice: NONE, visited: 0 };
+    unsafe { kernel_search(own, opp, depth, &mut found) };
+    found
+}
+
+/// Mid-game positions: played out from the opening by choices that a generator picks, 24 to 38 plies.
+fn positions() -> Vec<(u64, u64)> {
+    let mut random = 1u64;
+    let mut found = Vec::new();
+    while found.len() < POSITIONS {
+        let plies = 24 + found.len() % 15;
+        let (mut own, mut opp) = (1 << 28 | 1 << 35, 1 << 27 | 1 << 36);
+        for _ in 0..plies {
+            let word = moves(own, opp);
+            if word == 0 {
+                (own, opp) = (opp, own);
+                continue;
+            }
+            random = random.wrapping_mul(6_364_136_223_846_793_005).wrapping_add(1_442_695_040_888_963_407);
+            let mut part = word;
+            for _ in 0..(random >> 33) % u64::from(word.count_ones()) {
+                part &= part - 1;
+            }
+            (own, opp) = play(own, opp, part.trailing_zeros());
+        }
+        if moves(own, opp) | moves(opp, own) != 0 {
+            found.push((own, opp));
+        }
+    }
+    found
+}
+
+/// Positions entered, and how many a second.
+fn timed(positions: &[(u64, u64)], depth: u8, engine: fn(u64, u64, u8) -> Found) -> (Vec<Found>, f64) {
+    let start = Instant::now();
+    let found: Vec<Found> = positions.iter().map(|(own, opp)| engine(*own, *opp, depth)).collect();
+    let seconds = start.elapsed().as_secs_f64();
+    let visited: u64 = found.iter().map(|one| one.visited).sum();
+    (found, visited as f64 / seconds)
+}
+
+fn peer(own: u64, opp: u64, depth: u8) -> Found {
+    search(own, opp, depth, -INF, INF)
+}
+
+fn main() {
+    let words: Vec<String> = std::env::args().collect();
+    let depth: u8 = words[1].parse().expect("a depth");
+    let rounds: u32 = words[2].parse().expect("a number of rounds");
+    let positions = positions();
+    let (mut best_proved, mut best_peer) = (0.0f64, 0.0f64);
+    for round in 1..=rounds {
+        let (found, speed) = timed(&positions, depth, proved);
+        let (wanted, peer_speed) = timed(&positions, depth, peer);
+        assert_eq!(found, wanted, "value, move or count differs");
+        let visited: u64 = found.iter().map(|one| one.visited).sum();
+        println!("round {round}: {visited} positions, proved {speed:.0}/s, peer {peer_speed:.0}/s");
+        best_proved = best_proved.max(speed);
+        best_peer = best_peer.max(peer_speed);
+    }
+    println!("depth {depth}, {POSITIONS} positions: proved {best_proved:.0}/s, peer {best_peer:.0}/s");
+    println!("ratio {:.4}", best_proved / best_peer);
+}

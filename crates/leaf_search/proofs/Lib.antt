@@ -1,0 +1,3 @@
+pub mod ValueLemmas
+pub mod WindowLemmas
+pub mod MinimaxLemmas

@@ -1,0 +1,217 @@
+-- The steps of a window search at one position, over any choices and what each is worth.
+use Rattle.std.proofs.Common.{◌↔◌, append-nil, append_assoc, ◌≡◌, ◌<◌, length, ℤ, pos, negsuc, neg_ℤ, List, [], ◌∷◌, ◌++◌, map, Option, Some, refl, sym, ◌∙◌, ap, subst, arith}
+use Rattle.std.specs.Prelude.{find, ◌≤ℤ◌, ◌<ℤ◌, IsSome, All, Contains}
+use Rattle.std.specs.Int.{int_max}
+use Rattle.std.proofs.lemmas.Int.{ints, clamps, by_lt_z}
+use Rattle.std.proofs.lemmas.List.Elements.{All-nil, All-cons, All-append, All-weaker, Contains-append_right}
+use Rattle.othello_eval.specs.Minimax.{greatest, greatest_or, int_equal}
+use Rattle.leaf_search.specs.Bounds.{IsBound}
+use Rattle.leaf_search.proofs.ValueLemmas.{find-kept, find-new, greatest_or-upper, greatest_or-lower, found_below_greatest}
+
+-- what is known once these choices were searched, none of which ended the search: no value is above the
+-- best score, and where that is above alpha it is the value of the first choice that attains it
+pub record IsBestOf {X : Type 0} (alpha : ℤ) (v : X → ℤ) (taken : List X) (best : ℤ) (choice : Option X) : Type 0 where
+  pub above : All (λ c. v c ≤ℤ best) taken
+  pub first : alpha <ℤ best → find (λ c. int_equal (v c) best) taken ≡ choice
+  pub found : alpha <ℤ best → IsSome choice
+
+pub IsBestOf-none : {X : Type 0} (alpha : ℤ) (v : X → ℤ) (best : ℤ) (choice : Option X) → best ≤ℤ alpha → IsBestOf alpha v [] best choice
+IsBestOf-none alpha v best choice low = record {
+  above = All-nil (λ c. v c ≤ℤ best);
+  first = λ (higher : alpha <ℤ best). absurd (omega (arith, ints));
+  found = λ (higher : alpha <ℤ best). absurd (omega (arith, ints));
+}
+
+-- a choice that is worth no more leaves the best
+pub IsBestOf-kept : {X : Type 0} (alpha : ℤ) (v : X → ℤ) (taken : List X) (best : ℤ) (choice : Option X) (c : X) → IsBestOf alpha v taken best choice → v c ≤ℤ best → IsBestOf alpha v (taken ++ c ∷ []) best choice
+IsBestOf-kept alpha v taken best choice c so_far under = record {
+  above = All-append (λ c. v c ≤ℤ best) taken (c ∷ []) so_far.above (All-cons (λ c. v c ≤ℤ best) c [] under (All-nil (λ c. v c ≤ℤ best)));
+  first = λ higher. find-kept (λ c. int_equal (v c) best) taken c choice (so_far.first higher) (so_far.found higher);
+  found = so_far.found;
+}
+
+-- a choice with a better score that is at most alpha: the score is an upper bound
+pub IsBestOf-low : {X : Type 0} (alpha : ℤ) (v : X → ℤ) (taken : List X) (best : ℤ) (choice : Option X) (c : X) (score : ℤ) → IsBestOf alpha v taken best choice → best <ℤ score → score ≤ℤ alpha → v c ≤ℤ score → IsBestOf alpha v (taken ++ c ∷ []) score (Some c)
+IsBestOf-low alpha v taken best choice c score so_far better low under = record {
+  above = All-append (λ c. v c ≤ℤ score) taken (c ∷ [])
+      (All-weaker (λ c. v c ≤ℤ best) (λ c. v c ≤ℤ score) (λ d (below : v d ≤ℤ best). omega (arith, ints)) taken so_far.above)
+      (All-cons (λ c. v c ≤ℤ score) c [] under (All-nil (λ c. v c ≤ℤ score)));
+  first = λ (higher : alpha <ℤ score). absurd (omega (arith, ints));
+  found = λ (higher : alpha <ℤ score). absurd (omega (arith, ints));
+}
+
+-- a choice with a better score that is its value: it is the first with that value
+pub IsBestOf-new : {X : Type 0} (alpha : ℤ) (v : X → ℤ) (taken : List X) (best : ℤ) (choice : Option X) (c : X) (score : ℤ) → IsBestOf alpha v taken best choice → best <ℤ score → v c ≡ score → IsBestOf alpha v (taken ++ c ∷ []) score (Some c)
+IsBestOf-new alpha v taken best choice c score so_far better same = record {
+  above = All-append (λ c. v c ≤ℤ score) taken (c ∷ [])
+      (All-weaker (λ c. v c ≤ℤ best) (λ c. v c ≤ℤ score) (λ d (below : v d ≤ℤ best). omega (arith, ints)) taken so_far.above)
+      (All-cons (λ c. v c ≤ℤ score) c [] (omega (arith, ints)) (All-nil (λ c. v c ≤ℤ score)));
+  first = λ higher. find-new v score taken c
+      (All-weaker (λ c. v c ≤ℤ best) (λ c. v c <ℤ score) (λ d (below : v d ≤ℤ best). omega (arith, ints)) taken so_far.above)
+      same;
+  found = λ higher. refl;
+}
+
+-- once all choices were searched and none ended the search, the best score is the bound
+pub all_bound : {X : Type 0} (alpha beta : ℤ) (v : X → ℤ) (other : ℤ) (cs : List X) (best : ℤ) (choice : Option X) → 0 < length cs → best <ℤ beta → IsBestOf alpha v cs best choice → IsBound alpha beta best (greatest_or other (map v cs))
+all_bound alpha beta v other [] best choice some below so_far = absurd (omega arith)
+all_bound alpha beta v other (c ∷ cs) best choice some below so_far =
+    let most : greatest_or other (map v (c ∷ cs)) ≤ℤ best = greatest_or-upper v other c cs best so_far.above in
+    record {
+      upper = λ low. most;
+      lower = λ (high : beta ≤ℤ best). absurd (omega (arith, ints));
+      exact = λ higher lower.
+          let least : best ≤ℤ greatest_or other (map v (c ∷ cs)) = found_below_greatest v best c cs (subst IsSome (sym (so_far.first higher)) (so_far.found higher)) in
+          omega (arith, ints);
+    }
+
+-- and where it is above alpha, the choice is the first that attains the greatest value
+pub all_best : {X : Type 0} (alpha beta : ℤ) (v : X → ℤ) (other : ℤ) (cs : List X) (best : ℤ) (choice : Option X) → 0 < length cs → best <ℤ beta → IsBestOf alpha v cs best choice → alpha <ℤ best → choice ≡ find (λ c. int_equal (v c) (greatest_or other (map v cs))) cs
+all_best alpha beta v other cs best choice some below so_far higher =
+    let same : greatest_or other (map v cs) ≡ best = (all_bound alpha beta v other cs best choice some below so_far).exact higher below in
+    sym (ap (λ x. find (λ c. int_equal (v c) x) cs) same ∙ so_far.first higher)
+
+-- a choice with a score of at least beta that is a lower bound of its value ends the search
+pub cut_bound : {X : Type 0} (alpha beta : ℤ) (v : X → ℤ) (other : ℤ) (before : List X) (c : X) (later : List X) (score : ℤ) → alpha <ℤ beta → beta ≤ℤ score → score ≤ℤ v c → IsBound alpha beta score (greatest_or other (map v (before ++ c ∷ later)))
+cut_bound alpha beta v other before c later score window high under =
+    let least : v c ≤ℤ greatest_or other (map v (before ++ c ∷ later)) = greatest_or-lower v other before c later in
+    record {
+      upper = λ (low : score ≤ℤ alpha). absurd (omega (arith, ints));
+      lower = λ above. omega (arith, ints);
+      exact = λ (higher : alpha <ℤ score) (lower : score <ℤ beta). absurd (omega (arith, ints));
+    }
+
+-- what a child's score says of the choice that leads to it, where the child was searched with the window
+-- from -beta to -floor, floor being the greater of alpha and the best score
+pub child_under : (beta floor low high score value : ℤ) → low ≡ neg_ℤ beta → high ≡ neg_ℤ floor → IsBound low high score value → neg_ℤ score ≤ℤ floor → neg_ℤ value ≤ℤ neg_ℤ score
+child_under beta floor low high score value low_is high_is bound small =
+    let at_high : high ≤ℤ score = omega (arith, ints) in
+    let under : score ≤ℤ value = bound.lower at_high in omega (arith, ints)
+
+pub child_over : (beta floor low high score value : ℤ) → low ≡ neg_ℤ beta → high ≡ neg_ℤ floor → IsBound low high score value → beta ≤ℤ neg_ℤ score → neg_ℤ score ≤ℤ neg_ℤ value
+child_over beta floor low high score value low_is high_is bound great =
+    let at_low : score ≤ℤ low = omega (arith, ints) in
+    let over : value ≤ℤ score = bound.upper at_low in omega (arith, ints)
+
+pub child_exact : (beta floor low high score value : ℤ) → low ≡ neg_ℤ beta → high ≡ neg_ℤ floor → IsBound low high score value → floor <ℤ neg_ℤ score → neg_ℤ score <ℤ beta → neg_ℤ value ≡ neg_ℤ score
+child_exact beta floor low high score value low_is high_is bound higher lower =
+    let above_low : low <ℤ score = omega (arith, ints) in
+    let below_high : score <ℤ high = omega (arith, ints) in
+    ap neg_ℤ (bound.exact above_low below_high)
+
+-- one turn: the child that the choice c leads to was searched to a score with the window from -beta to
+-- -floor, and the best was raised where that score is better; the search wasn't ended
+pub IsBestOf-turn : {X : Type 0} (alpha beta : ℤ) (v : X → ℤ) (taken : List X) (best : ℤ) (choice : Option X) (c : X) (floor low high score value new_best : ℤ) (new_choice : Option X) →
+    IsBestOf alpha v taken best choice → floor ≡ int_max alpha best → low ≡ neg_ℤ beta → high ≡ neg_ℤ floor → IsBound low high score value → v c ≡ neg_ℤ value →
+    (best <ℤ neg_ℤ score → (new_best ≡ neg_ℤ score) × (new_choice ≡ Some c)) → (neg_ℤ score ≤ℤ best → (new_best ≡ best) × (new_choice ≡ choice)) →
+    best <ℤ beta → new_best <ℤ beta → IsBestOf alpha v (taken ++ c ∷ []) new_best new_choice
+IsBestOf-turn alpha beta v taken best choice c floor low high score value new_best new_choice so_far floor_is low_is high_is bound worth raised kept below new_below =
+    by_lt_z best (neg_ℤ score)
+    (λ better. let new = raised better in
+    subst (λ b. IsBestOf alpha v (taken ++ c ∷ []) b new_choice) (sym new.0) (subst (λ o. IsBestOf alpha v (taken ++ c ∷ []) (neg_ℤ score) o) (sym new.1) (
+    by_lt_z alpha (neg_ℤ score)
+    (λ higher. IsBestOf-new alpha v taken best choice c (neg_ℤ score) so_far better (worth ∙ child_exact beta floor low high score value low_is high_is bound (omega (arith, ints, clamps)) (omega (arith, ints))))
+    (λ under_alpha. IsBestOf-low alpha v taken best choice c (neg_ℤ score) so_far better under_alpha
+    (let under : neg_ℤ value ≤ℤ neg_ℤ score = child_under beta floor low high score value low_is high_is bound (omega (arith, ints, clamps)) in omega (arith, ints))))))
+    (λ no_better. let old = kept no_better in
+    subst (λ b. IsBestOf alpha v (taken ++ c ∷ []) b new_choice) (sym old.0) (subst (λ o. IsBestOf alpha v (taken ++ c ∷ []) best o) (sym old.1) (
+    IsBestOf-kept alpha v taken best choice c so_far
+    (let under : neg_ℤ value ≤ℤ neg_ℤ score = child_under beta floor low high score value low_is high_is bound (omega (arith, ints, clamps)) in omega (arith, ints)))))
+
+-- what holds between two turns: the choices are those taken and those left, the best is that of those
+-- taken and hasn't ended the search, and it is a true score once a choice was taken
+pub record IsSearching {X : Type 0} (alpha beta : ℤ) (v : X → ℤ) (all left : List X) (best : ℤ) (choice : Option X) : Type 0 where
+  pub taken : List X
+  pub split : taken ++ left ≡ all
+  pub so_far : IsBestOf alpha v taken best choice
+  pub below : best <ℤ beta
+  pub least : negsuc 199999 ≤ℤ best
+  pub real : 0 < length taken → negsuc 127999 ≤ℤ best
+  pub greatest : best ≤ℤ pos 128000
+
+pub IsSearching-start : {X : Type 0} (alpha beta : ℤ) (v : X → ℤ) (all left : List X) (best : ℤ) (choice : Option X) → left ≡ all → best ≡ negsuc 199999 → negsuc 199999 ≤ℤ alpha → alpha <ℤ beta → IsSearching alpha beta v all left best choice
+IsSearching-start alpha beta v all left best choice same start low window = record {
+  taken = [];
+  split = same;
+  so_far = IsBestOf-none alpha v best choice (omega (arith, ints));
+  below = omega (arith, ints);
+  least = omega (arith, ints);
+  real = λ (some : 0 < 0). absurd (omega arith);
+  greatest = omega (arith, ints);
+}
+
+-- a turn that doesn't end the search
+pub IsSearching-turn : {X : Type 0} (alpha beta : ℤ) (v : X → ℤ) (all left : List X) (best : ℤ) (choice : Option X) (c : X) (rest : List X) (floor low high score value new_best : ℤ) (new_choice : Option X) →
+    IsSearching alpha beta v all left best choice → left ≡ c ∷ rest → floor ≡ int_max alpha best → low ≡ neg_ℤ beta → high ≡ neg_ℤ floor → IsBound low high score value → v c ≡ neg_ℤ value →
+    negsuc 127999 ≤ℤ score → score ≤ℤ pos 128000 →
+    (best <ℤ neg_ℤ score → (new_best ≡ neg_ℤ score) × (new_choice ≡ Some c)) → (neg_ℤ score ≤ℤ best → (new_best ≡ best) × (new_choice ≡ choice)) →
+    new_best <ℤ beta → IsSearching alpha beta v all rest new_best new_choice
+IsSearching-turn alpha beta v all left best choice c rest floor low high score value new_best new_choice s next floor_is low_is high_is bound worth least greatest raised kept new_below = record {
+  taken = s.taken ++ c ∷ [];
+  split = append_assoc s.taken (c ∷ []) rest ∙ (ap (λ l. s.taken ++ l) (sym next) ∙ s.split);
+  so_far = IsBestOf-turn alpha beta v s.taken best choice c floor low high score value new_best new_choice s.so_far floor_is low_is high_is bound worth raised kept s.below new_below;
+  below = new_below;
+  least = by_lt_z best (neg_ℤ score) (λ better. let new = raised better in omega (arith, ints)) (λ under. let old = kept under in omega (arith, ints));
+  real = λ some. by_lt_z best (neg_ℤ score) (λ better. let new = raised better in omega (arith, ints)) (λ under. let old = kept under in omega (arith, ints));
+  greatest = by_lt_z best (neg_ℤ score) (λ better. let new = raised better in omega (arith, ints)) (λ under. let old = kept under in omega (arith, ints));
+}
+
+-- a turn that ends the search: the bound, and a true score
+pub cut_score : (best beta score new_best : ℤ) → best <ℤ beta → beta ≤ℤ new_best → (best <ℤ neg_ℤ score → new_best ≡ neg_ℤ score) → (neg_ℤ score ≤ℤ best → new_best ≡ best) → new_best ≡ neg_ℤ score
+cut_score best beta score new_best below high raised kept =
+    by_lt_z best (neg_ℤ score) (λ better. raised better) (λ under. let old = kept under in absurd (omega (arith, ints)))
+
+pub IsSearching-cut : {X : Type 0} (alpha beta : ℤ) (v : X → ℤ) (all left : List X) (best : ℤ) (choice : Option X) (c : X) (rest : List X) (floor low high score value new_best other : ℤ) →
+    alpha <ℤ beta → IsSearching alpha beta v all left best choice → left ≡ c ∷ rest → low ≡ neg_ℤ beta → high ≡ neg_ℤ floor → IsBound low high score value → v c ≡ neg_ℤ value →
+    new_best ≡ neg_ℤ score → beta ≤ℤ new_best → IsBound alpha beta new_best (greatest_or other (map v all))
+IsSearching-cut alpha beta v all left best choice c rest floor low high score value new_best other window s next low_is high_is bound worth is great =
+    let over : neg_ℤ score ≤ℤ neg_ℤ value = child_over beta floor low high score value low_is high_is bound (omega (arith, ints)) in
+    subst (λ cs. IsBound alpha beta new_best (greatest_or other (map v cs))) (ap (λ l. s.taken ++ l) (sym next) ∙ s.split)
+    (cut_bound alpha beta v other s.taken c rest new_best window great (omega (arith, ints)))
+
+-- the end of the choices
+pub IsSearching-all : {X : Type 0} (alpha beta : ℤ) (v : X → ℤ) (all left : List X) (best : ℤ) (choice : Option X) → IsSearching alpha beta v all left best choice → left ≡ [] → IsBestOf alpha v all best choice
+IsSearching-all alpha beta v all left best choice s none =
+    subst (λ cs. IsBestOf alpha v cs best choice) (sym (append-nil s.taken) ∙ (ap (λ l. s.taken ++ l) (sym none) ∙ s.split)) s.so_far
+
+pub IsSearching-real : {X : Type 0} (alpha beta : ℤ) (v : X → ℤ) (all left : List X) (best : ℤ) (choice : Option X) → IsSearching alpha beta v all left best choice → left ≡ [] → 0 < length all → negsuc 127999 ≤ℤ best
+IsSearching-real alpha beta v all left best choice s none some =
+    s.real (subst (λ cs. 0 < length cs) (sym (sym (append-nil s.taken) ∙ (ap (λ l. s.taken ++ l) (sym none) ∙ s.split))) some)
+
+-- a choice that is next is among the choices
+pub IsSearching-next : {X : Type 0} (alpha beta : ℤ) (v : X → ℤ) (all left : List X) (best : ℤ) (choice : Option X) (c : X) (rest : List X) → IsSearching alpha beta v all left best choice → left ≡ c ∷ rest → Contains all c
+IsSearching-next alpha beta v all left best choice c rest s next =
+    subst (λ cs. Contains cs c) (ap (λ l. s.taken ++ l) (sym next) ∙ s.split)
+    (Contains-append_right s.taken (c ∷ rest) c (0, omega arith, refl))
+
+-- the value itself is a bound of it, whatever the window
+pub exact_bound : (alpha beta score value : ℤ) → value ≡ score → IsBound alpha beta score value
+exact_bound alpha beta score value same = record {
+  upper = λ low. omega (arith, ints);
+  lower = λ high. omega (arith, ints);
+  exact = λ higher lower. same;
+}
+
+-- what a bound says of the value, by where the score lies
+pub bound_below : (a z s m : ℤ) → s ≤ℤ a → a <ℤ z → IsBound a z s m ↔ (m ≤ℤ s)
+bound_below a z s m low window = (
+  (λ bound. bound.upper low),
+  λ under. record {
+    upper = λ _. under;
+    lower = λ (high : z ≤ℤ s). absurd (omega (arith, ints));
+    exact = λ (higher : a <ℤ s) _. absurd (omega (arith, ints));
+  },
+)
+
+pub bound_above : (a z s m : ℤ) → z ≤ℤ s → a <ℤ z → IsBound a z s m ↔ (s ≤ℤ m)
+bound_above a z s m high window = (
+  (λ bound. bound.lower high),
+  λ over. record {
+    upper = λ (low : s ≤ℤ a). absurd (omega (arith, ints));
+    lower = λ _. over;
+    exact = λ _ (lower : s <ℤ z). absurd (omega (arith, ints));
+  },
+)
+
+pub bound_inside : (a z s m : ℤ) → a <ℤ s → s <ℤ z → IsBound a z s m ↔ (m ≡ s)
+bound_inside a z s m higher lower = ((λ bound. bound.exact higher lower), λ same. exact_bound a z s m same)

@@ -1,0 +1,35 @@
+//! Serial window search of an Othello position: alpha-beta, fail-soft, choices in order.
+//!
+//! [`search`] looks at a board to a depth of 0 to 12 plies through a window from `alpha` to `beta`. The
+//! values that it stands on are those of `othello_eval`: `minimax`, the plain recursion over the choices
+//! of a board, and `best_choice`, the first choice in order that attains it. The score is a bound of the
+//! minimax value, as `IsBound` of `specs/Bounds.antt` says it: an upper bound where it is at most alpha,
+//! a lower bound where it is at least beta, and between the two the value itself; there the choice is
+//! the best choice. [`search_full`] takes the full window, in which every value lies, so its score is
+//! the value. Positions that can't change what the window asks for are never entered; how many were
+//! entered is counted.
+//!
+//! What makes it true, between two choices of a position: no choice taken so far is worth more than the
+//! best score, and where that is above alpha, it is just what the first choice that has it is worth
+//! (`IsBestOf` of `proofs/WindowLemmas.antt`). The position after a choice is searched through the
+//! window from `-beta` to `-max(alpha, best)`, and a score of at least beta ends the position. Nothing
+//! is kept between two searches, no memory is taken, and the depth falls at each ply.
+//!
+//! ```text
+//! // the opening, with Black to move, two plies deep: -4 by d3 (square 19)
+//! search(opening, 2, -INF, INF) == Scored { score: -4, choice: Some(Choice::Square(19)), visited: 15 }
+//! ```
+#![tactic(auto)]
+
+mod leaf;
+pub mod rows;
+mod scored;
+mod tree;
+mod window;
+
+pub use scored::Scored;
+pub use tree::{search, search_full};
+pub use window::INF;
+
+#[cfg(test)]
+mod tests;

@@ -1,0 +1,45 @@
+//! What a search of a position gives.
+ghost use Rattle.std.specs.Prelude.{◌≡◌, ◌<ℤ◌, ◌≤ℤ◌, ◌+◌, ◌-◌, ◌^◌, ℤ, neg_ℤ, min};
+ghost use Rattle.othello_eval.specs.Values.{IsWithin};
+
+use othello_moves::Choice;
+
+/// What a search of a position gives, and while it runs, what it has so far.
+#[derive(Clone, Copy, Debug, PartialEq, Eq)]
+pub struct Scored {
+    /// The score, seen by the player to move, from -128,000 to 128,000: a bound of the minimax value.
+    pub score: i32,
+    /// The choice that has this score; none at depth 0 and in a finished game. It is the best choice
+    /// where the score lies inside the window.
+    pub choice: Option<Choice>,
+    /// How many positions were entered, the first included; it stays at the greatest `u64`.
+    pub visited: u64,
+}
+
+impl Scored {
+    /// One position, entered and given this score, with no choice.
+    pub(crate) fn entered(score: i32) -> Scored
+        ensures { result ≡ record { score = score; choice = None; visited = 1 } }
+    {
+        Scored {
+            score,
+            choice: None,
+            visited: 1,
+        }
+    }
+
+    /// Takes in what a search gave of the position after a choice, seen by the opponent: its score is
+    /// negated, and it is taken with the choice where it is better.
+    pub(crate) fn take_in(&mut self, choice: Choice, child: Scored)
+        requires { IsWithin 128000 child.score }
+        ensures better { self.old.score <ℤ neg_ℤ child.score → (self.new.score ≡ neg_ℤ child.score) × (self.new.choice ≡ Some choice) }
+        ensures kept { neg_ℤ child.score ≤ℤ self.old.score → (self.new.score ≡ self.old.score) × (self.new.choice ≡ self.old.choice) }
+        ensures visited { self.new.visited ≡ min (self.old.visited + child.visited) (2 ^ 64 - 1) }
+    {
+        self.visited = self.visited.saturating_add(child.visited);
+        if -child.score > self.score {
+            self.score = -child.score;
+            self.choice = Some(choice);
+        }
+    }
+}

@@ -1,0 +1,82 @@
+//! The search of a position and all that is entered below it.
+ghost use Rattle.std.specs.Prelude.{◌≡◌, ◌<◌, ◌≤◌, ◌<ℤ◌, ◌≤ℤ◌, suc, neg_ℤ, length};
+ghost use Rattle.othello_board.specs.Words.{cells};
+ghost use Rattle.othello_moves.specs.Choices.{choices};
+ghost use Rattle.othello_eval.specs.Values.{IsWithin};
+ghost use Rattle.othello_eval.specs.Minimax.{minimax, best_choice};
+ghost use Rattle.leaf_search.specs.Bounds.{IsBound};
+
+use super::leaf::leaf_value;
+use super::scored::Scored;
+use super::window::{INF, Window};
+use othello_board::Board;
+use othello_eval::final_value;
+use othello_moves::{Choices, after};
+
+/// Searches a board to a depth of 0 to 12 plies through a window (fail-soft alpha-beta: Fishburn 1983).
+///
+/// The score is a bound of the minimax value: an upper bound where it is at most `alpha`, a lower bound
+/// where it is at least `beta`, and between the two the value itself. There the choice is the best
+/// choice, the first in order that attains the value; it is none at depth 0 and in a finished game.
+/// `visited` counts the positions entered, this one included, and stays at the greatest `u64`.
+/// Takes no memory and refuses nothing.
+pub fn search(board: Board, depth: u8, alpha: i32, beta: i32) -> Scored
+    requires shallow { depth ≤ 12 }
+    requires least { neg_ℤ INF ≤ℤ alpha }
+    requires open { alpha <ℤ beta }
+    requires greatest { beta ≤ℤ INF }
+    ensures bound { IsBound alpha beta result.score (minimax depth (cells board)) }
+    ensures choice { alpha <ℤ result.score → result.score <ℤ beta → result.choice ≡ best_choice depth (cells board) }
+    ensures within { IsWithin 128000 result.score }
+{
+    search_below(board, depth, Window { alpha, beta })
+}
+
+/// Searches a board to a depth of 0 to 12 plies through the full window, in which every value lies: the
+/// score is the minimax value, and the choice the best choice.
+pub fn search_full(board: Board, depth: u8) -> Scored
+    requires { depth ≤ 12 }
+    ensures score { result.score ≡ minimax depth (cells board) }
+    ensures choice { result.choice ≡ best_choice depth (cells board) }
+    ensures within { IsWithin 128000 result.score }
+{
+    search(board, depth, -INF, INF)
+}
+
+/// Searches one position, and what has to be entered below it.
+#[cycle(search)]
+fn search_below(board: Board, depth: u8, window: Window) -> Scored
+    ensures bound { IsBound window.alpha window.beta result.score (minimax depth (cells board)) }
+    ensures choice { window.alpha <ℤ result.score → result.score <ℤ window.beta → result.choice ≡ best_choice depth (cells board) }
+    ensures within { IsWithin 128000 result.score }
+{
+    if depth == 0 {
+        return Scored::entered(leaf_value(board));
+    }
+    let left = Choices::new(board);
+    if left.is_empty() {
+        return Scored::entered(final_value(board));
+    }
+    best_of(board, left, depth - 1, window)
+}
+
+/// Searches the positions after the choices of a board in order, with `depth` plies below each, until
+/// one has a score of at least beta.
+#[cycle(search)]
+fn best_of(board: Board, mut left: Choices, depth: u8, window: Window) -> Scored
+    requires choices { left ≡ choices (cells board) }
+    requires some { 0 < length left }
+    ensures bound { IsBound window.alpha window.beta result.score (minimax (suc depth) (cells board)) }
+    ensures choice { window.alpha <ℤ result.score → result.score <ℤ window.beta → result.choice ≡ best_choice (suc depth) (cells board) }
+    ensures within { IsWithin 128000 result.score }
+{
+    let mut best = Scored::entered(-INF);
+    while let Some(choice) = left.pop_first() {
+        let child = search_below(after(board, choice), depth, window.of_child(&best));
+        best.take_in(choice, child);
+        if best.score >= window.beta {
+            return best;
+        }
+    }
+    best
+}

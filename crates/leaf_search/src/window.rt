@@ -1,0 +1,34 @@
+//! The window that a search looks through.
+ghost use Rattle.std.specs.Prelude.{◌≡◌, ◌<ℤ◌, ◌≤ℤ◌, neg_ℤ};
+ghost use Rattle.std.specs.Int.{int_max};
+ghost use Rattle.leaf_search.specs.declared.window.TheConstants.{INF};
+
+use super::scored::Scored;
+
+/// A bound that no score reaches: the window from `-INF` to `INF` is the full one.
+pub const INF: i32 = 200_000;
+
+/// A window. A value between its ends is found exactly; of any other, a bound is.
+#[derive(Clone, Copy)]
+pub(crate) struct Window {
+    pub alpha: i32,
+    pub beta: i32,
+    ghost least: { neg_ℤ INF ≤ℤ alpha },
+    ghost open: { alpha <ℤ beta },
+    ghost greatest: { beta ≤ℤ INF },
+}
+
+impl Window {
+    /// The window for the position after the next choice, seen by the opponent, where this is the best
+    /// so far: only a score above it, and above `alpha`, still counts.
+    pub(crate) fn of_child(self, best: &Scored) -> Window
+        requires { best.now.score <ℤ self.beta }
+        ensures alpha { result.alpha ≡ neg_ℤ self.beta }
+        ensures beta { result.beta ≡ neg_ℤ (int_max self.alpha best.now.score) }
+    {
+        Window {
+            alpha: -self.beta,
+            beta: -self.alpha.max(best.score),
+        }
+    }
+}

@@ -1,0 +1,3 @@
+pub mod Requests
+pub mod Replies
+pub mod Solving
