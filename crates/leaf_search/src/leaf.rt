@@ -5,7 +5,7 @@ ghost use Rattle.othello_eval.specs.Minimax.{minimax};
 ghost use Rattle.othello_eval.specs.Values.{IsWithin};
 
 use othello_board::Board;
-use othello_eval::{eval, final_value};
+use othello_eval::{eval_by_moves, final_value};
 use othello_moves::move_count;
 
 /// The value of a board at depth 0: of the finished game where neither side can move, else the
@@ -19,6 +19,6 @@ pub(crate) fn leaf_value(board: Board) -> i32
     if own_moves == 0 && opp_moves == 0 {
         final_value(board)
     } else {
-        eval(board)
+        eval_by_moves(board, own_moves, opp_moves)
     }
 }

@@ -1,6 +1,6 @@
 -- The discs of a player are the set bits of that player's word.
-use Rattle.std.proofs.Common.{◌≡◌, ℕ, zero, suc, ◌+◌, ◌/◌, ◌%◌, ◌<◌, ◌≤◌, ◌^◌, Bool, true, false, cond, eqb, List, [], ◌∷◌, map, bit_and, min, ◌⊎◌, inl, inr, refl, sym, ap, ◌∙◌, arith, rules}
-use Rattle.std.specs.Prelude.{count_by, count_ones}
+use Rattle.std.proofs.Common.{◌≡◌, ℕ, zero, suc, ◌+◌, ◌/◌, ◌%◌, ◌<◌, ◌^◌, Bool, true, false, cond, eqb, List, [], ◌∷◌, map, bit_and, min, inl, inr, refl, sym, ap, ◌∙◌, arith}
+use Rattle.std.specs.Prelude.{count_by}
 use Rattle.std.specs.Int.{bit_at}
 use Rattle.std.specs.List.{range_with_len}
 use lib.Count.{ones, ones_step, ones-le}
@@ -16,14 +16,14 @@ use Rattle.othello_board.proofs.BitLemmas.{apart}
 use Rattle.othello_board.proofs.CellLemmas.{bit_cases}
 
 -- how many pass, by recursion
-abbrev tally : {X : Type 0} → (X → Bool) → List X → ℕ
+abbrev pub tally : {X : Type 0} → (X → Bool) → List X → ℕ
 tally p [] = 0
 tally p (x ∷ xs) = cond (p x) (1 + tally p xs) (tally p xs)
 
 tally-count_by : {X : Type 0} (p : X → Bool) (xs : List X) → tally p xs ≡ count_by p xs
 tally-count_by p xs = is_count_by (tally p) p refl (λ y ys. refl) xs
 
-abbrev count_in : (ℕ → Bool) → ℕ → ℕ → ℕ
+abbrev pub count_in : (ℕ → Bool) → ℕ → ℕ → ℕ
 count_in test a n = tally test (range_with_len a n)
 
 count_in_same : (p q : ℕ → Bool) (a n : ℕ) → ((s : ℕ) → p s ≡ q s) → count_in p a n ≡ count_in q a n
@@ -42,7 +42,7 @@ one_more true m = refl
 one_more false m = omega arith
 
 -- the set bits of a number of d bits
-ones_by_bits : (d n : ℕ) → n < 2 ^ d → ones n ≡ count_in (λ s. eqb (bit_at n s) 1) 0 d
+pub ones_by_bits : (d n : ℕ) → n < 2 ^ d → ones n ≡ count_in (λ s. eqb (bit_at n s) 1) 0 d
 ones_by_bits zero n below = omega (arith, ones-le 0 n below)
 ones_by_bits (suc d) n below =
     let half : n / 2 < 2 ^ d = div_below n 2 (2 ^ d) (omega arith) (omega (arith, pow-suc 2 d)) in

@@ -1,9 +1,8 @@
 -- The flips, direction by direction.
-use Rattle.std.proofs.Common.{◌≡◌, ℕ, suc, ◌+◌, ◌<◌, ◌≤◌, List, [], ◌∷◌, ◌++◌, length, get_or, drop, bit_or, refl, sym, ap, ◌∙◌, arith, add-one}
+use Rattle.std.proofs.Common.{◌≡◌, ℕ, suc, ◌+◌, ◌<◌, List, length, get_or, drop, bit_or, add-one}
 use Rattle.std.specs.List.{flat_map}
 use Rattle.std.proofs.Math.Seq.{drop-cons}
 use Rattle.othello_board.specs.declared.directions.Direction.{Direction}
-use Rattle.othello_board.specs.declared.directions.Direction.TheVariants.{North}
 use Rattle.othello_board.specs.Rules.{directions}
 use Rattle.othello_board.specs.Words.{bits_of}
 use Rattle.othello_board.proofs.BitLemmas.{or_assoc, or_zero, bits_of-append}

@@ -4,3 +4,5 @@ pub mod RunLemmas
 pub mod PlayLemmas
 pub mod CountLemmas
 pub mod FlipLemmas
+pub mod ShiftLemmas
+pub mod WalkLemmas

@@ -1,17 +1,15 @@
 -- The two words after a move, square by square.
-use Rattle.std.proofs.Common.{◌≡◌, ◌≢◌, ℕ, zero, suc, ◌+◌, ◌-◌, ◌*◌, ◌%◌, ◌<◌, ◌≤◌, ◌^◌, Bool, true, false, cond, eqb, ◌||◌, List, [], ◌∷◌, ◌++◌, map, bit_or, bit_and, min, max, ◌⊎◌, inl, inr, refl, sym, ap, ◌∙◌, arith, rules}
+use Rattle.std.proofs.Common.{◌≡◌, ℕ, ◌-◌, ◌<◌, ◌^◌, Bool, true, false, cond, eqb, ◌||◌, List, [], ◌∷◌, bit_or, bit_and, min, max, inl, inr, refl, sym, ◌∙◌, arith}
 use Rattle.std.proofs.Common.{w64}
-use Rattle.std.specs.Int.{bit_at, bit_not}
-use Rattle.std.specs.List.{list_any}
+use Rattle.std.specs.Int.{bit_at}
 use Rattle.std.proofs.lemmas.Bool.Decides.{eqb_tells}
-use Rattle.std.proofs.lemmas.Nat.{or_lt, and_le_l, pow_below}
+use Rattle.std.proofs.lemmas.Nat.{and_le_l}
 use Rattle.std.proofs.lemmas.Nat.Bits.{bit_at_and, bit_at_or, bit_at_not, bit_at-zero, bit_at-lt, bit_at-pow_same, bit_at-pow_other, same_from_bits_below}
-use Rattle.othello_board.specs.declared.cells.Cell.{Cell}
 use Rattle.othello_board.specs.declared.cells.Cell.TheVariants.{Empty, Own, Opp}
 use Rattle.othello_board.specs.Rules.{squares, cell_at, is_among, made_own, exchanged_cell, exchanged}
 use Rattle.othello_board.specs.Words.{cell_of, cells_of, bits_of}
 use Rattle.othello_board.proofs.BitLemmas.{apart}
-use Rattle.othello_board.proofs.CellLemmas.{map-map, map-squares_same, cell_at-cells_of, bit_cases, exchanged-cell_of-by}
+use Rattle.othello_board.proofs.CellLemmas.{map-map, map-squares_same, cell_at-cells_of, exchanged-cell_of-by}
 
 -- a power of two, bit by bit
 bit_at-pow : (s i : ℕ) → bit_at (2 ^ s) i ≡ cond (eqb s i) 1 0

@@ -68,18 +68,14 @@ impl Board {
         requires { square < 64 }
         ensures { result ≡ bits_of (run (cells self) square direction) }
     {
-        let mut at = square;
+        let mut at = direction.shift(1 << square);
         let mut discs = 0;
         for _ in 0..7_u8 {
-            let Some(next) = direction.step(at) else {
-                return 0;
-            };
-            match self.cell(next) {
-                Cell::Own => return discs,
-                Cell::Opp => discs |= 1 << next,
-                Cell::Empty => return 0,
+            if at & self.opp == 0 {
+                return if at & self.own == 0 { 0 } else { discs };
             }
-            at = next;
+            discs |= at;
+            at = direction.shift(at);
         }
         0
     }

@@ -3,3 +3,4 @@ pub mod CodeLemmas
 pub mod MinimaxLemmas
 pub mod BestLemmas
 pub mod PlainLemmas
+pub mod MaskLemmas

@@ -1,3 +1,4 @@
 pub mod Values
 pub mod Minimax
 pub mod Rows
+pub mod Masks

@@ -21,7 +21,7 @@ pub mod rows;
 mod values;
 
 pub use recursion::{Valued, plain};
-pub use values::{eval, final_value};
+pub use values::{eval, eval_by_moves, final_value};
 
 #[cfg(test)]
 mod tests;

@@ -1,4 +1,6 @@
 //! Each public call once, on boards whose values are known.
+mod kernels;
+
 use super::*;
 use othello_board::Board;
 use othello_moves::Choice;

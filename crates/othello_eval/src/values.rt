@@ -1,44 +1,40 @@
 //! The two values of a board, seen by the player to move.
-ghost use Rattle.std.specs.Prelude.{◌≡◌, ◌<◌, pos, slice_index_or};
-ghost use Rattle.othello_board.specs.Rules.{cell_at};
+ghost use Rattle.std.specs.Prelude.{◌≡◌, ◌*ℤ◌, length};
+ghost use Rattle.othello_board.specs.Rules.{exchanged};
 ghost use Rattle.othello_board.specs.Words.{cells};
-ghost use Rattle.othello_eval.specs.Values.{weights, disc_value, discs_value, eval, final_value, IsWithin};
+ghost use Rattle.othello_eval.specs.Values.{weights, discs_value, eval, final_value, IsWithin};
+ghost use Rattle.othello_moves.specs.Choices.{legal_squares};
+ghost use Rattle.othello_eval.specs.Masks.{disc_difference};
 
-use othello_board::{Board, Cell};
+use othello_board::Board;
 use othello_moves::move_count;
 
-/// What a disc is worth on each square, row by row from a1.
-const WEIGHTS: [i32; 64] = [
-    100, -20, 10, 5, 5, 10, -20, 100, // row 1
-    -20, -50, -2, -2, -2, -2, -50, -20, // row 2
-    10, -2, -1, -1, -1, -1, -2, 10, // row 3
-    5, -2, -1, -1, -1, -1, -2, 5, // row 4
-    5, -2, -1, -1, -1, -1, -2, 5, // row 5
-    10, -2, -1, -1, -1, -1, -2, 10, // row 6
-    -20, -50, -2, -2, -2, -2, -50, -20, // row 7
-    100, -20, 10, 5, 5, 10, -20, 100, // row 8
+/// What a disc is worth, and on which squares, as bits: each square stands in just one of these words.
+const WEIGHTS: [(i32, u64); 7] = [
+    (100, 0x8100_0000_0000_0081),
+    (10, 0x2400_8100_0081_0024),
+    (5, 0x1800_0081_8100_0018),
+    (-1, 0x0000_3c3c_3c3c_0000),
+    (-2, 0x003c_4242_4242_3c00),
+    (-20, 0x4281_0000_0000_8142),
+    (-50, 0x0042_0000_0000_4200),
 ];
 
-/// What a disc is worth on a square, 0 to 63.
-fn weight(square: u8) -> i32
-    requires { square < 64 }
-    ensures value { result ≡ slice_index_or weights square (pos 0) }
-    ensures within { IsWithin 100 result }
+/// How many discs the mover has more than the opponent on these squares.
+fn disc_difference(board: Board, squares: u64) -> i32
+    ensures value { result ≡ disc_difference board.own board.opp squares }
+    ensures within { IsWithin 64 result }
 {
-    WEIGHTS[usize::from(square)]
+    (board.own & squares).count_ones() as i32 - (board.opp & squares).count_ones() as i32
 }
 
-/// What the cell of a square, 0 to 63, is worth to the mover.
-fn cell_value(board: Board, square: u8) -> i32
-    requires { square < 64 }
-    ensures value { result ≡ disc_value (cell_at (cells board) square) (slice_index_or weights square (pos 0)) }
-    ensures within { IsWithin 100 result }
+/// The same, at this weight for each disc.
+fn weighed(board: Board, weight: i32, squares: u64) -> i32
+    requires { IsWithin 100 weight }
+    ensures value { result ≡ weight *ℤ disc_difference board.own board.opp squares }
+    ensures within { IsWithin 6400 result }
 {
-    match board.cell(square) {
-        Cell::Own => weight(square),
-        Cell::Opp => -weight(square),
-        Cell::Empty => 0,
-    }
+    weight * disc_difference(board, squares)
 }
 
 /// The weights of the mover's discs, less those of the opponent's.
@@ -47,8 +43,8 @@ fn discs_value(board: Board) -> i32
     ensures within { IsWithin 928 result }
 {
     let mut sum = 0;
-    for square in 0..64 {
-        sum += cell_value(board, square);
+    for (weight, squares) in WEIGHTS {
+        sum += weighed(board, weight, squares);
     }
     sum
 }
@@ -58,7 +54,17 @@ pub fn eval(board: Board) -> i32
     ensures value { result ≡ eval (cells board) }
     ensures within { IsWithin 1184 result }
 {
-    let mobility = move_count(board) as i32 - move_count(board.swap()) as i32;
+    eval_by_moves(board, move_count(board), move_count(board.swap()))
+}
+
+/// The evaluation of a board, where it is known how many legal squares each side has.
+pub fn eval_by_moves(board: Board, own_moves: u32, opp_moves: u32) -> i32
+    requires own { own_moves ≡ length (legal_squares (cells board)) }
+    requires opp { opp_moves ≡ length (legal_squares (exchanged (cells board))) }
+    ensures value { result ≡ eval (cells board) }
+    ensures within { IsWithin 1184 result }
+{
+    let mobility = own_moves as i32 - opp_moves as i32;
     discs_value(board) + 4 * mobility
 }
 

@@ -22,4 +22,4 @@ returns-else-own_moves-eq0-clause-value c =
     c.move_count-opp_moves.ensures ∙ ap (λ b. length (legal_squares b)) c.swap.ensures.cells in
     let value : minimax 0 (cells c.args.board) ≡ eval (cells c.args.board) =
     minimax-leaf_goes_on (cells c.args.board) (omega (arith, opp, c.move_count-own_moves.ensures, c.else-own_moves-eq0.either)) in
-    omega (arith, ints, c.eval.ensures.value)
+    omega (arith, ints, c.eval_by_moves.ensures.value)

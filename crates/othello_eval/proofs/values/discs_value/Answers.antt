@@ -1,28 +1,35 @@
-use Rattle.std.proofs.Common.{◌≡◌, ◌+◌, sym, ap, ◌∙◌, drop, ◌+ℤ◌, to_z, w32, subst, arith}
+use Rattle.std.proofs.Common.{◌≡◌, ◌+◌, sym, ap, ◌∙◌, drop, pos, ◌+ℤ◌, ◌*ℤ◌, get_or, to_z, w32, subst, arith}
 use Rattle.std.proofs.lemmas.Int.{ints}
 use Rattle.othello_board.specs.Words.{cells}
-use Rattle.othello_moves.proofs.AllowedLemmas.{length-cells}
 use Rattle.othello_eval.specs.Values.{weights, discs_value, IsWithin}
+use Rattle.othello_eval.specs.Masks.{weighed_sum, weight_table, disc_difference}
 use Rattle.othello_eval.proofs.ValueLemmas.{weighed_within}
-use Rattle.othello_eval.proofs.CodeLemmas.{weighed_more, discs_value-more, discs_value-end, weights_length}
+use Rattle.othello_eval.proofs.MaskLemmas.{sums_more, sum_fits, sums_next, sums_end, weight_fits, weighed_sum-discs_value}
 use Rattle.othello_eval.proofs.values.discs_value.Goals as goal
 
-pub loop-square-preserved : goal.loop-square-preserved
-loop-square-preserved c =
-    let cs = cells c.args.board in
-    let i = c.loop-square.square in
-    let h = c.loop-square.invariant in
-    let more = weighed_more (to_z w32 c.loop-square.sum-bits) c.cell_value-sum.result i
-    (discs_value (drop i cs) (drop i weights)) (discs_value (drop (i + 1) cs) (drop (i + 1) weights)) (discs_value cs weights)
-    (omega arith) h.low h.high c.cell_value-sum.ensures.within h.so_far
-    (discs_value-more cs weights i (omega (arith, length-cells c.args.board)) (omega (arith, weights_length))
-    ∙ ap (λ v. v +ℤ discs_value (drop (i + 1) cs) (drop (i + 1) weights)) (sym c.cell_value-sum.ensures.value)) in
+pub overflow_add-sum : goal.overflow_add-sum
+overflow_add-sum c =
+    let h = c.loop-weight.invariant in
+    sum_fits (to_z w32 c.loop-weight.sum-bits) c.weighed-sum.result c.loop-weight.weight-index c.loop-weight-test.true h.low h.high c.weighed-sum.ensures.within
+
+pub loop-weight-preserved : goal.loop-weight-preserved
+loop-weight-preserved c =
+    let h = c.loop-weight.invariant in
+    let i = c.loop-weight.weight-index in
+    let own = c.args.board.own in
+    let opp = c.args.board.opp in
+    let rest = weighed_sum own opp (drop (i + 1) weight_table) in
+    let more = sums_more (to_z w32 c.loop-weight.sum-bits) c.weighed-sum.result i (weighed_sum own opp (drop i weight_table)) rest (weighed_sum own opp weight_table)
+    c.loop-weight-test.true h.low h.high c.weighed-sum.ensures.within h.so_far
+    (sums_next own opp i c.loop-weight-test.true ∙ ap (λ w. (w *ℤ disc_difference own opp (get_or weight_table i (pos 0, 0)).1) +ℤ rest) (weight_fits i) ∙ ap (λ v. v +ℤ rest) (sym c.weighed-sum.ensures.value)) in
     record { so_far = more.0; low = more.1; high = more.2 }
 
 pub returns : goal.returns
 returns c =
-    let cs = cells c.args.board in
-    let done = discs_value-end cs weights c.loop-square.square (omega (arith, length-cells c.args.board)) in
-    let h = c.loop-square.invariant.so_far in
-    let is : to_z w32 c.loop-square.sum-bits ≡ discs_value cs weights = omega (arith, ints, h, done) in
-    record { value = is; within = subst (IsWithin 928) (sym is) (weighed_within cs) }
+    let own = c.args.board.own in
+    let opp = c.args.board.opp in
+    let h = c.loop-weight.invariant.so_far in
+    let done = sums_end own opp c.loop-weight.weight-index (omega arith) in
+    let whole = weighed_sum-discs_value own opp (omega arith) (omega arith) c.args.board.disjoint in
+    let is : to_z w32 c.loop-weight.sum-bits ≡ discs_value (cells c.args.board) weights = omega (arith, ints, h, done, whole) in
+    record { value = is; within = subst (IsWithin 928) (sym is) (weighed_within (cells c.args.board)) }

@@ -1,4 +1,4 @@
-use Rattle.std.proofs.Common.{rules, arith, ◌<◌, ◌^◌}
+use Rattle.std.proofs.Common.{rules, arith}
 use Rattle.othello_board.proofs.CountLemmas.{ones-own, ones-opp}
 use Rattle.othello_board.proofs.boards.Board.count.Goals as goal
 

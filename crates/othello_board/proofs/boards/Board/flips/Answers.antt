@@ -1,4 +1,4 @@
-use Rattle.std.proofs.Common.{◌∙◌, ◌<◌, ◌≡◌, arith, drop, sym}
+use Rattle.std.proofs.Common.{◌∙◌, arith, sym}
 use Rattle.othello_board.specs.declared.directions.Direction.TheVariants.{North}
 use Rattle.othello_board.specs.Rules.{run, directions}
 use Rattle.othello_board.specs.Words.{cells}

@@ -1,4 +1,4 @@
-use Rattle.std.proofs.Common.{◌≡◌, ◌<◌, ◌*◌, ◌%◌, ◌^◌, ◌∷◌, arith, bit_or, sym}
+use Rattle.std.proofs.Common.{◌≡◌, ◌<◌, ◌*◌, ◌%◌, ◌^◌, ◌∷◌, arith, bit_or}
 use Rattle.std.proofs.lemmas.Nat.{one_shl, or_lt, mod_below}
 use Rattle.othello_board.specs.Rules.{flips}
 use Rattle.othello_board.specs.Words.{cells}

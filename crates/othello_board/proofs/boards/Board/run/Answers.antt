@@ -1,25 +1,45 @@
-use Rattle.std.proofs.Common.{◌≡◌, ◌<◌, ◌≤◌, ◌-◌, ◌^◌, ◌*◌, ◌%◌, ap, sym, ◌∙◌, arith}
+use Rattle.std.proofs.Common.{◌≡◌, ◌^◌, ◌*◌, ◌%◌, refl, sym, ap, ◌∙◌}
 use Rattle.std.proofs.lemmas.Nat.{one_shl}
+use Rattle.othello_board.specs.Rules.{step, outflanked, squares_beside}
 use Rattle.othello_board.specs.Words.{cells}
-use Rattle.othello_board.proofs.RunLemmas.{joined_edge, joined_own, joined_empty, joined_opp, joined_end, bits_of-run}
+use Rattle.othello_board.specs.Shifts.{opposite, bit_there}
+use Rattle.othello_board.proofs.RunLemmas.{joined_end, bits_of-run}
+use Rattle.othello_board.proofs.WalkLemmas.{moved_word, walk_breaks, walk_ends, walk_goes_on}
 use Rattle.othello_board.proofs.boards.Board.run.Goals as goal
 
-pub returns-in_default : goal.returns-in_default
-returns-in_default c =
-    sym (joined_edge (cells c.args.self) c.args.direction c.loop.at c.loop.discs c.loop.counter c.loop-test.true (sym c.in_default.ensures.value)) ∙ c.loop.invariant.1
+pub loop-init : goal.loop-init
+loop-init c =
+    let shifted : 1 * 2 ^ c.args.square % 2 ^ 64 ≡ 2 ^ c.args.square = one_shl c.args.square 64 c.requires in (
+      c.args.square,
+      c.requires,
+      moved_word c.args.direction c.args.square c.shift-at.result c.requires c.shift-at.type_inv
+          (λ t below. c.shift-at.ensures t below ∙ ap (λ w. bit_there w (step (opposite c.args.direction) t)) shifted),
+      sym (bits_of-run (outflanked (cells c.args.self) (squares_beside 7 c.args.direction c.args.square))),
+    )
 
-pub returns-in-Own : goal.returns-in-Own
-returns-in-Own c =
-    sym (joined_own (cells c.args.self) c.args.direction c.loop.at c.in-Some.next c.loop.discs c.loop.counter c.loop-test.true (sym c.in-Some.ensures.value) c.in-Own.ensures) ∙ c.loop.invariant.1
+pub returns-then-at-self-eq0-2 : goal.returns-then-at-self-eq0-2
+returns-then-at-self-eq0-2 c =
+    sym (walk_breaks c.args.self.own c.args.self.opp c.loop.at c.args.direction c.loop.invariant.0 c.loop.discs c.loop.counter _
+    c.loop-test.true c.loop.invariant.1 refl c.loop.invariant.2 c.if-at-self-eq0.true c.if-at-self-eq0-2.true)
+    ∙ c.loop.invariant.3
 
-pub returns-in-Empty : goal.returns-in-Empty
-returns-in-Empty c =
-    sym (joined_empty (cells c.args.self) c.args.direction c.loop.at c.in-Some.next c.loop.discs c.loop.counter c.loop-test.true (sym c.in-Some.ensures.value) c.in-Empty.ensures) ∙ c.loop.invariant.1
+pub returns-else-at-self-eq0-2 : goal.returns-else-at-self-eq0-2
+returns-else-at-self-eq0-2 c =
+    sym (walk_ends c.args.self.own c.args.self.opp c.loop.at c.args.direction c.loop.invariant.0 c.loop.discs c.loop.counter _
+    c.loop-test.true c.loop.invariant.1 refl c.loop.invariant.2 c.if-at-self-eq0-2.false)
+    ∙ c.loop.invariant.3
 
 pub loop-preserved : goal.loop-preserved
 loop-preserved c =
-    let shifted : 1 * 2 ^ c.in-Some.next % 2 ^ 64 ≡ 2 ^ c.in-Some.next = one_shl c.in-Some.next 64 c.in-Some.ensures.within in
-    (c.in-Some.ensures.within, rw shifted (sym (joined_opp (cells c.args.self) c.args.direction c.loop.at c.in-Some.next c.loop.discs c.loop.counter c.loop-test.true (sym c.in-Some.ensures.value) c.in-Opp.ensures) ∙ c.loop.invariant.1))
+    let on = walk_goes_on c.args.self.own c.args.self.opp c.loop.at c.args.direction c.loop.invariant.0 c.loop.discs c.loop.counter _
+    c.args.self.disjoint c.loop-test.true c.loop.invariant.1 refl c.loop.invariant.2 c.if-at-self-eq0.false in (
+      on.square,
+      on.below,
+      moved_word c.args.direction on.square c.shift-at-in-loop.result on.below c.shift-at-in-loop.type_inv
+          (λ t below. c.shift-at-in-loop.ensures t below ∙ ap (λ w. bit_there w (step (opposite c.args.direction) t)) on.is_word),
+      sym on.same ∙ c.loop.invariant.3,
+    )
 
 pub returns : goal.returns
-returns c = sym (joined_end (cells c.args.self) c.args.direction c.loop.at c.loop.discs c.loop.counter c.loop-test.false) ∙ c.loop.invariant.1
+returns c =
+    sym (joined_end (cells c.args.self) c.args.direction c.loop.invariant.0 c.loop.discs c.loop.counter c.loop-test.false) ∙ c.loop.invariant.3

@@ -1,0 +1,129 @@
+-- A chain that is made longer, and one that is given back.
+use Rattle.std.proofs.Common.{◌≡◌, ◌≢◌, ℕ, zero, suc, ◌+◌, ◌-◌, ◌<◌, List, [], ◌∷◌, ◌++◌, length, replicate, Option, None, Some, get_or, refl, sym, ap, subst, ◌∙◌, arith, get_or-set_other, get_or-set_same}
+use Rattle.std.proofs.Math.ListN.{set}
+use Rattle.std.proofs.lemmas.List.{length-append, length-set}
+use Rattle.segment_region.specs.Segments.{Segment, Segments, segment_at, words_at, link_at, link_of, IsTaken, with_link}
+use Rattle.segment_region.proofs.Counts.{lt-of-IsTaken, taken_count-write, taken_count-give}
+use Rattle.cactus_stack.specs.Chains.{chain, content, Lacks, AreApart, AllBlocks, AgreesOn, IsChain, IsFreshChain, IsGrownChain, IsGivenBack}
+use Rattle.cactus_stack.proofs.Numbers.{lacks-get_or, apart-get_or, apart-sym, once-append}
+use Rattle.cactus_stack.proofs.Follow.{chain-agrees, content-agrees, blocks-agrees, agrees-set, agrees-taken, apart-free}
+use Rattle.cactus_stack.proofs.Content.{content-append, blocks-append, blocks-get_or, content-link, blocks-link}
+
+-- the chain behind the first segment goes on at its last, so the whole does
+chain-link-behind : (count more : ℕ) (region : Segments) (first : ℕ) (tail next : Option ℕ) → link_at region first ≡ tail → IsChain region (first ∷ chain (suc count) region tail) (suc (suc count)) →
+    ((t : ℕ) → IsChain region (chain (suc count) region (Some t)) (suc count) →
+    chain (suc count + more) (with_link region (get_or (chain (suc count) region (Some t)) count 0) next) (Some t)
+    ≡ chain (suc count) region (Some t) ++ chain more (with_link region (get_or (chain (suc count) region (Some t)) count 0) next) next) →
+    chain (suc (suc count) + more) (with_link region (get_or (chain (suc count) region tail) count 0) next) (Some first)
+    ≡ first ∷ (chain (suc count) region tail ++ chain more (with_link region (get_or (chain (suc count) region tail) count 0) next) next)
+chain-link-behind count more region first None next link is behind = absurd (omega (arith, is.whole))
+chain-link-behind count more region first (Some t) next link is behind =
+    let xs : List ℕ = chain (suc count) region (Some t) in
+    let last : ℕ = get_or xs count 0 in
+    let new : Segments = with_link region last next in
+    let whole : length xs ≡ suc count = omega (arith, is.whole) in
+    let other : first ≢ last = λ e. lacks-get_or xs first count is.once.0 (omega (arith, whole)) (sym e) in
+    let kept : link_at new first ≡ Some t = ap link_of (get_or-set_other region last first (Some (record { words = words_at region last; link = next })) None other) ∙ link in
+    let one : suc (suc count) + more ≡ suc (suc count + more) = omega arith in
+    rw one (ap (λ (rest : List ℕ). first ∷ rest)
+    (ap (λ (head : Option ℕ). chain (suc count + more) new head) kept
+    ∙ behind t (record { blocks = is.blocks.2; whole = whole; once = is.once.1 })))
+
+-- at the last segment of a chain, whose link is set, it goes on with what the link leads to
+chain-link : (count more : ℕ) (region : Segments) (first : ℕ) (next : Option ℕ) → IsChain region (chain (suc count) region (Some first)) (suc count) →
+    chain (suc count + more) (with_link region (get_or (chain (suc count) region (Some first)) count 0) next) (Some first)
+    ≡ chain (suc count) region (Some first) ++ chain more (with_link region (get_or (chain (suc count) region (Some first)) count 0) next) next
+chain-link zero more region first next is =
+    let entry : Option Segment = Some (record { words = words_at region first; link = next }) in
+    let here : segment_at (set region first entry) first ≡ entry = get_or-set_same region first entry None (lt-of-IsTaken region first is.blocks.0) in
+    let one : 1 + more ≡ suc more = omega arith in
+    rw one (ap (λ (head : Option ℕ). first ∷ chain more (set region first entry) head) (ap link_of here))
+chain-link (suc count) more region first next is =
+    chain-link-behind count more region first (link_at region first) next refl is (λ t. chain-link count more region t next)
+
+-- a chain goes on with a new one at its last segment
+pub chain_is_grown : (old mid : Segments) (first count more : ℕ) (fresh : Option ℕ) → IsChain old (chain (suc count) old (Some first)) (suc count) → IsFreshChain old mid (chain more mid fresh) [] more →
+    IsGrownChain old (with_link mid (get_or (chain (suc count) old (Some first)) count 0) fresh) (chain (suc count) old (Some first)) (chain (suc count + more) (with_link mid (get_or (chain (suc count) old (Some first)) count 0) fresh) (Some first)) more
+chain_is_grown old mid first count more fresh is made =
+    let xs : List ℕ = chain (suc count) old (Some first) in
+    let ys : List ℕ = chain more mid fresh in
+    let last : ℕ = get_or xs count 0 in
+    let new : Segments = with_link mid last fresh in
+    let entry : Option Segment = Some (record { words = words_at mid last; link = fresh }) in
+    let agrees : AgreesOn old mid xs = agrees-taken old mid xs made.kept is.blocks in
+    let same : chain (suc count) mid (Some first) ≡ xs = chain-agrees (suc count) old mid (Some first) agrees in
+    let blocks : AllBlocks mid xs = blocks-agrees old mid xs agrees is.blocks in
+    let mid_chain : IsChain mid (chain (suc count) mid (Some first)) (suc count) = rw same (record { blocks = blocks; whole = is.whole; once = is.once }) in
+    let within : count < length xs = omega (arith, is.whole) in
+    let apart : AreApart xs ys = apart-free old xs ys is.blocks made.were_free in
+    let lacks : Lacks ys last = apart-get_or ys xs count (apart-sym xs ys apart) within in
+    let tail : chain more new fresh ≡ ys = chain-agrees more mid new fresh (agrees-set mid last entry ys lacks) in
+    let at : List ℕ → Type 0 = λ zs. chain (suc count + more) (with_link mid (get_or zs count 0) fresh) (Some first) ≡ zs ++ chain more (with_link mid (get_or zs count 0) fresh) fresh in
+    let goes_on : at xs = subst at same (chain-link count more mid first fresh mid_chain) in
+    let joined : chain (suc count + more) new (Some first) ≡ xs ++ ys = goes_on ∙ ap (λ (zs : List ℕ). xs ++ zs) tail in
+    rw joined (record {
+      same_count = length-set mid last entry ∙ made.same_count;
+      counted = taken_count-write mid last _ (blocks-get_or mid xs count blocks within).0 ∙ made.counted;
+      kept = λ s taken lacking. get_or-set_other mid last s entry None (λ e. lacks-get_or xs s count lacking within (sym e)) ∙ made.kept s taken;
+      added = ys;
+      joined = refl;
+      were_free = made.were_free;
+      is_chain = record {
+        blocks = blocks-append new xs ys (blocks-link mid xs last fresh blocks) (blocks-link mid ys last fresh made.is_chain.blocks);
+        whole = omega (arith, length-append xs ys, is.whole, made.is_chain.whole);
+        once = once-append xs ys is.once made.is_chain.once apart;
+      };
+      holds = rw (content-append new xs ys, content-link mid xs last fresh, content-link mid ys last fresh, content-agrees old mid xs agrees, made.holds) (ap (λ (n : ℕ). content old xs ++ replicate n 0) (omega arith));
+    })
+
+-- the same, where the count is given as one number
+pub chain_grows : (old mid new : Segments) (first last count more : ℕ) (fresh : Option ℕ) → 0 < count → IsChain old (chain count old (Some first)) count → last ≡ get_or (chain (suc (count - 1)) old (Some first)) (count - 1) 0 → IsFreshChain old mid (chain more mid fresh) [] more → new ≡ with_link mid last fresh →
+    IsGrownChain old new (chain count old (Some first)) (chain (count + more) new (Some first)) more
+chain_grows old mid new first last zero more fresh some is at made after = absurd (omega arith)
+chain_grows old mid new first last (suc count) more fresh some is at made after =
+    let less : suc count - 1 ≡ count = omega arith in
+    let place : last ≡ get_or (chain (suc count) old (Some first)) count 0 = rw less at at in
+    rw (after, place) (chain_is_grown old mid first count more fresh is made)
+
+-- its last segment is still taken when the new ones are there
+pub last_is_taken : (old mid : Segments) (first last count more : ℕ) (fresh : Option ℕ) → 0 < count → IsChain old (chain count old (Some first)) count → last ≡ get_or (chain (suc (count - 1)) old (Some first)) (count - 1) 0 → IsFreshChain old mid (chain more mid fresh) [] more → IsTaken mid last
+last_is_taken old mid first last zero more fresh some is at made = absurd (omega arith)
+last_is_taken old mid first last (suc count) more fresh some is at made =
+    let less : suc count - 1 ≡ count = omega arith in
+    let place : last ≡ get_or (chain (suc count) old (Some first)) count 0 = rw less at at in
+    let within : count < length (chain (suc count) old (Some first)) = omega (arith, is.whole) in
+    let taken : IsTaken old last = rw place (blocks-get_or old (chain (suc count) old (Some first)) count is.blocks within).0 in
+    rw (made.kept last taken) taken
+
+-- a chain is given back from its front
+pub give-rest : (old : Segments) (n count : ℕ) → IsChain old (n ∷ chain count old (link_at old n)) (suc count) →
+    (chain count (set old n None) (link_at old n) ≡ chain count old (link_at old n)) × IsChain (set old n None) (chain count (set old n None) (link_at old n)) count
+give-rest old n count is =
+    let xs : List ℕ = chain count old (link_at old n) in
+    let agrees : AgreesOn old (set old n None) xs = agrees-set old n None xs is.once.0 in
+    let same : chain count (set old n None) (link_at old n) ≡ xs = chain-agrees count old (set old n None) (link_at old n) agrees in
+    (same, rw same (record { blocks = blocks-agrees old (set old n None) xs agrees is.blocks.2; whole = omega (arith, is.whole); once = is.once.1 }))
+
+pub given-back : (old new : Segments) (n : ℕ) (xs : List ℕ) → IsTaken old n → IsGivenBack (set old n None) new xs → IsGivenBack old new (n ∷ xs)
+given-back old new n xs taken given =
+    record {
+      same_count = given.same_count ∙ length-set old n None;
+      counted = omega (arith, given.counted, taken_count-give old n taken);
+      kept = λ s lacks. given.kept s lacks.1 ∙ get_or-set_other old n s None None (λ e. lacks.0 (sym e));
+    }
+
+-- both, where the count is given as one number
+pub give-rest-of : (old mid : Segments) (first next : Option ℕ) (n count : ℕ) → 0 < count → first ≡ Some n → IsChain old (chain count old first) count → next ≡ link_at old n → mid ≡ set old n None → IsChain mid (chain (count - 1) mid next) (count - 1)
+give-rest-of old mid first next n zero some is_first is link after = absurd (omega arith)
+give-rest-of old mid first next n (suc count) some is_first is link after =
+    let less : suc count - 1 ≡ count = omega arith in
+    let whole : IsChain old (n ∷ chain count old (link_at old n)) (suc count) = rw is_first at is in
+    rw (less, link, after) (give-rest old n count whole).1
+
+pub given-back-of : (old mid new : Segments) (first next : Option ℕ) (n count : ℕ) → 0 < count → first ≡ Some n → IsChain old (chain count old first) count → next ≡ link_at old n → mid ≡ set old n None → IsGivenBack mid new (chain (count - 1) mid next) → IsGivenBack old new (chain count old first)
+given-back-of old mid new first next n zero some is_first is link after given = absurd (omega arith)
+given-back-of old mid new first next n (suc count) some is_first is link after given =
+    let less : suc count - 1 ≡ count = omega arith in
+    let whole : IsChain old (n ∷ chain count old (link_at old n)) (suc count) = rw is_first at is in
+    let rest : IsGivenBack (set old n None) new (chain count old (link_at old n)) = rw (less, link, after, (give-rest old n count whole).0) at given in
+    rw is_first (given-back old new n (chain count old (link_at old n)) whole.blocks.0 rest)

@@ -1,0 +1,12 @@
+pub mod Numbers
+pub mod Follow
+pub mod Content
+pub mod Fresh
+pub mod Grown
+pub mod Sound
+pub mod Changes
+pub mod Steps
+pub mod TreeFacts
+pub mod Depths
+pub mod Going
+pub mod LawFacts

@@ -1,0 +1,7 @@
+use Rattle.std.proofs.Common.{sym}
+use Rattle.cactus_stack.proofs.Sound.{length-words_in}
+use Rattle.cactus_stack.proofs.words.Words.len.Goals as goal
+
+pub returns-clause-value : goal.returns-clause-value
+returns-clause-value c =
+    rw (← c.self.view_is) (sym (length-words_in c.self.inside.region.now c.self.inside.first c.self.inside.len c.self.invariant))

@@ -1,0 +1,5 @@
+pub mod Nodes
+pub mod Chains
+pub mod Lists
+pub mod Trees
+pub mod Pairs

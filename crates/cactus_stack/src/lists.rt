@@ -1,0 +1,125 @@
+//! Lists of words under numbers, kept in chains of segments.
+ghost use Rattle.std.specs.Prelude.{◌≡◌, ◌↔◌, ◌+◌, ◌<◌, ◌≤◌, ℕ, ◌++◌, length, replicate, Some, None, IsSome, IfOk, OnOk, OnErr, IsErr, slice_set, sum_by};
+ghost use Rattle.cactus_stack.specs.Nodes.{charge as charge_of_words, padded};
+ghost use Rattle.cactus_stack.specs.Lists.{Lists as ListsValue, list_at, list_charge, words_of_list};
+
+use crate::chain::{charge, fresh_chain, give_chain, grow_chain, segment_after};
+use crate::node::{NoSegment, NodeNo};
+use crate::words::Words;
+use segment_region::Region;
+use std::alloc::{AllocError, Global};
+use std::marker::Model;
+
+/// Lists of 1 to 128 words. A list's number is that of the first segment of its chain.
+#[derive(Drop)]
+pub struct Lists {
+    region: Region,
+    lens: Vec<usize>,
+}
+
+impl Model for Lists {
+    ghost use Rattle.cactus_stack.specs.Lists.{Lists as Value_of_lists};
+
+    ghost Value = { Value_of_lists };
+
+    ghost use Rattle.cactus_stack.specs.Lists.{lists_from, IsSound};
+
+    ghost view = { λ lists. lists_from lists.region 0 lists.lens.items };
+
+    ghost invariant = { λ lists. IsSound lists.region lists.lens.items };
+}
+
+impl Lists {
+    /// Room for lists of so many segments, 1 to 65,536.
+    pub fn new(alloc: Global, segments: usize) -> Result<Lists, AllocError>
+        requires some { 1 ≤ segments }
+        requires in_limits { segments ≤ 65536 }
+        ensures { IfOk result (λ lists. lists ≡ replicate segments None) }
+    {
+        let region = Region::new(alloc, segments)?;
+        let lens = vec![in alloc; 0; segments]?;
+        Ok(Lists { region, lens })
+    }
+
+    /// Adds a list of the given words and then zeros.
+    pub fn open(&mut self, words: &[u64], size: usize) -> Result<NodeNo, NoSegment>
+        requires some { 1 ≤ size }
+        requires in_limits { size ≤ 128 }
+        requires room { length words.now ≤ size }
+        ensures was_unused { IfOk result (λ n. (n < length self.old) × (list_at self.old n ≡ None)) }
+        ensures opened { IfOk result (λ n. self.new ≡ slice_set self.old n (Some (padded words.now size))) }
+        ensures refused { IsErr result ↔ (length self.old < sum_by list_charge self.old + charge_of_words size) }
+        ensures unchanged { OnErr result (self.new ≡ self.old) }
+    {
+        let count = charge(size);
+        if self.region.free_count() < count {
+            return Err(NoSegment);
+        }
+        match fresh_chain(&mut self.region, words, count) {
+            Some(first) => {
+                self.lens[first.index()] = size;
+                Ok(NodeNo::of_segment(first))
+            }
+            None => unreachable!(),
+        }
+    }
+
+    /// Adds so many zeros to the end of a list.
+    pub fn grow(&mut self, node: NodeNo, more: usize) -> Result<(), NoSegment>
+        requires is_open { IsSome (list_at self.old node) }
+        requires in_limits { length (words_of_list (list_at self.old node)) + more ≤ 128 }
+        ensures grown { OnOk result (self.new ≡ slice_set self.old node (Some (words_of_list (list_at self.old node) ++ replicate more 0))) }
+        ensures within { sum_by list_charge self.old ≤ length self.old }
+        ensures refused { IsErr result ↔ (length self.old + charge_of_words (length (words_of_list (list_at self.old node)))
+            < sum_by list_charge self.old + charge_of_words (length (words_of_list (list_at self.old node)) + more)) }
+        ensures unchanged { OnErr result (self.new ≡ self.old) }
+    {
+        let at = node.first().index();
+        let len = self.lens[at];
+        let count = charge(len);
+        let added = charge(len + more) - count;
+        if self.region.free_count() < added {
+            return Err(NoSegment);
+        }
+        grow_chain(&mut self.region, node.first(), count, added);
+        self.lens[at] = len + more;
+        Ok(())
+    }
+
+    /// Writes one word of a list.
+    pub fn store(&mut self, node: NodeNo, at: usize, word: u64)
+        requires is_open { IsSome (list_at self.old node) }
+        requires in_bounds { at < length (words_of_list (list_at self.old node)) }
+        ensures { self.new ≡ slice_set self.old node (Some (slice_set (words_of_list (list_at self.old node)) at word)) }
+    {
+        let segment = segment_after(&self.region, node.first(), at / 16);
+        self.region.words_mut(segment)[at % 16] = word;
+    }
+
+    /// Removes a list.
+    pub fn close(&mut self, node: NodeNo)
+        requires { IsSome (list_at self.old node) }
+        ensures { self.new ≡ slice_set self.old node None }
+    {
+        let at = node.first().index();
+        let count = charge(self.lens[at]);
+        give_chain(&mut self.region, Some(node.first()), count);
+        self.lens[at] = 0;
+    }
+
+    /// The words of a list.
+    pub fn own(&self, node: NodeNo) -> Words<'_>
+        requires { IsSome (list_at self.now node) }
+        ensures { Some result ≡ list_at self.now node }
+    {
+        let first = node.first();
+        Words::of(&self.region, first, self.lens[first.index()])
+    }
+
+    /// How many segments are free.
+    pub fn free_count(&self) -> usize
+        ensures { result + sum_by list_charge self.now ≡ length self.now }
+    {
+        self.region.free_count()
+    }
+}

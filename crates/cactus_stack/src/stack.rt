@@ -1,0 +1,165 @@
+//! The stack: nodes that are opened under one another, grown, written and closed.
+ghost use Rattle.std.specs.Prelude.{◌≡◌, ◌≢◌, ◌↔◌, ◌+◌, ◌<◌, ◌≤◌, ℕ, ◌++◌, length, replicate, Some, None, IfSome, IfOk, OnOk, OnErr, IsErr, slice_set, All, AllPairs};
+ghost use Rattle.cactus_stack.specs.Nodes.{Node, IsOpen, IsUnused, HasNoChild, HasAllChildren, IsSight, with_node, with_words, without, node_words, node_parent, padded, charge, growth_charge, total_charge, free_segments, segment_count};
+
+use crate::lists::Lists;
+use crate::node::{NoSegment, NodeNo};
+use crate::sight::Sight;
+use crate::words::Words;
+use std::alloc::{AllocError, Global};
+use std::marker::Model;
+
+/// Where a node stands in the tree: its parent, and how many nodes are above it and itself.
+#[derive(Clone, Copy, Drop)]
+pub struct Above {
+    parent: Option<NodeNo>,
+    depth: usize,
+}
+
+/// A cactus stack: nodes with words of their own, each under its parent.
+#[derive(Drop)]
+pub struct Stack {
+    lists: Lists,
+    above: Vec<Above>,
+}
+
+impl Model for Stack {
+    ghost use Rattle.cactus_stack.specs.Nodes.{Nodes};
+
+    ghost Value = { Nodes };
+
+    ghost use Rattle.cactus_stack.specs.Trees.{nodes_of, IsTree};
+
+    ghost view = { λ stack. nodes_of stack.lists stack.above.items };
+
+    ghost invariant = { λ stack. IsTree stack.lists stack.above.items };
+}
+
+impl Stack {
+    /// A stack with room for so many segments of 16 words, 1 to 65,536, and no node. It fails only
+    /// for want of memory.
+    pub fn new(alloc: Global, segments: usize) -> Result<Stack, AllocError>
+        requires some { 1 ≤ segments }
+        requires in_limits { segments ≤ 65536 }
+        ensures { IfOk result (λ stack. stack ≡ replicate segments None) }
+    {
+        let lists = Lists::new(alloc, segments)?;
+        let above = nothing_above(alloc, segments)?;
+        Ok(Stack { lists, above })
+    }
+
+    /// Opens a node of `size` words, 1 to 128, under a parent or none: the given words first, then
+    /// zeros. It is refused where fewer segments are free than its words take.
+    pub fn open(
+        &mut self,
+        parent: Option<NodeNo>,
+        words: &[u64],
+        size: usize,
+    ) -> Result<NodeNo, NoSegment>
+        requires parent_is_open { IfSome parent (IsOpen self.old) }
+        requires some { 1 ≤ size }
+        requires in_limits { size ≤ 128 }
+        requires room { length words.now ≤ size }
+        ensures was_unused { IfOk result (IsUnused self.old) }
+        ensures opened { IfOk result (λ node. self.new ≡ with_node self.old node (Some (record { parent = parent; words = padded words.now size }))) }
+        ensures refused { IsErr result ↔ (free_segments self.old < charge size) }
+        ensures unchanged { OnErr result (self.new ≡ self.old) }
+    {
+        let depth = match parent {
+            Some(node) => self.above[node.first().index()].depth + 1,
+            None => 1,
+        };
+        let node = self.lists.open(words, size)?;
+        self.above[node.first().index()] = Above { parent, depth };
+        Ok(node)
+    }
+
+    /// Makes a node longer by so many zero words, to at most 128. It is refused where fewer
+    /// segments are free than that takes.
+    pub fn grow(&mut self, node: NodeNo, more: usize) -> Result<(), NoSegment>
+        requires is_open { IsOpen self.old node }
+        requires in_limits { length (node_words self.old node) + more ≤ 128 }
+        ensures grown { OnOk result (self.new ≡ with_words self.old node (node_words self.old node ++ replicate more 0)) }
+        ensures refused { IsErr result ↔ (free_segments self.old < growth_charge (length (node_words self.old node)) more) }
+        ensures unchanged { OnErr result (self.new ≡ self.old) }
+    {
+        self.lists.grow(node, more)
+    }
+
+    /// Writes the word at a place of a node, counted from 0.
+    pub fn store(&mut self, node: NodeNo, at: usize, word: u64)
+        requires is_open { IsOpen self.old node }
+        requires in_bounds { at < length (node_words self.old node) }
+        ensures { self.new ≡ with_words self.old node (slice_set (node_words self.old node) at word) }
+    {
+        self.lists.store(node, at, word);
+    }
+
+    /// The words of a node.
+    pub fn own(&self, node: NodeNo) -> Words<'_>
+        requires { IsOpen self.now node }
+        ensures { result ≡ node_words self.now node }
+    {
+        self.lists.own(node)
+    }
+
+    /// What a node sees: its own words, its parent's, and so on to its root's.
+    pub fn sight(&self, node: NodeNo) -> Sight<'_>
+        requires { IsOpen self.now node }
+        ensures { IsSight self.now (Some node) result }
+    {
+        let depth = self.above[node.first().index()].depth;
+        Sight::of(self, node, depth)
+    }
+
+    /// The node that a node was opened under, if there is one.
+    pub(crate) fn parent(&self, node: NodeNo) -> Option<NodeNo>
+        requires { IsOpen self.now node }
+        ensures { result ≡ node_parent self.now node }
+    {
+        self.above[node.first().index()].parent
+    }
+
+    /// Closes a node that no open node has as its parent.
+    pub fn close(&mut self, node: NodeNo)
+        requires is_open { IsOpen self.old node }
+        requires no_child { HasNoChild self.old node }
+        ensures { self.new ≡ with_node self.old node None }
+    {
+        self.lists.close(node);
+    }
+
+    /// Closes all nodes of a list, which stand there in any order, each once, with all their open
+    /// children.
+    pub fn close_all(&mut self, nodes: &[NodeNo])
+        requires are_open { All (IsOpen self.old) nodes.now }
+        requires once { AllPairs ◌≢◌ nodes.now }
+        requires with_children { HasAllChildren self.old nodes.now }
+        ensures { self.new ≡ without self.old nodes.now }
+    {
+        for node in nodes {
+            self.lists.close(*node);
+        }
+    }
+
+    /// How many segments are free: all but what the open nodes take.
+    pub fn free_count(&self) -> usize
+        ensures { result + total_charge self.now ≡ segment_count self.now }
+    {
+        self.lists.free_count()
+    }
+}
+
+// Places in the tree for nodes to come.
+fn nothing_above(alloc: Global, segments: usize) -> Result<Vec<Above>, AllocError>
+    ensures { IfOk result (λ above. length above.items ≡ segments) }
+{
+    let mut above = Vec::with_capacity(alloc, segments)?;
+    for _made in 0..segments {
+        above.push(Above {
+            parent: None,
+            depth: 0,
+        })?;
+    }
+    Ok(above)
+}

@@ -1,0 +1,9 @@
+pub mod Search
+pub mod Forest
+pub mod Cuts
+pub mod Passes
+pub mod Finds
+pub mod Counts
+pub mod Changes
+pub mod Trees
+pub mod Tenants

@@ -1,0 +1,5 @@
+pub mod Frames
+pub mod Tables
+pub mod Slots
+pub mod Ending
+pub mod Rows

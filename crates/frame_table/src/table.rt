@@ -1,0 +1,379 @@
+//! The table: each tenant's frames in the places that were reserved for them.
+//!
+//! Seen as a tree for each tenant: `frames_of table tenant`, the frames by rising serial, and
+//! `places_of table tenant`, how many places it has. What makes that true: each tenant stands once,
+//! its frames are within its places, the list of removed values has room for as many as any tenant
+//! has places, and the count of ready frames is that of all trees.
+ghost use Rattle.std.specs.Prelude.{◌≡◌, ◌≢◌, ℕ, ◌+◌, ◌<◌, ◌≤◌, ◌↔◌, ◌++◌, [], ◌∷◌, true, false, length, IsTrue, IsNone, IfOk, IfSome, IfNone, OnOk, OnErr};
+ghost use Rattle.std.specs.Borrow.{sem};
+ghost use Rattle.frame_table.specs.Frames.{frame_at, has_frame, path_in, root_of, children_of, frames_under, frames_without, values_of, with_state, ready_frames, AllBelow, entry_of, newest_ready_of, names_of, HasValue, IsTree, IsReadyAt};
+ghost use Rattle.frame_table.specs.Tables.{frames_of, places_of, tenant_count, KeepsOthers, KeepsOtherTenants, serial_of, IsParentIn, new_frame, has_tenant, IsAt, IsTreeOf, HasNoTree, AreApart, first_ready_of};
+
+use crate::names::{Entry, FrameId, State};
+use crate::tree::TenantFrames;
+use crate::walk::{Children, Frames};
+use std::alloc::{AllocError, Global};
+use std::marker::Model;
+
+/// How many tenants can have places at once.
+pub const TENANTS: usize = 64;
+
+/// How many places a tenant can have.
+pub const PLACES: usize = 4096;
+
+/// The frames of many tenants, each with a value.
+#[derive(Drop)]
+pub struct FrameTable<T> {
+    alloc: Global,
+    trees: Vec<TenantFrames<T>>,
+    removed: Vec<T>,
+    ready: usize,
+}
+
+impl<T> Model for FrameTable<T> {
+    ghost use Rattle.std.specs.Prelude.{◌≤◌, List, vec_capacity};
+    ghost use Rattle.frame_table.specs.Tables.{Tree, IsSoundTable};
+
+    ghost Value = { List (Tree T) };
+
+    ghost view = { λ t. t.trees.items };
+
+    ghost invariant = { λ t. IsSoundTable t.trees.items (vec_capacity t.removed) t.ready × (64 ≤ vec_capacity t.trees) };
+}
+
+impl<T: Copy> FrameTable<T> {
+    ghost use Rattle.frame_table.specs.Ending.{EndsAborted};
+
+    /// A table with no tenant. Takes memory: `AllocError` only where a growth was refused.
+    pub fn new(alloc: Global) -> Result<Self, AllocError>
+        ensures count { IfOk result (λ table. tenant_count table ≡ 0) }
+        ensures frames { IfOk result (λ table. (tenant : ℕ) → frames_of table tenant ≡ []) }
+        ensures places { IfOk result (λ table. (tenant : ℕ) → places_of table tenant ≡ 0) }
+    {
+        let trees = Vec::with_capacity(alloc, TENANTS)?;
+        Ok(FrameTable {
+            alloc,
+            trees,
+            removed: Vec::new(alloc),
+            ready: 0,
+        })
+    }
+
+    /// How many tenants have places.
+    pub fn tenant_count(&self) -> usize
+        ensures { result ≡ tenant_count self.now }
+    {
+        self.trees.len()
+    }
+
+    /// How many places a tenant has; 0 where none were reserved.
+    pub fn places(&self, tenant: u64) -> usize
+        ensures { result ≡ places_of self.now tenant }
+    {
+        match find_tree(self.trees.as_slice(), tenant) {
+            Some(tree) => tree.places(),
+            None => 0,
+        }
+    }
+
+    /// How many frames a tenant has.
+    pub fn frame_count(&self, tenant: u64) -> usize
+        ensures { result ≡ length (frames_of self.now tenant) }
+    {
+        match find_tree(self.trees.as_slice(), tenant) {
+            Some(tree) => tree.len(),
+            None => 0,
+        }
+    }
+
+    /// Whether a tenant has no frame.
+    pub fn is_empty(&self, tenant: u64) -> bool
+        ensures some { result ≡ false → 0 < length (frames_of self.now tenant) }
+        ensures none { IsTrue result → frames_of self.now tenant ≡ [] }
+    {
+        self.frame_count(tenant) == 0
+    }
+
+    /// How many of a tenant's frames are ready, from a kept count.
+    pub fn ready_count(&self, tenant: u64) -> usize
+        ensures { result ≡ length (ready_frames (frames_of self.now tenant)) }
+    {
+        match find_tree(self.trees.as_slice(), tenant) {
+            Some(tree) => tree.ready(),
+            None => 0,
+        }
+    }
+
+    /// The parent, state and value of a frame; `None` where there is no such frame.
+    pub fn find(&self, f: FrameId) -> Option<Entry<T>>
+        ensures { result ≡ entry_of f.tenant (frame_at (frames_of self.now f.tenant) f.serial) }
+    {
+        match find_tree(self.trees.as_slice(), f.tenant) {
+            Some(tree) => tree.find(f.serial),
+            None => None,
+        }
+    }
+
+    /// Whether a frame is there.
+    pub fn contains(&self, f: FrameId) -> bool
+        ensures { IsTrue result ↔ IsTrue (has_frame (frames_of self.now f.tenant) f.serial) }
+    {
+        match find_tree(self.trees.as_slice(), f.tenant) {
+            Some(tree) => tree.contains(f.serial),
+            None => false,
+        }
+    }
+
+    /// Whether `add` may be called with this name under this parent: the serial is above those of
+    /// the tenant's frames, a parent is one of them, and a place is left.
+    pub fn can_add(&self, f: FrameId, parent: Option<FrameId>) -> bool
+        ensures above { IsTrue result → AllBelow f.serial (frames_of self.now f.tenant) }
+        ensures parent { IsTrue result → IsParentIn (frames_of self.now f.tenant) f.tenant parent }
+        ensures room { IsTrue result → length (frames_of self.now f.tenant) < places_of self.now f.tenant }
+        ensures otherwise { AllBelow f.serial (frames_of self.now f.tenant) → IsParentIn (frames_of self.now f.tenant) f.tenant parent
+            → length (frames_of self.now f.tenant) < places_of self.now f.tenant → IsTrue result }
+    {
+        match find_tree(self.trees.as_slice(), f.tenant) {
+            Some(tree) => {
+                may_follow(tree, f.tenant, parent)
+                    && tree.len() < tree.places()
+                    && tree.is_above(f.serial)
+            }
+            None => false,
+        }
+    }
+
+    /// The root above a frame, or the frame itself.
+    pub fn root(&self, f: FrameId) -> FrameId
+        requires { IsTrue (has_frame (frames_of self.now f.tenant) f.serial) }
+        ensures { result ≡ record { tenant = f.tenant; serial = root_of (path_in (frames_of self.now f.tenant) f.serial) } }
+    {
+        let at = known_tenant(self.trees.as_slice(), f.tenant);
+        let tree = &self.trees[at];
+        FrameId {
+            tenant: f.tenant,
+            serial: tree.root(f.serial),
+        }
+    }
+
+    /// Whether a frame has a child, from a kept count.
+    pub fn has_child(&self, f: FrameId) -> bool
+        ensures child { IsTrue result ↔ (0 < length (children_of (frames_of self.now f.tenant) f.serial)) }
+        ensures leaf { result ≡ false → children_of (frames_of self.now f.tenant) f.serial ≡ [] }
+    {
+        match find_tree(self.trees.as_slice(), f.tenant) {
+            Some(tree) => tree.has_child(f.serial),
+            None => false,
+        }
+    }
+
+    /// The names of a frame's children, by rising serial.
+    pub fn children(&self, f: FrameId) -> Children<'_, T>
+        ensures { result ≡ names_of f.tenant (children_of (frames_of self.now f.tenant) f.serial) }
+    {
+        match find_tree(self.trees.as_slice(), f.tenant) {
+            Some(tree) => Children::new(f, tree.slots()),
+            None => Children::new(f, &[]),
+        }
+    }
+
+    /// The names of a tenant's frames, by rising serial.
+    pub fn frames(&self, tenant: u64) -> Frames<'_, T>
+        ensures names { result ≡ names_of tenant (frames_of self.now tenant) }
+        ensures tree { IsTree (frames_of self.now tenant) }
+    {
+        match find_tree(self.trees.as_slice(), tenant) {
+            Some(tree) => Frames::new(tenant, tree.slots()),
+            None => Frames::new(tenant, &[]),
+        }
+    }
+
+    /// A tenant's ready frame of the greatest serial, with its home.
+    pub fn newest_ready(&self, tenant: u64) -> Option<(FrameId, u8)>
+        ensures { result ≡ newest_ready_of tenant (frames_of self.now tenant) }
+    {
+        match find_tree(self.trees.as_slice(), tenant) {
+            Some(tree) => tree.newest_ready(),
+            None => None,
+        }
+    }
+
+    /// A ready frame of some tenant, with its home. Where none is ready a kept count says so.
+    pub fn any_ready(&self) -> Option<(FrameId, u8)>
+        ensures found { IfSome result (λ ready. IsReadyAt (frame_at (frames_of self.now ready.0.tenant) ready.0.serial) ready.1) }
+        ensures none { IsNone result ↔ ((tenant : ℕ) → ready_frames (frames_of self.now tenant) ≡ []) }
+    {
+        if self.ready == 0 {
+            return None;
+        }
+        first_ready(self.trees.as_slice())
+    }
+
+    /// Makes places for that many frames of a new tenant, and for their values at an abort. It alone
+    /// takes memory after `new`: `AllocError` only where a growth was refused.
+    pub fn reserve(&mut self, tenant: u64, segments: usize) -> Result<(), AllocError>
+        requires fresh { places_of self.old tenant ≡ 0 }
+        requires free { tenant_count self.old < TENANTS }
+        requires some { 1 ≤ segments }
+        requires few { segments ≤ PLACES }
+        ensures places { OnOk result (places_of self.new tenant ≡ segments) }
+        ensures frames { OnOk result (frames_of self.new tenant ≡ []) }
+        ensures kept { OnOk result (KeepsOtherTenants self.old self.new tenant) }
+        ensures count { OnOk result (tenant_count self.new ≡ tenant_count self.old + 1) }
+        ensures err { OnErr result (self.new ≡ self.old) }
+    {
+        self.removed.clear();
+        self.removed.reserve(segments)?;
+        let tree = TenantFrames::new(self.alloc, tenant, segments)?;
+        self.trees.push_reserved(tree);
+        Ok(())
+    }
+
+    /// Gives back the places of a tenant that has no frame.
+    pub fn release(&mut self, tenant: u64)
+        requires there { 0 < places_of self.old tenant }
+        requires empty { frames_of self.old tenant ≡ [] }
+        ensures places { places_of self.new tenant ≡ 0 }
+        ensures frames { frames_of self.new tenant ≡ [] }
+        ensures kept { KeepsOtherTenants self.old self.new tenant }
+        ensures count { tenant_count self.new + 1 ≡ tenant_count self.old }
+    {
+        let at = known_tenant(self.trees.as_slice(), tenant);
+        self.trees.remove(at);
+    }
+
+    /// Adds a frame that is ready at this home, in one of its tenant's places. Takes no memory.
+    pub fn add(&mut self, f: FrameId, parent: Option<FrameId>, home: u8, value: T)
+        requires above { AllBelow f.serial (frames_of self.old f.tenant) }
+        requires parent { IsParentIn (frames_of self.old f.tenant) f.tenant parent }
+        requires room { length (frames_of self.old f.tenant) < places_of self.old f.tenant }
+        ensures frames { frames_of self.new f.tenant ≡ frames_of self.old f.tenant ++ new_frame (frames_of self.old f.tenant) f.serial (serial_of parent) home value ∷ [] }
+
+        // A name that is gone is not found again.
+        ensures others { (serial : ℕ) → serial ≢ f.serial → has_frame (frames_of self.new f.tenant) serial ≡ has_frame (frames_of self.old f.tenant) serial }
+        ensures kept { KeepsOthers self.old self.new f.tenant }
+    {
+        let at = known_tenant(self.trees.as_slice(), f.tenant);
+        let above = parent_serial(parent);
+        let tree = &mut self.trees[at];
+        tree.add(f.serial, above, home, value);
+        self.ready += 1;
+    }
+
+    /// Puts a frame into another state.
+    pub fn set_state(&mut self, f: FrameId, state: State)
+        requires { IsTrue (has_frame (frames_of self.old f.tenant) f.serial) }
+        ensures frames { frames_of self.new f.tenant ≡ with_state f.serial state (frames_of self.old f.tenant) }
+        ensures kept { KeepsOthers self.old self.new f.tenant }
+    {
+        let at = known_tenant(self.trees.as_slice(), f.tenant);
+        let tree = &mut self.trees[at];
+        let before = tree.ready();
+        tree.set_state(f.serial, state);
+        self.ready = self.ready - before + tree.ready();
+    }
+
+    /// Removes the frames under one, which stays: those whose path goes through it to a further
+    /// serial. Gives their values, each once, by rising serial. Takes no memory.
+    pub fn remove_under(&mut self, f: FrameId) -> &[T]
+        requires { IsTrue (has_frame (frames_of self.old f.tenant) f.serial) }
+        ensures* ends { sem 𝓛 (EndsAborted T.row self.entry f) }
+        ensures values { result.now ≡ values_of (frames_under f.serial (frames_of self.old f.tenant)) }
+    {
+        let at = known_tenant(self.trees.as_slice(), f.tenant);
+        let tree = &mut self.trees[at];
+        let before = tree.ready();
+        self.removed.clear();
+        tree.remove_under(f.serial, &mut self.removed);
+        self.ready = self.ready - before + tree.ready();
+        self.removed.as_slice()
+    }
+
+    /// Removes a frame that has no child, and gives its value.
+    pub fn remove(&mut self, f: FrameId) -> T
+        requires there { IsTrue (has_frame (frames_of self.old f.tenant) f.serial) }
+        requires leaf { children_of (frames_of self.old f.tenant) f.serial ≡ [] }
+        ensures frames { frames_of self.new f.tenant ≡ frames_without f.serial (frames_of self.old f.tenant) }
+        ensures value { HasValue (frame_at (frames_of self.old f.tenant) f.serial) result }
+        ensures kept { KeepsOthers self.old self.new f.tenant }
+    {
+        let at = known_tenant(self.trees.as_slice(), f.tenant);
+        let tree = &mut self.trees[at];
+        let before = tree.ready();
+        let value = tree.remove(f.serial);
+        self.ready = self.ready - before + tree.ready();
+        value
+    }
+}
+
+/// The serial of a parent, where there is one.
+fn parent_serial(parent: Option<FrameId>) -> Option<u64>
+    ensures { result ≡ serial_of parent }
+{
+    match parent {
+        Some(name) => Some(name.serial),
+        None => None,
+    }
+}
+
+/// Whether a parent, if one is named, is a frame of this tenant.
+fn may_follow<T: Copy>(tree: &TenantFrames<T>, tenant: u64, parent: Option<FrameId>) -> bool
+    ensures parent { IsTrue result → IsParentIn tree.now.frames tenant parent }
+    ensures otherwise { IsParentIn tree.now.frames tenant parent → IsTrue result }
+{
+    match parent {
+        Some(name) => name.tenant == tenant && tree.contains(name.serial),
+        None => true,
+    }
+}
+
+/// Where a tenant's tree stands.
+fn tenant_place<T: Copy>(trees: &[TenantFrames<T>], tenant: u64) -> Option<usize>
+    ensures within { IfSome result (λ at. at < length trees.now) }
+    ensures found { IfSome result (IsAt trees.now tenant) }
+    ensures none { IfNone result (has_tenant trees.now tenant ≡ false) }
+{
+    for (at, tree) in trees.iter().enumerate() {
+        if tree.tenant() == tenant {
+            return Some(at);
+        }
+    }
+    None
+}
+
+/// A tenant's tree.
+fn find_tree<T: Copy>(trees: &[TenantFrames<T>], tenant: u64) -> Option<&TenantFrames<T>>
+    ensures found { IfSome result (λ tree. IsTreeOf trees.now tenant tree.now) }
+    ensures none { IfNone result (HasNoTree trees.now tenant) }
+{
+    match tenant_place(trees, tenant) {
+        Some(at) => Some(&trees[at]),
+        None => None,
+    }
+}
+
+/// Where the tree of a tenant stands that has places.
+fn known_tenant<T: Copy>(trees: &[TenantFrames<T>], tenant: u64) -> usize
+    requires { has_tenant trees.now tenant ≡ true }
+    ensures within { result < length trees.now }
+    ensures found { IsAt trees.now tenant result }
+{
+    match tenant_place(trees, tenant) {
+        Some(at) => at,
+        None => unreachable!(),
+    }
+}
+
+/// The newest ready frame of the first tenant that has one.
+fn first_ready<T: Copy>(trees: &[TenantFrames<T>]) -> Option<(FrameId, u8)>
+    requires { AreApart trees.now }
+    ensures value { result ≡ first_ready_of trees.now }
+    ensures found { IfSome result (λ ready. IsReadyAt (frame_at (frames_of trees.now ready.0.tenant) ready.0.serial) ready.1) }
+{
+    for tree in trees {
+        if tree.ready() > 0 {
+            return tree.newest_ready();
+        }
+    }
+    None
+}

@@ -1,0 +1,235 @@
+-- The weights of discs, counted under one word of squares for each weight.
+use Rattle.std.proofs.Common.{◌≡◌, ℕ, zero, suc, ◌+◌, ◌^◌, ◌<◌, ◌≤◌, ◌*◌, Bool, true, false, ◌&&◌, cond, eqb, List, [], ◌∷◌, map, length, min, bit_and, ℤ, pos, negsuc, ◌+ℤ◌, ◌-ℤ◌, ◌*ℤ◌, neg_ℤ, inl, inr, refl, sym, ap, ◌∙◌, arith}
+use Rattle.std.specs.Prelude.{count_ones}
+use Rattle.std.specs.Int.{bit_at}
+use Rattle.std.specs.List.{range_with_len}
+use Rattle.std.specs.Prelude.{unsigned_abs}
+use Rattle.std.proofs.Common.{to_z, of_z, w32, ◌≤ℤ◌}
+use Rattle.std.specs.Prelude.{FitsSigned}
+use Rattle.std.proofs.Common.{drop, get_or}
+use Rattle.std.proofs.lemmas.List.{at_drop_more, at_drop_all}
+use Rattle.std.proofs.lemmas.Int.{ints, unsigned_abs-mul}
+use Rattle.std.proofs.lemmas.Nat.{and_le_l, mul-le}
+use Rattle.std.proofs.lemmas.Nat.Bits.{bit_at_and, bit_at-lt}
+use Rattle.std.proofs.Math.IntN.{suc_ℤ, pred_ℤ, -ℤ_one, *ℤ_comm, suc_ℤ-*ℤ, pred_ℤ-*ℤ, *ℤ-zero, zero-*ℤ}
+use Rattle.othello_board.specs.declared.cells.Cell.TheVariants.{Empty, Own, Opp}
+use Rattle.othello_board.specs.Rules.{squares}
+use Rattle.othello_board.specs.Words.{cell_of, cells_of}
+use Rattle.othello_board.proofs.BitLemmas.{apart}
+use Rattle.othello_board.proofs.CellLemmas.{bit_cases}
+use Rattle.othello_board.proofs.CountLemmas.{count_in, ones_by_bits}
+use Rattle.othello_eval.specs.Values.{weights, disc_value, discs_value, IsWithin}
+use Rattle.othello_eval.specs.Masks.{disc_difference, weighed_sum, weight_table}
+
+-- what the set bits of a word are worth by these weights, of which the first is that of bit a
+abbrev worth : ℕ → ℕ → List ℤ → ℤ
+worth word a [] = pos 0
+worth word a (w ∷ ws) = (cond (eqb (bit_at word a) 1) w (pos 0)) +ℤ worth word (a + 1) ws
+
+-- one cell is worth its own bit, less its opposing one
+cell_by : (a b : ℕ) (w : ℤ) → a < 2 → b < 2 → min a b ≡ 0
+    → disc_value (cond (eqb a 1) Own (cond (eqb b 1) Opp Empty)) w ≡ cond (eqb a 1) w (pos 0) -ℤ cond (eqb b 1) w (pos 0)
+cell_by a b w p q h =
+    elim (bit_cases a p) [
+      | inl a_clear ↦ elim (bit_cases b q) [ inl b_clear ↦ rw (a_clear, b_clear) (omega (arith, ints)) | inr b_set ↦ rw (a_clear, b_set) (omega (arith, ints)) ]
+      | inr a_set ↦ let b_clear : b ≡ 0 = omega arith in rw (a_set, b_clear) (omega (arith, ints))
+    ]
+
+joined_sums : (d x y u v : ℤ) → d ≡ x -ℤ y → d +ℤ (u -ℤ v) ≡ (x +ℤ u) -ℤ (y +ℤ v)
+joined_sums d x y u v e = omega (arith, ints)
+
+discs-worth : (own opp a n : ℕ) (ws : List ℤ) → bit_and own opp ≡ 0 → length ws ≡ n
+    → discs_value (map (cell_of own opp) (range_with_len a n)) ws ≡ worth own a ws -ℤ worth opp a ws
+discs-worth own opp a zero [] disjoint len = refl
+discs-worth own opp a zero (w ∷ ws) disjoint len = absurd (omega arith)
+discs-worth own opp a (suc n) [] disjoint len = absurd (omega arith)
+discs-worth own opp a (suc n) (w ∷ ws) disjoint len =
+    ap (λ m. disc_value (cell_of own opp a) w +ℤ m) (discs-worth own opp (a + 1) n ws disjoint (omega arith))
+    ∙ joined_sums (disc_value (cell_of own opp a) w) (cond (eqb (bit_at own a) 1) w (pos 0)) (cond (eqb (bit_at opp a) 1) w (pos 0)) (worth own (a + 1) ws) (worth opp (a + 1) ws)
+    (cell_by (bit_at own a) (bit_at opp a) w (bit_at-lt own a) (bit_at-lt opp a) (apart own opp a disjoint))
+
+-- two lists of weights, added one by one
+abbrev added : List ℤ → List ℤ → List ℤ
+added [] vs = []
+added (w ∷ ws) [] = []
+added (w ∷ ws) (v ∷ vs) = (w +ℤ v) ∷ added ws vs
+
+split_test : (t : Bool) (w v x y : ℤ) → (cond t (w +ℤ v) (pos 0)) +ℤ (x +ℤ y) ≡ (cond t w (pos 0) +ℤ x) +ℤ (cond t v (pos 0) +ℤ y)
+split_test true w v x y = omega (arith, ints)
+split_test false w v x y = omega (arith, ints)
+
+worth-added : (word a n : ℕ) (ws vs : List ℤ) → length ws ≡ n → length vs ≡ n → worth word a (added ws vs) ≡ worth word a ws +ℤ worth word a vs
+worth-added word a n [] [] l m = refl
+worth-added word a n [] (v ∷ vs) l m = absurd (omega arith)
+worth-added word a n (w ∷ ws) [] l m = absurd (omega arith)
+worth-added word a zero (w ∷ ws) (v ∷ vs) l m = absurd (omega arith)
+worth-added word a (suc n) (w ∷ ws) (v ∷ vs) l m =
+    ap (λ x. cond (eqb (bit_at word a) 1) (w +ℤ v) (pos 0) +ℤ x) (worth-added word (a + 1) n ws vs (omega arith) (omega arith))
+    ∙ split_test (eqb (bit_at word a) 1) w v (worth word (a + 1) ws) (worth word (a + 1) vs)
+
+-- one weight on the squares of a word, and 0 elsewhere
+abbrev on_squares : ℤ → ℕ → ℕ → ℕ → List ℤ
+on_squares w mask a n = map (λ s. cond (eqb (bit_at mask s) 1) w (pos 0)) (range_with_len a n)
+
+length-on_squares : (w : ℤ) (mask a n : ℕ) → length (on_squares w mask a n) ≡ n
+length-on_squares w mask a zero = refl
+length-on_squares w mask a (suc n) = ap suc (length-on_squares w mask (a + 1) n)
+
+both_set : (a b : ℕ) → a < 2 → b < 2 → eqb (min a b) 1 ≡ (eqb a 1 && eqb b 1)
+both_set a b p q =
+    elim (bit_cases a p) [
+      | inl a_clear ↦ elim (bit_cases b q) [ inl b_clear ↦ rw (a_clear, b_clear) refl | inr b_set ↦ rw (a_clear, b_set) refl ]
+      | inr a_set ↦ elim (bit_cases b q) [ inl b_clear ↦ rw (a_set, b_clear) refl | inr b_set ↦ rw (a_set, b_set) refl ]
+    ]
+
+one_more : (w : ℤ) (k : ℕ) → w +ℤ (w *ℤ pos k) ≡ w *ℤ pos (1 + k)
+one_more w k =
+    let next : pos (1 + k) ≡ suc_ℤ (pos k) = ap pos (omega arith) in
+    let turned : w *ℤ pos (1 + k) ≡ suc_ℤ (pos k) *ℤ w = *ℤ_comm w (pos (1 + k)) ∙ ap (λ m. m *ℤ w) next in
+    let step = suc_ℤ-*ℤ (pos k) w in
+    let back = *ℤ_comm (pos k) w in
+    omega (arith, ints, turned, step, back)
+
+counted_by : (t u : Bool) (w : ℤ) (k : ℕ) → (cond t (cond u w (pos 0)) (pos 0)) +ℤ (w *ℤ pos k) ≡ w *ℤ pos (cond (t && u) (1 + k) k)
+counted_by true true w k = one_more w k
+counted_by true false w k = omega (arith, ints)
+counted_by false u w k = omega (arith, ints)
+
+worth-on_squares : (word mask : ℕ) (w : ℤ) (a n : ℕ) → worth word a (on_squares w mask a n) ≡ w *ℤ pos (count_in (λ s. eqb (bit_at (bit_and word mask) s) 1) a n)
+worth-on_squares word mask w a zero = sym (*ℤ-zero w)
+worth-on_squares word mask w a (suc n) =
+    let here : eqb (bit_at (bit_and word mask) a) 1 ≡ (eqb (bit_at word a) 1 && eqb (bit_at mask a) 1) =
+    ap (λ b. eqb b 1) (bit_at_and word mask a) ∙ both_set (bit_at word a) (bit_at mask a) (bit_at-lt word a) (bit_at-lt mask a) in
+    let rest = count_in (λ s. eqb (bit_at (bit_and word mask) s) 1) (a + 1) n in
+    ap (λ x. cond (eqb (bit_at word a) 1) (cond (eqb (bit_at mask a) 1) w (pos 0)) (pos 0) +ℤ x) (worth-on_squares word mask w (a + 1) n)
+    ∙ counted_by (eqb (bit_at word a) 1) (eqb (bit_at mask a) 1) w rest
+    ∙ ap (λ t. w *ℤ pos (cond t (1 + rest) rest)) (sym here)
+
+-- on the whole board
+worth_under : (word mask : ℕ) (w : ℤ) → word < 2 ^ 64 → worth word 0 (on_squares w mask 0 64) ≡ w *ℤ pos (count_ones (bit_and word mask))
+worth_under word mask w fits =
+    worth-on_squares word mask w 0 64 ∙ ap (λ k. w *ℤ pos k) (sym (ones_by_bits 64 (bit_and word mask) (omega (arith, and_le_l word mask))))
+
+-- ---- all weights
+
+-- the weights on all squares that a table says
+abbrev spread : List (ℤ × ℕ) → List ℤ
+spread [] = on_squares (pos 0) 0 0 64
+spread (p ∷ more) = added (on_squares p.0 p.1 0 64) (spread more)
+
+length-added : (ws vs : List ℤ) (n : ℕ) → length ws ≡ n → length vs ≡ n → length (added ws vs) ≡ n
+length-added [] vs n l m = l
+length-added (w ∷ ws) [] n l m = m ∙ refl
+length-added (w ∷ ws) (v ∷ vs) zero l m = absurd (omega arith)
+length-added (w ∷ ws) (v ∷ vs) (suc n) l m = ap suc (length-added ws vs n (omega arith) (omega arith))
+
+length-spread : (table : List (ℤ × ℕ)) → length (spread table) ≡ 64
+length-spread [] = length-on_squares (pos 0) 0 0 64
+length-spread (p ∷ more) = length-added (on_squares p.0 p.1 0 64) (spread more) 64 (length-on_squares p.0 p.1 0 64) (length-spread more)
+
+less_none : (x y : ℤ) → y ≡ pos 0 → x ≡ x -ℤ y
+less_none x y e = omega (arith, ints)
+
+mul_difference : (w : ℤ) (a b : ℕ) → w *ℤ (pos a -ℤ pos b) ≡ (w *ℤ pos a) -ℤ (w *ℤ pos b)
+mul_difference w a zero =
+    let whole : pos a -ℤ pos zero ≡ pos a = omega (arith, ints) in
+    let none = *ℤ-zero w in
+    ap (λ z. w *ℤ z) whole ∙ less_none (w *ℤ pos a) (w *ℤ pos zero) none
+mul_difference w a (suc b) =
+    let one_less : pos a -ℤ pos (suc b) ≡ (pos a -ℤ pos b) -ℤ pos (suc zero) = omega (arith, ints) in
+    let back : pos a -ℤ pos (suc b) ≡ pred_ℤ (pos a -ℤ pos b) = one_less ∙ -ℤ_one (pos a -ℤ pos b) in
+    let turned = *ℤ_comm w (pred_ℤ (pos a -ℤ pos b)) in
+    let step = pred_ℤ-*ℤ (pos a -ℤ pos b) w in
+    let again = *ℤ_comm (pos a -ℤ pos b) w in
+    let more : w *ℤ pos (suc b) ≡ w +ℤ (w *ℤ pos b) = ap (λ n. w *ℤ pos n) (omega arith) ∙ sym (one_more w b) in
+    let so_far = mul_difference w a b in
+    ap (λ z. w *ℤ z) back ∙ omega (arith, ints, turned, step, again, more, so_far)
+
+-- the two words, each at a weight
+by_weight : (w : ℤ) (a b : ℕ) (x y s : ℤ) → x -ℤ y ≡ s → (w *ℤ pos a +ℤ x) -ℤ (w *ℤ pos b +ℤ y) ≡ (w *ℤ (pos a -ℤ pos b)) +ℤ s
+by_weight w a b x y s e =
+    let split = mul_difference w a b in
+    omega (arith, ints, split)
+
+nothing_both : (x y p q : ℤ) → x ≡ p → y ≡ q → p ≡ pos 0 → q ≡ pos 0 → x -ℤ y ≡ pos 0
+nothing_both x y p q a b c d = omega (arith, ints)
+
+weighed_sum-worth : (own opp : ℕ) (table : List (ℤ × ℕ)) → own < 2 ^ 64 → opp < 2 ^ 64 → worth own 0 (spread table) -ℤ worth opp 0 (spread table) ≡ weighed_sum own opp table
+weighed_sum-worth own opp [] own_fits opp_fits =
+    nothing_both (worth own 0 (on_squares (pos 0) 0 0 64)) (worth opp 0 (on_squares (pos 0) 0 0 64)) _ _
+    (worth_under own 0 (pos 0) own_fits) (worth_under opp 0 (pos 0) opp_fits)
+    (zero-*ℤ (pos (count_ones (bit_and own 0)))) (zero-*ℤ (pos (count_ones (bit_and opp 0))))
+weighed_sum-worth own opp (p ∷ more) own_fits opp_fits =
+    let word_of : (word : ℕ) → word < 2 ^ 64 → worth word 0 (spread (p ∷ more)) ≡ (p.0 *ℤ pos (count_ones (bit_and word p.1))) +ℤ worth word 0 (spread more) =
+    λ word fits.
+    worth-added word 0 64 (on_squares p.0 p.1 0 64) (spread more) (length-on_squares p.0 p.1 0 64) (length-spread more)
+    ∙ ap (λ x. x +ℤ worth word 0 (spread more)) (worth_under word p.1 p.0 fits) in
+    ap (λ x. x -ℤ worth opp 0 (spread (p ∷ more))) (word_of own own_fits)
+    ∙ ap (λ y. (p.0 *ℤ pos (count_ones (bit_and own p.1)) +ℤ worth own 0 (spread more)) -ℤ y) (word_of opp opp_fits)
+    ∙ by_weight p.0 (count_ones (bit_and own p.1)) (count_ones (bit_and opp p.1)) (worth own 0 (spread more)) (worth opp 0 (spread more)) (weighed_sum own opp more)
+    (weighed_sum-worth own opp more own_fits opp_fits)
+
+-- the table says the weights
+spread-table : weights ≡ spread weight_table
+unfolding weights
+spread-table = refl
+
+pub weighed_sum-discs_value : (own opp : ℕ) → own < 2 ^ 64 → opp < 2 ^ 64 → bit_and own opp ≡ 0 → weighed_sum own opp weight_table ≡ discs_value (cells_of own opp) weights
+unfolding squares
+weighed_sum-discs_value own opp own_fits opp_fits disjoint =
+    sym (discs-worth own opp 0 64 weights disjoint (ap length spread-table ∙ length-spread weight_table)
+    ∙ ap (λ ws. worth own 0 ws -ℤ worth opp 0 ws) spread-table
+    ∙ weighed_sum-worth own opp weight_table own_fits opp_fits)
+
+-- ---- bounds
+
+abs_within : (n : ℕ) (z : ℤ) → IsWithin n z → unsigned_abs z ≤ n
+abs_within n (pos a) h = omega (arith, ints)
+abs_within n (negsuc a) h = omega (arith, ints)
+
+within_abs : (n : ℕ) (z : ℤ) → unsigned_abs z ≤ n → IsWithin n z
+within_abs n (pos a) h = (omega (arith, ints), omega (arith, ints))
+within_abs n (negsuc a) h = (omega (arith, ints), omega (arith, ints))
+
+pub product_within : (m n : ℕ) (x y : ℤ) → IsWithin m x → IsWithin n y → IsWithin (m * n) (x *ℤ y)
+product_within m n x y p q =
+    within_abs (m * n) (x *ℤ y) (omega (arith, unsigned_abs-mul x y, mul-le (unsigned_abs x) (unsigned_abs y) m n (abs_within m x p) (abs_within n y q)))
+
+-- ---- the code's sums
+
+in_range : (n : ℕ) (z : ℤ) → n ≤ 6400 → IsWithin n z → to_z w32 (of_z w32 z) ≡ z
+in_range n z few h = omega (arith, ints)
+
+pub product_is : (m n : ℕ) (x y : ℤ) → IsWithin m x → IsWithin n y → m * n ≤ 6400 → m ≤ 100 → n ≤ 100
+    → to_z w32 (of_z w32 (to_z w32 (of_z w32 x) *ℤ to_z w32 (of_z w32 y))) ≡ x *ℤ y
+product_is m n x y p q few m_few n_few =
+    let h = product_within m n x y p q in
+    let x_is : to_z w32 (of_z w32 x) ≡ x = omega (arith, ints) in
+    let y_is : to_z w32 (of_z w32 y) ≡ y = omega (arith, ints) in
+    ap (λ z. to_z w32 (of_z w32 (z *ℤ to_z w32 (of_z w32 y)))) x_is ∙ ap (λ z. to_z w32 (of_z w32 (x *ℤ z))) y_is ∙ in_range (m * n) (x *ℤ y) few h
+
+pub sums_more : (sum v : ℤ) (i : ℕ) (rest more all : ℤ) → i < 7 → neg_ℤ (pos (6400 * i)) ≤ℤ sum → sum ≤ℤ pos (6400 * i) → IsWithin 6400 v
+    → sum +ℤ rest ≡ all → rest ≡ v +ℤ more
+    → (to_z w32 (of_z w32 (sum +ℤ to_z w32 (of_z w32 v))) +ℤ more ≡ all) × (neg_ℤ (pos (6400 * (i + 1))) ≤ℤ to_z w32 (of_z w32 (sum +ℤ to_z w32 (of_z w32 v)))) × (to_z w32 (of_z w32 (sum +ℤ to_z w32 (of_z w32 v))) ≤ℤ pos (6400 * (i + 1)))
+sums_more sum v i rest more all l low high h e f = (omega (arith, ints), omega (arith, ints), omega (arith, ints))
+
+pub sum_fits : (sum v : ℤ) (i : ℕ) → i < 7 → neg_ℤ (pos (6400 * i)) ≤ℤ sum → sum ≤ℤ pos (6400 * i) → IsWithin 6400 v → FitsSigned w32 (sum +ℤ to_z w32 (of_z w32 v))
+sum_fits sum v i l low high h = omega (arith, ints)
+
+-- the difference of the discs under one word of the table more
+pub sums_next : (own opp i : ℕ) → i < 7
+    → weighed_sum own opp (drop i weight_table) ≡ ((get_or weight_table i (pos 0, 0)).0 *ℤ disc_difference own opp (get_or weight_table i (pos 0, 0)).1) +ℤ weighed_sum own opp (drop (i + 1) weight_table)
+sums_next own opp i turn = at_drop_more (weighed_sum own opp) weight_table i (pos 0, 0) turn
+
+pub sums_end : (own opp i : ℕ) → 7 ≤ i → weighed_sum own opp (drop i weight_table) ≡ pos 0
+sums_end own opp i end = at_drop_all (weighed_sum own opp) weight_table i end
+
+pub weight_fits : (i : ℕ) → (get_or weight_table i (pos 0, 0)).0 ≡ to_z w32 (of_z w32 (get_or weight_table i (pos 0, 0)).0)
+weight_fits zero = refl
+weight_fits (suc zero) = refl
+weight_fits (suc (suc zero)) = refl
+weight_fits (suc (suc (suc zero))) = refl
+weight_fits (suc (suc (suc (suc zero)))) = refl
+weight_fits (suc (suc (suc (suc (suc zero))))) = refl
+weight_fits (suc (suc (suc (suc (suc (suc zero)))))) = refl
+weight_fits (suc (suc (suc (suc (suc (suc (suc i))))))) = refl
