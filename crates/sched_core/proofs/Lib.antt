@@ -1,0 +1,2 @@
+mod Tenants
+mod Isolation

@@ -1,0 +1,15 @@
+pub mod Totals
+pub mod Refusals
+pub mod Functions
+pub mod Trees
+pub mod Lone
+pub mod Laws
+pub mod Toys
+pub mod ToyLaws
+pub mod Runs
+pub mod Cores
+pub mod Headline
+pub mod FanRows
+pub mod ChainRows
+pub mod SmallStates
+pub mod Views
