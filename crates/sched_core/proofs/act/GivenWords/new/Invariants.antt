@@ -1,6 +1,0 @@
--- the words taken so far are the first of those that are given
-use Rattle.std.proofs.Common.{◌≡◌, take}
-use Rattle.sched_core.proofs.act.GivenWords.new.Given as goal
-
-abbrev pub invariant-loop-word : goal.invariant-loop-word
-invariant-loop-word l = l.held.items ≡ take l.word-index l.words

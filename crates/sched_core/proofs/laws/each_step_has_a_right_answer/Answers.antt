@@ -1,5 +1,0 @@
-use Rattle.sched_core.proofs.Isolation.{right-answer}
-use Rattle.sched_core.proofs.laws.each_step_has_a_right_answer.Goals as goal
-
-pub returns : goal.returns
-returns g c procedure before step = right-answer (g.P.Procedure.functions procedure) before step

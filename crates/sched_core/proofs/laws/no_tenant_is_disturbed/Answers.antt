@@ -1,5 +1,0 @@
-use Rattle.sched_core.proofs.Isolation.{headline}
-use Rattle.sched_core.proofs.laws.no_tenant_is_disturbed.Goals as goal
-
-pub returns : goal.returns
-returns g c procedure before steps answers known right = headline (g.P.Procedure.functions procedure) before steps answers known right

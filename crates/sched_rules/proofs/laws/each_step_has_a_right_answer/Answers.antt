@@ -1,0 +1,5 @@
+use Rattle.sched_rules.proofs.Isolation.{right-answer}
+use Rattle.sched_rules.proofs.laws.each_step_has_a_right_answer.Goals as goal
+
+pub returns : goal.returns
+returns g c procedure before step = right-answer (g.P.Procedure.functions procedure) before step

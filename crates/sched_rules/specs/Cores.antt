@@ -1,0 +1,159 @@
+-- A core of several tenants: an admission among them, a worker that is busy elsewhere, and what each step is answered.
+use Rattle.std.specs.Prelude.{ℕ, ◌+◌, ◌^◌, Bool, false, not, ◌||◌, ◌&&◌, ◌==◌, nat_lt, nat_le, List, [], ◌∷◌, Option, Some, None, Result, Ok, Err, if◌then◌else◌, length, IsTrue}
+use Rattle.tenant_quota.specs.Quota.{Quota}
+use Rattle.tenant_quota.specs.Accounts.{reserved_segments, reserved_nodes}
+use Rattle.tenant_quota.specs.Reservations.{Reservations}
+use Rattle.tenant_quota.specs.declared.account.Account.{Account}
+use Rattle.sched_rules.specs.declared.refusal.Refusal.{Refusal}
+use Rattle.sched_rules.specs.declared.refusal.Refusal.TheVariants.{Busy, Full, OldTenant}
+use Rattle.sched_rules.specs.declared.step.StepOf.{StepOf}
+use Rattle.sched_rules.specs.declared.step.StepOf.TheVariants.{Admit, Submit, Take, Steal, Advance, Answer, Inlet, Finish, Spend, Cancel, Leave}
+use Rattle.sched_rules.specs.declared.step.DidOf.TheVariants.{Admitted}
+use Rattle.sched_rules.specs.Functions.{Functions}
+use Rattle.sched_rules.specs.Trees.{Tenant, admitted_with, account_in, charged_for, is_busy_in}
+use Rattle.sched_rules.specs.Lone.{Outcome, unless, lone, refusal_in}
+use Rattle.sched_rules.specs.Runs.{tenant_of}
+
+-- a core: its totals, the greatest number of a tenant so far, and the tenants that are there, each with its number
+pub record Shared : Type 0 where
+  pub totals : Quota
+  pub newest : ℕ
+  pub tenants : List (ℕ × Tenant)
+
+-- a core as contracts see it: its procedure, and what its tenants share
+pub record CoreOf (P : Type 0) : Type 0 where
+  pub procedure : P
+  pub shared : Shared
+
+-- a core of these totals with no tenant
+abbrev pub shared_by_nobody : Quota → Shared
+shared_by_nobody totals = record { totals = totals; newest = 0; tenants = [] }
+
+-- the tenant with this number, if it is there
+abbrev pub tenant_in : List (ℕ × Tenant) → ℕ → Option Tenant
+tenant_in [] number = None
+tenant_in (entry ∷ entries) number = if entry.0 == number then Some entry.1 else tenant_in entries number
+
+-- the tenants with this one in another state
+abbrev pub with_tenant : ℕ → Tenant → List (ℕ × Tenant) → List (ℕ × Tenant)
+with_tenant number tenant [] = (number, tenant) ∷ []
+with_tenant number tenant (entry ∷ entries) = if entry.0 == number then (number, tenant) ∷ entries else entry ∷ with_tenant number tenant entries
+
+-- the tenants without this one
+abbrev pub without_tenant : ℕ → List (ℕ × Tenant) → List (ℕ × Tenant)
+without_tenant number [] = []
+without_tenant number (entry ∷ entries) = if entry.0 == number then without_tenant number entries else entry ∷ without_tenant number entries
+
+-- the tenants after one of them came to this, or to nothing
+abbrev pub with_outcome : ℕ → Option Tenant → List (ℕ × Tenant) → List (ℕ × Tenant)
+with_outcome number None entries = without_tenant number entries
+with_outcome number (Some tenant) entries = with_tenant number tenant entries
+
+-- busy elsewhere: the worker runs or computes a frame of a tenant other than this one
+abbrev pub is_busy_elsewhere : ℕ → ℕ → List (ℕ × Tenant) → Bool
+is_busy_elsewhere worker number [] = false
+is_busy_elsewhere worker number (entry ∷ entries) =
+    (not (entry.0 == number) && is_busy_in worker entry.1.frames) || is_busy_elsewhere worker number entries
+
+-- the same as a fact
+abbrev pub IsBusyElsewhere : ℕ → ℕ → List (ℕ × Tenant) → Type 0
+IsBusyElsewhere worker number entries = IsTrue (is_busy_elsewhere worker number entries)
+
+-- the steps that ask for a free worker: Take, Steal, Inlet and Finish; whether theirs is busy elsewhere
+abbrev pub meets_busy : {A : Type 0} → StepOf A → List (ℕ × Tenant) → Bool
+meets_busy (Admit number quota) entries = false
+meets_busy (Submit number words size) entries = false
+meets_busy (Take worker name) entries = is_busy_elsewhere worker name.tenant entries
+meets_busy (Steal worker from name) entries = is_busy_elsewhere worker name.tenant entries
+meets_busy (Advance worker name) entries = false
+meets_busy (Answer worker name answer) entries = false
+meets_busy (Inlet worker name) entries = is_busy_elsewhere worker name.tenant entries
+meets_busy (Finish worker name) entries = is_busy_elsewhere worker name.tenant entries
+meets_busy (Spend name) entries = false
+meets_busy (Cancel number job) entries = false
+meets_busy (Leave number) entries = false
+
+-- the accounts of all tenants
+abbrev pub accounts_in : List (ℕ × Tenant) → List (ℕ × Account)
+accounts_in [] = []
+accounts_in (entry ∷ entries) = (entry.0, account_in entry.1) ∷ accounts_in entries
+
+-- what all tenants have reserved, and the totals
+abbrev pub reservations_in : Shared → Reservations
+reservations_in shared = record { segments = shared.totals.segments; nodes = shared.totals.nodes; accounts = accounts_in shared.tenants }
+
+-- whether 64 tenants are there, or a total doesn't allow the reservation
+abbrev pub is_full : Reservations → Quota → Bool
+is_full book quota =
+    nat_le 64 (length book.accounts)
+    || nat_lt book.segments (reserved_segments book.accounts + quota.segments)
+    || nat_lt book.nodes (reserved_nodes book.accounts + quota.nodes)
+
+-- Admit: the number is 0, isn't above every number so far, or is over 2^62; no room for the reservation
+abbrev pub admit_tests : Shared → ℕ → Quota → List (Bool × Refusal)
+admit_tests shared number quota =
+    ((number == 0) || nat_le number shared.newest || nat_lt (2 ^ 62) number, OldTenant)
+    ∷ (is_full (reservations_in shared) quota, Full)
+    ∷ []
+
+-- what its own tenant's state makes of a step, unless its worker is busy elsewhere
+abbrev pub unless_busy : {I : Type 0} → Bool → Result (Outcome I) Refusal → Result (Outcome I) Refusal
+unless_busy busy (Err refusal) = Err refusal
+unless_busy busy (Ok outcome) = if busy then Err Busy else Ok outcome
+
+-- a step that is no admission
+abbrev pub step_among : {I A : Type 0} → Functions I A → Shared → StepOf A → Result (Outcome I) Refusal
+step_among functions shared step =
+    unless_busy (meets_busy step shared.tenants) (lone functions (tenant_in shared.tenants (tenant_of step)) step)
+
+-- one step among several tenants, where memory isn't wanting: what its tenant comes to with what it did, or one refusal
+abbrev pub judged : {I A : Type 0} → Functions I A → Shared → StepOf A → Result (Outcome I) Refusal
+judged functions shared (Admit number quota) = unless (admit_tests shared number quota) (Some (admitted_with quota), Admitted)
+judged functions shared (Submit number words size) = step_among functions shared (Submit number words size)
+judged functions shared (Take worker name) = step_among functions shared (Take worker name)
+judged functions shared (Steal worker from name) = step_among functions shared (Steal worker from name)
+judged functions shared (Advance worker name) = step_among functions shared (Advance worker name)
+judged functions shared (Answer worker name answer) = step_among functions shared (Answer worker name answer)
+judged functions shared (Inlet worker name) = step_among functions shared (Inlet worker name)
+judged functions shared (Finish worker name) = step_among functions shared (Finish worker name)
+judged functions shared (Spend name) = step_among functions shared (Spend name)
+judged functions shared (Cancel number job) = step_among functions shared (Cancel number job)
+judged functions shared (Leave number) = step_among functions shared (Leave number)
+
+-- the greatest number of a tenant so far, after a taken step
+abbrev pub newest_after : {A : Type 0} → ℕ → StepOf A → ℕ
+newest_after newest (Admit number quota) = number
+newest_after newest (Submit number words size) = newest
+newest_after newest (Take worker name) = newest
+newest_after newest (Steal worker from name) = newest
+newest_after newest (Advance worker name) = newest
+newest_after newest (Answer worker name answer) = newest
+newest_after newest (Inlet worker name) = newest
+newest_after newest (Finish worker name) = newest
+newest_after newest (Spend name) = newest
+newest_after newest (Cancel number job) = newest
+newest_after newest (Leave number) = newest
+
+-- the core after its tenant came to this
+abbrev pub shared_with : {A : Type 0} → Shared → StepOf A → Option Tenant → Shared
+shared_with shared step tenant =
+    record { totals = shared.totals; newest = newest_after shared.newest step; tenants = with_outcome (tenant_of step) tenant shared.tenants }
+
+-- the core after a step; a refused one changes nothing
+abbrev pub shared_after : {I A : Type 0} → Shared → StepOf A → Result (Outcome I) Refusal → Shared
+shared_after shared step (Ok outcome) = shared_with shared step outcome.0
+shared_after shared step (Err refusal) = shared
+
+-- the core after a list of steps
+abbrev pub shared_run : {I A : Type 0} → Functions I A → Shared → List (StepOf A) → Shared
+shared_run functions shared [] = shared
+shared_run functions shared (step ∷ steps) = shared_run functions (shared_after shared step (judged functions shared step)) steps
+
+-- the charges of all frames of all tenants
+abbrev pub charged_in : List (ℕ × Tenant) → ℕ
+charged_in [] = 0
+charged_in (entry ∷ entries) = charged_for entry.1.frames + charged_in entries
+
+-- why a step among several tenants is refused, if it is, where memory isn't wanting
+abbrev pub shared_refusal : {I A : Type 0} → Functions I A → Shared → StepOf A → Option Refusal
+shared_refusal functions shared step = refusal_in (judged functions shared step)

@@ -1,0 +1,118 @@
+-- What holds of any list of steps by any workers for any tenants: each tenant is what its own steps give, and a step is refused
+-- only for its own tenant's state or a busy worker.
+use Rattle.std.specs.Prelude.{◌≡◌, ℕ, ◌≤◌, ◌⊎◌, Bool, true, false, ◌==◌, List, [], ◌∷◌, Some, None, Result, Ok, Err, if◌then◌else◌, is_ok}
+use Rattle.sched_rules.specs.declared.refusal.Refusal.{Refusal}
+use Rattle.sched_rules.specs.declared.refusal.Refusal.TheVariants.{Busy, OutOfMemory}
+use Rattle.sched_rules.specs.declared.step.StepOf.{StepOf}
+use Rattle.sched_rules.specs.declared.step.StepOf.TheVariants.{Admit, Submit, Take, Steal, Advance, Answer, Inlet, Finish, Spend, Cancel, Leave}
+use Rattle.sched_rules.specs.declared.step.DidOf.{DidOf}
+use Rattle.sched_rules.specs.declared.step.DidOf.TheVariants.{Admitted}
+use Rattle.sched_rules.specs.Functions.{Functions}
+use Rattle.sched_rules.specs.Trees.{Tenant}
+use Rattle.sched_rules.specs.Lone.{lone, lone_refusal}
+use Rattle.sched_rules.specs.Runs.{tenant_of, only, answer_of, alone_from, answers_from}
+use Rattle.sched_rules.specs.Cores.{Shared, tenant_in, meets_busy, judged, shared_after, shared_refusal}
+
+-- the first half of 'refused only for its own state or a busy worker': what its tenant alone is refused, a step is refused by the same number
+abbrev pub IsRefusedForOwnState : {I A : Type 0} → Functions I A → Shared → StepOf A → Result (DidOf I) Refusal → Type 0
+IsRefusedForOwnState functions before step answer =
+    (refusal : Refusal) → lone_refusal functions (tenant_in before.tenants (tenant_of step)) step ≡ Some refusal → answer ≡ Err refusal
+
+-- the second half: what its tenant alone would take is refused, by Busy, where the worker of a Take, Steal, Inlet or Finish is busy elsewhere
+abbrev pub IsRefusedForBusyWorker : {I A : Type 0} → Functions I A → Shared → StepOf A → Result (DidOf I) Refusal → Type 0
+IsRefusedForBusyWorker functions before step answer =
+    lone_refusal functions (tenant_in before.tenants (tenant_of step)) step ≡ None → meets_busy step before.tenants ≡ true → answer ≡ Err Busy
+
+-- and else it is taken, and did what it does for its tenant alone
+abbrev pub IsElseTaken : {I A : Type 0} → Functions I A → Shared → StepOf A → Result (DidOf I) Refusal → Type 0
+IsElseTaken functions before step answer =
+    lone_refusal functions (tenant_in before.tenants (tenant_of step)) step ≡ None → meets_busy step before.tenants ≡ false →
+    answer ≡ answer_of (lone functions (tenant_in before.tenants (tenant_of step)) step)
+
+-- a step of an admitted tenant is refused only for its own state or a busy worker
+pub record IsAnswerToStep {I A : Type 0} (functions : Functions I A) (before : Shared) (step : StepOf A) (answer : Result (DidOf I) Refusal) : Type 0 where
+  pub own_state : IsRefusedForOwnState functions before step answer
+  pub busy_worker : IsRefusedForBusyWorker functions before step answer
+  pub else_taken : IsElseTaken functions before step answer
+
+-- an admission stands apart: it is refused by OldTenant, else by Full, where these apply, and else it is taken, or memory is wanting
+pub record IsAnswerToAdmit {I A : Type 0} (functions : Functions I A) (before : Shared) (step : StepOf A) (answer : Result (DidOf I) Refusal) : Type 0 where
+  pub refused : (refusal : Refusal) → shared_refusal functions before step ≡ Some refusal → answer ≡ Err refusal
+  pub else_taken : shared_refusal functions before step ≡ None → (answer ≡ Ok Admitted) ⊎ (answer ≡ Err OutOfMemory)
+
+-- whether a step is an admission
+abbrev pub is_admission : {A : Type 0} → StepOf A → Bool
+is_admission (Admit number quota) = true
+is_admission (Submit number words size) = false
+is_admission (Take worker name) = false
+is_admission (Steal worker from name) = false
+is_admission (Advance worker name) = false
+is_admission (Answer worker name answer) = false
+is_admission (Inlet worker name) = false
+is_admission (Finish worker name) = false
+is_admission (Spend name) = false
+is_admission (Cancel number job) = false
+is_admission (Leave number) = false
+
+-- the answer to a step among several tenants is right
+abbrev pub IsAnswerTo : {I A : Type 0} → Functions I A → Shared → StepOf A → Result (DidOf I) Refusal → Type 0
+IsAnswerTo functions before step answer =
+    (is_admission step ≡ true → IsAnswerToAdmit functions before step answer)
+    × (is_admission step ≡ false → IsAnswerToStep functions before step answer)
+
+-- the core after a step that was answered so: a refused step changes nothing, and a taken one its tenant alone
+abbrev pub after_answer : {I A : Type 0} → Functions I A → Shared → StepOf A → Result (DidOf I) Refusal → Shared
+after_answer functions before step (Ok did) = shared_after before step (judged functions before step)
+after_answer functions before step (Err refusal) = before
+
+-- what one call of the core does
+pub record IsOneStep {I A : Type 0} (functions : Functions I A) (before : Shared) (step : StepOf A) (answer : Result (DidOf I) Refusal) (after : Shared) : Type 0 where
+  pub answered : IsAnswerTo functions before step answer
+  pub left : after ≡ after_answer functions before step answer
+
+-- the core after a list of steps that were answered so
+abbrev pub after_answers : {I A : Type 0} → Functions I A → Shared → List (StepOf A) → List (Result (DidOf I) Refusal) → Shared
+after_answers functions before [] answers = before
+after_answers functions before (step ∷ steps) [] = before
+after_answers functions before (step ∷ steps) (answer ∷ answers) = after_answers functions (after_answer functions before step answer) steps answers
+
+-- each answer of a list is right, the core being where the steps before it left it; there are as many answers as steps
+abbrev pub AreAnswersTo : {I A : Type 0} → Functions I A → Shared → List (StepOf A) → List (Result (DidOf I) Refusal) → Type 0
+AreAnswersTo functions before [] [] = Unit {0}
+AreAnswersTo functions before [] (answer ∷ answers) = ⊥
+AreAnswersTo functions before (step ∷ steps) [] = ⊥
+AreAnswersTo functions before (step ∷ steps) (answer ∷ answers) =
+    IsAnswerTo functions before step answer × AreAnswersTo functions (after_answer functions before step answer) steps answers
+
+-- the steps that were taken
+abbrev pub taken : {I A : Type 0} → List (StepOf A) → List (Result (DidOf I) Refusal) → List (StepOf A)
+taken [] answers = []
+taken (step ∷ steps) [] = []
+taken (step ∷ steps) (answer ∷ answers) = if is_ok answer then step ∷ taken steps answers else taken steps answers
+
+-- the answers to a tenant's taken steps
+abbrev pub told : {I A : Type 0} → ℕ → List (StepOf A) → List (Result (DidOf I) Refusal) → List (Result (DidOf I) Refusal)
+told number [] answers = []
+told number (step ∷ steps) [] = []
+told number (step ∷ steps) (answer ∷ answers) =
+    if is_ok answer then (if tenant_of step == number then answer ∷ told number steps answers else told number steps answers) else told number steps answers
+
+-- a tenant isn't disturbed: after the list it is what its own taken steps give, as if no other tenant were there, and so is each answer to one of them
+pub record IsUndisturbed {I A : Type 0} (functions : Functions I A) (before : Shared) (steps : List (StepOf A)) (answers : List (Result (DidOf I) Refusal)) (after : Shared) (number : ℕ) : Type 0 where
+  pub state : tenant_in after.tenants number ≡ alone_from functions (tenant_in before.tenants number) (only number (taken steps answers))
+  pub replies : told number steps answers ≡ answers_from functions (tenant_in before.tenants number) (only number (taken steps answers))
+
+-- the headline for a list of steps: no tenant is disturbed, and a step is refused only for its own tenant's state or a busy worker
+pub record IsHeadline {I A : Type 0} (functions : Functions I A) (before : Shared) (steps : List (StepOf A)) (answers : List (Result (DidOf I) Refusal)) (after : Shared) : Type 0 where
+  pub undisturbed : (number : ℕ) → IsUndisturbed functions before steps answers after number
+  pub refused : AreAnswersTo functions before steps answers
+  pub left : after ≡ after_answers functions before steps answers
+
+-- each tenant's number was taken, so it is at most the greatest so far
+abbrev pub AreNumbersTaken : ℕ → List (ℕ × Tenant) → Type 0
+AreNumbersTaken newest [] = Unit {0}
+AreNumbersTaken newest (entry ∷ entries) = (entry.0 ≤ newest) × AreNumbersTaken newest entries
+
+-- no tenant has a number that wasn't taken
+abbrev pub IsKnown : Shared → Type 0
+IsKnown shared = AreNumbersTaken shared.newest shared.tenants

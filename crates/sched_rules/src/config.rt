@@ -1,0 +1,64 @@
+//! How much a core has to give.
+ghost use Rattle.std.specs.Prelude.{◌≡◌, ◌≤◌, ◌↔◌, IsSome, IfSome};
+
+use std::marker::Model;
+
+/// The totals of a core: 1 to 65,536 segments of 16 words, and 1 to 4,194,304 nodes (frames that
+/// may be opened).
+#[derive(Clone, Copy, Debug, PartialEq, Eq)]
+pub struct Config {
+    segments: u32,
+    nodes: u32,
+}
+
+// Clauses see the two totals.
+impl Model for Config {
+    ghost use Rattle.tenant_quota.specs.Quota.{Quota};
+    ghost use Rattle.sched_rules.specs.Totals.{IsWithinTotals};
+
+    ghost Value = { Quota };
+
+    ghost view = { λ c. record { segments = c.segments; nodes = c.nodes } };
+
+    ghost invariant = { λ c. IsWithinTotals (record { segments = c.segments; nodes = c.nodes }) };
+
+    ghost inverse = { λ q. record { segments = q.segments; nodes = q.nodes } };
+}
+
+impl Config {
+    ghost use Rattle.tenant_quota.specs.Quota.{Quota};
+    ghost use Rattle.sched_rules.specs.Totals.{IsWithinTotals};
+
+    /// The most segments of a core.
+    pub const MAX_SEGMENTS: u32 = 65536;
+
+    /// The most nodes of a core.
+    pub const MAX_NODES: u32 = 4194304;
+
+    /// A core of so many segments and nodes, or None outside the limits.
+    pub fn new(segments: u32, nodes: u32) -> Option<Config>
+        ensures within { IsSome result ↔ IsWithinTotals (record { segments = segments; nodes = nodes }) }
+        ensures value { IfSome result (λ c. c ≡ record { segments = segments; nodes = nodes }) }
+    {
+        if segments < 1 || segments > Self::MAX_SEGMENTS || nodes < 1 || nodes > Self::MAX_NODES {
+            return None;
+        }
+        Some(Config { segments, nodes })
+    }
+
+    /// The segments in all.
+    pub fn segments(&self) -> u32
+        ensures value { result ≡ self.now.segments }
+        ensures limits { IsWithinTotals self.now }
+    {
+        self.segments
+    }
+
+    /// The nodes in all.
+    pub fn nodes(&self) -> u32
+        ensures value { result ≡ self.now.nodes }
+        ensures limits { IsWithinTotals self.now }
+    {
+        self.nodes
+    }
+}

@@ -1,0 +1,61 @@
+//! The jobs of a tenant.
+ghost use Rattle.std.specs.Prelude.{◌≡◌, ◌≤◌, length};
+ghost use Rattle.sched_rules.specs.Trees.{kept_words};
+
+use arrayvec::ArrayVec;
+use cactus_stack::Words;
+use std::marker::Model;
+
+/// How many words of its root a finished job keeps, or all where it has fewer.
+const KEPT: usize = 12;
+
+/// What a finished job keeps: the first 12 words of its root, or all where it has fewer.
+#[derive(Drop)]
+pub struct JobWords {
+    words: ArrayVec<u64, KEPT>,
+}
+
+// Clauses see the list of words.
+impl Model for JobWords {
+    ghost use Rattle.std.specs.Prelude.{List, ℕ};
+
+    ghost Value = { List ℕ };
+
+    ghost view = { λ j. j.words.items };
+}
+
+impl JobWords {
+    /// What a job keeps of these words of its root.
+    pub fn of(root: &Words) -> JobWords
+        ensures { result ≡ kept_words root.now }
+    {
+        let mut words = ArrayVec::new();
+        for at in 0..KEPT {
+            if let Some(word) = root.get(at) {
+                words.push(word);
+            }
+        }
+        JobWords { words }
+    }
+
+    /// The words, in order.
+    pub fn as_slice(&self) -> &[u64]
+        ensures words { result.now ≡ self.now }
+        ensures few { length result.now ≤ 12 }
+    {
+        self.words.as_slice()
+    }
+}
+
+/// A job of a tenant. A tenant's jobs are numbered from 1 in the order in which they were submitted.
+#[derive(Drop)]
+pub enum Job {
+    /// It has frames, under the root of this serial.
+    Live(u64),
+    /// It is done, with the words of its root.
+    Done(JobWords),
+    /// It was given up for want of quota, or as its frame couldn't go on.
+    Spent,
+    /// It was cancelled.
+    Cancelled,
+}

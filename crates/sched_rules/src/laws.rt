@@ -1,0 +1,41 @@
+//! What follows from the definitions.
+ghost use Rattle.std.specs.Prelude.{◌≡◌, ◌↔◌, ℕ, List, Some, None, Result, IsTrue};
+ghost use Rattle.sched_rules.specs.declared.refusal.Refusal.{Refusal};
+ghost use Rattle.sched_rules.specs.declared.step.StepOf.{StepOf};
+ghost use Rattle.sched_rules.specs.declared.step.DidOf.{DidOf};
+ghost use Rattle.sched_rules.specs.Cores.{Shared, judged, is_full};
+ghost use Rattle.sched_rules.specs.Runs.{answer_of};
+ghost use Rattle.tenant_quota.specs.Quota.{Quota};
+ghost use Rattle.tenant_quota.specs.Reservations.{Reservations, IsFull};
+ghost use Rattle.sched_rules.specs.Headline.{AreAnswersTo, IsHeadline, IsAnswerTo, IsKnown, after_answers};
+ghost use Rattle.frame_table.specs.declared.names.FrameId.{FrameId};
+ghost use Rattle.frame_table.specs.Frames.{Frame, frame_at};
+ghost use Rattle.sched_rules.specs.declared.step.StepOf.TheVariants.{Spend};
+ghost use Rattle.sched_rules.specs.Trees.{Tenant};
+ghost use Rattle.sched_rules.specs.Lone.{IsSpendable, lone_refusal};
+
+use crate::procedure::Procedure;
+
+/// Where each answer of a list of steps is right, the headline holds of the list: no tenant is disturbed.
+pub fn no_tenant_is_disturbed<P: Procedure>()
+    ensures { (procedure : P) (before : Shared) (steps : List (StepOf P.Answer)) (answers : List (Result (DidOf P.Input) Refusal)) →
+        IsKnown before → AreAnswersTo (P.functions procedure) before steps answers →
+        IsHeadline (P.functions procedure) before steps answers (after_answers (P.functions procedure) before steps answers) }
+{}
+
+/// Each step has a right answer, at any core: the one that is judged.
+pub fn each_step_has_a_right_answer<P: Procedure>()
+    ensures { (procedure : P) (before : Shared) (step : StepOf P.Answer) →
+        IsAnswerTo (P.functions procedure) before step (answer_of (judged (P.functions procedure) before step)) }
+{}
+
+/// The test of an admission is that of the book of reservations.
+pub fn fullness_is_the_book_s()
+    ensures { (book : Reservations) (quota : Quota) → IsTrue (is_full book quota) ↔ IsFull book quota }
+{}
+
+/// A tenant's job is given up exactly where the frame that is named is spendable.
+pub fn spent_exactly_where_spendable<P: Procedure>()
+    ensures { (procedure : P) (tenant : Tenant) (name : FrameId) (frame : Frame (List ℕ)) → frame_at tenant.frames name.serial ≡ Some frame →
+        ((lone_refusal (P.functions procedure) (Some tenant) (Spend name) ≡ None) ↔ IsSpendable (P.functions procedure) tenant frame) }
+{}

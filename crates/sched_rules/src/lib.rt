@@ -1,0 +1,51 @@
+//! What one step of a tenant is: the types, the definitions and the laws that a scheduling core answers to.
+//!
+//! Tenants submit jobs. A job is a tree of frames, each a list of words; a [`Procedure`] says from a
+//! frame's words and those above it what the frame does next: grow, open a child, wait, compute,
+//! return. Workers run frames, steal them from one another, and bring answers that were computed
+//! outside. All that happens is a list of [`Step`]s, each of one tenant; each is taken, and then
+//! [`Did`] says what it did, or refused by a [`Refusal`], and then nothing changes.
+//!
+//! The definitions (`specs/`) speak of one tenant at a time, as if it had the core to itself: its
+//! tree of frames is a finite map from serials to paths, words and states (`specs/Trees.antt`), and
+//! `lone` (`specs/Lone.antt`) says of each step which refusal comes first, or what the step does.
+//! Several tenants (`specs/Cores.antt`) add two things: an admission that finds no room, and a worker
+//! that is busy with another tenant's frame. What holds of any list of steps by any workers for any
+//! tenants stands in `specs/Headline.antt`: each tenant is what its own steps give, and a step is
+//! refused only for its own tenant's state or a busy worker. [`laws`] proves it of the definitions,
+//! for every procedure; [`rows`], [`effect_rows`] and [`refusal_rows`] compute worked examples of
+//! them.
+//!
+//! What a procedure is to the core is one ghost member, `functions`: five functions of the words
+//! shown and of the values passed alone. Its invariant is `fits`: where a frame, its parent and its
+//! children fit, each taken step leaves them fitting (`specs/Laws.antt`). [`Fan`] and [`Chain`] are
+//! two toy procedures whose every step can be followed by hand.
+//!
+//! ```text
+//! // a root of Fan that has opened three children waits next
+//! let node = stack.open(None, &[0, 3], 4)?;
+//! let act = Fan.next(&stack.sight(node));
+//! act.stores.as_slice() == [(1, 4)];
+//! matches!(act.after, Then::Wait);
+//! ```
+#![tactic(auto)]
+
+mod act;
+mod config;
+mod job;
+pub mod laws;
+mod procedure;
+mod refusal;
+mod step;
+mod worker;
+
+pub use act::{Act, GivenWords, InletAct, Stores, Then};
+pub use config::Config;
+pub use job::{Job, JobWords};
+pub use procedure::Procedure;
+pub use refusal::Refusal;
+pub use step::{Did, DidOf, Step, StepOf};
+pub use worker::Worker;
+
+#[cfg(test)]
+mod tests;

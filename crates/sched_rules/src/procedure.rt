@@ -1,0 +1,60 @@
+//! What a procedure is to the core.
+ghost use Rattle.std.specs.Prelude.{◌≡◌};
+
+use crate::act::{Act, InletAct, Stores};
+use cactus_stack::{Sight, Words};
+use std::cmp::Eq;
+
+/// A procedure that the core runs: each call's answer is a function of the words shown and of the
+/// values passed, and nothing else.
+pub trait Procedure {
+    ghost use Rattle.std.specs.Prelude.{◌≡◌};
+    ghost use Rattle.sched_rules.specs.Functions.{Functions};
+    ghost use Rattle.sched_rules.specs.Laws.{Fitting, Rooting, NextKeeps, InletKeeps, AcceptKeeps};
+
+    /// What a frame is computed from.
+    type Input: Copy + Eq;
+    /// What a computation gives.
+    type Answer;
+
+    // The five functions, and when two inputs are the same.
+    ghost functions: { Self → Functions Self.Input Self.Answer };
+
+    // That a frame of these words fits, with the words of its children and its mark.
+    ghost fits: { Self → Fitting };
+
+    // That a root's words belong to the words that its job was submitted with.
+    ghost rooted: { Self → Rooting };
+
+    /// The next act of a running frame.
+    fn next(&self, sight: &Sight) -> Act
+        ensures { result ≡ (functions self.now).next sight.now };
+
+    /// What a parent does about a child that has returned.
+    fn inlet(&self, own: &Words, child: &Words) -> InletAct
+        ensures { result ≡ (functions self.now).inlet own.now child.now };
+
+    /// What a computing frame is computed from.
+    fn input(&self, own: &Words) -> Self::Input
+        ensures { result ≡ (functions self.now).input own.now };
+
+    /// What an answer was computed from.
+    fn asked(&self, answer: &Self::Answer) -> Self::Input
+        ensures { result ≡ (functions self.now).asked answer.now };
+
+    /// What a computing frame stores of an answer.
+    fn accept(&self, own: &Words, answer: &Self::Answer) -> Stores
+        ensures { result ≡ (functions self.now).accept own.now answer.now };
+
+    // Two inputs are the same where `==` says so: an Answer compares them.
+    ghost compares: { (p : Self) → (functions p).same ≡ Self.Input.PartialEq.eq };
+
+    // An Advance leaves frames fitting.
+    ghost next_keeps: { (p : Self) → NextKeeps (functions p) (fits p) (rooted p) };
+
+    // An Inlet leaves frames fitting, also after an abort.
+    ghost inlet_keeps: { (p : Self) → InletKeeps (functions p) (fits p) (rooted p) };
+
+    // An Answer leaves frames fitting.
+    ghost accept_keeps: { (p : Self) → AcceptKeeps (functions p) (fits p) (rooted p) };
+}

@@ -1,0 +1,5 @@
+pub mod Toys
+pub mod ToyLaws
+pub mod FanRows
+pub mod ChainRows
+pub mod SmallStates

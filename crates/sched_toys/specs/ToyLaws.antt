@@ -1,0 +1,37 @@
+-- The laws of a procedure whose frames always fit.
+use Rattle.std.specs.Prelude.{ℕ, List, [], ◌∷◌}
+use Rattle.sched_rules.specs.declared.act.Then.{Then}
+use Rattle.sched_rules.specs.declared.act.Then.TheVariants.{Grow, Spawn, Go, Wait, Compute, Return}
+use Rattle.sched_rules.specs.Functions.{Functions}
+use Rattle.sched_rules.specs.Laws.{Fitting, Rooting, ParentFits, NewChildFits, NextKeeps, InletKeeps, AcceptKeeps}
+
+-- every frame fits
+abbrev pub AlwaysFits : Fitting
+AlwaysFits own children mark = Unit {0}
+
+-- every root belongs to what was submitted
+abbrev pub AlwaysRooted : Rooting
+AlwaysRooted origin own = Unit {0}
+
+-- then every parent fits
+pub parent-fits : (origin : List ℕ) (above older : List (List ℕ)) (own : List ℕ) (younger : List (List ℕ)) → ParentFits AlwaysFits AlwaysRooted origin above older own younger
+parent-fits origin [] older own younger = tt
+parent-fits origin (parent ∷ above) older own younger = tt
+
+-- and every new child
+pub new-child-fits : (after : Then) → NewChildFits AlwaysFits after
+new-child-fits (Grow more) = tt
+new-child-fits (Spawn given size) = tt
+new-child-fits Go = tt
+new-child-fits Wait = tt
+new-child-fits Compute = tt
+new-child-fits Return = tt
+
+pub next-keeps : {I A : Type 0} (functions : Functions I A) → NextKeeps functions AlwaysFits AlwaysRooted
+next-keeps functions origin own above older younger children fits parent all_fit done = (tt, parent-fits origin _ _ _ _, new-child-fits _)
+
+pub inlet-keeps : {I A : Type 0} (functions : Functions I A) → InletKeeps functions AlwaysFits AlwaysRooted
+inlet-keeps functions origin own child above older younger before behind fits parent all_before returned all_behind done = (tt, parent-fits origin _ _ _ _)
+
+pub accept-keeps : {I A : Type 0} (functions : Functions I A) → AcceptKeeps functions AlwaysFits AlwaysRooted
+accept-keeps functions origin own above older younger answer fits parent same done = (tt, parent-fits origin _ _ _ _)

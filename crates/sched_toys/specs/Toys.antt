@@ -1,0 +1,85 @@
+-- Two toy procedures, whose every step can be followed by hand.
+use Rattle.std.specs.Prelude.{ℕ, ◌+◌, ◌-◌, ◌%◌, ◌^◌, true, false, ◌&&◌, ◌==◌, List, [], ◌∷◌, if◌then◌else◌, slice_get, unwrap_or}
+use Rattle.sched_rules.specs.declared.act.Act.{Act}
+use Rattle.sched_rules.specs.declared.act.InletAct.{InletAct}
+use Rattle.sched_rules.specs.declared.act.Then.{Then}
+use Rattle.sched_rules.specs.declared.act.Then.TheVariants.{Spawn, Wait, Compute, Return}
+use Rattle.sched_toys.specs.declared.fan.FanAnswer.{FanAnswer}
+use Rattle.sched_rules.specs.Functions.{Functions}
+
+-- the words nearest in a sight
+abbrev pub nearest : List (List ℕ) → List ℕ
+nearest sight = unwrap_or (slice_get sight 0) []
+
+-- the word at a place, and 0 where there is none
+abbrev pub word_at : List ℕ → ℕ → ℕ
+word_at words place = unwrap_or (slice_get words place) 0
+
+-- a line of Fan's table: at this kind and this count, this is the new count, and this comes then
+pub record Line : Type 0 where
+  pub kind : ℕ
+  pub count : ℕ
+  pub next_count : ℕ
+  pub after : Then
+
+-- a line that opens a child of this kind
+abbrev pub spawns : ℕ → Then
+spawns kind = Spawn (kind ∷ 0 ∷ []) 4
+
+-- Fan's table; at any other kind and count it returns without a store
+abbrev pub fan_table : List Line
+fan_table =
+    record { kind = 0; count = 0; next_count = 1; after = spawns 1 }
+    ∷ record { kind = 0; count = 1; next_count = 2; after = spawns 2 }
+    ∷ record { kind = 0; count = 2; next_count = 3; after = spawns 1 }
+    ∷ record { kind = 0; count = 3; next_count = 4; after = Wait }
+    ∷ record { kind = 0; count = 4; next_count = 5; after = spawns 1 }
+    ∷ record { kind = 0; count = 5; next_count = 6; after = Wait }
+    ∷ record { kind = 1; count = 0; next_count = 1; after = Compute }
+    ∷ record { kind = 2; count = 0; next_count = 1; after = spawns 1 }
+    ∷ record { kind = 2; count = 1; next_count = 2; after = Wait }
+    ∷ []
+
+-- the act at this kind and count
+abbrev pub fan_act : List Line → ℕ → ℕ → Act
+fan_act [] kind count = record { stores = []; after = Return }
+fan_act (line ∷ lines) kind count =
+    if (line.kind == kind) && (line.count == count)
+    then record { stores = (1, line.next_count) ∷ []; after = line.after }
+    else fan_act lines kind count
+
+-- the next act of a frame of Fan
+abbrev pub fan_next : List (List ℕ) → Act
+fan_next sight = fan_act fan_table (word_at (nearest sight) 0) (word_at (nearest sight) 1)
+
+-- what a parent in Fan does about a returned child: one of kind 0 counts it in word 2 (0 after the greatest word) and aborts
+abbrev pub fan_inlet : List ℕ → List ℕ → InletAct
+fan_inlet own child =
+    if word_at own 0 == 0
+    then record { stores = (2, (word_at own 2 + 1) % 2 ^ 64) ∷ []; abort = true; wake = false }
+    else record { stores = []; abort = false; wake = false }
+
+-- what a frame of Fan stores of an answer: count 2, and the value in word 2
+abbrev pub fan_accept : List ℕ → FanAnswer → List (ℕ × ℕ)
+fan_accept own answer = (1, 2) ∷ (2, answer.value) ∷ []
+
+-- Fan
+abbrev pub fan : Functions ℕ FanAnswer
+fan = record { next = fan_next; inlet = fan_inlet; input = λ own. word_at own 0; asked = λ answer. answer.asked; accept = fan_accept; same = λ one other. one == other }
+
+-- the next act of a frame of Chain: at count 0 it returns; else it opens a child of one less, waits, and returns
+abbrev pub chain_next : List (List ℕ) → Act
+chain_next sight =
+    let own = nearest sight in
+    if word_at own 0 == 0 then record { stores = []; after = Return }
+    else if word_at own 1 == 0 then record { stores = (1, 1) ∷ []; after = Spawn ((word_at own 0 - 1) ∷ 0 ∷ []) 20 }
+    else if word_at own 1 == 1 then record { stores = (1, 2) ∷ []; after = Wait }
+    else record { stores = []; after = Return }
+
+-- what a parent in Chain does about a returned child: it stores the child's count in word 2
+abbrev pub chain_inlet : List ℕ → List ℕ → InletAct
+chain_inlet own child = record { stores = (2, word_at child 0) ∷ []; abort = false; wake = false }
+
+-- Chain, whose answers ask for themselves and store nothing
+abbrev pub chain : Functions ℕ ℕ
+chain = record { next = chain_next; inlet = chain_inlet; input = λ own. word_at own 0; asked = λ answer. answer; accept = λ own answer. []; same = λ one other. one == other }

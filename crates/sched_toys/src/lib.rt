@@ -1,0 +1,29 @@
+//! Two toy procedures whose every step can be followed by hand, and the definitions of scheduling tried on them.
+//!
+//! [`Fan`] opens children of two kinds, takes the first result and aborts the others; [`Chain`] opens
+//! one child with a count of one less and waits for it. Each is a table (`specs/Toys.antt`), and all
+//! frames of both always fit (`specs/ToyLaws.antt`). [`rows`], [`effect_rows`] and [`refusal_rows`]
+//! are worked examples of the definitions in `sched_rules`: each contract there is computed from the
+//! definitions alone, so that a wrong definition can't pass.
+//!
+//! ```text
+//! // a root of Fan that has opened three children waits next
+//! let node = stack.open(None, &[0, 3], 4)?;
+//! let act = Fan.next(&stack.sight(node));
+//! act.stores.as_slice() == [(1, 4)];
+//! matches!(act.after, Then::Wait);
+//! ```
+#![tactic(auto)]
+
+mod chain;
+pub mod effect_rows;
+mod fan;
+pub mod refusal_rows;
+pub mod rows;
+mod view;
+
+pub use chain::Chain;
+pub use fan::{Fan, FanAnswer};
+
+#[cfg(test)]
+mod tests;
