@@ -7,7 +7,7 @@ use Rattle.othello_eval.specs.Minimax.{minimax, best_choice, choice_value}
 use Rattle.leaf_search.specs.Bounds.{IsBound}
 use Rattle.leaf_search.specs.declared.scored.Scored.{Scored}
 use Rattle.leaf_search.proofs.MinimaxLemmas.{minimax-suc, best_choice-suc, best_choice-zero, minimax-over, best_choice-over}
-use Rattle.leaf_search.proofs.WindowLemmas.{all_bound, all_best, IsSearching-turn, IsSearching-cut, IsSearching-all, IsSearching-real, IsSearching-next, cut_score, exact_bound}
+use Rattle.leaf_search.proofs.WindowLemmas.{all_bound, all_best, IsSearching-turn, IsSearching-cut, IsSearching-all, IsSearching-real, IsSearching-next, cut_score, exact_bound, still_chosen}
 use Rattle.leaf_search.proofs.tree.+search.Goals as goal
 
 pub best_of-after-requires : goal.best_of-after-requires
@@ -84,3 +84,8 @@ search_below-returns-clause-bound t c =
 pub search_below-returns-clause-choice : goal.search_below-returns-clause-choice
 search_below-returns-clause-choice t c higher lower =
     c.best_of.ensures.choice higher lower ∙ ap (λ d. best_choice d (cells c.args.board)) (one_more t c)
+
+pub best_of-returns-then-best-window-clause-chosen : goal.best_of-returns-then-best-window-clause-chosen
+best_of-returns-then-best-window-clause-chosen t c =
+    still_chosen (choices (cells c.args.board)) c.loop-choice.best.score c.search_below-child.result.score c.take_in.new.self.score c.loop-choice.best.choice c.take_in.new.self.choice c.in-Some.choice
+    c.loop-choice.invariant.chosen (IsSearching-next _ _ _ _ _ _ _ c.in-Some.choice _ c.loop-choice.invariant c.in-Some.ensures.cases) c.take_in.ensures.better c.take_in.ensures.kept
