@@ -6,7 +6,7 @@ use Rattle.std.proofs.lemmas.Int.{ints, clamps, by_lt_z}
 use Rattle.std.proofs.lemmas.List.Elements.{All-nil, All-cons, All-append, All-weaker, Contains-append_right}
 use Rattle.othello_eval.specs.Minimax.{greatest, greatest_or, int_equal}
 use Rattle.leaf_search.specs.Bounds.{IsBound}
-use Rattle.leaf_search.proofs.ValueLemmas.{find-kept, find-new, greatest_or-upper, greatest_or-lower, found_below_greatest}
+use Rattle.othello_eval.proofs.GreatestLemmas.{find-kept, find-new, greatest_or-upper, greatest_or-lower, found_below_greatest}
 
 -- what is known once these choices were searched, none of which ended the search: no value is above the
 -- best score, and where that is above alpha it is the value of the first choice that attains it
@@ -143,7 +143,7 @@ IsSearching-start alpha beta v all left best choice same start none low window =
 }
 
 -- a choice that is next is among the choices
-pub next_chosen : {X : Type 0} (all taken left rest : List X) (c : X) → taken ++ left ≡ all → left ≡ c ∷ rest → Contains all c
+next_chosen : {X : Type 0} (all taken left rest : List X) (c : X) → taken ++ left ≡ all → left ≡ c ∷ rest → Contains all c
 next_chosen all taken left rest c split next =
     subst (λ cs. Contains cs c) (ap (λ l. taken ++ l) (sym next) ∙ split)
     (Contains-append_right taken (c ∷ rest) c (0, omega arith, refl))
@@ -195,11 +195,8 @@ pub IsSearching-real : {X : Type 0} (alpha beta : ℤ) (v : X → ℤ) (all left
 IsSearching-real alpha beta v all left best choice s none some =
     s.real (subst (λ cs. 0 < length cs) (sym (sym (append-nil s.taken) ∙ (ap (λ l. s.taken ++ l) (sym none) ∙ s.split))) some)
 
--- a choice that is next is among the choices
 pub IsSearching-next : {X : Type 0} (alpha beta : ℤ) (v : X → ℤ) (all left : List X) (best : ℤ) (choice : Option X) (c : X) (rest : List X) → IsSearching alpha beta v all left best choice → left ≡ c ∷ rest → Contains all c
-IsSearching-next alpha beta v all left best choice c rest s next =
-    subst (λ cs. Contains cs c) (ap (λ l. s.taken ++ l) (sym next) ∙ s.split)
-    (Contains-append_right s.taken (c ∷ rest) c (0, omega arith, refl))
+IsSearching-next alpha beta v all left best choice c rest s next = next_chosen all s.taken left rest c s.split next
 
 -- the value itself is a bound of it, whatever the window
 pub exact_bound : (alpha beta score value : ℤ) → value ≡ score → IsBound alpha beta score value
