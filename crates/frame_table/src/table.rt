@@ -42,7 +42,7 @@ impl<T> Model for FrameTable<T> {
 }
 
 impl<T: Copy> FrameTable<T> {
-    ghost use Rattle.frame_table.specs.Ending.{EndsAborted};
+    ghost use Rattle.frame_table.specs.Ending.{EndsAborted, EndsEmptied};
 
     /// A table with no tenant. Takes memory: `AllocError` only where a growth was refused.
     pub fn new(alloc: Global) -> Result<Self, AllocError>
@@ -106,7 +106,8 @@ impl<T: Copy> FrameTable<T> {
 
     /// The parent, state and value of a frame; `None` where there is no such frame.
     pub fn find(&self, f: FrameId) -> Option<Entry<T>>
-        ensures { result ≡ entry_of f.tenant (frame_at (frames_of self.now f.tenant) f.serial) }
+        ensures entry { result ≡ entry_of f.tenant (frame_at (frames_of self.now f.tenant) f.serial) }
+        ensures tree { IsTree (frames_of self.now f.tenant) }
     {
         match find_tree(self.trees.as_slice(), f.tenant) {
             Some(tree) => tree.find(f.serial),
@@ -172,8 +173,8 @@ impl<T: Copy> FrameTable<T> {
         ensures { result ≡ names_of f.tenant (children_of (frames_of self.now f.tenant) f.serial) }
     {
         match find_tree(self.trees.as_slice(), f.tenant) {
-            Some(tree) => Children::new(f, tree.slots()),
-            None => Children::new(f, &[]),
+            Some(tree) => Children::new(f, Some(tree.shelf())),
+            None => Children::new(f, None),
         }
     }
 
@@ -183,8 +184,8 @@ impl<T: Copy> FrameTable<T> {
         ensures tree { IsTree (frames_of self.now tenant) }
     {
         match find_tree(self.trees.as_slice(), tenant) {
-            Some(tree) => Frames::new(tenant, tree.slots()),
-            None => Frames::new(tenant, &[]),
+            Some(tree) => Frames::new(tenant, Some(tree.shelf())),
+            None => Frames::new(tenant, None),
         }
     }
 
@@ -286,6 +287,22 @@ impl<T: Copy> FrameTable<T> {
         self.removed.clear();
         tree.remove_under(f.serial, &mut self.removed);
         self.ready = self.ready - before + tree.ready();
+        self.removed.as_slice()
+    }
+
+    /// Removes all frames of a tenant, whose places stay. Gives their values, each once, by rising
+    /// serial. Takes no memory.
+    pub fn remove_all(&mut self, tenant: u64) -> &[T]
+        requires { 0 < places_of self.old tenant }
+        ensures* ends { sem 𝓛 (EndsEmptied T.row self.entry tenant) }
+        ensures values { result.now ≡ values_of (frames_of self.old tenant) }
+    {
+        let at = known_tenant(self.trees.as_slice(), tenant);
+        let tree = &mut self.trees[at];
+        let before = tree.ready();
+        self.removed.clear();
+        tree.remove_all(&mut self.removed);
+        self.ready -= before;
         self.removed.as_slice()
     }
 

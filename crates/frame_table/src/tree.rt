@@ -4,12 +4,14 @@
 //! What makes that true: slots rise, each names a parent that stands before it and the root above it,
 //! and the counts of children and of ready frames are those of the slots.
 ghost use Rattle.std.specs.Prelude.{◌≡◌, ℕ, ◌+◌, ◌<◌, ◌≤◌, ◌↔◌, ◌++◌, [], ◌∷◌, true, false, length, vec_len, vec_capacity, IsTrue, IfOk, IfSome};
-ghost use Rattle.frame_table.specs.Frames.{frame_at, has_frame, path_in, root_of, children_of, aborted, frames_under, frames_without, values_of, with_state, ready_frames, AllBelow, entry_of, newest_ready_of, HasValue, has_parent, IsReadyAt};
-ghost use Rattle.frame_table.specs.Slots.{frames_from, IsLinked};
+ghost use Rattle.frame_table.specs.Frames.{frame_at, has_frame, path_in, root_of, children_of, aborted, frames_under, frames_without, values_of, with_state, ready_frames, AllBelow, entry_of, newest_ready_of, HasValue, has_parent, IsReadyAt, IsTree};
+ghost use Rattle.frame_table.specs.Slots.{frames_from, IsLinked, Rises, has_parent_slot, AllCountsBelow, with_child, root_under, without_child, CountsAtParent, newest_in};
+ghost use Rattle.frame_table.specs.Shelves.{StandsUnder};
 ghost use Rattle.frame_table.specs.Tables.{new_frame};
 
 use crate::names::{Entry, FrameId, State};
-use crate::slot::{self, Slot};
+use crate::shelf::Shelf;
+use crate::slot::Slot;
 use std::alloc::{AllocError, Global};
 use std::marker::Model;
 
@@ -17,21 +19,20 @@ use std::marker::Model;
 #[derive(Drop)]
 pub(crate) struct TenantFrames<T> {
     tenant: u64,
-    places: usize,
-    slots: Vec<Slot<T>>,
+    shelf: Shelf<T>,
     ready: usize,
 }
 
 impl<T> Model for TenantFrames<T> {
-    ghost use Rattle.std.specs.Prelude.{◌≤◌, [], vec_len, vec_capacity};
+    ghost use Rattle.std.specs.Prelude.{◌≤◌, [], length};
     ghost use Rattle.frame_table.specs.Tables.{Tree};
     ghost use Rattle.frame_table.specs.Slots.{frames_from, IsSound};
 
     ghost Value = { Tree T };
 
-    ghost view = { λ t. record { tenant = t.tenant; places = t.places; frames = frames_from [] t.slots.items } };
+    ghost view = { λ t. record { tenant = t.tenant; places = t.shelf.places; frames = frames_from [] t.shelf.slots } };
 
-    ghost invariant = { λ t. (IsSound t.slots.items t.ready) × (vec_len t.slots ≤ t.places) × (t.places ≤ vec_capacity t.slots) × (t.places ≤ 4096) };
+    ghost invariant = { λ t. (IsSound t.shelf.slots t.ready) × (length t.shelf.slots ≤ t.shelf.places) × (t.shelf.places ≤ 4096) };
 }
 
 impl<T: Copy> TenantFrames<T> {
@@ -40,11 +41,10 @@ impl<T: Copy> TenantFrames<T> {
         requires { places ≤ 4096 }
         ensures { IfOk result (λ t. t ≡ record { tenant = tenant; places = places; frames = [] }) }
     {
-        let slots = Vec::with_capacity(alloc, places)?;
+        let shelf = Shelf::new(alloc, places)?;
         Ok(TenantFrames {
             tenant,
-            places,
-            slots,
+            shelf,
             ready: 0,
         })
     }
@@ -60,14 +60,14 @@ impl<T: Copy> TenantFrames<T> {
     pub(crate) fn places(&self) -> usize
         ensures { result ≡ self.now.places }
     {
-        self.places
+        self.shelf.places()
     }
 
     /// How many frames there are.
     pub(crate) fn len(&self) -> usize
         ensures { result ≡ length self.now.frames }
     {
-        self.slots.len()
+        self.shelf.len()
     }
 
     /// How many of them are ready.
@@ -78,19 +78,20 @@ impl<T: Copy> TenantFrames<T> {
     }
 
     /// The slots.
-    pub(crate) fn slots(&self) -> &[Slot<T>]
-        ensures frames { frames_from [] result.now ≡ self.now.frames }
-        ensures linked { IsLinked [] result.now }
+    pub(crate) fn shelf(&self) -> &Shelf<T>
+        ensures frames { frames_from [] result.now.slots ≡ self.now.frames }
+        ensures linked { IsLinked [] result.now.slots }
     {
-        self.slots.as_slice()
+        &self.shelf
     }
 
     /// What is known of a frame.
     pub(crate) fn find(&self, serial: u64) -> Option<Entry<T>>
-        ensures { result ≡ entry_of self.now.tenant (frame_at self.now.frames serial) }
+        ensures entry { result ≡ entry_of self.now.tenant (frame_at self.now.frames serial) }
+        ensures tree { IsTree self.now.frames }
     {
-        match slot::place_of(self.slots.as_slice(), serial) {
-            Some(at) => Some(self.slots[at].entry(self.tenant)),
+        match self.shelf.place_of(serial) {
+            Some(at) => Some(self.shelf.at(at).entry(self.tenant)),
             None => None,
         }
     }
@@ -100,8 +101,8 @@ impl<T: Copy> TenantFrames<T> {
         requires { IsTrue (has_frame self.now.frames serial) }
         ensures { result ≡ root_of (path_in self.now.frames serial) }
     {
-        let at = slot::known_place(self.slots.as_slice(), serial);
-        self.slots[at].root
+        let at = self.shelf.known_place(serial);
+        self.shelf.at(at).root
     }
 
     /// Whether a frame has a child.
@@ -109,8 +110,8 @@ impl<T: Copy> TenantFrames<T> {
         ensures child { IsTrue result ↔ (0 < length (children_of self.now.frames serial)) }
         ensures leaf { result ≡ false → children_of self.now.frames serial ≡ [] }
     {
-        match slot::place_of(self.slots.as_slice(), serial) {
-            Some(at) => self.slots[at].children > 0,
+        match self.shelf.place_of(serial) {
+            Some(at) => self.shelf.at(at).children > 0,
             None => false,
         }
     }
@@ -119,7 +120,7 @@ impl<T: Copy> TenantFrames<T> {
     pub(crate) fn contains(&self, serial: u64) -> bool
         ensures { result ≡ has_frame self.now.frames serial }
     {
-        slot::is_there(self.slots.as_slice(), serial)
+        self.shelf.place_of(serial).is_some()
     }
 
     /// Whether a serial is above those of all frames.
@@ -127,7 +128,11 @@ impl<T: Copy> TenantFrames<T> {
         ensures above { IsTrue result → AllBelow serial self.now.frames }
         ensures otherwise { AllBelow serial self.now.frames → IsTrue result }
     {
-        slot::is_above(self.slots.as_slice(), serial)
+        let count = self.shelf.len();
+        if count == 0 {
+            return true;
+        }
+        self.shelf.at(count - 1).serial < serial
     }
 
     /// The ready frame of the greatest serial, with its home.
@@ -138,7 +143,7 @@ impl<T: Copy> TenantFrames<T> {
         if self.ready == 0 {
             return None;
         }
-        slot::newest_ready(self.tenant, self.slots.as_slice())
+        newest_ready(self.tenant, &self.shelf)
     }
 
     /// Adds a ready frame.
@@ -148,15 +153,18 @@ impl<T: Copy> TenantFrames<T> {
         requires room { length self.old.frames < self.old.places }
         ensures { self.new ≡ record self.old { frames = self.old.frames ++ new_frame self.old.frames serial parent home value ∷ [] } }
     {
-        let root = slot::adopt(self.slots.as_mut_slice(), parent, serial);
-        self.slots.push_reserved(Slot {
-            serial,
-            parent,
-            root,
-            state: State::Ready(home),
-            children: 0,
-            value,
-        });
+        let (root, above) = adopt(&mut self.shelf, parent, serial);
+        self.shelf.push(
+            Slot {
+                serial,
+                parent,
+                root,
+                state: State::Ready(home),
+                children: 0,
+                value,
+            },
+            above,
+        );
         self.ready += 1;
     }
 
@@ -165,9 +173,9 @@ impl<T: Copy> TenantFrames<T> {
         requires { IsTrue (has_frame self.old.frames serial) }
         ensures { self.new ≡ record self.old { frames = with_state serial state self.old.frames } }
     {
-        let at = slot::known_place(self.slots.as_slice(), serial);
-        let slot = self.slots[at];
-        self.slots[at] = Slot { state, ..slot };
+        let at = self.shelf.known_place(serial);
+        let slot = self.shelf.at(at);
+        self.shelf.put(at, Slot { state, ..slot });
         self.ready = self.ready - slot.state.is_ready() as usize + state.is_ready() as usize;
     }
 
@@ -179,13 +187,31 @@ impl<T: Copy> TenantFrames<T> {
         ensures values { removed.new.items ≡ removed.old.items ++ values_of (frames_under serial self.old.frames) }
         ensures capacity { vec_capacity removed.new ≡ vec_capacity removed.old }
     {
-        let at = slot::known_place(self.slots.as_slice(), serial);
-        let slot = self.slots[at];
-        self.slots[at] = Slot {
-            children: 0,
-            ..slot
-        };
-        self.ready = slot::keep_others(&mut self.slots, serial, removed);
+        let at = self.shelf.known_place(serial);
+        let slot = self.shelf.at(at);
+        if slot.children == 0 {
+            return;
+        }
+        self.shelf.put(
+            at,
+            Slot {
+                children: 0,
+                ..slot
+            },
+        );
+        self.shelf.cut(serial, removed);
+        self.ready = self.shelf.count_ready();
+    }
+
+    /// Removes all frames, and adds their values to `removed`.
+    pub(crate) fn remove_all(&mut self, removed: &mut Vec<T>)
+        requires { vec_len removed.old + length self.old.frames ≤ vec_capacity removed.old }
+        ensures left { self.new ≡ record self.old { frames = [] } }
+        ensures values { removed.new.items ≡ removed.old.items ++ values_of self.old.frames }
+        ensures capacity { vec_capacity removed.new ≡ vec_capacity removed.old }
+    {
+        self.shelf.clear(removed);
+        self.ready = 0;
     }
 
     /// Removes a frame that has no child, and gives its value.
@@ -195,10 +221,73 @@ impl<T: Copy> TenantFrames<T> {
         ensures left { self.new ≡ record self.old { frames = frames_without serial self.old.frames } }
         ensures value { HasValue (frame_at self.old.frames serial) result }
     {
-        let at = slot::known_place(self.slots.as_slice(), serial);
-        let slot = self.slots.remove(at);
-        slot::forget(self.slots.as_mut_slice(), slot.parent);
+        let at = self.shelf.known_place(serial);
+        let slot = self.shelf.take(at);
+        forget(&mut self.shelf, slot.parent);
         self.ready -= slot.state.is_ready() as usize;
         slot.value
     }
+}
+
+/// Counts one more child at the parent, and gives the root of the new frame, and where the parent
+/// stands.
+fn adopt<T: Copy>(shelf: &mut Shelf<T>, parent: Option<u64>, serial: u64) -> (u64, Option<usize>)
+    requires rise { Rises shelf.old.slots }
+    requires there { has_parent_slot shelf.old.slots parent ≡ true }
+    requires few { AllCountsBelow 4096 shelf.old.slots }
+    ensures counted { shelf.new ≡ record shelf.old { slots = with_child parent shelf.old.slots } }
+    ensures root { result.0 ≡ root_under shelf.old.slots parent serial }
+    ensures above { StandsUnder shelf.new.slots parent result.1 }
+{
+    match parent {
+        None => (serial, None),
+        Some(above) => {
+            let at = shelf.known_place(above);
+            let slot = shelf.at(at);
+            shelf.put(
+                at,
+                Slot {
+                    children: slot.children + 1,
+                    ..slot
+                },
+            );
+            (slot.root, Some(at))
+        }
+    }
+}
+
+/// Counts one child less at the parent.
+fn forget<T: Copy>(shelf: &mut Shelf<T>, parent: Option<u64>)
+    requires rise { Rises shelf.old.slots }
+    requires there { has_parent_slot shelf.old.slots parent ≡ true }
+    requires counted { CountsAtParent shelf.old.slots parent }
+    ensures { shelf.new ≡ record shelf.old { slots = without_child parent shelf.old.slots } }
+{
+    if let Some(above) = parent {
+        let at = shelf.known_place(above);
+        let slot = shelf.at(at);
+        shelf.put(
+            at,
+            Slot {
+                children: slot.children - 1,
+                ..slot
+            },
+        );
+    }
+}
+
+/// The last ready slot's name, and its home.
+fn newest_ready<T: Copy>(tenant: u64, shelf: &Shelf<T>) -> Option<(FrameId, u8)>
+    ensures { result ≡ newest_in tenant shelf.now.slots }
+{
+    let mut end = shelf.len();
+    while end > 0 {
+        end -= 1;
+        let slot = shelf.at(end);
+        if let State::Ready(home) = slot.state {
+            let serial = slot.serial;
+            return Some((FrameId { tenant, serial }, home));
+        }
+    }
+    None
 }

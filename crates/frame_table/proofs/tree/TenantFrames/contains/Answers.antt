@@ -1,11 +1,12 @@
 use Rattle.std.proofs.Common.{[], sym, ◌∙◌}
 use Rattle.frame_table.proofs.Forest.{linked_rises, has_frame-frames_from}
+use Rattle.frame_table.proofs.Shelves.{found_there}
 use Rattle.frame_table.proofs.tree.TenantFrames.contains.Goals as goal
 
-pub is_there-requires : goal.is_there-requires
-is_there-requires g c = rw c.as_slice.ensures.value (linked_rises [] _ c.self.invariant.0.linked)
+pub place_of-requires : goal.place_of-requires
+place_of-requires g c = linked_rises [] _ c.self.invariant.0.linked
 
 pub returns : goal.returns
 returns g c =
-    let there = rw c.as_slice.ensures.value at c.is_there.ensures in
-    rw (← c.self.view_is) (there ∙ sym (has_frame-frames_from [] c.self.inside.slots.items c.args.serial))
+    let there = found_there c.self.inside.shelf.slots c.args.serial c.place_of.result c.place_of.ensures.found c.place_of.ensures.none in
+    rw (← c.self.view_is) (c.is_some.ensures ∙ (there ∙ sym (has_frame-frames_from [] c.self.inside.shelf.slots c.args.serial)))

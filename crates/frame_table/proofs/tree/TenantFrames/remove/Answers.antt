@@ -1,78 +1,87 @@
 use Rattle.std.proofs.Common.{length, [], ap, refl, sym, ◌∙◌, arith}
+use Rattle.std.proofs.lemmas.List.Edits.{length-remove}
+use Rattle.frame_table.proofs.Shelves.{length-without_child}
+use Rattle.frame_table.specs.Shelves.{Shelved}
 use Rattle.frame_table.proofs.Forest.{linked_rises, has_frame-frames_from}
 use Rattle.frame_table.proofs.Finds.{found}
 use Rattle.frame_table.proofs.Changes.{lost_counted}
-use Rattle.frame_table.proofs.Trees.{with_all, ready_within, found_value, lost, lost_sound, lost_frames}
+use Rattle.frame_table.proofs.Trees.{ready_within, found_value, leaf_slots, lost, lost_sound, lost_frames}
 use Rattle.frame_table.proofs.tree.TenantFrames.remove.Goals as goal
 
 pub known_place-at-requires-clause-rise : goal.known_place-at-requires-clause-rise
-known_place-at-requires-clause-rise g c = rw c.as_slice.ensures.value (linked_rises [] _ c.self.invariant.0.linked)
+known_place-at-requires-clause-rise g c = linked_rises [] _ c.self.invariant.0.linked
 
 pub known_place-at-requires-clause-there : goal.known_place-at-requires-clause-there
 known_place-at-requires-clause-there g c =
     let there = rw (← c.self.view_is) at c.requires.there in
-    rw c.as_slice.ensures.value (sym (has_frame-frames_from [] c.self.inside.slots.items c.args.serial) ∙ there)
+    sym (has_frame-frames_from [] c.self.inside.shelf.slots c.args.serial) ∙ there
+
+pub take-slot-requires-clause-linked : goal.take-slot-requires-clause-linked
+take-slot-requires-clause-linked g c = c.self.invariant.0.linked
+
+pub take-slot-requires-clause-leaf : goal.take-slot-requires-clause-leaf
+take-slot-requires-clause-leaf g c =
+    let leaf = rw (← c.self.view_is) at c.requires.leaf in
+    rw c.known_place-at.ensures.found (leaf_slots c.self.inside.shelf.slots c.args.serial c.self.invariant.0.linked leaf)
 
 pub forget-requires-clause-rise : goal.forget-requires-clause-rise
 forget-requires-clause-rise g c =
-    let within = rw c.as_slice.ensures.value at c.known_place-at.ensures.within in
-    let at = rw c.as_slice.ensures.value at c.known_place-at.ensures.found in
+    let within = c.known_place-at.ensures.within in
+    let at = c.known_place-at.ensures.found in
     let leaf = rw (← c.self.view_is) at c.requires.leaf in
-    let h = lost c.self.inside.slots.items c.self.inside.ready c.known_place-at.result c.args.serial c.remove-slot.result c.self.invariant.0 within at c.remove-slot.ensures.value leaf in
-    rw (c.as_mut_slice.ensures.value, c.remove-slot.ensures.items) (linked_rises [] _ h.linked)
+    let h = lost c.self.inside.shelf.slots c.self.inside.ready c.known_place-at.result c.args.serial c.take-slot.result c.self.invariant.0 within at c.take-slot.ensures.value leaf in
+    rw c.take-slot.ensures.left (linked_rises [] _ h.linked)
 
 pub forget-requires-clause-there : goal.forget-requires-clause-there
 forget-requires-clause-there g c =
-    let within = rw c.as_slice.ensures.value at c.known_place-at.ensures.within in
-    let at = rw c.as_slice.ensures.value at c.known_place-at.ensures.found in
+    let within = c.known_place-at.ensures.within in
+    let at = c.known_place-at.ensures.found in
     let leaf = rw (← c.self.view_is) at c.requires.leaf in
-    let h = lost c.self.inside.slots.items c.self.inside.ready c.known_place-at.result c.args.serial c.remove-slot.result c.self.invariant.0 within at c.remove-slot.ensures.value leaf in
-    rw (c.as_mut_slice.ensures.value, c.remove-slot.ensures.items) h.parent
+    let h = lost c.self.inside.shelf.slots c.self.inside.ready c.known_place-at.result c.args.serial c.take-slot.result c.self.invariant.0 within at c.take-slot.ensures.value leaf in
+    rw c.take-slot.ensures.left h.parent
 
 pub forget-requires-clause-counted : goal.forget-requires-clause-counted
 forget-requires-clause-counted g c =
-    let within = rw c.as_slice.ensures.value at c.known_place-at.ensures.within in
-    let at = rw c.as_slice.ensures.value at c.known_place-at.ensures.found in
+    let within = c.known_place-at.ensures.within in
+    let at = c.known_place-at.ensures.found in
     let leaf = rw (← c.self.view_is) at c.requires.leaf in
-    let h = lost c.self.inside.slots.items c.self.inside.ready c.known_place-at.result c.args.serial c.remove-slot.result c.self.invariant.0 within at c.remove-slot.ensures.value leaf in
-    rw (c.as_mut_slice.ensures.value, c.remove-slot.ensures.items) (lost_counted _ _ c.remove-slot.result h)
+    let h = lost c.self.inside.shelf.slots c.self.inside.ready c.known_place-at.result c.args.serial c.take-slot.result c.self.invariant.0 within at c.take-slot.ensures.value leaf in
+    rw c.take-slot.ensures.left (lost_counted _ _ c.take-slot.result h)
 
 pub overflow_sub-self : goal.overflow_sub-self
 overflow_sub-self g c =
-    let within = rw c.as_slice.ensures.value at c.known_place-at.ensures.within in
-    ready_within c.self.inside.slots.items c.self.inside.ready c.known_place-at.result c.remove-slot.result c.is_ready.result c.self.invariant.0 within c.remove-slot.ensures.value c.is_ready.ensures
+    let within = c.known_place-at.ensures.within in
+    ready_within c.self.inside.shelf.slots c.self.inside.ready c.known_place-at.result c.take-slot.result c.is_ready.result c.self.invariant.0 within c.take-slot.ensures.value c.is_ready.ensures
 
 pub invariant_of-self : goal.invariant_of-self
 invariant_of-self g c =
-    let slots = c.self.inside.slots.items in
-    let left = c.remove-slot.new.self in
-    let within = rw c.as_slice.ensures.value at c.known_place-at.ensures.within in
-    let at = rw c.as_slice.ensures.value at c.known_place-at.ensures.found in
+    let slots = c.self.inside.shelf.slots in
+    let within = c.known_place-at.ensures.within in
+    let at = c.known_place-at.ensures.found in
     let leaf = rw (← c.self.view_is) at c.requires.leaf in
-    let back = with_all c.forget.new.slots left.items left.len (c.forget.auto.slots ∙ ap length c.as_mut_slice.ensures.value) left.ok.0 in
-    let fewer = rw c.as_mut_slice.ensures.value at c.forget.ensures in
-    rw back (
-      lost_sound slots left.items c.forget.new.slots c.self.inside.ready c.known_place-at.result c.args.serial c.remove-slot.result c.is_ready.result c.self.invariant.0 within at c.remove-slot.ensures.value leaf c.remove-slot.ensures.items fewer c.is_ready.ensures,
-      omega (arith, c.remove-slot.ensures.len, c.self.invariant.1),
-      omega (arith, c.remove-slot.ensures.capacity, c.self.invariant.2),
-      c.self.invariant.3,
+    let left = ap (λ (s : Shelved g.row.T.Denot). s.slots) c.take-slot.ensures.left in
+    let fewer = ap (λ (s : Shelved g.row.T.Denot). s.slots) c.forget.ensures in
+    let places = ap (λ (s : Shelved g.row.T.Denot). s.places) c.forget.ensures ∙ ap (λ (s : Shelved g.row.T.Denot). s.places) c.take-slot.ensures.left in (
+      lost_sound slots c.take-slot.new.self.slots c.forget.new.shelf.slots c.self.inside.ready c.known_place-at.result c.args.serial c.take-slot.result c.is_ready.result c.self.invariant.0 within at c.take-slot.ensures.value leaf left fewer c.is_ready.ensures,
+      omega (arith, c.self.invariant.1, ap length left, ap length fewer, places, length-remove slots c.known_place-at.result within, length-without_child c.take-slot.result.parent c.take-slot.new.self.slots),
+      omega (arith, places, c.self.invariant.2),
     )
 
 pub returns-clause-left : goal.returns-clause-left
 returns-clause-left g c =
-    let slots = c.self.inside.slots.items in
-    let left = c.remove-slot.new.self in
-    let within = rw c.as_slice.ensures.value at c.known_place-at.ensures.within in
-    let at = rw c.as_slice.ensures.value at c.known_place-at.ensures.found in
+    let slots = c.self.inside.shelf.slots in
+    let within = c.known_place-at.ensures.within in
+    let at = c.known_place-at.ensures.found in
     let leaf = rw (← c.self.view_is) at c.requires.leaf in
-    let back = with_all c.forget.new.slots left.items left.len (c.forget.auto.slots ∙ ap length c.as_mut_slice.ensures.value) left.ok.0 in
-    let fewer = rw c.as_mut_slice.ensures.value at c.forget.ensures in
-    let frames = lost_frames slots left.items c.forget.new.slots c.self.inside.ready c.known_place-at.result c.args.serial c.remove-slot.result c.self.invariant.0 within at c.remove-slot.ensures.value leaf c.remove-slot.ensures.items fewer in
-    rw (← c.self.view_is, back, frames) refl
+    let left = ap (λ (s : Shelved g.row.T.Denot). s.slots) c.take-slot.ensures.left in
+    let fewer = ap (λ (s : Shelved g.row.T.Denot). s.slots) c.forget.ensures in
+    let places = ap (λ (s : Shelved g.row.T.Denot). s.places) c.forget.ensures ∙ ap (λ (s : Shelved g.row.T.Denot). s.places) c.take-slot.ensures.left in
+    let frames = lost_frames slots c.take-slot.new.self.slots c.forget.new.shelf.slots c.self.inside.ready c.known_place-at.result c.args.serial c.take-slot.result c.self.invariant.0 within at c.take-slot.ensures.value leaf left fewer in
+    rw (← c.self.view_is, frames, places) refl
 
 pub returns-clause-value : goal.returns-clause-value
 returns-clause-value g c =
-    let within = rw c.as_slice.ensures.value at c.known_place-at.ensures.within in
-    let at = rw c.as_slice.ensures.value at c.known_place-at.ensures.found in
-    let f = found [] c.self.inside.slots.items c.known_place-at.result c.args.serial c.remove-slot.result c.self.invariant.0.linked tt within at c.remove-slot.ensures.value in
-    rw (← c.self.view_is) (found_value _ c.remove-slot.result c.args.serial f.0 c.remove-slot.result.value f.1 refl)
+    let within = c.known_place-at.ensures.within in
+    let at = c.known_place-at.ensures.found in
+    let f = found [] c.self.inside.shelf.slots c.known_place-at.result c.args.serial c.take-slot.result c.self.invariant.0.linked tt within at c.take-slot.ensures.value in
+    rw (← c.self.view_is) (found_value _ c.take-slot.result c.args.serial f.0 c.take-slot.result.value f.1 refl)

@@ -1,0 +1,323 @@
+-- Slots under keys: reading, writing and adding them.
+use Rattle.std.proofs.Common.{◌≡◌, ◌≢◌, ℕ, zero, suc, ◌+◌, ◌-◌, ◌<◌, Bool, true, false, ◌||◌, eqb, List, [], ◌∷◌, ◌++◌, Option, Some, None, IsSome, IfSome, IfNone, is_some, length, take, get_or, set, refl, ap, sym, ◌∙◌, inl, inr, arith, append_assoc, append-nil, subst, slice_index}
+use Rattle.std.proofs.lemmas.List.{get_or-set_same, length-set}
+use Rattle.std.proofs.lemmas.Bool.{cases_eq, false≢true, eq-eqb, ne_eqb}
+use Rattle.slab.specs.Slab.{Slab, get, slab_len, ContainsKey, Updates}
+use Rattle.frame_table.specs.declared.slot.Slot.{Slot as TenantSlot}
+use Rattle.frame_table.specs.declared.shelf.Kept.{Kept}
+use Rattle.frame_table.specs.Slots.{serials_of, has_slot, with_slot, with_child, without_child}
+use Rattle.frame_table.specs.Shelves.{with_found, slots_in, has_key, AreApartKeys, HasSerial, KnowsParent, IsHere, AllHere, IsShelf, StandsUnder}
+use Rattle.frame_table.proofs.Search.{serial_read, IsBetween, has_slot-found}
+
+-- a slot that is here is found
+pub here_contains : {T : Type 0} (slab : Slab (Kept T)) (before : List ℕ) (key : ℕ) → IsHere slab before (get slab key) → ContainsKey slab key
+here_contains slab before key h = some slab before (get slab key) h
+  where
+    some : {T : Type 0} (slab : Slab (Kept T)) (before : List ℕ) (o : Option (Kept T)) → IsHere slab before o → IsSome o
+    some slab before None h = absurd h
+    some slab before (Some x) h = refl
+
+-- the slot under the key at a place
+pub here_at : {T : Type 0} (slab : Slab (Kept T)) (before keys : List ℕ) (i d : ℕ) → AllHere slab before keys → i < length keys → IsHere slab (before ++ take i keys) (get slab (get_or keys i d))
+here_at slab before [] i d h lt = absurd (omega arith)
+here_at slab before (k ∷ keys) zero d h lt = subst (λ b. IsHere slab b (get slab k)) (sym (append-nil before)) h.0
+here_at slab before (k ∷ keys) (suc i) d h lt = subst (λ b. IsHere slab b (get slab (get_or keys i d))) (append_assoc before (k ∷ []) (take i keys)) (here_at slab (before ++ k ∷ []) keys i d h.1 (omega arith))
+
+-- the same of a key that was read
+pub here_read : {T : Type 0} (slab : Slab (Kept T)) (keys : List ℕ) (i key : ℕ) → AllHere slab [] keys → i < length keys → key ≡ get_or keys i key → IsHere slab (take i keys) (get slab key)
+here_read slab keys i key h lt is = subst (λ k. IsHere slab (take i keys) (get slab k)) (sym is) (here_at slab [] keys i key h lt)
+
+pub contains_read : {T : Type 0} (slab : Slab (Kept T)) (keys : List ℕ) (i key : ℕ) → AllHere slab [] keys → i < length keys → key ≡ get_or keys i key → ContainsKey slab key
+contains_read slab keys i key h lt is = here_contains slab (take i keys) key (here_read slab keys i key h lt is)
+
+-- as many slots as keys
+pub slots_in-length : {T : Type 0} (slab : Slab (Kept T)) (before keys : List ℕ) → AllHere slab before keys → length (slots_in slab keys) ≡ length keys
+slots_in-length slab before [] h = refl
+slots_in-length slab before (k ∷ keys) h = found_length slab before (get slab k) (slots_in slab keys) h.0 ∙ ap suc (slots_in-length slab (before ++ k ∷ []) keys h.1)
+  where
+    found_length : {T : Type 0} (slab : Slab (Kept T)) (before : List ℕ) (o : Option (Kept T)) (xs : List (TenantSlot T)) → IsHere slab before o → length (with_found o xs) ≡ suc (length xs)
+    found_length slab before None xs h = absurd h
+    found_length slab before (Some x) xs h = refl
+
+-- the slot at a place
+pub slots_in-at : {T : Type 0} (slab : Slab (Kept T)) (before keys : List ℕ) (i d : ℕ) (kept : Kept T) (x : TenantSlot T) → AllHere slab before keys → i < length keys → get slab (get_or keys i d) ≡ Some kept → get_or (slots_in slab keys) i x ≡ kept.slot
+slots_in-at slab before [] i d kept x h lt is = absurd (omega arith)
+slots_in-at slab before (k ∷ keys) zero d kept x h lt is = rw is refl
+slots_in-at slab before (k ∷ keys) (suc i) d kept x h lt is = next slab before (get slab k) (slots_in slab keys) i x h.0 ∙ slots_in-at slab (before ++ k ∷ []) keys i d kept x h.1 (omega arith) is
+  where
+    next : {T : Type 0} (slab : Slab (Kept T)) (before : List ℕ) (o : Option (Kept T)) (xs : List (TenantSlot T)) (i : ℕ) (x : TenantSlot T) → IsHere slab before o → get_or (with_found o xs) (suc i) x ≡ get_or xs i x
+    next slab before None xs i x h = absurd h
+    next slab before (Some y) xs i x h = refl
+
+pub slot_read : {T : Type 0} (slab : Slab (Kept T)) (keys : List ℕ) (i key : ℕ) (kept : Kept T) (x : TenantSlot T) → AllHere slab [] keys → i < length keys → key ≡ get_or keys i key → get slab key ≡ Some kept → get_or (slots_in slab keys) i x ≡ kept.slot
+slot_read slab keys i key kept x h lt is found = slots_in-at slab [] keys i key kept x h lt (ap (get slab) (sym is) ∙ found)
+
+-- a slot of the same name, parent and mark
+abbrev pub IsLike : {T : Type 0} → Kept T → Option (Kept T) → Type 0
+IsLike x None = ⊥
+IsLike x (Some y) = (y.slot.serial ≡ x.slot.serial) × (y.slot.parent ≡ x.slot.parent) × (y.above ≡ x.above) × (y.marked ≡ x.marked)
+
+abbrev IsLikeOf : {T : Type 0} → Option (Kept T) → Option (Kept T) → Type 0
+IsLikeOf None o = Unit {0}
+IsLikeOf (Some x) o = IsLike x o
+
+-- each slot has one like it in the new slab
+abbrev pub AreLike : {T : Type 0} → Slab (Kept T) → Slab (Kept T) → Type 0
+AreLike old new = (k : ℕ) (x : _) → get old k ≡ Some x → IsLike x (get new k)
+
+serial_like : {T : Type 0} (p : ℕ) (o n : Option (Kept T)) → ((x : Kept T) → o ≡ Some x → IsLike x n) → HasSerial p o → HasSerial p n
+serial_like p None n like h = absurd h
+serial_like p (Some x) None like h = absurd (like x refl)
+serial_like p (Some x) (Some y) like h = (like x refl).0 ∙ h
+
+pub knows_like : {T : Type 0} (old new : Slab (Kept T)) (keys : List ℕ) (parent above : Option ℕ) → AreLike old new → KnowsParent old keys parent above → KnowsParent new keys parent above
+knows_like old new keys None None like h = tt
+knows_like old new keys None (Some a) like h = absurd h
+knows_like old new keys (Some p) None like h = absurd h
+knows_like old new keys (Some p) (Some a) like h = (h.0, serial_like p (get old a) (get new a) (like a) h.1)
+
+here_like : {T : Type 0} (old new : Slab (Kept T)) (keys : List ℕ) (o n : Option (Kept T)) → AreLike old new → ((x : Kept T) → o ≡ Some x → IsLike x n) → IsHere old keys o → IsHere new keys n
+here_like old new keys None n all like h = absurd h
+here_like old new keys (Some x) None all like h = absurd (like x refl)
+here_like old new keys (Some x) (Some y) all like h =
+    let a = like x refl in
+    (a.3 ∙ h.0, rw (a.1, a.2) (knows_like old new keys x.slot.parent x.above all h.1))
+
+pub all_here_like : {T : Type 0} (old new : Slab (Kept T)) (before keys : List ℕ) → AreLike old new → AllHere old before keys → AllHere new before keys
+all_here_like old new before [] like h = tt
+all_here_like old new before (k ∷ keys) like h = (here_like old new before (get old k) (get new k) like (like k) h.0, all_here_like old new (before ++ k ∷ []) keys like h.1)
+
+-- the same slots
+pub slots_in-same : {T : Type 0} (old new : Slab (Kept T)) (keys : List ℕ) → ((k : ℕ) → has_key keys k ≡ true → get new k ≡ get old k) → slots_in new keys ≡ slots_in old keys
+slots_in-same old new [] same = refl
+slots_in-same old new (k ∷ keys) same =
+    rw (same k (rw (eq-eqb k k refl) refl), slots_in-same old new keys (λ j h. same j (or_right (eqb k j) (has_key keys j) h))) refl
+  where
+    or_right : (a b : Bool) → b ≡ true → (a || b) ≡ true
+    or_right true b h = refl
+    or_right false b h = h
+
+-- a key that stands somewhere is there
+pub has_key-at : (keys : List ℕ) (i d : ℕ) → i < length keys → has_key keys (get_or keys i d) ≡ true
+has_key-at [] i d lt = absurd (omega arith)
+has_key-at (k ∷ keys) zero d lt = rw (eq-eqb k k refl) refl
+has_key-at (k ∷ keys) (suc i) d lt = or_right (eqb k (get_or keys i d)) (has_key keys (get_or keys i d)) (has_key-at keys i d (omega arith))
+  where
+    or_right : (a b : Bool) → b ≡ true → (a || b) ≡ true
+    or_right true b h = refl
+    or_right false b h = h
+
+-- a vacant key is not there
+pub vacant_absent : {T : Type 0} (slab : Slab (Kept T)) (before keys : List ℕ) (key : ℕ) → AllHere slab before keys → get slab key ≡ None → has_key keys key ≡ false
+vacant_absent slab before [] key h none = refl
+vacant_absent slab before (k ∷ keys) key h none =
+    let rest = vacant_absent slab (before ++ k ∷ []) keys key h.1 none in
+    elim (cases_eq k key) [
+      | inl same ↦ absurd (gone slab before (get slab k) h.0 (ap (get slab) same ∙ none))
+      | inr differs ↦ rw (ne_eqb k key differs) rest
+    ]
+  where
+    gone : {T : Type 0} (slab : Slab (Kept T)) (before : List ℕ) (o : Option (Kept T)) → IsHere slab before o → o ≡ None → ⊥
+    gone slab before None h none = h
+    gone slab before (Some x) h none = absurd (cc)
+
+-- a search over all slots
+pub between_all : {T : Type 0} (slots : List (TenantSlot T)) (serial : ℕ) → IsBetween slots serial 0 (length slots)
+between_all slots serial = record {
+  within = omega arith;
+  below = λ k lt. absurd (omega arith);
+  above = λ k ge lt. absurd (omega arith);
+}
+
+-- what stands under keys after one was written
+pub updated_like : {T : Type 0} (old new : Slab (Kept T)) (key : ℕ) (kept after : Kept T) → get old key ≡ Some kept → Updates old new key (Some after) → IsLike kept (Some after) → AreLike old new
+updated_like old new key kept after found u like k x is =
+    elim (cases_eq k key) [
+      | inl same ↦ (let e : Some x ≡ Some kept = sym is ∙ (ap (get old) same ∙ found) in
+          let here : get new k ≡ Some after = ap (get new) same ∙ u.changed in
+          rw here (subst (λ o. IsLikeOf o (Some after)) (sym e) like))
+      | inr differs ↦ rw (u.others k differs ∙ is) (refl, refl, refl, refl)
+    ]
+
+-- the slots after one was written
+pub slots_in-put : {T : Type 0} (old new : Slab (Kept T)) (before keys : List ℕ) (i d : ℕ) (after : Kept T) → AllHere old before keys → AreApartKeys keys → i < length keys → Updates old new (get_or keys i d) (Some after) → slots_in new keys ≡ set (slots_in old keys) i after.slot
+slots_in-put old new before [] i d after h a lt u = absurd (omega arith)
+slots_in-put old new before (k ∷ keys) zero d after h a lt u =
+    let rest = slots_in-same old new keys (λ j has. u.others j (λ e. false≢true (sym a.0 ∙ (ap (has_key keys) (sym e) ∙ has)))) in
+    rw (u.changed, rest) (first old before (get old k) (slots_in old keys) after.slot h.0)
+  where
+    first : {T : Type 0} (slab : Slab (Kept T)) (before : List ℕ) (o : Option (Kept T)) (xs : List (TenantSlot T)) (x : TenantSlot T) → IsHere slab before o → x ∷ xs ≡ set (with_found o xs) 0 x
+    first slab before None xs x h = absurd h
+    first slab before (Some y) xs x h = refl
+slots_in-put old new before (k ∷ keys) (suc i) d after h a lt u =
+    let other : k ≢ get_or keys i d = λ e. false≢true (sym a.0 ∙ (ap (has_key keys) e ∙ has_key-at keys i d (omega arith))) in
+    rw (u.others k other, slots_in-put old new (before ++ k ∷ []) keys i d after h.1 a.1 (omega arith) u) (next old before (get old k) (slots_in old keys) i after.slot h.0)
+  where
+    next : {T : Type 0} (slab : Slab (Kept T)) (before : List ℕ) (o : Option (Kept T)) (xs : List (TenantSlot T)) (i : ℕ) (x : TenantSlot T) → IsHere slab before o → with_found o (set xs i x) ≡ set (with_found o xs) (suc i) x
+    next slab before None xs i x h = absurd h
+    next slab before (Some y) xs i x h = refl
+
+-- the slots of one more key
+pub slots_in-append : {T : Type 0} (slab : Slab (Kept T)) (keys more : List ℕ) → slots_in slab (keys ++ more) ≡ slots_in slab keys ++ slots_in slab more
+slots_in-append slab [] more = refl
+slots_in-append slab (k ∷ keys) more = rw (slots_in-append slab keys more) (found (get slab k) (slots_in slab keys) (slots_in slab more))
+  where
+    found : {T : Type 0} (o : Option (Kept T)) (xs ys : List (TenantSlot T)) → with_found o (xs ++ ys) ≡ with_found o xs ++ ys
+    found None xs ys = refl
+    found (Some x) xs ys = refl
+
+pub all_here-append : {T : Type 0} (slab : Slab (Kept T)) (before keys : List ℕ) (key : ℕ) → AllHere slab before keys → IsHere slab (before ++ keys) (get slab key) → AllHere slab before (keys ++ key ∷ [])
+all_here-append slab before [] key h last = (subst (λ b. IsHere slab b (get slab key)) (append-nil before) last, tt)
+all_here-append slab before (k ∷ keys) key h last = (h.0, all_here-append slab (before ++ k ∷ []) keys key h.1 (subst (λ b. IsHere slab b (get slab key)) (sym (append_assoc before (k ∷ []) keys)) last))
+
+pub has_key-append : (keys more : List ℕ) (key : ℕ) → has_key (keys ++ more) key ≡ (has_key keys key || has_key more key)
+has_key-append [] more key = refl
+has_key-append (k ∷ keys) more key = rw (has_key-append keys more key) (or_assoc (eqb k key) (has_key keys key) (has_key more key))
+  where
+    or_assoc : (a b c : Bool) → (a || (b || c)) ≡ ((a || b) || c)
+    or_assoc true b c = refl
+    or_assoc false b c = refl
+
+pub apart-append : (keys : List ℕ) (key : ℕ) → AreApartKeys keys → has_key keys key ≡ false → AreApartKeys (keys ++ key ∷ [])
+apart-append [] key a none = (refl, tt)
+apart-append (k ∷ keys) key a none =
+    let parts = or_false (eqb k key) (has_key keys key) none in
+    let turned : eqb key k ≡ false = ne_eqb key k (λ e. false≢true (sym parts.0 ∙ eq-eqb k key (sym e))) in
+    (has_key-append keys (key ∷ []) k ∙ (rw (a.0, turned) refl), apart-append keys key a.1 parts.1)
+  where
+    or_false : (a b : Bool) → (a || b) ≡ false → (a ≡ false) × (b ≡ false)
+    or_false true b h = absurd (false≢true (sym h))
+    or_false false b h = (refl, h)
+
+-- the parent's key, by the place that it stands at
+pub knows_read : {T : Type 0} (slab : Slab (Kept T)) (keys : List ℕ) (parent : ℕ) (at key : ℕ) → AllHere slab [] keys → StandsUnder (slots_in slab keys) (Some parent) (Some at) → key ≡ get_or keys at key → KnowsParent slab keys (Some parent) (Some key)
+knows_read slab keys parent at key h s is =
+    let lt : at < length keys = rw (slots_in-length slab [] keys h) at s.0 in
+    let has : has_key keys key ≡ true = ap (has_key keys) is ∙ has_key-at keys at key lt in
+    (has, serial slab keys at key parent (get slab key) h s lt is refl)
+  where
+    serial : {T : Type 0} (slab : Slab (Kept T)) (keys : List ℕ) (at key parent : ℕ) (o : Option (Kept T)) → AllHere slab [] keys → StandsUnder (slots_in slab keys) (Some parent) (Some at) → at < length keys → key ≡ get_or keys at key → get slab key ≡ o → HasSerial parent o
+    serial slab keys at key parent None h s lt is found = absurd (gone slab (take at keys) (get slab key) (here_read slab keys at key h lt is) found)
+      where
+        gone : {T : Type 0} (slab : Slab (Kept T)) (before : List ℕ) (o : Option (Kept T)) → IsHere slab before o → o ≡ None → ⊥
+        gone slab before None h none = h
+        gone slab before (Some x) h none = absurd (cc)
+    serial slab keys at key parent (Some kept) h s lt is found =
+        sym (serial_read (slots_in slab keys) at kept.slot s.0 (sym (slot_read slab keys at key kept kept.slot h lt is found))) ∙ s.1
+
+-- the slot under a key that was read
+pub kept_read : {T : Type 0} (slab : Slab (Kept T)) (keys : List ℕ) (i key : ℕ) → AllHere slab [] keys → i < length keys → key ≡ get_or keys i key → (kept : Kept T) × (get slab key ≡ Some kept)
+kept_read slab keys i key h lt is = of slab (take i keys) (get slab key) (here_read slab keys i key h lt is)
+  where
+    of : {T : Type 0} (slab : Slab (Kept T)) (before : List ℕ) (o : Option (Kept T)) → IsHere slab before o → (kept : Kept T) × (o ≡ Some kept)
+    of slab before None h = absurd h
+    of slab before (Some x) h = (x, refl)
+
+-- a shelf on which a slot was put in the place of another of its name
+pub put_shelf : {T : Type 0} (old new : Slab (Kept T)) (keys : List ℕ) (room places i key : ℕ) (slot : TenantSlot T) → IsShelf old keys room places → i < length keys → key ≡ get_or keys i key → slot.serial ≡ (get_or (slots_in old keys) i slot).serial → slot.parent ≡ (get_or (slots_in old keys) i slot).parent → ((kept : Kept T) → get old key ≡ Some kept → Updates old new key (Some (record kept { slot = slot }))) → slab_len new ≡ slab_len old → new.capacity ≡ old.capacity → IsShelf new keys room places
+put_shelf old new keys room places i key slot s lt is serial parent put len capacity =
+    let found = kept_read old keys i key s.here lt is in
+    let was = slot_read old keys i key found.0 slot s.here lt is found.1 in
+    let like = updated_like old new key found.0 (record found.0 { slot = slot }) found.1 (put found.0 found.1) (serial ∙ ap (λ x. x.serial) was, parent ∙ ap (λ x. x.parent) was, refl, refl) in
+    record {
+      here = all_here_like old new [] keys like s.here;
+      apart = s.apart;
+      counted = len ∙ s.counted;
+      within = s.within;
+      slab_room = omega (arith, s.slab_room, capacity);
+      order_room = s.order_room;
+    }
+
+pub put_slots : {T : Type 0} (old new : Slab (Kept T)) (keys : List ℕ) (room places i key : ℕ) (slot : TenantSlot T) → IsShelf old keys room places → i < length keys → key ≡ get_or keys i key → ((kept : Kept T) → get old key ≡ Some kept → Updates old new key (Some (record kept { slot = slot }))) → slots_in new keys ≡ set (slots_in old keys) i slot
+put_slots old new keys room places i key slot s lt is put =
+    let found = kept_read old keys i key s.here lt is in
+    slots_in-put old new [] keys i key (record found.0 { slot = slot }) s.here s.apart lt (subst (λ k. Updates old new k (Some (record found.0 { slot = slot }))) is (put found.0 found.1))
+
+-- a shelf on which a slot was pushed
+pub push_shelf : {T : Type 0} (old new : Slab (Kept T)) (keys : List ℕ) (room places key : ℕ) (slot : TenantSlot T) (above : Option ℕ) → IsShelf old keys room places → length keys < places → KnowsParent old keys slot.parent above → get old key ≡ None → Updates old new key (Some (record { slot = slot; above = above; marked = false })) → slab_len new ≡ slab_len old + 1 → new.capacity ≡ old.capacity → IsShelf new (keys ++ key ∷ []) room places
+push_shelf old new keys room places key slot above s less knows vacant u len capacity =
+    let like = pushed_like old new key _ vacant u in
+    let here : IsHere new keys (get new key) = rw u.changed (refl, knows_like old new keys slot.parent above like knows) in
+    let long = length_push keys key in
+    record {
+      here = all_here-append new [] keys key (all_here_like old new [] keys like s.here) here;
+      apart = apart-append keys key s.apart (vacant_absent old [] keys key s.here vacant);
+      counted = omega (arith, len, s.counted, long);
+      within = omega (arith, less, long);
+      slab_room = omega (arith, s.slab_room, capacity);
+      order_room = s.order_room;
+    }
+  where
+    pushed_like : {T : Type 0} (old new : Slab (Kept T)) (key : ℕ) (o : Option (Kept T)) → get old key ≡ None → Updates old new key o → AreLike old new
+    pushed_like old new key o vacant u k x is =
+        let differs : k ≢ key = λ e. none_some x (sym vacant ∙ (ap (get old) (sym e) ∙ is)) in
+        rw (u.others k differs ∙ is) (refl, refl, refl, refl)
+      where
+        none_some : {X : Type 0} (x : X) → None ≡ Some x → ⊥
+        none_some x e = absurd (cc)
+
+    length_push : (xs : List ℕ) (x : ℕ) → length (xs ++ x ∷ []) ≡ length xs + 1
+    length_push [] x = refl
+    length_push (y ∷ ys) x = omega (arith, length_push ys x)
+
+pub push_slots : {T : Type 0} (old new : Slab (Kept T)) (keys : List ℕ) (room places key : ℕ) (kept : Kept T) → IsShelf old keys room places → get old key ≡ None → Updates old new key (Some kept) → slots_in new (keys ++ key ∷ []) ≡ slots_in old keys ++ kept.slot ∷ []
+push_slots old new keys room places key kept s vacant u =
+    let absent = vacant_absent old [] keys key s.here vacant in
+    let same = slots_in-same old new keys (λ k has. u.others k (λ e. false≢true (sym absent ∙ (ap (has_key keys) (sym e) ∙ has)))) in
+    slots_in-append new keys (key ∷ []) ∙ (rw (same, u.changed) refl)
+
+-- a place that is named stands among the slots
+pub stands_within : {T : Type 0} (slots : List (TenantSlot T)) (parent above : Option ℕ) (at : ℕ) → StandsUnder slots parent above → above ≡ Some at → at < length slots
+stands_within slots None None at s is = absurd (cc)
+stands_within slots None (Some a) at s is = absurd s
+stands_within slots (Some p) None at s is = absurd s
+stands_within slots (Some p) (Some a) at s is = within slots p a at s (some_same a at is)
+  where
+    some_same : (a b : ℕ) → Some a ≡ Some b → a ≡ b
+    some_same a b e = cc
+
+    within : {T : Type 0} (slots : List (TenantSlot T)) (p a at : ℕ) → StandsUnder slots (Some p) (Some a) → a ≡ at → at < length slots
+    within slots p a at s e = rw e at s.0
+
+-- the key of a parent that is named
+pub knows_some : {T : Type 0} (slab : Slab (Kept T)) (keys : List ℕ) (parent above : Option ℕ) (at key : ℕ) → AllHere slab [] keys → StandsUnder (slots_in slab keys) parent above → above ≡ Some at → key ≡ get_or keys at key → KnowsParent slab keys parent (Some key)
+knows_some slab keys parent above at key h s is read = named slab keys parent at key h (subst (λ o. StandsUnder (slots_in slab keys) parent o) is s) read
+  where
+    named : {T : Type 0} (slab : Slab (Kept T)) (keys : List ℕ) (parent : Option ℕ) (at key : ℕ) → AllHere slab [] keys → StandsUnder (slots_in slab keys) parent (Some at) → key ≡ get_or keys at key → KnowsParent slab keys parent (Some key)
+    named slab keys None at key h s read = absurd s
+    named slab keys (Some p) at key h s read = knows_read slab keys p at key h s read
+
+pub knows_none : {T : Type 0} (slab : Slab (Kept T)) (keys : List ℕ) (parent above : Option ℕ) → StandsUnder (slots_in slab keys) parent above → above ≡ None → KnowsParent slab keys parent None
+knows_none slab keys parent above s is = root slab keys parent (subst (λ o. StandsUnder (slots_in slab keys) parent o) is s)
+  where
+    root : {T : Type 0} (slab : Slab (Kept T)) (keys : List ℕ) (parent : Option ℕ) → StandsUnder (slots_in slab keys) parent None → KnowsParent slab keys parent None
+    root slab keys None s = tt
+    root slab keys (Some p) s = absurd s
+
+-- whether a search found a slot
+pub found_there : {T : Type 0} (slots : List (TenantSlot T)) (serial : ℕ) (place : Option ℕ) → IfSome place (λ at. (at < length slots) × (slice_index (serials_of slots) at ≡ serial)) → IfNone place (has_slot slots serial ≡ false) → is_some place ≡ has_slot slots serial
+found_there slots serial None found none = sym none
+found_there slots serial (Some at) found none = sym (has_slot-found slots at serial found.0 found.1)
+
+-- a parent stands where it stood after its count was written
+pub stands_set : {T : Type 0} (slots : List (TenantSlot T)) (parent : Option ℕ) (p at : ℕ) (slot : TenantSlot T) (count : ℕ) → parent ≡ Some p → at < length slots → slice_index (serials_of slots) at ≡ p → slot ≡ get_or slots at slot → StandsUnder (set slots at (record slot { children = count })) parent (Some at)
+stands_set {T} slots parent p at slot count is lt found read =
+    let after : TenantSlot T = record slot { children = count } in
+    let within : at < length (set slots at after) = rw (length-set slots at after) lt in
+    rw is (within, serial_read (set slots at after) at after within (sym (get_or-set_same slots at after after lt)) ∙ (sym (serial_read slots at slot lt read) ∙ found))
+
+length-with_slot : {T : Type 0} (p : ℕ) (change : TenantSlot T → TenantSlot T) (slots : List (TenantSlot T)) → length (with_slot p change slots) ≡ length slots
+length-with_slot p change [] = refl
+length-with_slot p change (s ∷ slots) = ap suc (length-with_slot p change slots)
+
+pub length-with_child : {T : Type 0} (parent : Option ℕ) (slots : List (TenantSlot T)) → length (with_child parent slots) ≡ length slots
+length-with_child None slots = refl
+length-with_child (Some p) slots = length-with_slot p (λ s. record s { children = s.children + 1 }) slots
+
+pub length-without_child : {T : Type 0} (parent : Option ℕ) (slots : List (TenantSlot T)) → length (without_child parent slots) ≡ length slots
+length-without_child None slots = refl
+length-without_child (Some p) slots = length-with_slot p (λ s. record s { children = s.children - 1 }) slots
+
+pub length_more : {X : Type 0} (xs : List X) (x : X) → length (xs ++ x ∷ []) ≡ length xs + 1
+length_more [] x = refl
+length_more (y ∷ ys) x = omega (arith, length_more ys x)

@@ -1,0 +1,49 @@
+use Rattle.std.proofs.Common.{[], refl, ◌∙◌, arith}
+use Rattle.frame_table.specs.Shelves.{slots_in}
+use Rattle.frame_table.proofs.Shelves.{slots_in-length}
+use Rattle.frame_table.proofs.Cutting.{HasCut, all_there, marked_there, cut_shelf, cut_slots, cut_values}
+use Rattle.frame_table.proofs.shelf.Shelf.cut.Goals as goal
+
+pub sweep-requires-clause-there : goal.sweep-requires-clause-there
+sweep-requires-clause-there g c =
+    let slab = c.self.inside.slab in
+    let order = c.self.inside.order.items in
+    let marks = rw c.as_slice.ensures.value at c.mark_under.ensures.marked in
+    marked_there c.args.under (slots_in slab order) order slab c.mark_under.new.slab order marks (all_there slab [] order c.self.invariant.here)
+
+pub sweep-requires-clause-room : goal.sweep-requires-clause-room
+sweep-requires-clause-room g c =
+    let room = rw (← c.self.view_is) at c.requires.room in
+    let long = slots_in-length c.self.inside.slab [] c.self.inside.order.items c.self.invariant.here in
+    omega (arith, room, long, c.self.inside.order.ok.0)
+
+pub invariant_of-self : goal.invariant_of-self
+invariant_of-self g c =
+    let slab = c.self.inside.slab in
+    let order = c.self.inside.order.items in
+    let left = c.sweep.new.order.items in
+    let marks = rw c.as_slice.ensures.value at c.mark_under.ensures.marked in
+    let linked = rw (← c.self.view_is) at c.requires.linked in
+    let cut : HasCut c.args.under slab c.mark_under.new.slab c.sweep.new.slab order left = record { marks = marks; kept = c.sweep.ensures.kept; swept = c.sweep.ensures.slots } in
+    let shelf = cut_shelf c.args.under slab c.mark_under.new.slab c.sweep.new.slab order left _ _ cut c.self.invariant linked (omega (arith, c.sweep.ensures.len, c.mark_under.ensures.len)) (c.sweep.ensures.capacity ∙ c.mark_under.ensures.capacity) in
+    rw c.sweep.ensures.order_room shelf
+
+pub returns-clause-kept : goal.returns-clause-kept
+returns-clause-kept g c =
+    let slab = c.self.inside.slab in
+    let order = c.self.inside.order.items in
+    let left = c.sweep.new.order.items in
+    let marks = rw c.as_slice.ensures.value at c.mark_under.ensures.marked in
+    let cut : HasCut c.args.under slab c.mark_under.new.slab c.sweep.new.slab order left = record { marks = marks; kept = c.sweep.ensures.kept; swept = c.sweep.ensures.slots } in
+    let slots = cut_slots c.args.under slab c.mark_under.new.slab c.sweep.new.slab order left cut c.self.invariant.here in
+    rw (← c.self.view_is, slots) refl
+
+pub returns-clause-values : goal.returns-clause-values
+returns-clause-values g c =
+    let slab = c.self.inside.slab in
+    let order = c.self.inside.order.items in
+    let left = c.sweep.new.order.items in
+    let marks = rw c.as_slice.ensures.value at c.mark_under.ensures.marked in
+    let cut : HasCut c.args.under slab c.mark_under.new.slab c.sweep.new.slab order left = record { marks = marks; kept = c.sweep.ensures.kept; swept = c.sweep.ensures.slots } in
+    let values = cut_values c.args.under slab c.mark_under.new.slab c.sweep.new.slab order left cut c.self.invariant.here in
+    rw (← c.self.view_is, ← values) c.sweep.ensures.values

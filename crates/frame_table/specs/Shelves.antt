@@ -1,0 +1,119 @@
+-- How a tenant's slots are kept: in a slab, with an index of their keys by rising serial.
+use Rattle.std.specs.Prelude.{◌≡◌, ℕ, ◌<◌, ◌≤◌, Bool, true, false, not, if◌then◌else◌, ◌||◌, ◌&&◌, ◌==◌, List, [], ◌∷◌, ◌++◌, Option, Some, None, IsSome, length, slice_index, map, drop}
+use Rattle.std.specs.Borrow.{Bor}
+use Rattle.slab.specs.Slab.{Slab, get, slab_len}
+use Rattle.frame_table.specs.declared.slot.Slot.{Slot as TenantSlot}
+use Rattle.frame_table.specs.Slots.{frames_from, is_kept, serials_of}
+use Rattle.frame_table.specs.declared.shelf.Kept.{Kept}
+
+-- a number of places, and slots by rising serial
+pub record Shelved (T : Type 0) : Type 0 where
+  pub places : ℕ
+  pub slots : List (TenantSlot T)
+
+-- a slot, if there is one, before others
+abbrev pub with_found : {T : Type 0} → Option (Kept T) → List (TenantSlot T) → List (TenantSlot T)
+with_found None slots = slots
+with_found (Some kept) slots = kept.slot ∷ slots
+
+-- the slots under these keys
+abbrev pub slots_in : {T : Type 0} → Slab (Kept T) → List ℕ → List (TenantSlot T)
+slots_in slab [] = []
+slots_in slab (key ∷ keys) = with_found (get slab key) (slots_in slab keys)
+
+-- whether this is one of the keys
+abbrev pub has_key : List ℕ → ℕ → Bool
+has_key [] key = false
+has_key (first ∷ keys) key = (first == key) || has_key keys key
+
+-- the keys are those of slots, each once
+abbrev pub AreApartKeys : List ℕ → Type 0
+AreApartKeys [] = Unit {0}
+AreApartKeys (key ∷ keys) = (has_key keys key ≡ false) × AreApartKeys keys
+
+-- the slot with this serial stands under this key
+abbrev pub HasSerial : {T : Type 0} → ℕ → Option (Kept T) → Type 0
+HasSerial serial None = ⊥
+HasSerial serial (Some kept) = kept.slot.serial ≡ serial
+
+-- the key of a parent is among these and is that of the slot with its serial; a root has none
+abbrev pub KnowsParent : {T : Type 0} → Slab (Kept T) → List ℕ → Option ℕ → Option ℕ → Type 0
+KnowsParent slab keys None None = Unit {0}
+KnowsParent slab keys None (Some above) = ⊥
+KnowsParent slab keys (Some parent) None = ⊥
+KnowsParent slab keys (Some parent) (Some above) = (has_key keys above ≡ true) × HasSerial parent (get slab above)
+
+-- a slot that is there, is not marked, and knows its parent among these
+abbrev pub IsHere : {T : Type 0} → Slab (Kept T) → List ℕ → Option (Kept T) → Type 0
+IsHere slab keys None = ⊥
+IsHere slab keys (Some kept) = (kept.marked ≡ false) × KnowsParent slab keys kept.slot.parent kept.above
+
+-- each key has a slot, which knows its parent among those before
+abbrev pub AllHere : {T : Type 0} → Slab (Kept T) → List ℕ → List ℕ → Type 0
+AllHere slab before [] = Unit {0}
+AllHere slab before (key ∷ keys) = IsHere slab before (get slab key) × AllHere slab (before ++ key ∷ []) keys
+
+-- what is true of a slab, the keys of its slots by rising serial, the room for keys, and the number of places
+pub record IsShelf {T : Type 0} (slab : Slab (Kept T)) (order : List ℕ) (room places : ℕ) : Type 0 where
+  pub here : AllHere slab [] order
+  pub apart : AreApartKeys order
+  pub counted : slab_len slab ≡ length order
+  pub within : length order ≤ places
+  pub slab_room : places ≤ slab.capacity
+  pub order_room : places ≤ room
+
+-- a parent, if there is one, stands at this place
+abbrev pub StandsUnder : {T : Type 0} → List (TenantSlot T) → Option ℕ → Option ℕ → Type 0
+StandsUnder slots None None = Unit {0}
+StandsUnder slots None (Some at) = ⊥
+StandsUnder slots (Some parent) None = ⊥
+StandsUnder slots (Some parent) (Some at) = (at < length slots) × (slice_index (serials_of slots) at ≡ parent)
+
+-- a key of a parent, if there is one, is that of a slot
+abbrev pub HasAbove : {T : Type 0} → Slab (Kept T) → Option ℕ → Type 0
+HasAbove slab None = Unit {0}
+HasAbove slab (Some above) = IsSome (get slab above)
+
+-- a slot that is there, with its parent's
+abbrev pub HasLink : {T : Type 0} → Slab (Kept T) → Option (Kept T) → Type 0
+HasLink slab None = ⊥
+HasLink slab (Some kept) = HasAbove slab kept.above
+
+-- whether a slot is there and marked
+abbrev pub is_marked : {T : Type 0} → Option (Kept T) → Bool
+is_marked None = false
+is_marked (Some kept) = kept.marked
+
+-- whether a parent is the aborted one, or marked
+abbrev pub is_taken_by : {T : Type 0} → Slab (Kept T) → ℕ → Option ℕ → Option ℕ → Bool
+is_taken_by slab under None above = false
+is_taken_by slab under (Some parent) None = false
+is_taken_by slab under (Some parent) (Some above) = (parent == under) || is_marked (get slab above)
+
+-- whether an abort takes a slot: its parent is the aborted one, or marked
+abbrev pub is_taken_in : {T : Type 0} → Slab (Kept T) → ℕ → Option (Kept T) → Bool
+is_taken_in slab under None = false
+is_taken_in slab under (Some kept) = is_taken_by slab under kept.slot.parent kept.above
+
+-- what stands under a key, marked where it is one of these keys and the abort takes its frame
+abbrev pub marked_in : {T : Type 0} → ℕ → List (TenantSlot T) → List ℕ → ℕ → Option (Kept T) → Option (Kept T)
+marked_in under slots keys key None = None
+marked_in under slots keys key (Some kept) = Some (record kept { marked = if has_key keys key then not (is_kept under (frames_from [] slots) kept.slot.serial) else kept.marked })
+
+-- each key has a slot
+abbrev pub AreThere : {T : Type 0} → Slab (Kept T) → List ℕ → Type 0
+AreThere slab [] = Unit {0}
+AreThere slab (key ∷ keys) = IsSome (get slab key) × AreThere slab keys
+
+-- what stands under a key, and nothing where it is one of these and marked
+abbrev pub swept_in : {T : Type 0} → Slab (Kept T) → List ℕ → ℕ → Option (Kept T)
+swept_in slab keys key = if has_key keys key && is_marked (get slab key) then None else get slab key
+
+-- the values of the slots under these keys
+abbrev pub values_in : {T : Type 0} → Slab (Kept T) → List ℕ → List T
+values_in slab keys = map (λ slot. slot.value) (slots_in slab keys)
+
+-- the slots of a shelf from a place on, and none of no shelf
+abbrev pub slots_after : {T : Type 0} → ℕ → Option (Bor (Shelved T)) → List (TenantSlot T)
+slots_after at None = []
+slots_after at (Some shelf) = drop at shelf.now.slots

@@ -1,0 +1,286 @@
+//! The shelf of one tenant: its slots in a slab, and the keys of those slots by rising serial.
+//!
+//! Seen as the list of slots by rising serial, and a number of places. What makes that true: each key
+//! of the index is of a slot of its own, each slot of the slab has its key in the index, a slot
+//! that has a parent keeps the key of the parent's slot, which stands before it, and none is marked.
+ghost use Rattle.std.specs.Prelude.{◌≡◌, ℕ, ◌+◌, ◌<◌, ◌≤◌, ◌++◌, not, filter, vec_len, vec_capacity, [], ◌∷◌, true, false, Some, length, IfOk, IfSome, IfNone, get_or, set, slice_index};
+ghost use Rattle.slab.specs.Slab.{get, slab_len, ContainsKey, Updates};
+ghost use Rattle.frame_table.specs.declared.shelf.Kept.{Kept};
+ghost use Rattle.std.specs.List.{remove};
+ghost use Rattle.frame_table.specs.Slots.{serials_of, has_slot, Rises, IsLinked, kept_slots, gone_values, slot_values, child_slots, ready_slots};
+ghost use Rattle.frame_table.specs.Shelves.{slots_in, AllHere, AreApartKeys, StandsUnder, HasLink, is_taken_in, marked_in, AreThere, is_marked, swept_in, values_in};
+
+use crate::slot::Slot;
+use slab::Slab;
+use std::alloc::{AllocError, Global};
+use std::marker::Model;
+
+/// One slot as the slab keeps it.
+#[derive(Clone, Copy)]
+pub(crate) struct Kept<T> {
+    pub(crate) slot: Slot<T>,
+    /// The key of the parent's slot.
+    pub(crate) above: Option<usize>,
+    /// Whether the abort that goes on takes it.
+    pub(crate) marked: bool,
+}
+
+/// The slots of one tenant.
+#[derive(Drop)]
+pub(crate) struct Shelf<T> {
+    places: usize,
+    slab: Slab<Kept<T>>,
+    order: Vec<usize>,
+}
+
+impl<T> Model for Shelf<T> {
+    ghost use Rattle.std.specs.Prelude.{vec_capacity};
+    ghost use Rattle.frame_table.specs.Shelves.{Shelved, slots_in, IsShelf};
+
+    ghost Value = { Shelved T };
+
+    ghost view = { λ s. record { places = s.places; slots = slots_in s.slab s.order.items } };
+
+    ghost invariant = { λ s. IsShelf s.slab s.order.items (vec_capacity s.order) s.places };
+}
+
+impl<T: Copy> Shelf<T> {
+    /// An empty shelf with this many places.
+    pub(crate) fn new(alloc: Global, places: usize) -> Result<Self, AllocError>
+        ensures { IfOk result (λ s. s ≡ record { places = places; slots = [] }) }
+    {
+        let slab = Slab::with_capacity(alloc, places)?;
+        let order = Vec::with_capacity(alloc, places)?;
+        Ok(Shelf {
+            places,
+            slab,
+            order,
+        })
+    }
+
+    /// How many places it has.
+    pub(crate) fn places(&self) -> usize
+        ensures { result ≡ self.now.places }
+    {
+        self.places
+    }
+
+    /// How many slots there are.
+    pub(crate) fn len(&self) -> usize
+        ensures { result ≡ length self.now.slots }
+    {
+        self.order.len()
+    }
+
+    /// The slot at a place.
+    pub(crate) fn at(&self, at: usize) -> Slot<T>
+        requires { at < length self.now.slots }
+        ensures { result ≡ get_or self.now.slots at result }
+    {
+        self.slab[self.order[at]].slot
+    }
+
+    /// Where the slot with this serial stands.
+    pub(crate) fn place_of(&self, serial: u64) -> Option<usize>
+        requires { Rises self.now.slots }
+        ensures found { IfSome result (λ at. (at < length self.now.slots) × (slice_index (serials_of self.now.slots) at ≡ serial)) }
+        ensures none { IfNone result (has_slot self.now.slots serial ≡ false) }
+    {
+        let mut low = 0;
+        let mut high = self.order.len();
+        while low < high {
+            let middle = low + (high - low) / 2;
+            let at = self.at(middle).serial;
+            if at == serial {
+                return Some(middle);
+            }
+            if at < serial {
+                low = middle + 1;
+            } else {
+                high = middle;
+            }
+        }
+        None
+    }
+
+    /// Where the slot with this serial stands, which is there.
+    pub(crate) fn known_place(&self, serial: u64) -> usize
+        requires rise { Rises self.now.slots }
+        requires there { has_slot self.now.slots serial ≡ true }
+        ensures within { result < length self.now.slots }
+        ensures found { slice_index (serials_of self.now.slots) result ≡ serial }
+    {
+        match self.place_of(serial) {
+            Some(at) => at,
+            None => unreachable!(),
+        }
+    }
+
+    /// How many slots are those of ready frames.
+    pub(crate) fn count_ready(&self) -> usize
+        ensures { result ≡ length (ready_slots self.now.slots) }
+    {
+        let mut ready = 0;
+        for at in 0..self.len() {
+            ready += self.at(at).state.is_ready() as usize;
+        }
+        ready
+    }
+
+    /// Puts another slot of the same name in the place of one.
+    pub(crate) fn put(&mut self, at: usize, slot: Slot<T>)
+        requires within { at < length self.old.slots }
+        requires serial { slot.serial ≡ (get_or self.old.slots at slot).serial }
+        requires parent { slot.parent ≡ (get_or self.old.slots at slot).parent }
+        ensures { self.new ≡ record self.old { slots = set self.old.slots at slot } }
+    {
+        put_kept(&mut self.slab, self.order[at], slot);
+    }
+
+    /// Puts a slot behind the others, under the parent that stands at the place `above`.
+    pub(crate) fn push(&mut self, slot: Slot<T>, above: Option<usize>)
+        requires room { length self.old.slots < self.old.places }
+        requires parent { StandsUnder self.old.slots slot.parent above }
+        ensures { self.new ≡ record self.old { slots = self.old.slots ++ slot ∷ [] } }
+    {
+        let above = match above {
+            Some(at) => Some(self.order[at]),
+            None => None,
+        };
+        let key = self.slab.insert_reserved(Kept {
+            slot,
+            above,
+            marked: false,
+        });
+        self.order.push_reserved(key);
+    }
+
+    /// Removes the slots under the one with this serial, and adds their values to `removed`: one pass by
+    /// rising serial marks them, and a second removes the marked.
+    pub(crate) fn cut(&mut self, under: u64, removed: &mut Vec<T>)
+        requires linked { IsLinked [] self.old.slots }
+        requires room { vec_len removed.old + length self.old.slots ≤ vec_capacity removed.old }
+        ensures kept { self.new ≡ record self.old { slots = kept_slots under self.old.slots } }
+        ensures values { removed.new.items ≡ removed.old.items ++ gone_values under self.old.slots }
+        ensures capacity { vec_capacity removed.new ≡ vec_capacity removed.old }
+    {
+        mark_under(&mut self.slab, self.order.as_slice(), under);
+        sweep(&mut self.slab, &mut self.order, removed);
+    }
+
+    /// Removes all slots, and adds their values to `removed`.
+    pub(crate) fn clear(&mut self, removed: &mut Vec<T>)
+        requires { vec_len removed.old + length self.old.slots ≤ vec_capacity removed.old }
+        ensures none { self.new ≡ record self.old { slots = [] } }
+        ensures values { removed.new.items ≡ removed.old.items ++ slot_values self.old.slots }
+        ensures capacity { vec_capacity removed.new ≡ vec_capacity removed.old }
+    {
+        self.add_values(removed);
+        self.order.clear();
+        self.slab.clear();
+    }
+
+    /// Adds the values of all slots to `values`.
+    fn add_values(&self, values: &mut Vec<T>)
+        requires { vec_len values.old + length self.now.slots ≤ vec_capacity values.old }
+        ensures items { values.new.items ≡ values.old.items ++ slot_values self.now.slots }
+        ensures capacity { vec_capacity values.new ≡ vec_capacity values.old }
+    {
+        for at in 0..self.len() {
+            values.push_reserved(self.at(at).value);
+        }
+    }
+
+    /// Takes the slot at a place away, which is no slot's parent.
+    pub(crate) fn take(&mut self, at: usize) -> Slot<T>
+        requires within { at < length self.old.slots }
+        requires linked { IsLinked [] self.old.slots }
+        requires leaf { child_slots (slice_index (serials_of self.old.slots) at) self.old.slots ≡ [] }
+        ensures left { self.new ≡ record self.old { slots = remove self.old.slots at } }
+        ensures value { result ≡ get_or self.old.slots at result }
+    {
+        let key = self.order.remove(at);
+        self.slab.remove(key).slot
+    }
+}
+
+/// Puts another slot under a key.
+fn put_kept<T: Copy>(slab: &mut Slab<Kept<T>>, key: usize, slot: Slot<T>)
+    requires { ContainsKey slab.old key }
+    ensures put { (kept : Kept T) → get slab.old key ≡ Some kept → Updates slab.old slab.new key (Some (record kept { slot = slot })) }
+    ensures len { slab_len slab.new ≡ slab_len slab.old }
+    ensures capacity { slab.new.capacity ≡ slab.old.capacity }
+{
+    let kept = slab[key];
+    slab[key] = Kept { slot, ..kept };
+}
+
+/// Marks a slot.
+fn mark<T: Copy>(slab: &mut Slab<Kept<T>>, key: usize)
+    requires { ContainsKey slab.old key }
+    ensures marked { (kept : Kept T) → get slab.old key ≡ Some kept → Updates slab.old slab.new key (Some (record kept { marked = true })) }
+    ensures len { slab_len slab.new ≡ slab_len slab.old }
+    ensures capacity { slab.new.capacity ≡ slab.old.capacity }
+{
+    let kept = slab[key];
+    slab[key] = Kept {
+        marked: true,
+        ..kept
+    };
+}
+
+/// Whether an abort at `under` takes the slot under this key: its parent is that one, or is marked.
+fn is_taken<T: Copy>(slab: &Slab<Kept<T>>, under: u64, key: usize) -> bool
+    requires { HasLink slab.now (get slab.now key) }
+    ensures { result ≡ is_taken_in slab.now under (get slab.now key) }
+{
+    let kept = slab[key];
+    match (kept.slot.parent, kept.above) {
+        (Some(parent), Some(above)) => parent == under || slab[above].marked,
+        _ => false,
+    }
+}
+
+/// Marks, in one pass by rising serial, each slot whose parent is the one aborted, or is marked.
+fn mark_under<T: Copy>(slab: &mut Slab<Kept<T>>, order: &[usize], under: u64)
+    requires here { AllHere slab.old [] order.now }
+    requires apart { AreApartKeys order.now }
+    requires linked { IsLinked [] (slots_in slab.old order.now) }
+    ensures marked { (key : ℕ) → get slab.new key ≡ marked_in under (slots_in slab.old order.now) order.now key (get slab.old key) }
+    ensures len { slab_len slab.new ≡ slab_len slab.old }
+    ensures capacity { slab.new.capacity ≡ slab.old.capacity }
+{
+    for at in 0..order.len() {
+        let key = order[at];
+        if is_taken(slab, under, key) {
+            mark(slab, key);
+        }
+    }
+}
+
+/// Removes the marked slots in one pass, and adds their values to `removed`.
+fn sweep<T: Copy>(slab: &mut Slab<Kept<T>>, order: &mut Vec<usize>, removed: &mut Vec<T>)
+    requires there { AreThere slab.old order.old.items }
+    requires apart { AreApartKeys order.old.items }
+    requires room { vec_len removed.old + vec_len order.old ≤ vec_capacity removed.old }
+    ensures kept { order.new.items ≡ filter (λ key. not (is_marked (get slab.old key))) order.old.items }
+    ensures slots { (key : ℕ) → get slab.new key ≡ swept_in slab.old order.old.items key }
+    ensures values { removed.new.items ≡ removed.old.items ++ values_in slab.old (filter (λ key. is_marked (get slab.old key)) order.old.items) }
+    ensures len { slab_len slab.new + length order.old.items ≡ slab_len slab.old + length order.new.items }
+    ensures capacity { slab.new.capacity ≡ slab.old.capacity }
+    ensures order_room { vec_capacity order.new ≡ vec_capacity order.old }
+    ensures removed_room { vec_capacity removed.new ≡ vec_capacity removed.old }
+{
+    let mut kept = 0;
+    for at in 0..order.len() {
+        let key = order[at];
+        if slab[key].marked {
+            let gone = slab.remove(key);
+            removed.push_reserved(gone.slot.value);
+        } else {
+            order[kept] = key;
+            kept += 1;
+        }
+    }
+    order.truncate(kept);
+}
