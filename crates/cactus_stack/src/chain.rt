@@ -3,7 +3,8 @@ ghost use Rattle.std.specs.Prelude.{◌≡◌, ◌+◌, ◌-◌, ◌*◌, ◌<�
 ghost use Rattle.segment_region.specs.Segments.{Segments, IsFree, IsTaken, with_entry, taken_count, segment_count};
 ghost use Rattle.cactus_stack.specs.Chains.{chain, filled, IsChain, IsFreshChain, IsGrownChain, IsGivenBack};
 
-use segment_region::{Region, SegNo};
+use segment_region::{Region, RegionView, SegNo};
+use std::alloc::Allocator;
 
 /// Writes words to the front of a segment.
 fn fill(block: &mut [u64; 16], words: &[u64])
@@ -16,7 +17,7 @@ fn fill(block: &mut [u64; 16], words: &[u64])
 }
 
 /// Takes a segment for these words and then zeros, linked to the segment given.
-fn fresh_segment(region: &mut Region, words: &[u64], link: Option<SegNo>) -> SegNo
+fn fresh_segment<A: Allocator>(region: &mut Region<A>, words: &[u64], link: Option<SegNo>) -> SegNo
     requires short { length words.now ≤ 16 }
     requires some_free { taken_count region.old < segment_count region.old }
     ensures was_free { IsFree region.old result }
@@ -33,7 +34,11 @@ fn fresh_segment(region: &mut Region, words: &[u64], link: Option<SegNo>) -> Seg
 }
 
 /// Takes so many segments for these words and then zeros, and answers the first.
-pub fn fresh_chain(region: &mut Region, words: &[u64], count: usize) -> Option<SegNo>
+pub fn fresh_chain<A: Allocator>(
+    region: &mut Region<A>,
+    words: &[u64],
+    count: usize,
+) -> Option<SegNo>
     requires room { length words.now ≤ 16 * count }
     requires some_free { taken_count region.old + count ≤ segment_count region.old }
     ensures { IsFreshChain region.old region.new (chain count region.new result) words.now count }
@@ -47,7 +52,7 @@ pub fn fresh_chain(region: &mut Region, words: &[u64], count: usize) -> Option<S
 }
 
 /// The segment that so many links lead to.
-pub fn segment_after(region: &Region, first: SegNo, links: usize) -> SegNo
+pub fn segment_after(region: &RegionView<'_>, first: SegNo, links: usize) -> SegNo
     requires { IsChain region.now (chain (suc links) region.now (Some first)) (suc links) }
     ensures { result ≡ slice_index (chain (suc links) region.now (Some first)) links }
 {
@@ -61,7 +66,7 @@ pub fn segment_after(region: &Region, first: SegNo, links: usize) -> SegNo
 }
 
 /// Makes a chain of `count` segments longer by `more` segments of zeros.
-pub fn grow_chain(region: &mut Region, first: SegNo, count: usize, more: usize)
+pub fn grow_chain<A: Allocator>(region: &mut Region<A>, first: SegNo, count: usize, more: usize)
     requires some { 0 < count }
     requires is_chain { IsChain region.old (chain count region.old (Some first)) count }
     requires some_free { taken_count region.old + more ≤ segment_count region.old }
@@ -70,13 +75,13 @@ pub fn grow_chain(region: &mut Region, first: SegNo, count: usize, more: usize)
     if more == 0 {
         return;
     }
-    let last = segment_after(region, first, count - 1);
+    let last = segment_after(&region.view(), first, count - 1);
     let fresh = fresh_chain(region, &[], more);
     region.set_link(last, fresh);
 }
 
 /// Gives a chain of `count` segments back.
-pub fn give_chain(region: &mut Region, first: Option<SegNo>, count: usize)
+pub fn give_chain<A: Allocator>(region: &mut Region<A>, first: Option<SegNo>, count: usize)
     requires { IsChain region.old (chain count region.old first) count }
     ensures { IsGivenBack region.old region.new (chain count region.old first) }
 {

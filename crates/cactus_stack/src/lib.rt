@@ -37,6 +37,7 @@ mod sight;
 mod stack;
 #[cfg(test)]
 mod tests;
+mod view;
 mod words;
 
 pub use charges::{charge, growth_charge};

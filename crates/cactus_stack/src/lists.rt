@@ -6,19 +6,19 @@ ghost use Rattle.cactus_stack.specs.Lists.{Lists as ListsValue, list_at, list_ch
 use crate::chain::{fresh_chain, give_chain, grow_chain, segment_after};
 use crate::charges::charge;
 use crate::node::{NoSegment, NodeNo};
-use crate::words::Words;
+use crate::view::ListsView;
 use segment_region::Region;
-use std::alloc::{AllocError, Global};
+use std::alloc::{AllocError, Allocator, Global};
 use std::marker::Model;
 
 /// Lists of 1 to 128 words. A list's number is that of the first segment of its chain.
 #[derive(Drop)]
-pub struct Lists {
-    region: Region,
-    lens: Vec<usize>,
+pub struct Lists<A: Allocator = Global> {
+    region: Region<A>,
+    lens: Vec<usize, A>,
 }
 
-impl Model for Lists {
+impl<A: Allocator> Model for Lists<A> {
     ghost use Rattle.cactus_stack.specs.Lists.{Lists as Value_of_lists};
 
     ghost Value = { Value_of_lists };
@@ -30,14 +30,16 @@ impl Model for Lists {
     ghost invariant = { λ lists. IsSound lists.region lists.lens.items };
 }
 
-impl Lists {
+impl<A: Allocator> Lists<A> {
     /// Room for lists of so many segments, 1 to 65,536.
-    pub fn new(alloc: Global, segments: usize) -> Result<Lists, AllocError>
+    pub fn new(alloc: A, segments: usize) -> Result<Lists<A>, AllocError>
+    where
+        A: Clone,
         requires some { 1 ≤ segments }
         requires in_limits { segments ≤ 65536 }
         ensures { IfOk result (λ lists. lists ≡ replicate segments None) }
     {
-        let region = Region::new(alloc, segments)?;
+        let region = Region::new(alloc.clone()?, segments)?;
         let lens = vec![in alloc; 0; segments]?;
         Ok(Lists { region, lens })
     }
@@ -93,7 +95,7 @@ impl Lists {
         requires in_bounds { at < length (words_of_list (list_at self.old node)) }
         ensures { self.new ≡ slice_set self.old node (Some (slice_set (words_of_list (list_at self.old node)) at word)) }
     {
-        let segment = segment_after(&self.region, node.first(), at / 16);
+        let segment = segment_after(&self.region.view(), node.first(), at / 16);
         self.region.words_mut(segment)[at % 16] = word;
     }
 
@@ -108,13 +110,11 @@ impl Lists {
         self.lens[at] = 0;
     }
 
-    /// The words of a list.
-    pub fn own(&self, node: NodeNo) -> Words<'_>
-        requires { IsSome (list_at self.now node) }
-        ensures { Some result ≡ list_at self.now node }
+    /// The lists as their readers see them.
+    pub fn view(&self) -> ListsView<'_>
+        ensures { result ≡ self.now }
     {
-        let first = node.first();
-        Words::of(&self.region, first, self.lens[first.index()])
+        ListsView::of(self.region.view(), &self.lens)
     }
 
     /// Each list has 1 to 128 words: a law, the call does nothing.

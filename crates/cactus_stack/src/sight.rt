@@ -4,14 +4,14 @@ ghost use Rattle.cactus_stack.specs.Nodes.{IsSight};
 ghost use Rattle.cactus_stack.specs.Trees.{sight_within, IsWholeSight};
 
 use crate::node::NodeNo;
-use crate::stack::Stack;
+use crate::view::StackView;
 use crate::words::Words;
 use std::marker::Model;
 
 /// The words of a node and of its ancestors, nearest first. Contracts see them as a list of lists.
 #[derive(Drop)]
 pub struct Sight<'a> {
-    stack: &'a Stack,
+    stack: StackView<'a>,
     node: NodeNo,
     levels: usize,
 }
@@ -23,16 +23,16 @@ impl<'a> Model for Sight<'a> {
 
     ghost use Rattle.cactus_stack.specs.Trees.{sight_within, IsWholeSight};
 
-    ghost view = { λ sight. sight_within sight.levels sight.stack.now (Some sight.node) };
+    ghost view = { λ sight. sight_within sight.levels sight.stack (Some sight.node) };
 
-    ghost invariant = { λ sight. IsWholeSight sight.stack.now sight.node sight.levels };
+    ghost invariant = { λ sight. IsWholeSight sight.stack sight.node sight.levels };
 }
 
 impl<'a> Sight<'a> {
     /// The sight of a node that has so many levels.
-    pub(crate) fn of(stack: &'a Stack, node: NodeNo, levels: usize) -> Sight<'a>
-        requires { IsWholeSight stack.now node levels }
-        ensures { result ≡ sight_within levels stack.now (Some node) }
+    pub(crate) fn of(stack: StackView<'a>, node: NodeNo, levels: usize) -> Sight<'a>
+        requires { IsWholeSight stack node levels }
+        ensures { result ≡ sight_within levels stack.entry (Some node) }
     {
         Sight {
             stack,
@@ -57,14 +57,13 @@ impl<'a> Sight<'a> {
         if level >= self.levels {
             return None;
         }
-        let stack = self.stack;
         let mut node = self.node;
         for _above in 0..level {
-            match stack.parent(node) {
+            match self.stack.parent(node) {
                 Some(parent) => node = parent,
                 None => unreachable!(),
             }
         }
-        Some(stack.own(node))
+        Some(self.stack.own(node))
     }
 }

@@ -5,25 +5,26 @@ ghost use Rattle.cactus_stack.specs.Nodes.{Node, IsOpen, IsUnused, HasNoChild, H
 use crate::lists::Lists;
 use crate::node::{NoSegment, NodeNo};
 use crate::sight::Sight;
+use crate::view::StackView;
 use crate::words::Words;
-use std::alloc::{AllocError, Global};
+use std::alloc::{AllocError, Allocator, Global};
 use std::marker::Model;
 
 /// Where a node stands in the tree: its parent, and how many nodes are above it and itself.
 #[derive(Clone, Copy, Drop)]
 pub struct Above {
-    parent: Option<NodeNo>,
+    pub(crate) parent: Option<NodeNo>,
     depth: usize,
 }
 
 /// A cactus stack: nodes with words of their own, each under its parent.
 #[derive(Drop)]
-pub struct Stack {
-    lists: Lists,
-    above: Vec<Above>,
+pub struct Stack<A: Allocator = Global> {
+    lists: Lists<A>,
+    above: Vec<Above, A>,
 }
 
-impl Model for Stack {
+impl<A: Allocator> Model for Stack<A> {
     ghost use Rattle.cactus_stack.specs.Nodes.{Nodes};
 
     ghost Value = { Nodes };
@@ -35,15 +36,17 @@ impl Model for Stack {
     ghost invariant = { λ stack. IsTree stack.lists stack.above.items };
 }
 
-impl Stack {
+impl<A: Allocator> Stack<A> {
     /// A stack with room for so many segments of 16 words, 1 to 65,536, and no node. It fails only
     /// for want of memory.
-    pub fn new(alloc: Global, segments: usize) -> Result<Stack, AllocError>
+    pub fn new(alloc: A, segments: usize) -> Result<Stack<A>, AllocError>
+    where
+        A: Clone,
         requires some { 1 ≤ segments }
         requires in_limits { segments ≤ 65536 }
         ensures { IfOk result (λ stack. stack ≡ replicate segments None) }
     {
-        let lists = Lists::new(alloc, segments)?;
+        let lists = Lists::new(alloc.clone()?, segments)?;
         let above = nothing_above(alloc, segments)?;
         Ok(Stack { lists, above })
     }
@@ -100,7 +103,7 @@ impl Stack {
         requires { IsOpen self.now node }
         ensures { result ≡ node_words self.now node }
     {
-        self.lists.own(node)
+        self.view().own(node)
     }
 
     /// What a node sees: its own words, its parent's, and so on to its root's.
@@ -109,15 +112,14 @@ impl Stack {
         ensures { IsSight self.now (Some node) result }
     {
         let depth = self.above[node.first().index()].depth;
-        Sight::of(self, node, depth)
+        Sight::of(self.view(), node, depth)
     }
 
-    /// The node that a node was opened under, if there is one.
-    pub(crate) fn parent(&self, node: NodeNo) -> Option<NodeNo>
-        requires { IsOpen self.now node }
-        ensures { result ≡ node_parent self.now node }
+    /// The stack as its readers see it.
+    pub(crate) fn view(&self) -> StackView<'_>
+        ensures { result ≡ self.now }
     {
-        self.above[node.first().index()].parent
+        StackView::of(self.lists.view(), &self.above)
     }
 
     /// Closes a node that no open node has as its parent.
@@ -159,7 +161,7 @@ impl Stack {
 }
 
 // Places in the tree for nodes to come.
-fn nothing_above(alloc: Global, segments: usize) -> Result<Vec<Above>, AllocError>
+fn nothing_above<A: Allocator>(alloc: A, segments: usize) -> Result<Vec<Above, A>, AllocError>
     ensures { IfOk result (λ above. length above.items ≡ segments) }
 {
     let mut above = Vec::with_capacity(alloc, segments)?;

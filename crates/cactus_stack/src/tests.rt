@@ -2,6 +2,7 @@ ghost use Rattle.std.specs.Prelude.{◌≡◌, IfOk, OnOk, OnErr, None, replicat
 ghost use Rattle.cactus_stack.specs.Pairs.{IsPair};
 
 use super::*;
+use linked_list_allocator::LocalHeap;
 use std::process::Abort;
 use std::test::Fail;
 
@@ -185,5 +186,28 @@ fn eight_segments_hold_128_words(rt: HostRuntime) -> Result<(), Fail> {
     ] {
         assert_eq!(rt; words.get(at), Some(word), "at {at}");
     }
+    Ok(())
+}
+
+// In a heap with room for 0, 1, 2, .. units of 16 bytes each growth is refused in turn, and whatever
+// was made is given back.
+#[test]
+fn each_growth_is_refused_in_turn(rt: HostRuntime) -> Result<(), Fail> {
+    let mut refused = 0u32;
+    let mut made = 0u32;
+    for units in 0..64 {
+        let heap = LocalHeap::new(rt.alloc(), units * 16)?;
+        match Stack::new(&heap, 2) {
+            Ok(mut stack) => {
+                made = made.saturating_add(1);
+                let node = stack.open(None, &[7], 20)?;
+                assert_eq!(rt; stack.own(node).get(0), Some(7));
+            }
+            Err(_) => refused = refused.saturating_add(1),
+        }
+        assert_eq!(rt; heap.used(), 0);
+    }
+    assert!(rt; refused > 16);
+    assert!(rt; made > 0);
     Ok(())
 }

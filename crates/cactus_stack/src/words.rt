@@ -2,13 +2,13 @@
 ghost use Rattle.std.specs.Prelude.{◌≡◌, ◌≤◌, length, slice_get};
 
 use crate::chain::segment_after;
-use segment_region::{Region, SegNo};
+use segment_region::{RegionView, SegNo};
 use std::marker::Model;
 
 /// The words of a node. Contracts see them as a list.
 #[derive(Drop)]
 pub struct Words<'a> {
-    region: &'a Region,
+    region: RegionView<'a>,
     first: SegNo,
     len: usize,
 }
@@ -20,18 +20,18 @@ impl<'a> Model for Words<'a> {
 
     ghost use Rattle.cactus_stack.specs.Lists.{words_in, IsSoundList};
 
-    ghost view = { λ words. words_in words.region.now words.first words.len };
+    ghost view = { λ words. words_in words.region words.first words.len };
 
-    ghost invariant = { λ words. IsSoundList words.region.now words.first words.len };
+    ghost invariant = { λ words. IsSoundList words.region words.first words.len };
 }
 
 impl<'a> Words<'a> {
     ghost use Rattle.cactus_stack.specs.Lists.{words_in, IsSoundList};
 
     /// The words of the list of this number and length.
-    pub(crate) fn of(region: &'a Region, first: SegNo, len: usize) -> Words<'a>
-        requires { IsSoundList region.now first len }
-        ensures { result ≡ words_in region.now first len }
+    pub(crate) fn of(region: RegionView<'a>, first: SegNo, len: usize) -> Words<'a>
+        requires { IsSoundList region first len }
+        ensures { result ≡ words_in region.entry first len }
     {
         Words { region, first, len }
     }
@@ -53,7 +53,7 @@ impl<'a> Words<'a> {
         if at >= self.len {
             return None;
         }
-        let segment = segment_after(self.region, self.first, at / 16);
+        let segment = segment_after(&self.region, self.first, at / 16);
         Some(self.region.words(segment)[at % 16])
     }
 }

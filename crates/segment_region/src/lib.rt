@@ -29,6 +29,8 @@ mod region;
 mod slot;
 #[cfg(test)]
 mod tests;
+mod view;
 
 pub use region::Region;
 pub use slot::SegNo;
+pub use view::RegionView;

@@ -5,19 +5,20 @@ ghost use Rattle.segment_region.specs.Segments.{Segments, Segment, IsTaken, IsFr
 ghost use Rattle.segment_region.specs.Lending.{LendsWords};
 
 use crate::slot::{SegNo, Slot};
-use std::alloc::{AllocError, Global};
+use crate::view::RegionView;
+use std::alloc::{AllocError, Allocator, Global};
 use std::marker::Model;
 
 /// Segments of sixteen words, of which some are taken.
 #[derive(Drop)]
-pub struct Region {
-    words: Vec<[u64; 16]>,
-    slots: Vec<Slot>,
-    free: Vec<SegNo>,
+pub struct Region<A: Allocator = Global> {
+    words: Vec<[u64; 16], A>,
+    slots: Vec<Slot, A>,
+    free: Vec<SegNo, A>,
     free_len: usize,
 }
 
-impl Model for Region {
+impl<A: Allocator> Model for Region<A> {
     ghost use Rattle.segment_region.specs.Segments.{Segments};
 
     ghost Value = { Segments };
@@ -29,15 +30,17 @@ impl Model for Region {
     ghost invariant = { λ region. IsWhole region.slots.items region.words.items region.free.items region.free_len };
 }
 
-impl Region {
+impl<A: Allocator> Region<A> {
     /// A region of `count` segments, 1 to 65,536, all free. It fails only for want of memory.
-    pub fn new(alloc: Global, count: usize) -> Result<Region, AllocError>
+    pub fn new(alloc: A, count: usize) -> Result<Region<A>, AllocError>
+    where
+        A: Clone,
         requires some { 1 ≤ count }
         requires in_limits { count ≤ 65536 }
         ensures { IfOk result (λ region. region ≡ replicate count None) }
     {
-        let words = zeros(alloc, count)?;
-        let slots = free_slots(alloc, count)?;
+        let words = zeros(alloc.clone()?, count)?;
+        let slots = free_slots(alloc.clone()?, count)?;
         let free = first_numbers(alloc, count)?;
         Ok(Region {
             words,
@@ -77,20 +80,26 @@ impl Region {
         self.free_len += 1;
     }
 
+    /// The region as its readers see it.
+    pub fn view(&self) -> RegionView<'_>
+        ensures { result ≡ self.now }
+    {
+        RegionView::of(&self.words, &self.slots)
+    }
+
     /// The sixteen words of a taken segment.
     pub fn words(&self, segment: SegNo) -> &[u64]
         requires { IsTaken self.now segment }
         ensures value { result.now ≡ words_at self.now segment }
         ensures sixteen { length result.now ≡ 16 }
     {
-        let at = segment.index();
-        &self.words[at]
+        self.view().words(segment)
     }
 
     /// The sixteen words of a taken segment, to be written. No link and no other segment changes.
     pub fn words_mut(&mut self, segment: SegNo) -> &mut [u64; 16]
         requires { IsTaken self.old segment }
-        ensures* lends { sem 𝓛 (LendsWords self.entry segment result) }
+        ensures* lends { sem 𝓛 (LendsWords A.row A.Allocator self.entry segment result) }
         ensures value { result.now ≡ words_at self.old segment }
     {
         let at = segment.index();
@@ -102,10 +111,7 @@ impl Region {
         requires { IsTaken self.now segment }
         ensures { result ≡ link_at self.now segment }
     {
-        match self.slots[segment.index()] {
-            Slot::Free => None,
-            Slot::Taken(link) => link,
-        }
+        self.view().link(segment)
     }
 
     /// Chains a taken segment to another, or to none. No words and no other link change.
@@ -127,14 +133,14 @@ impl Region {
 }
 
 // Sixteen zeros for each number below the count.
-fn zeros(alloc: Global, count: usize) -> Result<Vec<[u64; 16]>, AllocError>
+fn zeros<A: Allocator>(alloc: A, count: usize) -> Result<Vec<[u64; 16], A>, AllocError>
     ensures { IfOk result (λ words. length words.items ≡ count) }
 {
     vec![in alloc; [0; 16]; count]
 }
 
 // A free slot for each number below the count.
-fn free_slots(alloc: Global, count: usize) -> Result<Vec<Slot>, AllocError>
+fn free_slots<A: Allocator>(alloc: A, count: usize) -> Result<Vec<Slot, A>, AllocError>
     ensures { IfOk result (λ slots. slots.items ≡ replicate count Slot.Free) }
 {
     // The check finds the type of a slot's link by this line.
@@ -147,7 +153,7 @@ fn free_slots(alloc: Global, count: usize) -> Result<Vec<Slot>, AllocError>
 }
 
 // The numbers below the count.
-fn first_numbers(alloc: Global, count: usize) -> Result<Vec<SegNo>, AllocError>
+fn first_numbers<A: Allocator>(alloc: A, count: usize) -> Result<Vec<SegNo, A>, AllocError>
     requires { count ≤ 65536 }
     ensures len { IfOk result (λ numbers. length numbers.items ≡ count) }
     ensures each { IfOk result (λ numbers. (i : ℕ) → i < count → slice_index numbers.items i ≡ i) }

@@ -1,4 +1,5 @@
 use super::*;
+use linked_list_allocator::LocalHeap;
 use std::test::Fail;
 
 #[test]
@@ -31,5 +32,28 @@ fn segments_are_taken_written_and_given_back(rt: HostRuntime) -> Result<(), Fail
 fn a_region_of_the_greatest_count(rt: HostRuntime) -> Result<(), Fail> {
     let region = Region::new(rt.alloc(), 65536)?;
     assert_eq!(rt; region.free_count(), 65536);
+    Ok(())
+}
+
+// In a heap with room for 0, 1, 2, .. units of 16 bytes each growth is refused in turn, and whatever
+// was made is given back.
+#[test]
+fn each_growth_is_refused_in_turn(rt: HostRuntime) -> Result<(), Fail> {
+    let mut refused = 0u32;
+    let mut made = 0u32;
+    for units in 0..64 {
+        let heap = LocalHeap::new(rt.alloc(), units * 16)?;
+        match Region::new(&heap, 2) {
+            Ok(mut region) => {
+                made = made.saturating_add(1);
+                assert_eq!(rt; region.free_count(), 2);
+                assert!(rt; region.take().is_some());
+            }
+            Err(_) => refused = refused.saturating_add(1),
+        }
+        assert_eq!(rt; heap.used(), 0);
+    }
+    assert!(rt; refused > 16);
+    assert!(rt; made > 0);
     Ok(())
 }

@@ -6,11 +6,11 @@ use Rattle.tenant_quota.specs.Reservations.{Reservations, IsSound}
 use Rattle.tenant_quota.specs.declared.book.Book.TheInside.{Inside}
 
 -- the totals and the accounts; the kept sums and the capacity aren't seen
-abbrev pub held_by : Inside → Reservations
-held_by b = record { segments = b.segments; nodes = b.nodes; accounts = b.accounts.items }
+abbrev pub held_by : {A : Type 0} → Inside A → Reservations
+held_by {A} b = record { segments = b.segments; nodes = b.nodes; accounts = b.accounts.items }
 
 -- the book is sound, the kept sums are those of the accounts, and there are places for 64
-pub record IsKept (b : Inside) : Type 0 where
+pub record IsKept {A : Type 0} (b : Inside A) : Type 0 where
   pub sound : IsSound (held_by b)
   pub segments : b.reserved_segments ≡ reserved_segments b.accounts.items
   pub nodes : b.reserved_nodes ≡ reserved_nodes b.accounts.items

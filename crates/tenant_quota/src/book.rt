@@ -4,7 +4,7 @@ ghost use Rattle.tenant_quota.specs.Accounts.{account_of, count_below, IsRising}
 use crate::account::{Account, Left};
 use crate::refusal::Refusal;
 use crate::reserve::Reserve;
-use std::alloc::{AllocError, Global};
+use std::alloc::{AllocError, Allocator, Global};
 use std::marker::Model;
 
 /// The number of places for tenants.
@@ -26,25 +26,25 @@ pub struct Rest {
 /// A tenant is named by any number. What a call asks of a tenant is decided by its own account
 /// alone, and only [`Book::reserve`] looks at the totals. A refused call changes nothing.
 #[derive(Debug, Drop)]
-pub struct Book {
+pub struct Book<A: Allocator = Global> {
     segments: u32,
     nodes: u32,
     reserved_segments: u32,
     reserved_nodes: u32,
-    accounts: Vec<(u64, Account)>,
+    accounts: Vec<(u64, Account), A>,
 }
 
 // Clauses see the totals and the accounts in rising order of tenants.
-impl Model for Book {
+impl<A: Allocator> Model for Book<A> {
     ghost use Rattle.tenant_quota.specs.Reservations.{Reservations};
 
     ghost Value = { Reservations };
 
     ghost use Rattle.tenant_quota.specs.Keeping.{held_by, IsKept};
 
-    ghost view = { held_by };
+    ghost view = { λ book. held_by book };
 
-    ghost invariant = { IsKept };
+    ghost invariant = { λ book. IsKept book };
 }
 
 /// The place of the tenant's account, or that where it would stand.
@@ -59,13 +59,13 @@ fn place_of(accounts: &[(u64, Account)], tenant: u64) -> usize
     )
 }
 
-impl Book {
+impl<A: Allocator> Book<A> {
     ghost use Rattle.tenant_quota.specs.Accounts.{fresh, charged_by, credited_by, ticked, charged_segments};
     ghost use Rattle.tenant_quota.specs.Reservations.{empty_of, left_of, reserve_of, rest_of, HasRoom, IsFull, HasLeft, IsShort, HasStepLeft, IsOutOfSteps, HasCharged, KeepsOthers, Admits, ChangesOnly, Releases, IsSound};
 
     /// A book of so many segments (1 to 65,536) and nodes (1 to 4,194,304) in all, with no tenant.
     /// It makes the places of all 64 tenants, so no other call takes memory.
-    pub fn new(alloc: Global, segments: u32, nodes: u32) -> Result<Book, AllocError>
+    pub fn new(alloc: A, segments: u32, nodes: u32) -> Result<Book<A>, AllocError>
         requires some_segments { 1 ≤ segments }
         requires segments_within { segments ≤ 65536 }
         requires some_nodes { 1 ≤ nodes }

@@ -1,4 +1,5 @@
 use super::*;
+use linked_list_allocator::LocalHeap;
 use std::process::Abort;
 use std::test::Fail;
 
@@ -142,13 +143,25 @@ fn limits_of_a_reservation(rt: HostRuntime) {
     }
 }
 
-// With memory for all but one growth, the next call succeeds.
+// In a heap with room for 0, 1, 2, .. units of 16 bytes each growth is refused in turn, and whatever
+// was made is given back.
 #[test]
-fn a_refused_growth_is_not_the_last(rt: HostRuntime) -> Result<(), Fail> {
-    let book = match Book::new(rt.alloc(), 8, 32) {
-        Ok(book) => book,
-        Err(_) => Book::new(rt.alloc(), 8, 32)?,
-    };
-    assert_eq!(rt; book.rest().segments, 8);
+fn each_growth_is_refused_in_turn(rt: HostRuntime) -> Result<(), Fail> {
+    let mut refused = 0u32;
+    let mut made = 0u32;
+    for units in 0..512 {
+        let heap = LocalHeap::new(rt.alloc(), units * 16)?;
+        match Book::new(&heap, 8, 32) {
+            Ok(book) => {
+                made = made.saturating_add(1);
+                assert_eq!(rt; book.rest().tenants, 64);
+                assert!(rt; book.left(1).is_none());
+            }
+            Err(_) => refused = refused.saturating_add(1),
+        }
+        assert_eq!(rt; heap.used(), 0);
+    }
+    assert!(rt; refused > 16);
+    assert!(rt; made > 0);
     Ok(())
 }

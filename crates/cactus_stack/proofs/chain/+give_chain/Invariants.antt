@@ -1,4 +1,4 @@
 use Rattle.cactus_stack.proofs.chain.+give_chain.Given as goal
 
 abbrev pub decreases-give_chain : goal.decreases-give_chain
-decreases-give_chain l = l.count
+decreases-give_chain g l = l.count

@@ -3,4 +3,4 @@ use Rattle.segment_region.specs.declared.slot.Slot.TheVariants.{Free}
 use Rattle.segment_region.proofs.region.free_slots.Given as goal
 
 abbrev pub invariant-loop-made : goal.invariant-loop-made
-invariant-loop-made l = l.slots.items ≡ replicate l._made Free
+invariant-loop-made g l = l.slots.items ≡ replicate l._made Free

@@ -7,35 +7,35 @@ use Rattle.segment_region.proofs.Counts.{taken_count-le-length}
 use Rattle.cactus_stack.proofs.lists.Lists.grow.Goals as goal
 
 pub index-len-requires : goal.index-len-requires
-index-len-requires c =
+index-len-requires g c =
     let it = listed c.self.inside.region c.self.inside.lens.items c.args.self.now c.args.node c.self.invariant c.self.view_is c.requires.is_open in
     let at : c.index-at.result ≡ c.args.node = c.index-at.ensures ∙ c.first.ensures in
     let below = it.within in
     rw at (search rules)
 
 pub charge-count-requires : goal.charge-count-requires
-charge-count-requires c =
+charge-count-requires g c =
     let it = listed c.self.inside.region c.self.inside.lens.items c.args.self.now c.args.node c.self.invariant c.self.view_is c.requires.is_open in
     let at : c.index-at.result ≡ c.args.node = c.index-at.ensures ∙ c.first.ensures in
     let len = read_len c.self.inside.lens.items c.index-at.result c.args.node c.index-len.result.now at c.index-len.ensures it.within in
     omega (arith, len, it.sound.at_most)
 
 pub overflow_add-len : goal.overflow_add-len
-overflow_add-len c =
+overflow_add-len g c =
     let it = listed c.self.inside.region c.self.inside.lens.items c.args.self.now c.args.node c.self.invariant c.self.view_is c.requires.is_open in
     let at : c.index-at.result ≡ c.args.node = c.index-at.ensures ∙ c.first.ensures in
     let len = read_len c.self.inside.lens.items c.index-at.result c.args.node c.index-len.result.now at c.index-len.ensures it.within in
     omega (arith, len, it.len, c.requires.in_limits)
 
 pub charge-requires : goal.charge-requires
-charge-requires c =
+charge-requires g c =
     let it = listed c.self.inside.region c.self.inside.lens.items c.args.self.now c.args.node c.self.invariant c.self.view_is c.requires.is_open in
     let at : c.index-at.result ≡ c.args.node = c.index-at.ensures ∙ c.first.ensures in
     let len = read_len c.self.inside.lens.items c.index-at.result c.args.node c.index-len.result.now at c.index-len.ensures it.within in
     omega (arith, len, it.len, c.requires.in_limits)
 
 pub returns-then-free_count-added-clause-refused : goal.returns-then-free_count-added-clause-refused
-returns-then-free_count-added-clause-refused c =
+returns-then-free_count-added-clause-refused g c =
     let it = listed c.self.inside.region c.self.inside.lens.items c.args.self.now c.args.node c.self.invariant c.self.view_is c.requires.is_open in
     let at : c.index-at.result ≡ c.args.node = c.index-at.ensures ∙ c.first.ensures in
     let len = read_len c.self.inside.lens.items c.index-at.result c.args.node c.index-len.result.now at c.index-len.ensures it.within in
@@ -46,35 +46,35 @@ returns-then-free_count-added-clause-refused c =
     rw (it.len, charges, places) ((λ _. omega (arith, count, wide, c.free_count.ensures, c.if-free_count-added.true)), (λ _. refl))
 
 pub grow_chain-requires-clause-some : goal.grow_chain-requires-clause-some
-grow_chain-requires-clause-some c =
+grow_chain-requires-clause-some g c =
     let it = listed c.self.inside.region c.self.inside.lens.items c.args.self.now c.args.node c.self.invariant c.self.view_is c.requires.is_open in
     let at : c.index-at.result ≡ c.args.node = c.index-at.ensures ∙ c.first.ensures in
     let len = read_len c.self.inside.lens.items c.index-at.result c.args.node c.index-len.result.now at c.index-len.ensures it.within in
     rw (c.charge-count.ensures, len) (charge-some (get_or c.self.inside.lens.items c.args.node 0) it.some)
 
 pub grow_chain-requires-clause-is_chain : goal.grow_chain-requires-clause-is_chain
-grow_chain-requires-clause-is_chain c =
+grow_chain-requires-clause-is_chain g c =
     let it = listed c.self.inside.region c.self.inside.lens.items c.args.self.now c.args.node c.self.invariant c.self.view_is c.requires.is_open in
     let at : c.index-at.result ≡ c.args.node = c.index-at.ensures ∙ c.first.ensures in
     let len = read_len c.self.inside.lens.items c.index-at.result c.args.node c.index-len.result.now at c.index-len.ensures it.within in
     rw (c.first-2.ensures, c.charge-count.ensures, len) it.sound.is_chain
 
 pub overflow_add-len-2 : goal.overflow_add-len-2
-overflow_add-len-2 c =
+overflow_add-len-2 g c =
     let it = listed c.self.inside.region c.self.inside.lens.items c.args.self.now c.args.node c.self.invariant c.self.view_is c.requires.is_open in
     let at : c.index-at.result ≡ c.args.node = c.index-at.ensures ∙ c.first.ensures in
     let len = read_len c.self.inside.lens.items c.index-at.result c.args.node c.index-len.result.now at c.index-len.ensures it.within in
     omega (arith, len, it.len, c.requires.in_limits)
 
 pub index_mut-requires : goal.index_mut-requires
-index_mut-requires c =
+index_mut-requires g c =
     let it = listed c.self.inside.region c.self.inside.lens.items c.args.self.now c.args.node c.self.invariant c.self.view_is c.requires.is_open in
     let at : c.index-at.result ≡ c.args.node = c.index-at.ensures ∙ c.first.ensures in
     let below = it.within in
     rw at (search rules)
 
 pub invariant_of-self : goal.invariant_of-self
-invariant_of-self c =
+invariant_of-self g c =
     let it = listed c.self.inside.region c.self.inside.lens.items c.args.self.now c.args.node c.self.invariant c.self.view_is c.requires.is_open in
     let at : c.index-at.result ≡ c.args.node = c.index-at.ensures ∙ c.first.ensures in
     let len = read_len c.self.inside.lens.items c.index-at.result c.args.node c.index-len.result.now at c.index-len.ensures it.within in
@@ -83,7 +83,7 @@ invariant_of-self c =
     rw at (still_sound c.self.inside.region c.grow_chain.new.region c.self.inside.lens.items c.args.node (c.index-len.result.now + c.args.more) c.self.invariant step.0)
 
 pub returns-clause-grown : goal.returns-clause-grown
-returns-clause-grown c =
+returns-clause-grown g c =
     let it = listed c.self.inside.region c.self.inside.lens.items c.args.self.now c.args.node c.self.invariant c.self.view_is c.requires.is_open in
     let at : c.index-at.result ≡ c.args.node = c.index-at.ensures ∙ c.first.ensures in
     let len = read_len c.self.inside.lens.items c.index-at.result c.args.node c.index-len.result.now at c.index-len.ensures it.within in
@@ -93,7 +93,7 @@ returns-clause-grown c =
     rw (at, it.words) (changed-to c.self.inside.region c.grow_chain.new.region c.self.inside.lens.items c.args.self.now c.args.node (c.index-len.result.now + c.args.more) _ step.0 some step.1 c.self.view_is)
 
 pub returns-clause-refused : goal.returns-clause-refused
-returns-clause-refused c =
+returns-clause-refused g c =
     let it = listed c.self.inside.region c.self.inside.lens.items c.args.self.now c.args.node c.self.invariant c.self.view_is c.requires.is_open in
     let at : c.index-at.result ≡ c.args.node = c.index-at.ensures ∙ c.first.ensures in
     let len = read_len c.self.inside.lens.items c.index-at.result c.args.node c.index-len.result.now at c.index-len.ensures it.within in
@@ -104,13 +104,13 @@ returns-clause-refused c =
     rw (it.len, charges, places) ((λ h. absurd (cc h)), (λ h. absurd (omega (arith, h, count, wide, c.free_count.ensures, c.if-free_count-added.false))))
 
 pub returns-then-free_count-added-clause-within : goal.returns-then-free_count-added-clause-within
-returns-then-free_count-added-clause-within c =
+returns-then-free_count-added-clause-within g c =
     let charges = charges-are-taken c.self.inside.region c.self.inside.lens.items c.args.self.now c.self.invariant c.self.view_is in
     let places = places-are-segments c.self.inside.region c.self.inside.lens.items c.args.self.now c.self.invariant c.self.view_is in
     rw (charges, places) (taken_count-le-length c.self.inside.region)
 
 pub returns-clause-within : goal.returns-clause-within
-returns-clause-within c =
+returns-clause-within g c =
     let charges = charges-are-taken c.self.inside.region c.self.inside.lens.items c.args.self.now c.self.invariant c.self.view_is in
     let places = places-are-segments c.self.inside.region c.self.inside.lens.items c.args.self.now c.self.invariant c.self.view_is in
     rw (charges, places) (taken_count-le-length c.self.inside.region)

@@ -3,4 +3,4 @@ use Rattle.cactus_stack.specs.Nodes.{IsSight}
 use Rattle.cactus_stack.proofs.sight.Sight.up.Given as goal
 
 abbrev pub invariant-loop-above : goal.invariant-loop-above
-invariant-loop-above l = IsSight l.stack (Some l.node) (drop l._above l.self)
+invariant-loop-above l = IsSight l.self-inside.stack (Some l.node) (drop l._above l.self)

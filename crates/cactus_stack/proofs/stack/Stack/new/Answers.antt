@@ -2,4 +2,4 @@ use Rattle.cactus_stack.proofs.TreeFacts.{none_open_at_first}
 use Rattle.cactus_stack.proofs.stack.Stack.new.Goals as goal
 
 pub returns : goal.returns
-returns c = rw c.in_ok-lists.ensures (none_open_at_first c.args.segments c.in_ok-above.above.items c.in_ok-above.ensures)
+returns g c = rw c.in_ok-lists.ensures (none_open_at_first c.args.segments c.in_ok-above.above.items c.in_ok-above.ensures)

@@ -9,14 +9,14 @@ use Rattle.cactus_stack.proofs.Depths.{depth-le-length}
 use Rattle.cactus_stack.proofs.stack.Stack.open.Goals as goal
 
 pub index-requires-in-Some : goal.index-requires-in-Some
-index-requires-in-Some c =
+index-requires-in-Some g c =
     let is_open = rw c.in-Some.is at c.requires.parent_is_open in
     let there = open-is_listed c.self.inside.lists c.self.inside.above.items c.args.self.now c.in-Some.node c.self.invariant.places c.self.view_is is_open in
     let below : c.in-Some.node < length c.self.inside.above.items = rw c.self.invariant.places (lt-of-listed c.self.inside.lists c.in-Some.node there) in
     rw (c.index.ensures ∙ c.first.ensures) (search rules)
 
 pub overflow_add-depth : goal.overflow_add-depth
-overflow_add-depth c =
+overflow_add-depth g c =
     let is_open = rw c.in-Some.is at c.requires.parent_is_open in
     let there = open-is_listed c.self.inside.lists c.self.inside.above.items c.args.self.now c.in-Some.node c.self.invariant.places c.self.view_is is_open in
     let below : c.in-Some.node < length c.self.inside.above.items = rw c.self.invariant.places (lt-of-listed c.self.inside.lists c.in-Some.node there) in
@@ -25,13 +25,13 @@ overflow_add-depth c =
     omega (arith, ap (λ (a : Above). a.depth) read, depth-le-length c.self.inside.lists c.self.inside.above.items c.in-Some.node c.self.invariant there, c.self.inside.above.ok.0, c.self.inside.above.ok.1, small)
 
 pub returns-in_err-node-clause-refused : goal.returns-in_err-node-clause-refused
-returns-in_err-node-clause-refused c =
+returns-in_err-node-clause-refused g c =
     let charges : total_charge c.args.self.now ≡ sum_by list_charge c.self.inside.lists = rw (← c.self.view_is) (total_charge-nodes_of c.self.inside.lists c.self.inside.above.items c.self.invariant.places) in
     let places : length c.args.self.now ≡ length c.self.inside.lists = rw (← c.self.view_is) (length-nodes_of c.self.inside.lists c.self.inside.above.items c.self.invariant.places) in
     rw (charges, places) ((λ _. omega (arith, c.in_err-node.ensures.refused.0 refl, c.requires.some)), (λ _. c.from_residual.ensures.0))
 
 pub invariant_of-self-2 : goal.invariant_of-self-2
-invariant_of-self-2 c =
+invariant_of-self-2 g c =
     let under : IsUnder c.self.inside.lists c.self.inside.above.items c.match-parent.parent c.match-parent.depth = elim c.match-parent.branch [
       | in-Some w ↦
           (let is_open = rw w.in-Some.is at c.requires.parent_is_open in
@@ -46,7 +46,7 @@ invariant_of-self-2 c =
     (tree-open c.self.inside.lists c.self.inside.above.items c.in_ok-node.node _ c.match-parent.parent c.match-parent.depth c.self.invariant c.in_ok-node.ensures.was_unused.0 c.in_ok-node.ensures.was_unused.1 under)
 
 pub returns-clause-was_unused : goal.returns-clause-was_unused
-returns-clause-was_unused c =
+returns-clause-was_unused g c =
     let charges : total_charge c.args.self.now ≡ sum_by list_charge c.self.inside.lists = rw (← c.self.view_is) (total_charge-nodes_of c.self.inside.lists c.self.inside.above.items c.self.invariant.places) in
     let places : length c.args.self.now ≡ length c.self.inside.lists = rw (← c.self.view_is) (length-nodes_of c.self.inside.lists c.self.inside.above.items c.self.invariant.places) in (
       rw places c.in_ok-node.ensures.was_unused.0,
@@ -54,14 +54,14 @@ returns-clause-was_unused c =
     )
 
 pub returns-clause-opened : goal.returns-clause-opened
-returns-clause-opened c =
+returns-clause-opened g c =
     let parent : c.match-parent.parent ≡ c.args.parent = elim c.match-parent.branch [ in-Some w ↦ w.parent-is ∙ sym w.in-Some.is | in-None w ↦ w.parent-is ] in
     let at : c.index-2.result ≡ c.in_ok-node.node = c.index-2.ensures ∙ c.first-2.ensures in
     rw (at, c.in_ok-node.ensures.opened, parent)
     (nodes_of-set_both c.self.inside.lists c.self.inside.above.items c.in_ok-node.node _ _ c.self.invariant.places ∙ rw c.self.view_is refl)
 
 pub returns-clause-refused : goal.returns-clause-refused
-returns-clause-refused c =
+returns-clause-refused g c =
     let charges : total_charge c.args.self.now ≡ sum_by list_charge c.self.inside.lists = rw (← c.self.view_is) (total_charge-nodes_of c.self.inside.lists c.self.inside.above.items c.self.invariant.places) in
     let places : length c.args.self.now ≡ length c.self.inside.lists = rw (← c.self.view_is) (length-nodes_of c.self.inside.lists c.self.inside.above.items c.self.invariant.places) in
     rw (charges, places) ((λ h. absurd (cc h)), (λ h. absurd (cc (c.in_ok-node.ensures.refused.1 (omega (arith, h))))))

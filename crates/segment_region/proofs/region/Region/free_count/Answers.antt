@@ -2,7 +2,7 @@ use Rattle.segment_region.proofs.Entries.{length-entries_of, taken_count-entries
 use Rattle.segment_region.proofs.region.Region.free_count.Goals as goal
 
 pub returns : goal.returns
-returns c =
+returns g c =
     let whole = c.self.invariant in
     let count = taken_count-entries_of c.self.inside.slots.items c.self.inside.words.items whole.all_words in
     let len = length-entries_of c.self.inside.slots.items c.self.inside.words.items whole.all_words in

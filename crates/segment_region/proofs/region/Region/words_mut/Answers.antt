@@ -4,13 +4,13 @@ use Rattle.std.proofs.lemmas.List.{get_or_default}
 use Rattle.segment_region.proofs.region.Region.words_mut.Goals as goal
 
 pub index_mut-requires : goal.index_mut-requires
-index_mut-requires c =
+index_mut-requires g c =
     let taken = taken_slot c.self.inside.slots.items c.self.inside.words.items c.args.segment c.self.invariant.all_words (rw c.self.view_is c.requires) in
     let below = lt-of-taken c.self.inside.slots.items c.args.segment taken.0 taken.1 in
     rw c.index-at.ensures (search (rules, c.self.invariant.all_words))
 
 pub returns : goal.returns
-returns c =
+returns g c =
     let taken = taken_slot c.self.inside.slots.items c.self.inside.words.items c.args.segment c.self.invariant.all_words (rw c.self.view_is c.requires) in
     let below = lt-of-taken c.self.inside.slots.items c.args.segment taken.0 taken.1 in (
       (

@@ -28,12 +28,12 @@ no_read t i read es rising same is past =
     place_absent t es rising (λ d within own. absurd (omega arith))
 
 pub returns-then-index-tenant-clause-account : goal.returns-then-index-tenant-clause-account
-returns-then-index-tenant-clause-account c =
+returns-then-index-tenant-clause-account g c =
     let lt : c.place_of-place.result < length c.self.inside.accounts.items = omega (arith, c.deref.ensures.len, ap length c.deref.ensures.value) in
     rw (← c.self.view_is) (own_read c.args.tenant _ _ _ c.index.result.now _ c.deref.ensures.value c.place_of-place.ensures lt c.index.ensures c.if-index-tenant.true c.index-then-index-tenant.ensures)
 
 pub returns-clause-account : goal.returns-clause-account
-returns-clause-account c =
+returns-clause-account g c =
     rw (← c.self.view_is)
     (elim c.else-place-len.branch [
       | else-place-len-via-then-place-len+else-index-tenant w ↦

@@ -61,43 +61,43 @@ one_less a b m n (inl less) = inl less
 one_less a b m n (inr less) = inr less.1
 
 pub index_mut-requires : goal.index_mut-requires
-index_mut-requires c =
+index_mut-requires g c =
     let within = place_within (held_by c.self.inside) c.args.tenant _ _ c.self.invariant.sound (rw (← c.self.view_is) at c.requires) c.deref.ensures.value c.place_of-place.ensures in
     omega (arith, c.deref.ensures.len, ap length c.deref.ensures.value)
 
 pub left-left-requires : goal.left-left-requires
-left-left-requires c =
+left-left-requires g c =
     (stands_for (held_by c.self.inside) c.args.tenant _ _ c.index_mut.result.now c.self.invariant.sound (rw (← c.self.view_is) at c.requires) c.deref.ensures.value c.place_of-place.ensures c.index_mut.ensures.value).within
 
 pub returns-then-left-segments-clause-ok : goal.returns-then-left-segments-clause-ok
-returns-then-left-segments-clause-ok c =
+returns-then-left-segments-clause-ok g c =
     let less = one_less _ _ _ _ c.then-left-segments.either in
     let no = refuses (held_by c.self.inside) c.args.tenant _ c.args.segments c.args.nodes _ c.index_mut.result.now c.left-left.result c.self.invariant.sound (rw (← c.self.view_is) at c.requires) c.deref.ensures.value c.place_of-place.ensures c.index_mut.ensures.value c.left-left.ensures less in
     rw (← c.self.view_is) (λ never. absurd cc, λ has. absurd (no.lacks has))
 
 pub returns-then-left-segments-clause-short : goal.returns-then-left-segments-clause-short
-returns-then-left-segments-clause-short c =
+returns-then-left-segments-clause-short g c =
     let less = one_less _ _ _ _ c.then-left-segments.either in
     let no = refuses (held_by c.self.inside) c.args.tenant _ c.args.segments c.args.nodes _ c.index_mut.result.now c.left-left.result c.self.invariant.sound (rw (← c.self.view_is) at c.requires) c.deref.ensures.value c.place_of-place.ensures c.index_mut.ensures.value c.left-left.ensures less in
     rw (← c.self.view_is) (λ _. no.short, λ _. refl)
 
 pub overflow_add-account : goal.overflow_add-account
-overflow_add-account c =
+overflow_add-account g c =
     let does = charges (held_by c.self.inside) c.args.tenant _ c.args.segments c.args.nodes _ c.index_mut.result.now c.left-left.result c.self.invariant.sound (rw (← c.self.view_is) at c.requires) c.deref.ensures.value c.place_of-place.ensures c.index_mut.ensures.value c.left-left.ensures c.if-left-segments.false c.if-left-nodes.false in
     omega (arith, does.fits.charged_within, does.fits.segments_within)
 
 pub overflow_add-account-2 : goal.overflow_add-account-2
-overflow_add-account-2 c =
+overflow_add-account-2 g c =
     let does = charges (held_by c.self.inside) c.args.tenant _ c.args.segments c.args.nodes _ c.index_mut.result.now c.left-left.result c.self.invariant.sound (rw (← c.self.view_is) at c.requires) c.deref.ensures.value c.place_of-place.ensures c.index_mut.ensures.value c.left-left.ensures c.if-left-segments.false c.if-left-nodes.false in
     omega (arith, does.fits.opened_within, does.fits.nodes_within)
 
 pub invariant_of-self-2 : goal.invariant_of-self-2
-invariant_of-self-2 c =
+invariant_of-self-2 g c =
     let does = charges (held_by c.self.inside) c.args.tenant _ c.args.segments c.args.nodes _ c.index_mut.result.now c.left-left.result c.self.invariant.sound (rw (← c.self.view_is) at c.requires) c.deref.ensures.value c.place_of-place.ensures c.index_mut.ensures.value c.left-left.ensures c.if-left-segments.false c.if-left-nodes.false in
     record { sound = does.change.sound; segments = c.self.invariant.segments ∙ sym does.change.segments; nodes = c.self.invariant.nodes ∙ sym does.change.nodes; places = c.self.invariant.places }
 
 pub returns : goal.returns
-returns c =
+returns g c =
     let does = charges (held_by c.self.inside) c.args.tenant _ c.args.segments c.args.nodes _ c.index_mut.result.now c.left-left.result c.self.invariant.sound (rw (← c.self.view_is) at c.requires) c.deref.ensures.value c.place_of-place.ensures c.index_mut.ensures.value c.left-left.ensures c.if-left-segments.false c.if-left-nodes.false in
     record {
       ok = rw (← c.self.view_is) (λ _. does.has, λ _. refl);

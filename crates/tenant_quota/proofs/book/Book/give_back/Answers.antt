@@ -36,22 +36,22 @@ credits b t i n read e sound charged same is at =
     }
 
 pub index_mut-requires : goal.index_mut-requires
-index_mut-requires c =
+index_mut-requires g c =
     let charged = rw (← c.self.view_is) at c.requires in
     let there = is_some_of (account_of c.args.tenant c.self.inside.accounts.items) _ charged in
     let within = place_within (held_by c.self.inside) c.args.tenant _ _ c.self.invariant.sound there c.deref.ensures.value c.place_of-place.ensures in
     omega (arith, c.deref.ensures.len, ap length c.deref.ensures.value)
 
 pub overflow_sub-index_mut : goal.overflow_sub-index_mut
-overflow_sub-index_mut c =
+overflow_sub-index_mut g c =
     (credits (held_by c.self.inside) c.args.tenant _ c.args.segments _ c.index_mut.result.now c.self.invariant.sound (rw (← c.self.view_is) at c.requires) c.deref.ensures.value c.place_of-place.ensures c.index_mut.ensures.value).less
 
 pub invariant_of-self : goal.invariant_of-self
-invariant_of-self c =
+invariant_of-self g c =
     let is = credits (held_by c.self.inside) c.args.tenant _ c.args.segments _ c.index_mut.result.now c.self.invariant.sound (rw (← c.self.view_is) at c.requires) c.deref.ensures.value c.place_of-place.ensures c.index_mut.ensures.value in
     record { sound = is.change.sound; segments = c.self.invariant.segments ∙ sym is.change.segments; nodes = c.self.invariant.nodes ∙ sym is.change.nodes; places = c.self.invariant.places }
 
 pub returns : goal.returns
-returns c =
+returns g c =
     let is = credits (held_by c.self.inside) c.args.tenant _ c.args.segments _ c.index_mut.result.now c.self.invariant.sound (rw (← c.self.view_is) at c.requires) c.deref.ensures.value c.place_of-place.ensures c.index_mut.ensures.value in
     record { credits = rw (← c.self.view_is) is.change.changes; sum = rw (← c.self.view_is) is.sum; others = rw (← c.self.view_is) is.change.others; sound = is.change.sound }

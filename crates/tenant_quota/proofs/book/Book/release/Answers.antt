@@ -6,12 +6,12 @@ use Rattle.tenant_quota.proofs.Standing.{if_from, place_within, stands_for, rele
 use Rattle.tenant_quota.proofs.book.Book.release.Goals as goal
 
 pub remove-account-requires : goal.remove-account-requires
-remove-account-requires c =
+remove-account-requires g c =
     let within = place_within (held_by c.self.inside) c.args.tenant _ _ c.self.invariant.sound (rw (← c.self.view_is) at c.requires) c.deref.ensures.value c.place_of-place.ensures in
     omega (arith, c.deref.ensures.len, ap length c.deref.ensures.value)
 
 pub invariant_of-self : goal.invariant_of-self
-invariant_of-self c =
+invariant_of-self g c =
     let is = release_by_remove (held_by c.self.inside) c.args.tenant _ _ c.remove-account.result _ c.self.invariant.sound (rw (← c.self.view_is) at c.requires) c.deref.ensures.value c.place_of-place.ensures c.remove-account.ensures.value c.remove-account.ensures.items in
     record {
       sound = is.sound;
@@ -21,7 +21,7 @@ invariant_of-self c =
     }
 
 pub returns : goal.returns
-returns c =
+returns g c =
     let there = rw (← c.self.view_is) at c.requires in
     let is = release_by_remove (held_by c.self.inside) c.args.tenant _ _ c.remove-account.result _ c.self.invariant.sound there c.deref.ensures.value c.place_of-place.ensures c.remove-account.ensures.value c.remove-account.ensures.items in
     let stands = stands_for (held_by c.self.inside) c.args.tenant _ _ c.remove-account.result c.self.invariant.sound there c.deref.ensures.value c.place_of-place.ensures c.remove-account.ensures.value in

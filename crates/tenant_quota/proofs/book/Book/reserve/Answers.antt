@@ -43,13 +43,13 @@ inserted_is : {E : Type 0} (r : Result (Unit {0}) E) (u : Unit {0}) (l more es :
 inserted_is r u l more es is inserted = inserted ∙ ap (λ x. if is_ok x then more else es) is
 
 pub insert-requires : goal.insert-requires
-insert-requires c =
+insert-requires g c =
     let within = count_below-le-length c.args.tenant c.self.inside.accounts.items in
     let place = c.place_of-place.ensures ∙ ap (count_below c.args.tenant) c.deref.ensures.value in
     omega (arith, c.deref.ensures.len, ap length c.deref.ensures.value)
 
 pub invariant_of-self : goal.invariant_of-self
-invariant_of-self c =
+invariant_of-self g c =
     let room = has_room (held_by c.self.inside) c.args.reserve c.rest-rest.result _ _ c.self.invariant.sound (rw (← c.self.view_is) at c.rest-rest.ensures.rest) c.if-rest-eq0.false c.segments-segments.ensures.value c.nodes-nodes.ensures.value c.if-rest-segments.false c.if-rest-nodes.false in
     let is = admission (held_by c.self.inside) c.args.tenant _ c.args.reserve _ c.new-account.result _ c.self.invariant.sound (rw (← c.self.view_is) at c.requires) c.nodes-nodes.ensures.limits room c.deref.ensures.value c.place_of-place.ensures c.new-account.ensures (inserted_is _ _ _ _ _ c.unwrap.ensures c.insert.ensures.items) in
     record {
@@ -60,19 +60,19 @@ invariant_of-self c =
     }
 
 pub returns-clause-admits : goal.returns-clause-admits
-returns-clause-admits c =
+returns-clause-admits g c =
     let room = has_room (held_by c.self.inside) c.args.reserve c.rest-rest.result _ _ c.self.invariant.sound (rw (← c.self.view_is) at c.rest-rest.ensures.rest) c.if-rest-eq0.false c.segments-segments.ensures.value c.nodes-nodes.ensures.value c.if-rest-segments.false c.if-rest-nodes.false in
     let is = admission (held_by c.self.inside) c.args.tenant _ c.args.reserve _ c.new-account.result _ c.self.invariant.sound (rw (← c.self.view_is) at c.requires) c.nodes-nodes.ensures.limits room c.deref.ensures.value c.place_of-place.ensures c.new-account.ensures (inserted_is _ _ _ _ _ c.unwrap.ensures c.insert.ensures.items) in
     rw (← c.self.view_is) is.admits
 
 pub returns-clause-others : goal.returns-clause-others
-returns-clause-others c =
+returns-clause-others g c =
     let room = has_room (held_by c.self.inside) c.args.reserve c.rest-rest.result _ _ c.self.invariant.sound (rw (← c.self.view_is) at c.rest-rest.ensures.rest) c.if-rest-eq0.false c.segments-segments.ensures.value c.nodes-nodes.ensures.value c.if-rest-segments.false c.if-rest-nodes.false in
     let is = admission (held_by c.self.inside) c.args.tenant _ c.args.reserve _ c.new-account.result _ c.self.invariant.sound (rw (← c.self.view_is) at c.requires) c.nodes-nodes.ensures.limits room c.deref.ensures.value c.place_of-place.ensures c.new-account.ensures (inserted_is _ _ _ _ _ c.unwrap.ensures c.insert.ensures.items) in
     rw (← c.self.view_is) is.others
 
 pub returns-clause-sound : goal.returns-clause-sound
-returns-clause-sound c =
+returns-clause-sound g c =
     let room = has_room (held_by c.self.inside) c.args.reserve c.rest-rest.result _ _ c.self.invariant.sound (rw (← c.self.view_is) at c.rest-rest.ensures.rest) c.if-rest-eq0.false c.segments-segments.ensures.value c.nodes-nodes.ensures.value c.if-rest-segments.false c.if-rest-nodes.false in
     let is = admission (held_by c.self.inside) c.args.tenant _ c.args.reserve _ c.new-account.result _ c.self.invariant.sound (rw (← c.self.view_is) at c.requires) c.nodes-nodes.ensures.limits room c.deref.ensures.value c.place_of-place.ensures c.new-account.ensures (inserted_is _ _ _ _ _ c.unwrap.ensures c.insert.ensures.items) in
     is.sound

@@ -56,36 +56,36 @@ refuses b t i read e l sound there same is at left none =
     }
 
 pub index_mut-requires : goal.index_mut-requires
-index_mut-requires c =
+index_mut-requires g c =
     let within = place_within (held_by c.self.inside) c.args.tenant _ _ c.self.invariant.sound (rw (← c.self.view_is) at c.requires) c.deref.ensures.value c.place_of-place.ensures in
     omega (arith, c.deref.ensures.len, ap length c.deref.ensures.value)
 
 pub left-requires : goal.left-requires
-left-requires c =
+left-requires g c =
     (stands_for (held_by c.self.inside) c.args.tenant _ _ c.index_mut.result.now c.self.invariant.sound (rw (← c.self.view_is) at c.requires) c.deref.ensures.value c.place_of-place.ensures c.index_mut.ensures.value).within
 
 pub returns-then-left-eq0-clause-ok : goal.returns-then-left-eq0-clause-ok
-returns-then-left-eq0-clause-ok c =
+returns-then-left-eq0-clause-ok g c =
     let no = refuses (held_by c.self.inside) c.args.tenant _ _ c.index_mut.result.now c.left.result c.self.invariant.sound (rw (← c.self.view_is) at c.requires) c.deref.ensures.value c.place_of-place.ensures c.index_mut.ensures.value c.left.ensures c.if-left-eq0.true in
     rw (← c.self.view_is) (λ never. absurd cc, λ has. absurd (no.lacks has))
 
 pub returns-then-left-eq0-clause-short : goal.returns-then-left-eq0-clause-short
-returns-then-left-eq0-clause-short c =
+returns-then-left-eq0-clause-short g c =
     let no = refuses (held_by c.self.inside) c.args.tenant _ _ c.index_mut.result.now c.left.result c.self.invariant.sound (rw (← c.self.view_is) at c.requires) c.deref.ensures.value c.place_of-place.ensures c.index_mut.ensures.value c.left.ensures c.if-left-eq0.true in
     rw (← c.self.view_is) (λ _. no.out, λ _. refl)
 
 pub overflow_add-account : goal.overflow_add-account
-overflow_add-account c =
+overflow_add-account g c =
     let does = ticks (held_by c.self.inside) c.args.tenant _ _ c.index_mut.result.now c.left.result c.self.invariant.sound (rw (← c.self.view_is) at c.requires) c.deref.ensures.value c.place_of-place.ensures c.index_mut.ensures.value c.left.ensures (omega arith) in
     omega (arith, does.fits.ticks_within, does.fits.nodes_within)
 
 pub invariant_of-self-2 : goal.invariant_of-self-2
-invariant_of-self-2 c =
+invariant_of-self-2 g c =
     let does = ticks (held_by c.self.inside) c.args.tenant _ _ c.index_mut.result.now c.left.result c.self.invariant.sound (rw (← c.self.view_is) at c.requires) c.deref.ensures.value c.place_of-place.ensures c.index_mut.ensures.value c.left.ensures (omega arith) in
     record { sound = does.change.sound; segments = c.self.invariant.segments ∙ sym does.change.segments; nodes = c.self.invariant.nodes ∙ sym does.change.nodes; places = c.self.invariant.places }
 
 pub returns : goal.returns
-returns c =
+returns g c =
     let does = ticks (held_by c.self.inside) c.args.tenant _ _ c.index_mut.result.now c.left.result c.self.invariant.sound (rw (← c.self.view_is) at c.requires) c.deref.ensures.value c.place_of-place.ensures c.index_mut.ensures.value c.left.ensures (omega arith) in
     record {
       ok = rw (← c.self.view_is) (λ _. does.has, λ _. refl);
