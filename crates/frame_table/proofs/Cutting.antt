@@ -9,7 +9,7 @@ use Rattle.frame_table.specs.Slots.{frames_from, is_kept, IsLinked, kept_slots, 
 use Rattle.frame_table.specs.Shelves.{with_found, slots_in, has_key, AreApartKeys, HasSerial, KnowsParent, IsHere, AllHere, IsShelf, AreThere, is_marked, marked_in, swept_in, values_in}
 use Rattle.frame_table.proofs.Cuts.{IsClosed, IsClosed-from_follows, kept_follows}
 use Rattle.frame_table.proofs.Passes.{length-filter-le}
-use Rattle.frame_table.proofs.Marks.{Marks}
+use Rattle.frame_table.specs.Shelves.{Marks}
 use Rattle.frame_table.proofs.Search.{above_at, serial_read}
 use Rattle.frame_table.proofs.Shelves.{has_key-append, has_key-at, slots_in-length, slot_read}
 
