@@ -43,11 +43,11 @@ invariant_of-self g c =
     let whole = rw c.adopt-root.ensures.counted at c.push.ensures in
     let long = frames_from-length [] slots in
     rw (whole, c.push-2.ensures) (is_tenant _ _ _ _
-      (added_sound slots _ (length c.self.inside.ready.frames) c.args.serial c.adopt-root.result.0 c.args.home c.args.parent c.args.value c.self.invariant.sound above there c.adopt-root.ensures.root refl)
-      (added_ready slots c.args.parent _ c.args.home c.self.inside.ready.frames c.self.invariant.ready_frames refl)
-      (omega (arith, room, long, length-with_child c.args.parent slots, length_more (with_child c.args.parent slots) (record { serial = c.args.serial; parent = c.args.parent; root = c.adopt-root.result.0; state = Ready c.args.home; children = 0; value = c.args.value })))
-      c.self.invariant.few
-      c.self.invariant.ready_places)
+    (added_sound slots _ (length c.self.inside.ready.frames) c.args.serial c.adopt-root.result.0 c.args.home c.args.parent c.args.value c.self.invariant.sound above there c.adopt-root.ensures.root refl)
+    (added_ready slots c.args.parent _ c.args.home c.self.inside.ready.frames c.self.invariant.ready_frames refl)
+    (omega (arith, room, long, length-with_child c.args.parent slots, length_more (with_child c.args.parent slots) (record { serial = c.args.serial; parent = c.args.parent; root = c.adopt-root.result.0; state = Ready c.args.home; children = 0; value = c.args.value })))
+    c.self.invariant.few
+    c.self.invariant.ready_places)
 
 pub returns : goal.returns
 returns g c =

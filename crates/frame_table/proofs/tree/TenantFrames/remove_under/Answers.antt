@@ -70,11 +70,11 @@ invariant_of-self g c =
     let shorter = cut_length c.args.serial slots c.known_place-at.result c.at-slot.result c.cut.new.self.slots left in
     let cuts = cut_ready slots _ c.known_place-at.result c.args.serial c.self.inside.shelf.places c.at-slot.result c.cut.new.self.slots c.self.inside.ready.frames c.self.invariant.sound within at c.at-slot.ensures left c.self.invariant.ready_frames c.self.invariant.within in
     rw (c.add_ready.ensures, c.forget_from.ensures) (is_tenant _ _ _ _
-      (cut_sound slots (length c.self.inside.ready.frames) _ c.known_place-at.result c.args.serial c.at-slot.result c.cut.new.self.slots c.self.invariant.sound within at c.at-slot.ensures left refl)
-      cuts.ready
-      (omega (arith, shorter, places, c.self.invariant.within))
-      (omega (arith, places, c.self.invariant.few))
-      (c.self.invariant.ready_places ∙ sym places))
+    (cut_sound slots (length c.self.inside.ready.frames) _ c.known_place-at.result c.args.serial c.at-slot.result c.cut.new.self.slots c.self.invariant.sound within at c.at-slot.ensures left refl)
+    cuts.ready
+    (omega (arith, shorter, places, c.self.invariant.within))
+    (omega (arith, places, c.self.invariant.few))
+    (c.self.invariant.ready_places ∙ sym places))
 
 pub returns-clause-left : goal.returns-clause-left
 returns-clause-left g c =
