@@ -1,7 +1,8 @@
 -- What the laws say, by induction.
-use Rattle.std.proofs.Common.{◌≡◌, ◌≢◌, ℕ, zero, suc, ◌<◌, List, [], ◌∷◌, length, map, Option, None, Some, Contains, get_or, refl, sym, ◌∙◌, arith, get_or-set_other}
+use Rattle.std.proofs.Common.{◌≡◌, ◌≢◌, ℕ, zero, suc, ◌+◌, ◌<◌, List, [], ◌∷◌, length, map, sum_by, AllPairs, Option, None, Some, Contains, get_or, refl, sym, ap, ◌∙◌, arith, get_or-set_other}
 use Rattle.std.proofs.Math.ListN.{set}
-use Rattle.cactus_stack.specs.Nodes.{Node, Nodes, node_at, node_words, node_parent, IsSight, IsPath, with_node, without}
+use Rattle.std.proofs.lemmas.List.Sums.{sum_by-cons}
+use Rattle.cactus_stack.specs.Nodes.{Node, Nodes, charge_of, total_charge, node_at, node_words, node_parent, IsSight, IsPath, with_node, without}
 
 none-at : (nodes : Nodes) (n : ℕ) → node_at (set nodes n None) n ≡ None
 none-at [] n = refl
@@ -60,3 +61,26 @@ beside-path nodes (Some n) (m ∷ numbers) (x ∷ levels) other entry path not s
     let differs : n ≢ other = λ e. not (0, omega arith, path.0 ∙ e) in
     let same : node_at (set nodes other entry) n ≡ node_at nodes n = get_or-set_other nodes other n entry None differs in
     rw same (sight.0, sight.1, beside-path nodes (node_parent nodes n) numbers levels other entry path.2 (λ is. not (suc is.0, omega (arith, is.1), is.2)) sight.2)
+
+-- what is charged when nodes go
+
+charge-without_one : (nodes : Nodes) (n : ℕ) → total_charge (set nodes n None) + charge_of (node_at nodes n) ≡ total_charge nodes
+charge-without_one [] n = refl
+charge-without_one (e ∷ nodes) zero = omega (arith, sum_by-cons charge_of e nodes, sum_by-cons charge_of None nodes)
+charge-without_one (e ∷ nodes) (suc n) = omega (arith, sum_by-cons charge_of e nodes, sum_by-cons charge_of e (set nodes n None), charge-without_one nodes n)
+
+sums-agree : (f g : ℕ → ℕ) (numbers : List ℕ) → ((n : ℕ) → Contains numbers n → f n ≡ g n) → sum_by f numbers ≡ sum_by g numbers
+sums-agree f g [] same = refl
+sums-agree f g (n ∷ numbers) same =
+    let rest : sum_by f numbers ≡ sum_by g numbers = sums-agree f g numbers (λ m is. same m (suc is.0, omega (arith, is.1), is.2)) in
+    let first : f n ≡ g n = same n (0, omega arith, refl) in
+    omega (arith, sum_by-cons f n numbers, sum_by-cons g n numbers, first, rest)
+
+pub charge-without : (nodes : Nodes) (numbers : List ℕ) → AllPairs ◌≢◌ numbers → total_charge (without nodes numbers) + sum_by (λ n. charge_of (node_at nodes n)) numbers ≡ total_charge nodes
+charge-without nodes [] once = omega arith
+charge-without nodes (n ∷ numbers) once =
+    let rest_once : AllPairs ◌≢◌ numbers = λ i j d before within. once (suc i) (suc j) d (omega (arith, before)) (omega (arith, within)) in
+    let rest = charge-without (set nodes n None) numbers rest_once in
+    let apart : (m : ℕ) → Contains numbers m → m ≢ n = λ m is e. once 0 (suc is.0) m (omega arith) (omega (arith, is.1)) (sym e ∙ sym is.2) in
+    let same = sums-agree (λ m. charge_of (node_at (set nodes n None) m)) (λ m. charge_of (node_at nodes m)) numbers (λ m is. ap charge_of (get_or-set_other nodes n m None None (apart m is))) in
+    omega (arith, sum_by-cons (λ m. charge_of (node_at nodes m)) n numbers, charge-without_one nodes n, rest, same)

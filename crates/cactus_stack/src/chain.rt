@@ -1,18 +1,9 @@
 //! Chains of segments: made, followed, made longer and given back.
 ghost use Rattle.std.specs.Prelude.{◌≡◌, ◌+◌, ◌-◌, ◌*◌, ◌<◌, ◌≤◌, ℕ, suc, [], ◌++◌, length, drop, replicate, Option, Some, None, slice_index, IsSome};
 ghost use Rattle.segment_region.specs.Segments.{Segments, IsFree, IsTaken, with_entry, taken_count, segment_count};
-ghost use Rattle.cactus_stack.specs.Nodes.{charge as charge_of_words};
 ghost use Rattle.cactus_stack.specs.Chains.{chain, filled, IsChain, IsFreshChain, IsGrownChain, IsGivenBack};
 
 use segment_region::{Region, SegNo};
-
-/// The segments that so many words take.
-pub fn charge(words: usize) -> usize
-    requires { words ≤ 65536 }
-    ensures { result ≡ charge_of_words words }
-{
-    (words + 15) / 16
-}
 
 /// Writes words to the front of a segment.
 fn fill(block: &mut [u64; 16], words: &[u64])

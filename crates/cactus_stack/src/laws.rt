@@ -1,5 +1,5 @@
 //! What the words of the contracts mean, as laws: calls that do nothing, with the law as their contract.
-ghost use Rattle.std.specs.Prelude.{◌≡◌, ◌≢◌, ◌+◌, ◌<◌, ℕ, List, [], ◌∷◌, ◌++◌, length, map, Option, None, Some, Contains, replicate, slice_get, slice_set};
+ghost use Rattle.std.specs.Prelude.{◌≡◌, ◌≢◌, ◌+◌, ◌<◌, ℕ, List, [], ◌∷◌, ◌++◌, length, map, Option, None, Some, Contains, AllPairs, sum_by, replicate};
 ghost use Rattle.cactus_stack.specs.Nodes.{Nodes, Node, node_at, node_words, node_parent, with_node, with_words, without, padded, charge, charge_of, growth_charge, total_charge, free_segments, segment_count, IsSight, IsPath};
 
 /// An entry that is put under one number leaves what stands under every other, and words that
@@ -17,11 +17,14 @@ pub fn nodes_are_apart()
         node_words (with_words nodes n words) n ≡ words }
 {}
 
-/// What is charged changes by what the entry takes, and at first nothing is.
+/// What is charged changes by what the entry takes, and at first nothing is. Of a list of nodes
+/// that are closed, each once, all that they took comes back.
 pub fn charges_are_counted()
     ensures changed { (nodes : Nodes) (n : ℕ) (entry : Option Node) → n < segment_count nodes →
         total_charge (with_node nodes n entry) + charge_of (node_at nodes n) ≡ total_charge nodes + charge_of entry }
     ensures at_first { (count : ℕ) → total_charge (replicate count None) ≡ 0 }
+    ensures closed { (nodes : Nodes) (numbers : List ℕ) → AllPairs ◌≢◌ numbers →
+        total_charge (without nodes numbers) + sum_by (λ n. charge_of (node_at nodes n)) numbers ≡ total_charge nodes }
 {}
 
 /// Of a list of nodes all are gone, and no other.

@@ -29,6 +29,7 @@
 #![tactic(auto)]
 
 mod chain;
+mod charges;
 pub mod laws;
 mod lists;
 mod node;
@@ -38,6 +39,7 @@ mod stack;
 mod tests;
 mod words;
 
+pub use charges::{charge, growth_charge};
 pub use node::{NoSegment, NodeNo};
 pub use sight::Sight;
 pub use stack::Stack;

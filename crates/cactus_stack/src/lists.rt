@@ -3,7 +3,8 @@ ghost use Rattle.std.specs.Prelude.{◌≡◌, ◌↔◌, ◌+◌, ◌<◌, ◌�
 ghost use Rattle.cactus_stack.specs.Nodes.{charge as charge_of_words, padded};
 ghost use Rattle.cactus_stack.specs.Lists.{Lists as ListsValue, list_at, list_charge, words_of_list};
 
-use crate::chain::{charge, fresh_chain, give_chain, grow_chain, segment_after};
+use crate::chain::{fresh_chain, give_chain, grow_chain, segment_after};
+use crate::charges::charge;
 use crate::node::{NoSegment, NodeNo};
 use crate::words::Words;
 use segment_region::Region;
@@ -114,6 +115,15 @@ impl Lists {
     {
         let first = node.first();
         Words::of(&self.region, first, self.lens[first.index()])
+    }
+
+    /// Each list has 1 to 128 words: a law, the call does nothing.
+    pub fn lens_are_in_limits(&self)
+        ensures some { (n : ℕ) → IsSome (list_at self.now n) → 1 ≤ length (words_of_list (list_at self.now n)) }
+        ensures at_most { (n : ℕ) → IsSome (list_at self.now n) → length (words_of_list (list_at self.now n)) ≤ 128 }
+    {
+        // Who looks inside has the invariant.
+        let _lens = &self.lens;
     }
 
     /// How many segments are free.

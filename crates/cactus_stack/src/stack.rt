@@ -142,6 +142,14 @@ impl Stack {
         }
     }
 
+    /// Each open node has 1 to 128 words: a law, the call does nothing.
+    pub fn sizes_are_in_limits(&self)
+        ensures some { (n : ℕ) → IsOpen self.now n → 1 ≤ length (node_words self.now n) }
+        ensures at_most { (n : ℕ) → IsOpen self.now n → length (node_words self.now n) ≤ 128 }
+    {
+        self.lists.lens_are_in_limits();
+    }
+
     /// How many segments are free: all but what the open nodes take.
     pub fn free_count(&self) -> usize
         ensures { result + total_charge self.now ≡ segment_count self.now }

@@ -1,3 +1,1 @@
-pub mod ValueLemmas
 pub mod WindowLemmas
-pub mod MinimaxLemmas

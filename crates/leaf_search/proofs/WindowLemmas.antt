@@ -1,12 +1,12 @@
 -- The steps of a window search at one position, over any choices and what each is worth.
-use Rattle.std.proofs.Common.{◌↔◌, append-nil, append_assoc, ◌≡◌, ◌<◌, length, ℤ, pos, negsuc, neg_ℤ, List, [], ◌∷◌, ◌++◌, map, Option, Some, refl, sym, ◌∙◌, ap, subst, arith}
-use Rattle.std.specs.Prelude.{find, ◌≤ℤ◌, ◌<ℤ◌, IsSome, All, Contains}
+use Rattle.std.proofs.Common.{◌↔◌, append-nil, append_assoc, ◌≡◌, ◌<◌, length, ℤ, pos, negsuc, neg_ℤ, List, [], ◌∷◌, ◌++◌, map, Option, Some, None, refl, sym, ◌∙◌, ap, subst, arith}
+use Rattle.std.specs.Prelude.{find, ◌≤ℤ◌, ◌<ℤ◌, IsSome, IfSome, All, Contains}
 use Rattle.std.specs.Int.{int_max}
 use Rattle.std.proofs.lemmas.Int.{ints, clamps, by_lt_z}
 use Rattle.std.proofs.lemmas.List.Elements.{All-nil, All-cons, All-append, All-weaker, Contains-append_right}
 use Rattle.othello_eval.specs.Minimax.{greatest, greatest_or, int_equal}
 use Rattle.leaf_search.specs.Bounds.{IsBound}
-use Rattle.leaf_search.proofs.ValueLemmas.{find-kept, find-new, greatest_or-upper, greatest_or-lower, found_below_greatest}
+use Rattle.othello_eval.proofs.GreatestLemmas.{find-kept, find-new, greatest_or-upper, greatest_or-lower, found_below_greatest}
 
 -- what is known once these choices were searched, none of which ended the search: no value is above the
 -- best score, and where that is above alpha it is the value of the first choice that attains it
@@ -128,9 +128,10 @@ pub record IsSearching {X : Type 0} (alpha beta : ℤ) (v : X → ℤ) (all left
   pub least : negsuc 199999 ≤ℤ best
   pub real : 0 < length taken → negsuc 127999 ≤ℤ best
   pub greatest : best ≤ℤ pos 128000
+  pub chosen : IfSome choice (Contains all)
 
-pub IsSearching-start : {X : Type 0} (alpha beta : ℤ) (v : X → ℤ) (all left : List X) (best : ℤ) (choice : Option X) → left ≡ all → best ≡ negsuc 199999 → negsuc 199999 ≤ℤ alpha → alpha <ℤ beta → IsSearching alpha beta v all left best choice
-IsSearching-start alpha beta v all left best choice same start low window = record {
+pub IsSearching-start : {X : Type 0} (alpha beta : ℤ) (v : X → ℤ) (all left : List X) (best : ℤ) (choice : Option X) → left ≡ all → best ≡ negsuc 199999 → choice ≡ None → negsuc 199999 ≤ℤ alpha → alpha <ℤ beta → IsSearching alpha beta v all left best choice
+IsSearching-start alpha beta v all left best choice same start none low window = record {
   taken = [];
   split = same;
   so_far = IsBestOf-none alpha v best choice (omega (arith, ints));
@@ -138,7 +139,22 @@ IsSearching-start alpha beta v all left best choice same start low window = reco
   least = omega (arith, ints);
   real = λ (some : 0 < 0). absurd (omega arith);
   greatest = omega (arith, ints);
+  chosen = subst (λ o. IfSome o (Contains all)) (sym none) tt;
 }
+
+-- a choice that is next is among the choices
+next_chosen : {X : Type 0} (all taken left rest : List X) (c : X) → taken ++ left ≡ all → left ≡ c ∷ rest → Contains all c
+next_chosen all taken left rest c split next =
+    subst (λ cs. Contains cs c) (ap (λ l. taken ++ l) (sym next) ∙ split)
+    (Contains-append_right taken (c ∷ rest) c (0, omega arith, refl))
+
+-- after a turn the choice is among the choices
+pub still_chosen : {X : Type 0} (all : List X) (best score new_best : ℤ) (choice new_choice : Option X) (c : X) → IfSome choice (Contains all) → Contains all c
+    → (best <ℤ neg_ℤ score → (new_best ≡ neg_ℤ score) × (new_choice ≡ Some c)) → (neg_ℤ score ≤ℤ best → (new_best ≡ best) × (new_choice ≡ choice)) → IfSome new_choice (Contains all)
+still_chosen all best score new_best choice new_choice c chosen here raised kept =
+    by_lt_z best (neg_ℤ score)
+    (λ better. subst (λ o. IfSome o (Contains all)) (sym (raised better).1) here)
+    (λ under. subst (λ o. IfSome o (Contains all)) (sym (kept under).1) chosen)
 
 -- a turn that doesn't end the search
 pub IsSearching-turn : {X : Type 0} (alpha beta : ℤ) (v : X → ℤ) (all left : List X) (best : ℤ) (choice : Option X) (c : X) (rest : List X) (floor low high score value new_best : ℤ) (new_choice : Option X) →
@@ -154,6 +170,7 @@ IsSearching-turn alpha beta v all left best choice c rest floor low high score v
   least = by_lt_z best (neg_ℤ score) (λ better. let new = raised better in omega (arith, ints)) (λ under. let old = kept under in omega (arith, ints));
   real = λ some. by_lt_z best (neg_ℤ score) (λ better. let new = raised better in omega (arith, ints)) (λ under. let old = kept under in omega (arith, ints));
   greatest = by_lt_z best (neg_ℤ score) (λ better. let new = raised better in omega (arith, ints)) (λ under. let old = kept under in omega (arith, ints));
+  chosen = still_chosen all best score new_best choice new_choice c s.chosen (next_chosen all s.taken left rest c s.split next) raised kept;
 }
 
 -- a turn that ends the search: the bound, and a true score
@@ -178,11 +195,8 @@ pub IsSearching-real : {X : Type 0} (alpha beta : ℤ) (v : X → ℤ) (all left
 IsSearching-real alpha beta v all left best choice s none some =
     s.real (subst (λ cs. 0 < length cs) (sym (sym (append-nil s.taken) ∙ (ap (λ l. s.taken ++ l) (sym none) ∙ s.split))) some)
 
--- a choice that is next is among the choices
 pub IsSearching-next : {X : Type 0} (alpha beta : ℤ) (v : X → ℤ) (all left : List X) (best : ℤ) (choice : Option X) (c : X) (rest : List X) → IsSearching alpha beta v all left best choice → left ≡ c ∷ rest → Contains all c
-IsSearching-next alpha beta v all left best choice c rest s next =
-    subst (λ cs. Contains cs c) (ap (λ l. s.taken ++ l) (sym next) ∙ s.split)
-    (Contains-append_right s.taken (c ∷ rest) c (0, omega arith, refl))
+IsSearching-next alpha beta v all left best choice c rest s next = next_chosen all s.taken left rest c s.split next
 
 -- the value itself is a bound of it, whatever the window
 pub exact_bound : (alpha beta score value : ℤ) → value ≡ score → IsBound alpha beta score value

@@ -6,8 +6,10 @@
 //! minimax value, as `IsBound` of `specs/Bounds.antt` says it: an upper bound where it is at most alpha,
 //! a lower bound where it is at least beta, and between the two the value itself; there the choice is
 //! the best choice. [`search_full`] takes the full window, in which every value lies, so its score is
-//! the value. Positions that can't change what the window asks for are never entered; how many were
-//! entered is counted.
+//! the value. The choice of any score is one of the board's choices, or none. Two things are tested and
+//! not proved, against a search that is written as the literature has it: a score outside the window is
+//! the fail-soft one, which may say more than alpha or beta would, and the count of positions entered
+//! is that of such a search, which leaves out what can't change the window's answer.
 //!
 //! What makes it true, between two choices of a position: no choice taken so far is worth more than the
 //! best score, and where that is above alpha, it is just what the first choice that has it is worth

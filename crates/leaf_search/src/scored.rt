@@ -9,10 +9,11 @@ use othello_moves::Choice;
 pub struct Scored {
     /// The score, seen by the player to move, from -128,000 to 128,000: a bound of the minimax value.
     pub score: i32,
-    /// The choice that has this score; none at depth 0 and in a finished game. It is the best choice
-    /// where the score lies inside the window.
+    /// A choice of the board, or none: the best choice where the score lies inside the window, so none at
+    /// depth 0 and in a finished game. Outside it the choice that was met with this score, if any was.
     pub choice: Option<Choice>,
-    /// How many positions were entered, the first included; it stays at the greatest `u64`.
+    /// How many positions were entered, the first included; it stays at the greatest `u64`. Tests compare
+    /// it; no contract of a search speaks of it.
     pub visited: u64,
 }
 

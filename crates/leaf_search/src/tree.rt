@@ -1,5 +1,5 @@
 //! The search of a position and all that is entered below it.
-ghost use Rattle.std.specs.Prelude.{◌≡◌, ◌<◌, ◌≤◌, ◌<ℤ◌, ◌≤ℤ◌, suc, neg_ℤ, length};
+ghost use Rattle.std.specs.Prelude.{◌≡◌, ◌<◌, ◌≤◌, ◌<ℤ◌, ◌≤ℤ◌, IfSome, Contains, neg_ℤ, length};
 ghost use Rattle.othello_board.specs.Words.{cells};
 ghost use Rattle.othello_moves.specs.Choices.{choices};
 ghost use Rattle.othello_eval.specs.Values.{IsWithin};
@@ -17,8 +17,9 @@ use othello_moves::{Choices, after};
 ///
 /// The score is a bound of the minimax value: an upper bound where it is at most `alpha`, a lower bound
 /// where it is at least `beta`, and between the two the value itself. There the choice is the best
-/// choice, the first in order that attains the value; it is none at depth 0 and in a finished game.
-/// `visited` counts the positions entered, this one included, and stays at the greatest `u64`.
+/// choice, the first in order that attains the value, so none at depth 0 and in a finished game; a
+/// choice outside the window is one of the board's choices, and no more is promised of it. That a bound
+/// is the fail-soft one, and what `visited` counts, is tested and not proved.
 /// Takes no memory and refuses nothing.
 pub fn search(board: Board, depth: u8, alpha: i32, beta: i32) -> Scored
     requires shallow { depth ≤ 12 }
@@ -28,6 +29,7 @@ pub fn search(board: Board, depth: u8, alpha: i32, beta: i32) -> Scored
     ensures bound { IsBound alpha beta result.score (minimax depth (cells board)) }
     ensures choice { alpha <ℤ result.score → result.score <ℤ beta → result.choice ≡ best_choice depth (cells board) }
     ensures within { IsWithin 128000 result.score }
+    ensures chosen { IfSome result.choice (Contains (choices (cells board))) }
 {
     search_below(board, depth, Window { alpha, beta })
 }
@@ -39,6 +41,7 @@ pub fn search_full(board: Board, depth: u8) -> Scored
     ensures score { result.score ≡ minimax depth (cells board) }
     ensures choice { result.choice ≡ best_choice depth (cells board) }
     ensures within { IsWithin 128000 result.score }
+    ensures chosen { IfSome result.choice (Contains (choices (cells board))) }
 {
     search(board, depth, -INF, INF)
 }
@@ -49,6 +52,7 @@ fn search_below(board: Board, depth: u8, window: Window) -> Scored
     ensures bound { IsBound window.alpha window.beta result.score (minimax depth (cells board)) }
     ensures choice { window.alpha <ℤ result.score → result.score <ℤ window.beta → result.choice ≡ best_choice depth (cells board) }
     ensures within { IsWithin 128000 result.score }
+    ensures chosen { IfSome result.choice (Contains (choices (cells board))) }
 {
     if depth == 0 {
         return Scored::entered(leaf_value(board));
@@ -57,22 +61,24 @@ fn search_below(board: Board, depth: u8, window: Window) -> Scored
     if left.is_empty() {
         return Scored::entered(final_value(board));
     }
-    best_of(board, left, depth - 1, window)
+    best_of(board, left, depth, window)
 }
 
-/// Searches the positions after the choices of a board in order, with `depth` plies below each, until
-/// one has a score of at least beta.
+/// Searches the positions after the choices of a board in order, to a depth of 1 or more, until one has
+/// a score of at least beta.
 #[cycle(search)]
 fn best_of(board: Board, mut left: Choices, depth: u8, window: Window) -> Scored
     requires choices { left ≡ choices (cells board) }
     requires some { 0 < length left }
-    ensures bound { IsBound window.alpha window.beta result.score (minimax (suc depth) (cells board)) }
-    ensures choice { window.alpha <ℤ result.score → result.score <ℤ window.beta → result.choice ≡ best_choice (suc depth) (cells board) }
+    requires deep { 0 < depth }
+    ensures bound { IsBound window.alpha window.beta result.score (minimax depth (cells board)) }
+    ensures choice { window.alpha <ℤ result.score → result.score <ℤ window.beta → result.choice ≡ best_choice depth (cells board) }
     ensures within { IsWithin 128000 result.score }
+    ensures chosen { IfSome result.choice (Contains (choices (cells board))) }
 {
     let mut best = Scored::entered(-INF);
     while let Some(choice) = left.pop_first() {
-        let child = search_below(after(board, choice), depth, window.of_child(&best));
+        let child = search_below(after(board, choice), depth - 1, window.of_child(&best));
         best.take_in(choice, child);
         if best.score >= window.beta {
             return best;

@@ -1,5 +1,5 @@
 -- Readers whose bytes are known, and writers whose contents are.
-use Rattle.std.proofs.Common.{◌≡◌, ℕ, List, [], ◌∷◌, ◌++◌, map, refl, sym, ap, ◌∙◌, append_assoc, Option, Some, None, Result, Ok, Err}
+use Rattle.std.proofs.Common.{◌≡◌, ℕ, List, [], ◌∷◌, ◌++◌, map, refl, sym, ap, ◌∙◌, append_assoc, subst, Option, Some, None, Result, Ok, Err}
 use Rattle.std.proofs.lemmas.List.{append-nil}
 use Rattle.std.specs.List.{concat}
 use Rattle.std.specs.Io.KnownBytes.{Keeps, Appends, Consumes, IsAtEnd}
@@ -7,6 +7,7 @@ use Rattle.line_io.specs.declared.faults.WriteFailed.{WriteFailed}
 use Rattle.line_io.specs.Leads.{Leads}
 use Rattle.line_io.specs.Streams.{Gave, Ended, ReadsKnown, WritesKnown}
 use Rattle.line_io.specs.Writes.{writes_of}
+use Rattle.line_io.specs.Runs.{FunctionRun}
 
 -- at the end no byte is left
 at-end : (old new : Option (List ℕ)) (bytes : List ℕ) → old ≡ Some bytes → Consumes old new [] → IsAtEnd new → [] ≡ bytes
@@ -56,3 +57,10 @@ known-write held k (piece ∷ pieces) t (Ok u) bytes e p =
     known-write held p.0 pieces t (Ok u) (bytes ++ piece) (adds (held k) (held p.0) bytes piece e p.1) p.2 ∙ ap Some (append_assoc bytes piece (concat pieces))
 known-write held k (piece ∷ pieces) t (Err f) bytes e p =
     known-write held p.0 pieces t (Err f) (bytes ++ piece) (adds (held k) (held p.0) bytes piece e p.1) p.2 ∙ ap Some (append_assoc bytes piece (concat pieces))
+
+-- a run over both that answers by a function
+pub known-run : {S K : Type 0} (left : S → Option (List ℕ)) (holds : K → Option (List ℕ)) (out : List ℕ → List ℕ) (s : S) (k : K) (s' : S) (k' : K) (bytes held : List ℕ) → left s ≡ Some bytes → holds k ≡ Some held → FunctionRun (λ a r b. ReadsKnown (left a) r (left b)) (λ a w b. WritesKnown (holds a) w (holds b)) out s k s' k' (Ok tt) → holds k' ≡ Some (held ++ out bytes)
+known-run left holds out s k s' k' bytes held e f x =
+    let reads = subst (λ last. Leads (λ a r b. ReadsKnown (left a) r (left b)) s (map Gave x.blocks ++ last) s') x.ends x.reads in
+    let all : concat x.blocks ≡ bytes = known-read left s x.blocks s' bytes e reads in
+    known-write holds k x.pieces k' (Ok tt) held f x.writes ∙ ap (λ z. Some (held ++ z)) (x.written ∙ ap out all)

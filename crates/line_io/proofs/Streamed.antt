@@ -1,11 +1,11 @@
 -- Lines that are cut byte by byte are the lines of all bytes.
-use Rattle.std.proofs.Common.{◌≡◌, ℕ, ◌+◌, ◌-◌, ◌≤◌, List, [], ◌∷◌, ◌++◌, length, map, take, cond, eqb, Bool, true, false, refl, sym, ap, ◌∙◌, append_assoc, arith, Option, Some, None, nat_le, slice_index, length-append}
+use Rattle.std.proofs.Common.{◌≡◌, ℕ, ◌+◌, ◌-◌, ◌≤◌, List, [], ◌∷◌, ◌++◌, length, map, take, cond, eqb, Bool, true, false, ◌||◌, refl, sym, ap, ◌∙◌, append_assoc, arith, Option, Some, None, nat_le, slice_index, length-append}
 use Rattle.std.proofs.lemmas.List.{append-nil, length-take}
 use Rattle.std.proofs.lemmas.Bool.Decides.{nat_tests}
-use Rattle.std.specs.List.{slice_split, onto_first}
+use Rattle.std.specs.List.{slice_split, onto_first, list_any}
 use Rattle.std.specs.Option.{option_to_list}
 use Rattle.std.specs.Str.Lines.{lines_of_parts, strip_carriage_return}
-use Rattle.line_io.specs.Lines.{Whole, TooLong, line_text, lines_of, ended_parts, ended_lines_of}
+use Rattle.line_io.specs.Lines.{Whole, TooLong, line_text, lines_of, up_to_last_end}
 use Rattle.line_io.specs.Held.{held, with_byte, ended_line, last_line, held_after, ended_within}
 
 -- what is cut off is one byte at most
@@ -67,28 +67,6 @@ onto-first : (raw : List ℕ) (b : ℕ) (parts : List (List ℕ)) → onto (raw 
 onto-first raw b [] = refl
 onto-first raw b (s ∷ ss) = ap (λ z. z ∷ ss) (append_assoc raw (b ∷ []) s)
 
--- the lines that an LF ended, with an LF next
-ended-lf : (raw bs : List ℕ) (s : List ℕ) (ss : List (List ℕ)) → slice_split (λ b. eqb b 10) bs ≡ s ∷ ss → ended_within (held []) bs ≡ map line_text (ended_parts (onto [] (slice_split (λ b. eqb b 10) bs))) → ended_line (held raw) ∷ ended_within (Some []) bs ≡ map line_text (ended_parts (onto raw ([] ∷ slice_split (λ b. eqb b 10) bs)))
-ended-lf raw bs s ss e ih =
-    ap (λ z. z ∷ ended_within (Some []) bs) (ended_line-held raw) ∙ (ap (λ z. line_text (strip_carriage_return raw) ∷ z) (ih ∙ ap (λ z. map line_text (ended_parts (onto [] z))) e) ∙ (ap (λ z. line_text (strip_carriage_return z) ∷ map line_text (ended_parts (s ∷ ss))) (sym (append-nil raw)) ∙ ap (λ z. map line_text (ended_parts ((raw ++ []) ∷ z))) (sym e)))
-
-ended-step : (t : Bool) (raw : List ℕ) (b : ℕ) (bs : List ℕ) → ended_within (held []) bs ≡ map line_text (ended_parts (onto [] (slice_split (λ b. eqb b 10) bs))) → ended_within (held (raw ++ b ∷ [])) bs ≡ map line_text (ended_parts (onto (raw ++ b ∷ []) (slice_split (λ b. eqb b 10) bs))) → cond t (ended_line (held raw) ∷ ended_within (Some []) bs) (ended_within (with_byte (held raw) b) bs) ≡ map line_text (ended_parts (onto raw (cond t ([] ∷ slice_split (λ b. eqb b 10) bs) (onto_first b (slice_split (λ b. eqb b 10) bs)))))
-ended-step true raw b bs ih ih' =
-    let p = split_some bs in
-    ended-lf raw bs p.0 p.1 p.2 ih
-ended-step false raw b bs ih ih' =
-    ap (λ h. ended_within h bs) (with_byte-held raw b) ∙ (ih' ∙ ap (λ z. map line_text (ended_parts z)) (onto-first raw b (slice_split (λ b. eqb b 10) bs)))
-
-ended-onto : (raw bs : List ℕ) → ended_within (held raw) bs ≡ map line_text (ended_parts (onto raw (slice_split (λ b. eqb b 10) bs)))
-ended-onto raw [] = refl
-ended-onto raw (b ∷ bs) = ended-step (eqb b 10) raw b bs (ended-onto [] bs) (ended-onto (raw ++ b ∷ []) bs)
-
--- what is cut byte by byte are the lines that an LF ended
-pub ended_within-all : (bs : List ℕ) → ended_within (Some []) bs ≡ ended_lines_of bs
-ended_within-all bs =
-    let p = split_some bs in
-    ended-onto [] bs ∙ (ap (λ z. map line_text (ended_parts (onto [] z))) p.2 ∙ ap (λ z. map line_text (ended_parts z)) (sym p.2))
-
 -- all lines, with an LF next
 all-lf : (raw bs : List ℕ) (s : List ℕ) (ss : List (List ℕ)) → slice_split (λ b. eqb b 10) bs ≡ s ∷ ss → ended_within (held []) bs ++ option_to_list (last_line (held_after (held []) bs)) ≡ map line_text (lines_of_parts (onto [] (slice_split (λ b. eqb b 10) bs))) → ended_line (held raw) ∷ (ended_within (Some []) bs ++ option_to_list (last_line (held_after (Some []) bs))) ≡ map line_text (lines_of_parts (onto raw ([] ∷ slice_split (λ b. eqb b 10) bs)))
 all-lf raw bs s ss e ih =
@@ -110,6 +88,51 @@ pub lines_of-all : (bs : List ℕ) → ended_within (Some []) bs ++ option_to_li
 lines_of-all bs =
     let p = split_some bs in
     all-onto [] bs ∙ (ap (λ z. map line_text (lines_of_parts (onto [] z))) p.2 ∙ ap (λ z. map line_text (lines_of_parts z)) (sym p.2))
+
+or_false : (a b : Bool) → (a || b) ≡ false → (a ≡ false) × (b ≡ false)
+or_false true b e = cc
+or_false false b e = (refl, e)
+
+-- where no byte is an LF, no line ends
+none-ended : (h : Option (List ℕ)) (bs : List ℕ) → list_any (λ c. eqb c 10) bs ≡ false → ended_within h bs ≡ []
+none-ended h [] e = refl
+none-ended h (b ∷ bs) e =
+    let p = or_false (eqb b 10) (list_any (λ c. eqb c 10) bs) e in
+    ap (λ t. cond t (ended_line h ∷ ended_within (Some []) bs) (ended_within (with_byte h b) bs)) p.0 ∙ none-ended (with_byte h b) bs p.1
+
+-- no line ends after the last LF
+end-step : (t u : Bool) (h : Option (List ℕ)) (b : ℕ) (bs : List ℕ) → eqb b 10 ≡ t → list_any (λ c. eqb c 10) bs ≡ u → ((g : Option (List ℕ)) → ended_within g (up_to_last_end bs) ≡ ended_within g bs) → ended_within h (cond (t || u) (b ∷ up_to_last_end bs) []) ≡ cond t (ended_line h ∷ ended_within (Some []) bs) (ended_within (with_byte h b) bs)
+end-step true u h b bs e f ih =
+    ap (λ t. cond t (ended_line h ∷ ended_within (Some []) (up_to_last_end bs)) (ended_within (with_byte h b) (up_to_last_end bs))) e ∙ ap (λ z. ended_line h ∷ z) (ih (Some []))
+end-step false true h b bs e f ih =
+    ap (λ t. cond t (ended_line h ∷ ended_within (Some []) (up_to_last_end bs)) (ended_within (with_byte h b) (up_to_last_end bs))) e ∙ ih (with_byte h b)
+end-step false false h b bs e f ih = sym (none-ended (with_byte h b) bs f)
+
+ended_within-end : (h : Option (List ℕ)) (bs : List ℕ) → ended_within h (up_to_last_end bs) ≡ ended_within h bs
+ended_within-end h [] = refl
+ended_within-end h (b ∷ bs) = end-step (eqb b 10) (list_any (λ c. eqb c 10) bs) h b bs refl refl (λ g. ended_within-end g bs)
+
+-- after the last LF nothing is held
+held-step : (t u : Bool) (h : Option (List ℕ)) (b : ℕ) (bs : List ℕ) → eqb b 10 ≡ t → ((g : Option (List ℕ)) → held_after g (up_to_last_end bs) ≡ cond u (Some []) g) → held_after h (cond (t || u) (b ∷ up_to_last_end bs) []) ≡ cond (t || u) (Some []) h
+held-step true true h b bs e ih = ap (λ t. held_after (cond t (Some []) (with_byte h b)) (up_to_last_end bs)) e ∙ ih (Some [])
+held-step true false h b bs e ih = ap (λ t. held_after (cond t (Some []) (with_byte h b)) (up_to_last_end bs)) e ∙ ih (Some [])
+held-step false true h b bs e ih = ap (λ t. held_after (cond t (Some []) (with_byte h b)) (up_to_last_end bs)) e ∙ ih (with_byte h b)
+held-step false false h b bs e ih = refl
+
+held_after-end : (h : Option (List ℕ)) (bs : List ℕ) → held_after h (up_to_last_end bs) ≡ cond (list_any (λ c. eqb c 10) bs) (Some []) h
+held_after-end h [] = refl
+held_after-end h (b ∷ bs) = held-step (eqb b 10) (list_any (λ c. eqb c 10) bs) h b bs refl (λ g. held_after-end g bs)
+
+cond_same : (t : Bool) (h : Option (List ℕ)) → cond t h h ≡ h
+cond_same true h = refl
+cond_same false h = refl
+
+-- what is cut byte by byte are the lines of the bytes up to the last LF
+pub ended_within-all : (bs : List ℕ) → ended_within (Some []) bs ≡ lines_of (up_to_last_end bs)
+ended_within-all bs =
+    let ended = ended_within-end (Some []) bs in
+    let empty = held_after-end (Some []) bs ∙ cond_same (list_any (λ c. eqb c 10) bs) (Some []) in
+    sym ended ∙ (sym (append-nil (ended_within (Some []) (up_to_last_end bs))) ∙ (ap (λ h. ended_within (Some []) (up_to_last_end bs) ++ option_to_list (last_line h)) (sym empty) ∙ lines_of-all (up_to_last_end bs)))
 
 -- one block more
 pub held_after-append : (h : Option (List ℕ)) (xs ys : List ℕ) → held_after h (xs ++ ys) ≡ held_after (held_after h xs) ys

@@ -6,7 +6,7 @@ use Rattle.std.specs.List.{concat}
 use Rattle.std.specs.Option.{option_to_list}
 use Rattle.line_io.specs.declared.faults.WriteFailed.{WriteFailed}
 use Rattle.line_io.specs.declared.faults.LineFault.TheVariants.{Read, Write, TooMuch}
-use Rattle.line_io.specs.Lines.{LineText, lines_of, ended_lines_of}
+use Rattle.line_io.specs.Lines.{LineText, lines_of, up_to_last_end}
 use Rattle.line_io.specs.Leads.{Leads}
 use Rattle.line_io.specs.Streams.{ReadAnswer, Gave, Ended, Failed, WriteAnswer}
 use Rattle.line_io.specs.Writes.{LinesAnswered}
@@ -72,7 +72,7 @@ module _ {S K A : Type 0} (gives : S → ReadAnswer → S → Type 0) (takes : K
         last = Failed ∷ [];
         reads = Leads-more gives s (map Gave x.blocks) s' Failed s'' x.reads r;
         ends = refl;
-        lines = LinesAnswered-same takes answers k a (ended_within (Some []) (concat x.blocks)) (ended_lines_of (concat x.blocks)) k' a' (Ok tt) (ended_within-all (concat x.blocks)) x.lines;
+        lines = LinesAnswered-same takes answers k a (ended_within (Some []) (concat x.blocks)) (lines_of (up_to_last_end (concat x.blocks))) k' a' (Ok tt) (ended_within-all (concat x.blocks)) x.lines;
       }
 
   -- too many bytes were read
@@ -83,7 +83,7 @@ module _ {S K A : Type 0} (gives : S → ReadAnswer → S → Type 0) (takes : K
         last = [];
         reads = subst (λ rs. Leads gives s rs s') (sym (append-nil (map Gave x.blocks))) x.reads;
         ends = (refl, subst (λ n. 2 ^ 62 ≤ n) x.count l);
-        lines = LinesAnswered-same takes answers k a (ended_within (Some []) (concat x.blocks)) (ended_lines_of (concat x.blocks)) k' a' (Ok tt) (ended_within-all (concat x.blocks)) x.lines;
+        lines = LinesAnswered-same takes answers k a (ended_within (Some []) (concat x.blocks)) (lines_of (up_to_last_end (concat x.blocks))) k' a' (Ok tt) (ended_within-all (concat x.blocks)) x.lines;
       }
 
   -- all lines, the last one too

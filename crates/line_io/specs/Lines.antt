@@ -1,8 +1,8 @@
 -- The lines of a stream of bytes. A line ends with LF (10), and one CR (13) directly before that LF is dropped.
 -- Bytes after the last LF, if there are any, are a line too, and keep a CR at their end. This is std's `lines`.
 use Rattle.std.specs.Prelude.{ℕ, List, [], ◌∷◌, length, map, nat_le, ◌==◌, if◌then◌else◌}
-use Rattle.std.specs.List.{slice_split}
-use Rattle.std.specs.Str.Lines.{lines, strip_carriage_return}
+use Rattle.std.specs.List.{list_any}
+use Rattle.std.specs.Str.Lines.{lines}
 
 -- a line as it is answered: its bytes without their end, or only that it was too long
 pub data LineText : Type 0 where
@@ -17,12 +17,7 @@ line_text bytes = if nat_le (length bytes) 128 then Whole bytes else TooLong
 abbrev pub lines_of : List ℕ → List LineText
 lines_of bytes = map line_text (lines bytes)
 
--- of the parts between the LFs, all but the last, each without the CR at its end
-abbrev pub ended_parts : List (List ℕ) → List (List ℕ)
-ended_parts [] = []
-ended_parts (x ∷ []) = []
-ended_parts (x ∷ y ∷ more) = strip_carriage_return x ∷ ended_parts (y ∷ more)
-
--- the lines of these bytes that an LF ended: what comes after the last LF is left out
-abbrev pub ended_lines_of : List ℕ → List LineText
-ended_lines_of bytes = map line_text (ended_parts (slice_split (λ b. b == 10) bytes))
+-- the bytes up to the last LF, that one too: what comes after it is left out
+abbrev pub up_to_last_end : List ℕ → List ℕ
+up_to_last_end [] = []
+up_to_last_end (b ∷ bs) = if list_any (λ c. c == 10) (b ∷ bs) then b ∷ up_to_last_end bs else []

@@ -1,20 +1,20 @@
 -- A whole run: what was read, which lines were answered, and what was written.
-use Rattle.std.specs.Prelude.{◌≡◌, ◌⊎◌, ℕ, ◌≤◌, ◌^◌, List, [], ◌∷◌, ◌++◌, map, length, Result, Ok, Err, OnOk}
+use Rattle.std.specs.Prelude.{◌≡◌, ◌⊎◌, ℕ, ◌<◌, ◌≤◌, ◌^◌, List, [], ◌∷◌, ◌++◌, map, length, Result, Ok, Err, OnOk}
 use Rattle.std.specs.List.{concat, flat_map}
 use Rattle.line_io.specs.declared.faults.LineFault.{LineFault}
 use Rattle.line_io.specs.declared.faults.LineFault.TheVariants.{Read, Write, TooMuch}
 use Rattle.line_io.specs.declared.faults.WriteFailed.{WriteFailed}
-use Rattle.line_io.specs.Lines.{LineText, lines_of, ended_lines_of}
+use Rattle.line_io.specs.Lines.{LineText, lines_of, up_to_last_end}
 use Rattle.line_io.specs.Leads.{Leads, IsPrefixOf}
 use Rattle.line_io.specs.Streams.{ReadAnswer, Gave, Ended, Failed, WriteAnswer}
 use Rattle.line_io.specs.Writes.{LinesAnswered, with_end, writes_of}
 
--- the lines that are to be answered: all, where the end of the input was read or a write failed, and else those that an LF ended
-abbrev pub lines_due : Result (Unit {0}) LineFault → List ℕ → List LineText
-lines_due (Ok _) bytes = lines_of bytes
-lines_due (Err Read) bytes = ended_lines_of bytes
-lines_due (Err Write) bytes = lines_of bytes
-lines_due (Err TooMuch) bytes = ended_lines_of bytes
+-- the bytes whose lines are to be answered: all, where the end of the input was read or a write failed, and else those up to the last LF
+abbrev pub bytes_due : Result (Unit {0}) LineFault → List ℕ → List ℕ
+bytes_due (Ok _) bytes = bytes
+bytes_due (Err Read) bytes = up_to_last_end bytes
+bytes_due (Err Write) bytes = bytes
+bytes_due (Err TooMuch) bytes = up_to_last_end bytes
 
 -- how the writes ended: by a failure at fault 2 alone
 abbrev pub write_result : Result (Unit {0}) LineFault → Result (Unit {0}) WriteFailed
@@ -37,19 +37,28 @@ pub record Run {S K A : Type 0} (gives : S → ReadAnswer → S → Type 0) (tak
   pub last : List ReadAnswer
   pub reads : Leads gives source (map Gave blocks ++ last) source'
   pub ends : IsEnding r (concat blocks) last
-  pub lines : LinesAnswered takes answers sink answerer (lines_due r (concat blocks)) sink' answerer' (write_result r)
+  pub lines : LinesAnswered takes answers sink answerer (lines_of (bytes_due r (concat blocks))) sink' answerer' (write_result r)
 
 -- these lines, each answered by this function, with LF after each answer
 abbrev pub answers_to : (LineText → List ℕ) → List LineText → List ℕ
 answers_to answer lines = flat_map (λ line. with_end (answer line)) lines
 
--- these blocks were read and these pieces written: the answers by this function to all lines, or at a fault a beginning of them
-pub record FunctionRun {S K : Type 0} (gives : S → ReadAnswer → S → Type 0) (takes : K → WriteAnswer → K → Type 0) (answer : LineText → List ℕ) (source : S) (sink : K) (source' : S) (sink' : K) (r : Result (Unit {0}) LineFault) : Type 0 where
+-- a beginning of what was due, of which something is left
+abbrev pub IsBegun : List ℕ → List ℕ → Type 0
+IsBegun written due = (rest : List ℕ) × (written ++ rest ≡ due) × (0 < length rest)
+
+-- all that was due is written, and after a failed write a beginning of it
+abbrev pub IsOutput : Result (Unit {0}) WriteFailed → List ℕ → List ℕ → Type 0
+IsOutput (Ok _) written due = written ≡ due
+IsOutput (Err _) written due = IsBegun written due
+
+-- these blocks were read and these pieces written: what this function gives for the bytes whose lines are due,
+-- and at fault 2 a beginning of it
+pub record FunctionRun {S K : Type 0} (gives : S → ReadAnswer → S → Type 0) (takes : K → WriteAnswer → K → Type 0) (out : List ℕ → List ℕ) (source : S) (sink : K) (source' : S) (sink' : K) (r : Result (Unit {0}) LineFault) : Type 0 where
   pub blocks : List (List ℕ)
   pub last : List ReadAnswer
   pub pieces : List (List ℕ)
   pub reads : Leads gives source (map Gave blocks ++ last) source'
   pub ends : IsEnding r (concat blocks) last
   pub writes : Leads takes sink (writes_of pieces (write_result r)) sink'
-  pub written : IsPrefixOf (concat pieces) (answers_to answer (lines_of (concat blocks)))
-  pub all_written : OnOk r (concat pieces ≡ answers_to answer (lines_of (concat blocks)))
+  pub written : IsOutput (write_result r) (concat pieces) (out (bytes_due r (concat blocks)))

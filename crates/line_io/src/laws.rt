@@ -1,5 +1,5 @@
 //! Laws of lines and of runs. A function here does nothing: its contract is the law.
-ghost use Rattle.std.specs.Prelude.{◌≡◌, ℕ, List, [], ◌∷◌, ◌++◌, map, Result, Some, replicate};
+ghost use Rattle.std.specs.Prelude.{◌≡◌, ℕ, List, [], ◌∷◌, ◌++◌, map, Result, Ok, Some, replicate};
 ghost use Rattle.std.specs.List.{concat};
 ghost use Rattle.line_io.specs.declared.faults.WriteFailed.{WriteFailed};
 ghost use Rattle.line_io.specs.declared.input.FromReader.{FromReader};
@@ -8,8 +8,8 @@ ghost use Rattle.line_io.specs.Leads.{Leads};
 ghost use Rattle.line_io.specs.Streams.{Gave, Ended};
 ghost use Rattle.line_io.specs.Writes.{writes_of};
 ghost use Rattle.line_io.specs.declared.faults.LineFault.{LineFault};
-ghost use Rattle.line_io.specs.Lines.{LineText, Whole, TooLong, lines_of, ended_lines_of};
-ghost use Rattle.line_io.specs.Runs.{Run, FunctionRun};
+ghost use Rattle.line_io.specs.Lines.{LineText, Whole, TooLong, lines_of, up_to_last_end};
+ghost use Rattle.line_io.specs.Runs.{Run, FunctionRun, answers_to};
 
 use crate::answering::Answer;
 use crate::input::{FromReader, Source};
@@ -25,19 +25,21 @@ pub fn lines_of_small_texts()
     ensures two_returns { lines_of (13 ∷ 13 ∷ 10 ∷ []) ≡ Whole (13 ∷ []) ∷ [] }
     ensures inner_return { lines_of (13 ∷ 97 ∷ 10 ∷ []) ≡ Whole (13 ∷ 97 ∷ []) ∷ [] }
     ensures last_return { lines_of (97 ∷ 13 ∷ []) ≡ Whole (97 ∷ 13 ∷ []) ∷ [] }
-    ensures ended { ended_lines_of (97 ∷ 10 ∷ 98 ∷ []) ≡ Whole (97 ∷ []) ∷ [] }
+    ensures up_to_the_last { up_to_last_end (10 ∷ 97 ∷ 10 ∷ 98 ∷ []) ≡ 10 ∷ 97 ∷ 10 ∷ [] }
+    ensures no_last { up_to_last_end (97 ∷ 98 ∷ []) ≡ [] }
     ensures most { lines_of (replicate 128 97 ++ 13 ∷ 10 ∷ []) ≡ Whole (replicate 128 97) ∷ [] }
     ensures longer { lines_of (replicate 129 97 ++ 10 ∷ 98 ∷ []) ≡ TooLong ∷ Whole (98 ∷ []) ∷ [] }
     ensures return_and_no_end { lines_of (replicate 128 97 ++ 13 ∷ []) ≡ TooLong ∷ [] }
 {}
 
-/// Where each answer is a function of its line, what a run writes is a function of what it reads.
+/// Where each answer is a function of its line, what a run writes is a function of what it reads: the answers to
+/// the lines of all bytes, at faults 1 and 3 of those up to the last LF, and at fault 2 a beginning of that.
 pub fn run_by_function<S: Source, K: Sink, A: Answer>()
     ensures { (answer : LineText → List ℕ)
         → ((a : A) (line : LineText) (text : List ℕ) (b : A) → A.answers a line text b → text ≡ answer line)
         → (source source' : S) (sink sink' : K) (answerer answerer' : A) (r : Result (Unit {0}) LineFault)
         → Run S.gives K.takes A.answers source sink answerer source' sink' answerer' r
-        → FunctionRun S.gives K.takes answer source sink source' sink' r }
+        → FunctionRun S.gives K.takes (λ bytes. answers_to answer (lines_of bytes)) source sink source' sink' r }
 {}
 
 /// Where the bytes that a reader has left are known, its reads up to the end give all of them.
@@ -54,4 +56,14 @@ pub fn known_contents_grow<W: Write>()
         → W.contents old.writer ≡ Some bytes
         → Leads ⟦<FromWriter<W> as Sink>⟧.takes old (writes_of pieces r) new
         → W.contents new.writer ≡ Some (bytes ++ concat pieces) }
+{}
+
+/// Over a reader whose bytes are known and a writer whose contents are, a run that answers by a function appends
+/// to the contents what the function gives for the bytes.
+pub fn known_runs_are_exact<R: Read, W: Write>()
+    ensures { (out : List ℕ → List ℕ) (source source' : FromReader R) (sink sink' : FromWriter W) (bytes held : List ℕ)
+        → R.remaining source.reader ≡ Some bytes
+        → W.contents sink.writer ≡ Some held
+        → FunctionRun ⟦<FromReader<R> as Source>⟧.gives ⟦<FromWriter<W> as Sink>⟧.takes out source sink source' sink' (Ok tt)
+        → W.contents sink'.writer ≡ Some (held ++ out bytes) }
 {}

@@ -34,5 +34,8 @@ pub use answering::{Answer, Text, answer_lines};
 pub use cutting::{Line, LineCutter};
 pub use faults::{LineFault, ReadFailed, WriteFailed};
 pub use input::{FromReader, Source};
-pub use laws::{known_bytes_are_read, known_contents_grow, lines_of_small_texts, run_by_function};
+pub use laws::{
+    known_bytes_are_read, known_contents_grow, known_runs_are_exact, lines_of_small_texts,
+    run_by_function,
+};
 pub use output::{FromWriter, Sink, write_text};

@@ -369,4 +369,5 @@ fn a_text_is_written_and_faults_have_numbers(rt: HostRuntime) {
     run_by_function::<Given, Kept, Echo>();
     known_bytes_are_read::<Broken>();
     known_contents_grow::<Broken>();
+    known_runs_are_exact::<Broken, Broken>();
 }

@@ -1,5 +1,5 @@
 -- The greatest value and the first choice that attains it, choice by choice.
-use Rattle.std.proofs.Common.{◌≡◌, ℕ, suc, Bool, true, false, cond, List, [], ◌∷◌, ◌++◌, map, Option, Some, None, find, All, Contains, IsSome, ⊎_elim, ℤ, ◌≤ℤ◌, ◌<ℤ◌, int_lt, refl, sym, ap, ap₂, ◌∙◌, subst, arith}
+use Rattle.std.proofs.Common.{◌≡◌, ℕ, zero, suc, ◌<◌, Bool, true, false, cond, List, [], ◌∷◌, ◌++◌, map, Option, Some, None, find, All, Contains, IsSome, ⊎_elim, ℤ, ◌≤ℤ◌, ◌<ℤ◌, int_lt, refl, sym, ap, ap₂, ◌∙◌, subst, arith}
 use Rattle.std.specs.Int.{int_max}
 use Rattle.std.proofs.lemmas.Int.{ints, clamps}
 use Rattle.std.proofs.lemmas.Bool.{cond_both, cond-true, cond-false, cases_Bool}
@@ -9,7 +9,21 @@ use Rattle.othello_moves.specs.declared.choices.Choice.{Choice}
 use Rattle.othello_moves.specs.Choices.{choices}
 use Rattle.othello_eval.specs.Values.{eval}
 use Rattle.othello_eval.specs.Minimax.{greatest, minimax, choice_value, int_equal, best_choice}
-use Rattle.othello_eval.proofs.MinimaxLemmas.{minimax-leaf, minimax-more, best_choice-more, greatest-step, greatest-above, max_left, max_right, int_equal-same, same-int_equal, int_equal-other}
+use Rattle.othello_eval.proofs.GreatestLemmas.{greatest-first, greatest-upper, int_equal-same, same_from_int_equal, int_equal-other}
+use Rattle.othello_eval.proofs.MinimaxLemmas.{minimax-goes_on, minimax-more, best_choice-leaf, best_choice-deeper}
+
+max_assoc : (x y z : ℤ) → int_max x (int_max y z) ≡ int_max (int_max x y) z
+max_assoc x y z = omega (arith, ints, clamps)
+
+max_left : (x y : ℤ) → y ≤ℤ x → int_max x y ≡ x
+max_left x y l = omega (arith, ints, clamps)
+
+max_right : (x y : ℤ) → x <ℤ y → int_max x y ≡ y
+max_right x y l = omega (arith, ints, clamps)
+
+greatest-step : (x y : ℤ) (ys : List ℤ) → greatest x (y ∷ ys) ≡ greatest (int_max x y) ys
+greatest-step x y [] = refl
+greatest-step x y (z ∷ zs) = max_assoc x y (greatest z zs)
 
 -- from the best value so far and the choice that attains it, over the choices that are left: a later
 -- choice takes over only where it is worth more
@@ -79,27 +93,27 @@ running-choice v best c (e ∷ es) at =
     more : best <ℤ v e → first_worth v (greatest best (map v (e ∷ es))) (c ∷ e ∷ es) ≡ first_worth v (greatest (v e) (map v es)) (e ∷ es)
     more l =
         ap (λ m. first_worth v m (c ∷ e ∷ es)) (greatest-step best (v e) (map v es) ∙ ap (λ x. greatest x (map v es)) (max_right best (v e) l))
-        ∙ skipped v (greatest (v e) (map v es)) c (e ∷ es) (below (v c) best (v e) (greatest (v e) (map v es)) at l (greatest-above (v e) (map v es)))
+        ∙ skipped v (greatest (v e) (map v es)) c (e ∷ es) (below (v c) best (v e) (greatest (v e) (map v es)) at l (greatest-first (v e) (map v es)))
 
     same : v e ≤ℤ best → first_worth v (greatest best (map v (e ∷ es))) (c ∷ e ∷ es) ≡ first_worth v (greatest best (map v es)) (c ∷ es)
     same l =
         ap (λ m. first_worth v m (c ∷ e ∷ es)) (greatest-step best (v e) (map v es) ∙ ap (λ x. greatest x (map v es)) (max_left best (v e) l))
-        ∙ passed_over v (greatest best (map v es)) c e es (no_more (v c) best (v e) at l) (no_less (v c) best (greatest best (map v es)) at (greatest-above best (map v es)))
+        ∙ passed_over v (greatest best (map v es)) c e es (no_more (v c) best (v e) at l) (no_less (v c) best (greatest best (map v es)) at (greatest-first best (map v es)))
 
 -- ---- of a board
 
 -- the value and the best choice are those that are left after all choices
-pub minimax-running : (depth : ℕ) (board : List Cell) (c : Choice) (cs : List Choice) → choices board ≡ c ∷ cs
-    → minimax (suc depth) board ≡ (running (choice_value depth board) (choice_value depth board c) c cs).0
-minimax-running depth board c cs e =
-    minimax-more depth board c cs e ∙ sym (running-value (choice_value depth board) (choice_value depth board c) c cs)
+pub minimax-running : (depth : ℕ) (board : List Cell) (c : Choice) (cs : List Choice) → 0 < depth → choices board ≡ c ∷ cs
+    → minimax depth board ≡ (running (choice_value depth board) (choice_value depth board c) c cs).0
+minimax-running depth board c cs some e =
+    minimax-more depth board c cs some e ∙ sym (running-value (choice_value depth board) (choice_value depth board c) c cs)
 
-pub best_choice-running : (depth : ℕ) (board : List Cell) (c : Choice) (cs : List Choice) → choices board ≡ c ∷ cs
-    → best_choice (suc depth) board ≡ Some (running (choice_value depth board) (choice_value depth board c) c cs).1
-best_choice-running depth board c cs e =
+pub best_choice-running : (depth : ℕ) (board : List Cell) (c : Choice) (cs : List Choice) → 0 < depth → choices board ≡ c ∷ cs
+    → best_choice depth board ≡ Some (running (choice_value depth board) (choice_value depth board c) c cs).1
+best_choice-running depth board c cs some e =
     let v = choice_value depth board in
-    best_choice-more depth board
-    ∙ ap₂ (λ m l. first_worth v m l) (minimax-more depth board c cs e) e
+    best_choice-deeper depth board some
+    ∙ ap₂ (λ m l. first_worth v m l) (minimax-more depth board c cs some e) e
     ∙ running-choice v (v c) c cs refl
 
 greatest_all : (v : Choice → ℤ) (x : ℤ) (cs : List Choice) → All (λ c. v c ≤ℤ greatest x (map v cs)) cs
@@ -107,40 +121,34 @@ greatest_all v x [] = All-nil (λ c. v c ≤ℤ x)
 greatest_all v x (c ∷ cs) =
     let m = greatest x (map v (c ∷ cs)) in
     All-cons (λ e. v e ≤ℤ m) c cs
-    (beyond (v c) (greatest (v c) (map v cs)) (greatest-above (v c) (map v cs)))
+    (beyond (v c) (greatest (v c) (map v cs)) (greatest-first (v c) (map v cs)))
     (All-weaker (λ e. v e ≤ℤ greatest (v c) (map v cs)) (λ e. v e ≤ℤ m) (λ e h. beyond (v e) (greatest (v c) (map v cs)) h) cs (greatest_all v (v c) cs))
   where
     beyond : (y g : ℤ) → y ≤ℤ g → y ≤ℤ int_max x g
     beyond y g l = omega (arith, ints, clamps)
 
 -- no choice is worth more than the minimax value
-pub choices_below : (depth : ℕ) (board : List Cell) → All (λ c. choice_value depth board c ≤ℤ minimax (suc depth) board) (choices board)
-choices_below depth board = by_list (choices board) refl
+pub choices_below : (depth : ℕ) (board : List Cell) → 0 < depth → All (λ c. choice_value depth board c ≤ℤ minimax depth board) (choices board)
+choices_below depth board some = by_list (choices board) refl
   where
-    by_list : (cs : List Choice) → choices board ≡ cs → All (λ c. choice_value depth board c ≤ℤ minimax (suc depth) board) (choices board)
-    by_list [] e = subst (All (λ c. choice_value depth board c ≤ℤ minimax (suc depth) board)) (sym e) (All-nil (λ c. choice_value depth board c ≤ℤ minimax (suc depth) board))
+    by_list : (cs : List Choice) → choices board ≡ cs → All (λ c. choice_value depth board c ≤ℤ minimax depth board) (choices board)
+    by_list [] e = subst (All (λ c. choice_value depth board c ≤ℤ minimax depth board)) (sym e) (All-nil (λ c. choice_value depth board c ≤ℤ minimax depth board))
     by_list (c ∷ cs) e =
-        let m = minimax (suc depth) board in
-        let is = minimax-more depth board c cs e in
+        let m = minimax depth board in
+        let is = minimax-more depth board c cs some e in
         let w = choice_value depth board in
         subst (All (λ d. w d ≤ℤ m)) (sym e)
         (subst (λ x. All (λ d. w d ≤ℤ x) (c ∷ cs)) (sym is)
-        (All-cons (λ d. w d ≤ℤ greatest (w c) (map w cs)) c cs (greatest-above (w c) (map w cs)) (greatest_all w (w c) cs)))
-
-greatest_at_most : (v : Choice → ℤ) (s x : ℤ) (cs : List Choice) → x ≤ℤ s → All (λ c. v c ≤ℤ s) cs → greatest x (map v cs) ≤ℤ s
-greatest_at_most v s x [] l all = l
-greatest_at_most v s x (c ∷ cs) l all =
-    let rest = greatest_at_most v s (v c) cs (All-head (λ c. v c ≤ℤ s) c cs all) (All-tail (λ c. v c ≤ℤ s) c cs all) in
-    omega (arith, ints, clamps)
+        (All-cons (λ d. w d ≤ℤ greatest (w c) (map w cs)) c cs (greatest-first (w c) (map w cs)) (greatest_all w (w c) cs)))
 
 -- where no choice is worth more than s, nor is the minimax value
-pub minimax_at_most : (depth : ℕ) (board : List Cell) (s : ℤ) (c : Choice) (cs : List Choice) → choices board ≡ c ∷ cs
-    → All (λ c. choice_value depth board c ≤ℤ s) (choices board) → minimax (suc depth) board ≤ℤ s
-minimax_at_most depth board s c cs e all =
+minimax_at_most : (depth : ℕ) (board : List Cell) (s : ℤ) (c : Choice) (cs : List Choice) → 0 < depth → choices board ≡ c ∷ cs
+    → All (λ c. choice_value depth board c ≤ℤ s) (choices board) → minimax depth board ≤ℤ s
+minimax_at_most depth board s c cs some e all =
     let v = choice_value depth board in
     let each = subst (All (λ c. v c ≤ℤ s)) e all in
-    subst (λ x. x ≤ℤ s) (sym (minimax-more depth board c cs e))
-    (greatest_at_most v s (v c) cs (All-head (λ c. v c ≤ℤ s) c cs each) (All-tail (λ c. v c ≤ℤ s) c cs each))
+    subst (λ x. x ≤ℤ s) (sym (minimax-more depth board c cs some e))
+    (greatest-upper v (v c) cs s (All-head (λ c. v c ≤ℤ s) c cs each) (All-tail (λ c. v c ≤ℤ s) c cs each))
 
 find_passes : (p : Choice → Bool) (cs : List Choice) (c : Choice) → find p cs ≡ Some c → (p c ≡ true) × Contains cs c
 find_passes p [] c e = cc
@@ -164,14 +172,15 @@ find_first p (d ∷ ds) c rest all t =
     ∙ find_first p ds c rest (All-tail (λ e. p e ≡ false) d ds all) t
 
 -- the first choice in order that attains the minimax value is the best choice
-pub best_choice_first : (depth : ℕ) (board : List Cell) (done : List Choice) (c : Choice) (rest : List Choice) → choices board ≡ done ++ c ∷ rest
-    → choice_value depth board c ≡ minimax (suc depth) board
-    → All (λ e. choice_value depth board e <ℤ minimax (suc depth) board) done
-    → best_choice (suc depth) board ≡ Some c
-best_choice_first depth board done c rest e at all =
+pub best_choice_first : (depth : ℕ) (board : List Cell) (done : List Choice) (c : Choice) (rest : List Choice) → 0 < depth
+    → choices board ≡ done ++ c ∷ rest
+    → choice_value depth board c ≡ minimax depth board
+    → All (λ e. choice_value depth board e <ℤ minimax depth board) done
+    → best_choice depth board ≡ Some c
+best_choice_first depth board done c rest some e at all =
     let v = choice_value depth board in
-    let m = minimax (suc depth) board in
-    best_choice-more depth board
+    let m = minimax depth board in
+    best_choice-deeper depth board some
     ∙ ap (first_worth v m) e
     ∙ find_first (λ d. int_equal (v d) m) done c rest
     (All-weaker (λ d. v d <ℤ m) (λ d. int_equal (v d) m ≡ false) (λ d l. int_equal-other (v d) m (λ q. below (v d) m l q)) done all)
@@ -181,28 +190,32 @@ best_choice_first depth board done c rest e at all =
     below x y l q = omega (arith, ints)
 
 -- the best choice is a choice, and attains the minimax value
-pub best_choice_attains : (depth : ℕ) (board : List Cell) (c : Choice) → best_choice (suc depth) board ≡ Some c
-    → (choice_value depth board c ≡ minimax (suc depth) board) × Contains (choices board) c
-best_choice_attains depth board c e =
-    let v = choice_value depth board in
+pub best_choice_attains : (depth : ℕ) (board : List Cell) (c : Choice) → best_choice depth board ≡ Some c
+    → (choice_value depth board c ≡ minimax depth board) × Contains (choices board) c
+best_choice_attains zero board c e = absurd (none_some (sym (best_choice-leaf board) ∙ e))
+  where
+    none_some : {X : Type 0} {x : X} → None ≡ Some x → ⊥
+    none_some q = cc
+best_choice_attains (suc depth) board c e =
+    let v = choice_value (suc depth) board in
     let m = minimax (suc depth) board in
-    let h = find_passes (λ d. int_equal (v d) m) (choices board) c (sym (best_choice-more depth board) ∙ e) in
-    (same-int_equal (v c) m h.0, h.1)
+    let h = find_passes (λ d. int_equal (v d) m) (choices board) c (sym (best_choice-deeper (suc depth) board (omega arith)) ∙ e) in
+    (same_from_int_equal (v c) m h.0, h.1)
 
 -- ---- where there is a choice
 
-pub some_choice : (cs : List Choice) → (cs ≡ [] → ⊥) → (c : Choice) × (more : List Choice) × (cs ≡ c ∷ more)
+some_choice : (cs : List Choice) → (cs ≡ [] → ⊥) → (c : Choice) × (more : List Choice) × (cs ≡ c ∷ more)
 some_choice [] ne = absurd (ne refl)
 some_choice (c ∷ more) ne = (c, more, refl)
 
-pub best_choice_there : (depth : ℕ) (board : List Cell) → (choices board ≡ [] → ⊥) → IsSome (best_choice (suc depth) board)
-best_choice_there depth board ne =
+pub best_choice_there : (depth : ℕ) (board : List Cell) → 0 < depth → (choices board ≡ [] → ⊥) → IsSome (best_choice depth board)
+best_choice_there depth board some ne =
     let h = some_choice (choices board) ne in
-    subst IsSome (sym (best_choice-running depth board h.0 h.1 h.2)) refl
+    subst IsSome (sym (best_choice-running depth board h.0 h.1 some h.2)) refl
 
-pub minimax_least : (depth : ℕ) (board : List Cell) (s : ℤ) → (choices board ≡ [] → ⊥)
-    → All (λ c. choice_value depth board c ≤ℤ s) (choices board) → minimax (suc depth) board ≤ℤ s
-minimax_least depth board s ne all = let h = some_choice (choices board) ne in minimax_at_most depth board s h.0 h.1 h.2 all
+pub minimax_least : (depth : ℕ) (board : List Cell) (s : ℤ) → 0 < depth → (choices board ≡ [] → ⊥)
+    → All (λ c. choice_value depth board c ≤ℤ s) (choices board) → minimax depth board ≤ℤ s
+minimax_least depth board s some ne all = let h = some_choice (choices board) ne in minimax_at_most depth board s h.0 h.1 some h.2 all
 
 pub minimax_leaf_there : (board : List Cell) → (choices board ≡ [] → ⊥) → minimax 0 board ≡ eval board
-minimax_leaf_there board ne = let h = some_choice (choices board) ne in minimax-leaf board h.0 h.1 h.2
+minimax_leaf_there board ne = let h = some_choice (choices board) ne in minimax-goes_on board h.0 h.1 h.2

@@ -1,5 +1,6 @@
 pub mod ValueLemmas
 pub mod CodeLemmas
+pub mod GreatestLemmas
 pub mod MinimaxLemmas
 pub mod BestLemmas
 pub mod PlainLemmas

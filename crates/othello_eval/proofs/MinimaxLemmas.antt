@@ -1,15 +1,87 @@
--- Minimax values and best choices.
-use Rattle.std.proofs.Common.{◌≡◌, ℕ, zero, suc, true, false, List, [], ◌∷◌, map, length, None, find, ℤ, ◌≤ℤ◌, ◌<ℤ◌, neg_ℤ, int_lt, int_le, refl, ap, arith}
-use Rattle.std.specs.Int.{int_max}
-use Rattle.std.proofs.lemmas.Int.{ints, clamps}
-use Rattle.std.proofs.lemmas.Bool.{cond_both, and_parts, and_from, false_from_ne_true}
+-- Minimax values and best choices at a board, from what its choices are worth.
+use Rattle.std.proofs.Common.{◌≡◌, ℕ, zero, suc, ◌+◌, ◌-◌, ◌<◌, List, [], ◌∷◌, map, length, None, find, ℤ, neg_ℤ, int_lt, refl, ap, ap₂, ◌∙◌, arith}
+use Rattle.std.proofs.lemmas.Int.{ints}
+use Rattle.std.proofs.lemmas.Bool.{cond_both}
+use Rattle.std.specs.Prelude.{if◌then◌else◌}
 use Rattle.othello_board.specs.declared.cells.Cell.{Cell}
+use Rattle.othello_board.specs.Rules.{is_nil, exchanged}
 use Rattle.othello_moves.specs.declared.choices.Choice.{Choice}
-use Rattle.othello_moves.specs.Choices.{choices, after}
+use Rattle.othello_moves.specs.declared.choices.Choice.TheVariants.{Square, Pass}
+use Rattle.othello_moves.specs.Choices.{choices, legal_squares, after}
 use Rattle.othello_moves.proofs.AllowedLemmas.{length-after}
 use Rattle.othello_eval.specs.Values.{eval, final_value, IsWithin}
 use Rattle.othello_eval.specs.Minimax.{greatest, greatest_or, leaf_value, minimax, choice_value, int_equal, best_choice}
 use Rattle.othello_eval.proofs.ValueLemmas.{eval_within, final_value_within}
+
+-- ---- by the choices
+
+pub minimax-leaf : (board : List Cell) → minimax 0 board ≡ leaf_value board (choices board)
+unfolding minimax
+minimax-leaf board = refl
+
+pub best_choice-leaf : (board : List Cell) → best_choice 0 board ≡ None
+unfolding best_choice
+best_choice-leaf board = refl
+
+-- with one ply at least, a choice is worth what comes after it
+worth-suc : (depth : ℕ) (board : List Cell) (cs : List Choice) → map (λ c. neg_ℤ (minimax depth (after board c))) cs ≡ map (choice_value (suc depth) board) cs
+worth-suc depth board [] = refl
+worth-suc depth board (c ∷ cs) =
+    ap₂ (λ v vs. v ∷ vs) (ap (λ d. neg_ℤ (minimax d (after board c))) (less_one depth)) (worth-suc depth board cs)
+  where
+    less_one : (d : ℕ) → d ≡ suc d - 1
+    less_one d = omega arith
+
+pub minimax-deeper : (depth : ℕ) (board : List Cell) → 0 < depth → minimax depth board ≡ greatest_or (final_value board) (map (choice_value depth board) (choices board))
+unfolding minimax
+minimax-deeper zero board some = absurd (omega arith)
+minimax-deeper (suc depth) board some = ap (greatest_or (final_value board)) (worth-suc depth board (choices board))
+
+pub best_choice-deeper : (depth : ℕ) (board : List Cell) → 0 < depth → best_choice depth board ≡ find (λ c. int_equal (choice_value depth board c) (minimax depth board)) (choices board)
+unfolding best_choice
+best_choice-deeper zero board some = absurd (omega arith)
+best_choice-deeper (suc depth) board some = refl
+
+-- a finished game has its final value at every depth, and no best choice
+pub minimax-over : (depth : ℕ) (board : List Cell) → choices board ≡ [] → minimax depth board ≡ final_value board
+minimax-over zero board over = minimax-leaf board ∙ ap (leaf_value board) over
+minimax-over (suc depth) board over =
+    minimax-deeper (suc depth) board (omega arith) ∙ ap (λ cs. greatest_or (final_value board) (map (choice_value (suc depth) board) cs)) over
+
+pub best_choice-over : (depth : ℕ) (board : List Cell) → choices board ≡ [] → best_choice depth board ≡ None
+best_choice-over zero board over = best_choice-leaf board
+best_choice-over (suc depth) board over =
+    best_choice-deeper (suc depth) board (omega arith) ∙ ap (find (λ c. int_equal (choice_value (suc depth) board c) (minimax (suc depth) board))) over
+
+-- a game that goes on has its evaluation at depth 0
+pub minimax-goes_on : (board : List Cell) (c : Choice) (cs : List Choice) → choices board ≡ c ∷ cs → minimax 0 board ≡ eval board
+minimax-goes_on board c cs e = minimax-leaf board ∙ ap (leaf_value board) e
+
+-- and else the greatest of what the choices are worth
+pub minimax-more : (depth : ℕ) (board : List Cell) (c : Choice) (cs : List Choice) → 0 < depth → choices board ≡ c ∷ cs
+    → minimax depth board ≡ greatest (choice_value depth board c) (map (choice_value depth board) cs)
+minimax-more depth board c cs some e =
+    minimax-deeper depth board some ∙ ap (λ l. greatest_or (final_value board) (map (choice_value depth board) l)) e
+
+-- ---- depth 0, by how many squares each side can move to
+
+over_without_squares : (board : List Cell) (own opp : List ℕ) → length own ≡ 0 → length opp ≡ 0 → leaf_value board (if is_nil own then (if is_nil opp then [] else Pass ∷ []) else map Square own) ≡ final_value board
+over_without_squares board [] [] no_own no_opp = refl
+over_without_squares board [] (s ∷ opp) no_own no_opp = absurd (omega arith)
+over_without_squares board (s ∷ own) opp no_own no_opp = absurd (omega arith)
+
+goes_on_with_squares : (board : List Cell) (own opp : List ℕ) → 0 < length own + length opp → leaf_value board (if is_nil own then (if is_nil opp then [] else Pass ∷ []) else map Square own) ≡ eval board
+goes_on_with_squares board [] [] some = absurd (omega arith)
+goes_on_with_squares board [] (s ∷ opp) some = refl
+goes_on_with_squares board (s ∷ own) opp some = refl
+
+pub minimax-without_squares : (board : List Cell) → length (legal_squares board) ≡ 0 → length (legal_squares (exchanged board)) ≡ 0 → minimax 0 board ≡ final_value board
+minimax-without_squares board no_own no_opp =
+    minimax-leaf board ∙ over_without_squares board (legal_squares board) (legal_squares (exchanged board)) no_own no_opp
+
+pub minimax-with_squares : (board : List Cell) → 0 < length (legal_squares board) + length (legal_squares (exchanged board)) → minimax 0 board ≡ eval board
+minimax-with_squares board some =
+    minimax-leaf board ∙ goes_on_with_squares board (legal_squares board) (legal_squares (exchanged board)) some
 
 -- ---- bounds
 
@@ -19,13 +91,13 @@ within_more z h = (omega (arith, ints), omega (arith, ints))
 within_negated : (n : ℕ) (z : ℤ) → IsWithin n z → IsWithin n (neg_ℤ z)
 within_negated n z h = (omega (arith, ints), omega (arith, ints))
 
-greatest_within : (n : ℕ) (v : Choice → ℤ) → ((c : Choice) → IsWithin n (v c)) → (x : ℤ) (cs : List Choice) → IsWithin n x → IsWithin n (greatest x (map v cs))
+greatest_within : {X : Type 0} (n : ℕ) (v : X → ℤ) → ((c : X) → IsWithin n (v c)) → (x : ℤ) (cs : List X) → IsWithin n x → IsWithin n (greatest x (map v cs))
 greatest_within n v each x [] h = h
 greatest_within n v each x (c ∷ cs) h =
     let rest = greatest (v c) (map v cs) in
     cond_both (int_lt rest x) x rest (IsWithin n) (λ _. h) (λ _. greatest_within n v each (v c) cs (each c))
 
-greatest_or_within : (n : ℕ) (v : Choice → ℤ) → ((c : Choice) → IsWithin n (v c)) → (other : ℤ) (cs : List Choice) → IsWithin n other → IsWithin n (greatest_or other (map v cs))
+greatest_or_within : {X : Type 0} (n : ℕ) (v : X → ℤ) → ((c : X) → IsWithin n (v c)) → (other : ℤ) (cs : List X) → IsWithin n other → IsWithin n (greatest_or other (map v cs))
 greatest_or_within n v each other [] h = h
 greatest_or_within n v each other (c ∷ cs) h = greatest_within n v each (v c) cs (each c)
 
@@ -38,73 +110,6 @@ pub minimax_within : (depth : ℕ) (board : List Cell) → length board ≡ 64 �
 unfolding minimax
 minimax_within zero board e = leaf_within board (choices board) e
 minimax_within (suc depth) board e =
-    greatest_or_within 128000 (choice_value depth board)
+    greatest_or_within 128000 (λ c. neg_ℤ (minimax depth (after board c)))
     (λ c. within_negated 128000 (minimax depth (after board c)) (minimax_within depth (after board c) (length-after board c e)))
     (final_value board) (choices board) (final_value_within board e)
-
--- ---- by the choices
-
--- a finished game has its final value at every depth, and no best choice
-pub minimax-over : (depth : ℕ) (board : List Cell) → choices board ≡ [] → minimax depth board ≡ final_value board
-unfolding minimax
-minimax-over zero board over = ap (leaf_value board) over
-minimax-over (suc depth) board over = ap (λ cs. greatest_or (final_value board) (map (choice_value depth board) cs)) over
-
-pub best_choice-over : (depth : ℕ) (board : List Cell) → choices board ≡ [] → best_choice depth board ≡ None
-unfolding best_choice
-best_choice-over zero board over = refl
-best_choice-over (suc depth) board over = ap (find (λ c. int_equal (choice_value depth board c) (minimax (suc depth) board))) over
-
-pub minimax-leaf : (board : List Cell) (c : Choice) (cs : List Choice) → choices board ≡ c ∷ cs → minimax 0 board ≡ eval board
-unfolding minimax
-minimax-leaf board c cs e = ap (leaf_value board) e
-
-pub best_choice-leaf : (board : List Cell) → best_choice 0 board ≡ None
-unfolding best_choice
-best_choice-leaf board = refl
-
--- else the value is the greatest of what the choices are worth
-pub minimax-more : (depth : ℕ) (board : List Cell) (c : Choice) (cs : List Choice) → choices board ≡ c ∷ cs
-    → minimax (suc depth) board ≡ greatest (choice_value depth board c) (map (choice_value depth board) cs)
-unfolding minimax
-minimax-more depth board c cs e = ap (λ l. greatest_or (final_value board) (map (choice_value depth board) l)) e
-
-pub best_choice-more : (depth : ℕ) (board : List Cell)
-    → best_choice (suc depth) board ≡ find (λ c. int_equal (choice_value depth board c) (minimax (suc depth) board)) (choices board)
-unfolding best_choice
-best_choice-more depth board = refl
-
--- ---- the greatest
-
-max_assoc : (x y z : ℤ) → int_max x (int_max y z) ≡ int_max (int_max x y) z
-max_assoc x y z = omega (arith, ints, clamps)
-
-pub greatest-step : (x y : ℤ) (ys : List ℤ) → greatest x (y ∷ ys) ≡ greatest (int_max x y) ys
-greatest-step x y [] = refl
-greatest-step x y (z ∷ zs) = max_assoc x y (greatest z zs)
-
-pub greatest-above : (x : ℤ) (ys : List ℤ) → x ≤ℤ greatest x ys
-greatest-above x [] = omega (arith, ints)
-greatest-above x (y ∷ ys) = omega (arith, ints, clamps)
-
-pub max_left : (x y : ℤ) → y ≤ℤ x → int_max x y ≡ x
-max_left x y l = omega (arith, ints, clamps)
-
-pub max_right : (x y : ℤ) → x <ℤ y → int_max x y ≡ y
-max_right x y l = omega (arith, ints, clamps)
-
--- ---- equal numbers
-
-pub int_equal-same : (x y : ℤ) → x ≡ y → int_equal x y ≡ true
-int_equal-same x y e = and_from (int_le x y) (int_le y x) (grind (arith, ints)) (grind (arith, ints))
-
-pub same-int_equal : (x y : ℤ) → int_equal x y ≡ true → x ≡ y
-same-int_equal x y e =
-    let h = and_parts (int_le x y) (int_le y x) e in
-    both x y h.0 h.1
-  where
-    both : (x y : ℤ) → int_le x y ≡ true → int_le y x ≡ true → x ≡ y
-    both x y a b = grind (arith, ints)
-
-pub int_equal-other : (x y : ℤ) → (x ≡ y → ⊥) → int_equal x y ≡ false
-int_equal-other x y ne = false_from_ne_true (int_equal x y) (λ e. ne (same-int_equal x y e))

@@ -1,5 +1,5 @@
 -- The minimax value of a board to a depth, and the best choice.
-use Rattle.std.specs.Prelude.{ℕ, zero, suc, ℤ, neg_ℤ, Bool, ◌&&◌, List, [], ◌∷◌, map, Option, None, find, int_le}
+use Rattle.std.specs.Prelude.{ℕ, zero, suc, ◌-◌, ℤ, neg_ℤ, Bool, ◌&&◌, List, [], ◌∷◌, map, Option, None, find, int_le}
 use Rattle.std.specs.Int.{int_max}
 use Rattle.othello_board.specs.declared.cells.Cell.{Cell}
 use Rattle.othello_moves.specs.declared.choices.Choice.{Choice}
@@ -27,9 +27,9 @@ unfoldable pub minimax : ℕ → List Cell → ℤ
 minimax zero board = leaf_value board (choices board)
 minimax (suc depth) board = greatest_or (final_value board) (map (λ c. neg_ℤ (minimax depth (after board c))) (choices board))
 
--- what a choice is worth to the mover, with this many plies to follow it
+-- what a choice is worth to the mover, at a board that is looked at to a depth of 1 or more: a choice uses a ply
 abbrev pub choice_value : ℕ → List Cell → Choice → ℤ
-choice_value depth board c = neg_ℤ (minimax depth (after board c))
+choice_value depth board c = neg_ℤ (minimax (depth - 1) (after board c))
 
 -- whether two numbers are the same
 abbrev pub int_equal : ℤ → ℤ → Bool
@@ -38,4 +38,4 @@ int_equal x y = int_le x y && int_le y x
 -- the first choice in order that attains the minimax value; none at depth 0 and in a finished game
 unfoldable pub best_choice : ℕ → List Cell → Option Choice
 best_choice zero board = None
-best_choice (suc depth) board = find (λ c. int_equal (choice_value depth board c) (minimax (suc depth) board)) (choices board)
+best_choice (suc depth) board = find (λ c. int_equal (choice_value (suc depth) board c) (minimax (suc depth) board)) (choices board)

@@ -1,9 +1,10 @@
 //! The definitions of values, tried on boards: each contract is computed from the definitions alone.
-ghost use Rattle.std.specs.Prelude.{◌≡◌, pos, negsuc, Some, None};
+ghost use Rattle.std.specs.Prelude.{◌≡◌, pos, negsuc, Some, None, [], ◌∷◌};
 ghost use Rattle.othello_board.specs.Rows.{opening};
 ghost use Rattle.othello_moves.specs.declared.choices.Choice.TheVariants.{Square, Pass};
+ghost use Rattle.othello_moves.specs.Choices.{choices, after};
 ghost use Rattle.othello_moves.specs.Rows.{two_discs, two_discs_from_there};
-ghost use Rattle.othello_eval.specs.Minimax.{minimax, best_choice};
+ghost use Rattle.othello_eval.specs.Minimax.{minimax, choice_value, best_choice};
 ghost use Rattle.othello_eval.specs.Rows.{all_opposing, no_discs, corner_or_edge};
 
 /// The opening is worth nothing to either side.
@@ -22,6 +23,14 @@ pub fn opening_at_depth_1()
 pub fn opening_at_depth_2()
     ensures value { minimax 2 opening ≡ negsuc 3 }
     ensures choice { best_choice 2 opening ≡ Some (Square 19) }
+{}
+
+/// What White's three answers to d3 are worth to White: c3 (18) 4, e3 (20) 0, c5 (34) -4.
+pub fn answers_to_d3()
+    ensures choices { choices (after opening (Square 19)) ≡ Square 18 ∷ Square 20 ∷ Square 34 ∷ [] }
+    ensures c3 { choice_value 1 (after opening (Square 19)) (Square 18) ≡ pos 4 }
+    ensures e3 { choice_value 1 (after opening (Square 19)) (Square 20) ≡ pos 0 }
+    ensures c5 { choice_value 1 (after opening (Square 19)) (Square 34) ≡ negsuc 3 }
 {}
 
 /// Two discs in the corner: c1 (2) ends the game by 3 discs to none, with empty squares left.

@@ -1,17 +1,21 @@
 //! Answering the lines of an input, each by the minimax value of its position.
-ghost use Rattle.std.specs.Prelude.{◌≡◌, ◌≤◌, ℕ, List, IfOk, IfErr};
+ghost use Rattle.std.specs.Prelude.{◌≡◌, ◌≤◌, ◌++◌, ℕ, List, Some, IfOk, IfErr, OnOk};
 ghost use Rattle.othello_board.specs.declared.cells.Cell.{Cell};
 ghost use Rattle.line_io.specs.Views.{text_of};
 ghost use Rattle.line_io.specs.Runs.{Run, FunctionRun};
 ghost use Rattle.othello_server.specs.declared.solving.VisitedSolver.{VisitedSolver};
 ghost use Rattle.othello_server.specs.Replies.{error_text};
-ghost use Rattle.othello_server.specs.Solving.{line_answer, position_answer, reply_of, solve_line, IsVisitedLine};
+ghost use Rattle.othello_server.specs.Solving.{line_answer, position_answer, reply_of, solve_line, solve_out, IsVisitedLine};
 
 use crate::replies::{error_text, value_text, visited_text};
 use crate::requests::{number_of, split_at_space};
 use leaf_search::search_full;
-use line_io::{Answer, Line, LineFault, Sink, Source, Text, answer_lines, run_by_function};
+use line_io::{
+    Answer, FromReader, FromWriter, Line, LineFault, Sink, Source, Text, answer_lines,
+    known_runs_are_exact, run_by_function,
+};
 use position_text::read;
+use std::io::{Read, Write};
 
 /// The greatest depth that is answered, in plies.
 const MOST_DEPTH: u32 = 12;
@@ -118,14 +122,30 @@ impl Answer for VisitedSolver {
 
 /// Answers each line of the source, as soon as it is complete, by a line `value move` on the sink.
 ///
-/// Fault 1 comes only where the source failed, fault 2 only where the sink failed or took no byte,
-/// and fault 3 only where 2^62 bytes were read. What is written then is a beginning of what was to be.
+/// At Ok the source has given its end, and what is written is `solve_out` of what was read. Fault 1 comes only
+/// where the source failed, and fault 3 only where 2^62 bytes were read: what is written then is `solve_out` of
+/// the bytes up to the last LF. Fault 2 comes only where the sink failed or took no byte, and what is written
+/// then is a beginning of `solve_out`.
 pub fn solve<S: Source, K: Sink>(source: &mut S, sink: &mut K) -> Result<(), LineFault>
-    ensures { FunctionRun S.gives K.takes solve_line source.old sink.old source.new sink.new result }
+    ensures { FunctionRun S.gives K.takes solve_out source.old sink.old source.new sink.new result }
 {
     let mut solver = Solver;
     let result = answer_lines(source, sink, &mut solver);
     run_by_function::<S, K, Solver>();
+    result
+}
+
+/// `solve` over std's readers and writers: where the bytes to be read are known, and what the writer holds, it
+/// then holds `solve_out` of the bytes behind that.
+pub fn solve_bytes<R: Read, W: Write>(
+    source: &mut FromReader<R>,
+    sink: &mut FromWriter<W>,
+) -> Result<(), LineFault>
+    ensures { OnOk result ((bytes held : List ℕ) → R.remaining source.old.reader ≡ Some bytes → W.contents sink.old.writer ≡ Some held
+        → W.contents sink.new.writer ≡ Some (held ++ solve_out bytes)) }
+{
+    let result = solve(source, sink);
+    known_runs_are_exact::<R, W>();
     result
 }
 

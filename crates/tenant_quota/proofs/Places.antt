@@ -1,6 +1,7 @@
 -- Where a tenant's account stands in a list that rises.
 use Rattle.std.proofs.Common.{◌≡◌, ◌≢◌, ℕ, zero, suc, ◌<◌, ◌≤◌, true, false, cond, eqb, ltb, List, [], ◌∷◌, length, get_or, Some, None, refl, ap, subst, arith}
-use Rattle.std.proofs.lemmas.Bool.{ltb-true, ltb-false, eq-eqb, ne_eqb, eqb-true}
+use Rattle.std.proofs.lemmas.Bool.{ltb-true, ltb-false, lt-ltb, eq-eqb, ne_eqb, eqb-true}
+use Rattle.std.specs.List.Sorted.{IsPartitionedBy, IsPartitionPoint}
 use Rattle.tenant_quota.specs.declared.account.Account.{Account}
 use Rattle.tenant_quota.specs.Accounts.{account_of, count_below, AllEntries, IsRising}
 
@@ -21,19 +22,30 @@ pub count_below-le-length : (t : ℕ) (es : List (ℕ × Account)) → count_bel
 count_below-le-length t [] = omega arith
 count_below-le-length t (e ∷ es) = count_below_cases t e es (λ i. i ≤ suc (length es)) (λ _. omega (arith, count_below-le-length t es)) (λ _. omega arith)
 
--- what is not below the tenant stands at its place or later
-pub count_below-le : (t : ℕ) (es : List (ℕ × Account)) (k : ℕ) (d : ℕ × Account) → k < length es → t ≤ (get_or es k d).0 → count_below t es ≤ k
-count_below-le t [] k d lt above = absurd (omega arith)
-count_below-le t (e ∷ es) zero d lt above = count_below_cases t e es (λ i. i ≤ 0) (λ below. absurd (omega arith)) (λ _. omega arith)
-count_below-le t (e ∷ es) (suc k) d lt above = count_below_cases t e es (λ i. i ≤ suc k) (λ below. omega (arith, count_below-le t es k d (omega arith) above)) (λ _. omega arith)
+-- where a later tenant is below this one, so are those before it
+pub partitioned-rising : (t : ℕ) (es : List (ℕ × Account)) → IsRising es → IsPartitionedBy (λ e. ltb e.0 t) es
+partitioned-rising t [] rising i j d before within low = absurd (omega arith)
+partitioned-rising t (e ∷ es) rising zero zero d before within low = low
+partitioned-rising t (e ∷ es) rising zero (suc j) d before within low =
+    let first : e.0 < (get_or es j d).0 = AllEntries-at (λ later. e.0 < later.0) es j d rising.0 (omega (arith, within)) in
+    let below : (get_or es j d).0 < t = ltb-true (get_or es j d).0 t low in
+    lt-ltb e.0 t (omega arith)
+partitioned-rising t (e ∷ es) rising (suc i) zero d before within low = absurd (omega (arith, before))
+partitioned-rising t (e ∷ es) rising (suc i) (suc j) d before within low =
+    partitioned-rising t es rising.1 i j d (omega (arith, before)) (omega (arith, within)) low
 
--- what is below the tenant stands before its place
-pub count_below-gt : (t : ℕ) (es : List (ℕ × Account)) (k : ℕ) (d : ℕ × Account) → IsRising es → k < length es → (get_or es k d).0 < t → k < count_below t es
-count_below-gt t [] k d rising lt below = absurd (omega arith)
-count_below-gt t (e ∷ es) zero d rising lt below = count_below_cases t e es (λ i. 0 < i) (λ _. omega arith) (λ above. absurd (omega arith))
-count_below-gt t (e ∷ es) (suc k) d rising lt below =
-    let first : e.0 < (get_or es k d).0 = AllEntries-at (λ later. e.0 < later.0) es k d rising.0 (omega arith) in
-    count_below_cases t e es (λ i. suc k < i) (λ _. omega (arith, count_below-gt t es k d rising.1 (omega arith) below)) (λ above. absurd (omega arith))
+-- the place before which all are below the tenant, and from which none is
+pub point-is_count_below : (t : ℕ) (es : List (ℕ × Account)) (i : ℕ) → IsPartitionPoint (λ e. ltb e.0 t ≡ true) (λ e. ltb e.0 t ≡ false) es i → i ≤ length es → i ≡ count_below t es
+point-is_count_below t [] i point within = omega arith
+point-is_count_below t (e ∷ es) zero point within =
+    count_below_cases t e es (λ n. 0 ≡ n)
+    (λ below. let above : t ≤ e.0 = ltb-false e.0 t (point.1 0 e (omega arith) (omega arith)) in absurd (omega arith))
+    (λ _. refl)
+point-is_count_below t (e ∷ es) (suc i) point within =
+    let rest : i ≡ count_below t es = point-is_count_below t es i (λ k d low high. point.0 (suc k) d (omega arith) (omega (arith, high)), λ k d low high. point.1 (suc k) d (omega (arith, low)) (omega (arith, high))) (omega (arith, within)) in
+    count_below_cases t e es (λ n. suc i ≡ n)
+    (λ below. ap suc rest)
+    (λ above. let below : e.0 < t = ltb-true e.0 t (point.0 0 e (omega arith) (omega arith)) in absurd (omega arith))
 
 -- an entry is its tenant with its account
 pub entry_is : (e : ℕ × Account) (t : ℕ) (a : Account) → e.0 ≡ t → e.1 ≡ a → e ≡ (t, a)

@@ -1,4 +1,4 @@
-ghost use Rattle.std.specs.Prelude.{◌≡◌, ℕ, ◌+◌, ◌<◌, ◌≤◌, ◌↔◌, IfOk, OnOk, OnErr, IsOk, IsSome, IfSome, option_map, length};
+ghost use Rattle.std.specs.Prelude.{◌≡◌, ℕ, ◌+◌, ◌<◌, ◌≤◌, ◌↔◌, IfOk, OnOk, OnErr, IsOk, IsSome, IfSome, option_map, length, nat_lt};
 ghost use Rattle.tenant_quota.specs.Accounts.{account_of, count_below, IsRising};
 
 use crate::account::{Account, Left};
@@ -52,17 +52,11 @@ fn place_of(accounts: &[(u64, Account)], tenant: u64) -> usize
     requires { IsRising accounts.now }
     ensures { result ≡ count_below tenant accounts.now }
 {
-    let mut low = 0;
-    let mut high = accounts.len();
-    while low < high {
-        let middle = low + (high - low) / 2;
-        if accounts[middle].0 < tenant {
-            low = middle + 1;
-        } else {
-            high = middle;
-        }
-    }
-    low
+    accounts.partition_point(
+        |entry: &(u64, Account)| -> bool
+            ensures { result ≡ nat_lt entry.now.0 tenant }
+        { entry.0 < tenant },
+    )
 }
 
 impl Book {

@@ -5,7 +5,7 @@ use Rattle.othello_board.specs.Words.{cells}
 use Rattle.othello_moves.specs.Choices.{legal_squares}
 use Rattle.othello_eval.specs.Minimax.{minimax}
 use Rattle.othello_eval.specs.Values.{eval, final_value}
-use Rattle.leaf_search.proofs.MinimaxLemmas.{minimax-leaf_over, minimax-leaf_goes_on}
+use Rattle.othello_eval.proofs.MinimaxLemmas.{minimax-without_squares, minimax-with_squares}
 use Rattle.leaf_search.proofs.leaf.leaf_value.Goals as goal
 
 pub returns-then-opp_moves-eq0-clause-value : goal.returns-then-opp_moves-eq0-clause-value
@@ -13,7 +13,7 @@ returns-then-opp_moves-eq0-clause-value c =
     let opp : c.move_count-opp_moves.result ≡ length (legal_squares (exchanged (cells c.args.board))) =
     c.move_count-opp_moves.ensures ∙ ap (λ b. length (legal_squares b)) c.swap.ensures.cells in
     let value : minimax 0 (cells c.args.board) ≡ final_value (cells c.args.board) =
-    minimax-leaf_over (cells c.args.board) (sym c.move_count-own_moves.ensures ∙ c.if-own_moves-eq0.true) (sym opp ∙ c.if-opp_moves-eq0.true) in
+    minimax-without_squares (cells c.args.board) (sym c.move_count-own_moves.ensures ∙ c.if-own_moves-eq0.true) (sym opp ∙ c.if-opp_moves-eq0.true) in
     omega (arith, ints, c.final_value.ensures.value)
 
 pub returns-else-own_moves-eq0-clause-value : goal.returns-else-own_moves-eq0-clause-value
@@ -21,5 +21,5 @@ returns-else-own_moves-eq0-clause-value c =
     let opp : c.move_count-opp_moves.result ≡ length (legal_squares (exchanged (cells c.args.board))) =
     c.move_count-opp_moves.ensures ∙ ap (λ b. length (legal_squares b)) c.swap.ensures.cells in
     let value : minimax 0 (cells c.args.board) ≡ eval (cells c.args.board) =
-    minimax-leaf_goes_on (cells c.args.board) (omega (arith, opp, c.move_count-own_moves.ensures, c.else-own_moves-eq0.either)) in
+    minimax-with_squares (cells c.args.board) (omega (arith, opp, c.move_count-own_moves.ensures, c.else-own_moves-eq0.either)) in
     omega (arith, ints, c.eval_by_moves.ensures.value)

@@ -1,13 +1,13 @@
-use Rattle.std.proofs.Common.{◌≡◌, ◌<◌, ℕ, suc, neg_ℤ, length, ◌-◌, [], refl, sym, ◌∙◌, ap, subst, arith}
+use Rattle.std.proofs.Common.{◌≡◌, ◌<◌, ℕ, neg_ℤ, length, ◌-◌, [], find, refl, sym, ◌∙◌, ap, subst, arith}
 use Rattle.std.proofs.lemmas.Int.{ints}
 use Rattle.othello_board.specs.Words.{cells}
 use Rattle.othello_moves.specs.Choices.{choices}
 use Rattle.othello_eval.specs.Values.{final_value}
-use Rattle.othello_eval.specs.Minimax.{minimax, best_choice, choice_value}
+use Rattle.othello_eval.specs.Minimax.{minimax, best_choice, choice_value, int_equal}
 use Rattle.leaf_search.specs.Bounds.{IsBound}
 use Rattle.leaf_search.specs.declared.scored.Scored.{Scored}
-use Rattle.leaf_search.proofs.MinimaxLemmas.{minimax-suc, best_choice-suc, best_choice-zero, minimax-over, best_choice-over}
-use Rattle.leaf_search.proofs.WindowLemmas.{all_bound, all_best, IsSearching-turn, IsSearching-cut, IsSearching-all, IsSearching-real, IsSearching-next, cut_score, exact_bound}
+use Rattle.othello_eval.proofs.MinimaxLemmas.{minimax-deeper, best_choice-deeper, best_choice-leaf, minimax-over, best_choice-over}
+use Rattle.leaf_search.proofs.WindowLemmas.{all_bound, all_best, IsSearching-turn, IsSearching-cut, IsSearching-all, IsSearching-real, IsSearching-next, cut_score, exact_bound, still_chosen}
 use Rattle.leaf_search.proofs.tree.+search.Goals as goal
 
 pub best_of-after-requires : goal.best_of-after-requires
@@ -22,10 +22,10 @@ ending_score t c =
 
 pub best_of-returns-then-best-window-clause-bound : goal.best_of-returns-then-best-window-clause-bound
 best_of-returns-then-best-window-clause-bound t c =
-    subst (λ m. IsBound c.args.window.alpha c.args.window.beta c.take_in.new.self.score m) (sym (minimax-suc c.args.depth (cells c.args.board))) (
+    subst (λ m. IsBound c.args.window.alpha c.args.window.beta c.take_in.new.self.score m) (sym (minimax-deeper c.args.depth (cells c.args.board) c.requires.deep)) (
     IsSearching-cut _ _ (choice_value c.args.depth (cells c.args.board)) _ _ _ _ c.in-Some.choice _ _ _ _ _ _ _ (final_value (cells c.args.board))
     c.args.window.open c.loop-choice.invariant c.in-Some.ensures.cases c.of_child.ensures.alpha c.of_child.ensures.beta c.search_below-child.ensures.bound
-    (ap (λ b. neg_ℤ (minimax c.args.depth b)) (sym c.after.ensures)) (ending_score t c) (omega (arith, ints)))
+    (ap (λ b. neg_ℤ (minimax (c.args.depth - 1) b)) (sym c.after.ensures)) (ending_score t c) (omega (arith, ints)))
 
 pub best_of-returns-then-best-window-clause-within : goal.best_of-returns-then-best-window-clause-within
 best_of-returns-then-best-window-clause-within t c =
@@ -35,12 +35,12 @@ pub best_of-loop-choice-preserved : goal.best_of-loop-choice-preserved
 best_of-loop-choice-preserved t c =
     IsSearching-turn _ _ (choice_value c.args.depth (cells c.args.board)) _ _ _ _ c.in-Some.choice _ _ _ _ c.search_below-child.result.score _ _ _
     c.loop-choice.invariant c.in-Some.ensures.cases refl c.of_child.ensures.alpha c.of_child.ensures.beta c.search_below-child.ensures.bound
-    (ap (λ b. neg_ℤ (minimax c.args.depth b)) (sym c.after.ensures))
+    (ap (λ b. neg_ℤ (minimax (c.args.depth - 1) b)) (sym c.after.ensures))
     c.search_below-child.ensures.within.0 c.search_below-child.ensures.within.1 c.take_in.ensures.better c.take_in.ensures.kept (omega (arith, ints))
 
 pub best_of-returns-clause-bound : goal.best_of-returns-clause-bound
 best_of-returns-clause-bound t c =
-    subst (λ m. IsBound c.args.window.alpha c.args.window.beta c.loop-choice.best.score m) (sym (minimax-suc c.args.depth (cells c.args.board))) (
+    subst (λ m. IsBound c.args.window.alpha c.args.window.beta c.loop-choice.best.score m) (sym (minimax-deeper c.args.depth (cells c.args.board) c.requires.deep)) (
     all_bound _ _ (choice_value c.args.depth (cells c.args.board)) (final_value (cells c.args.board)) (choices (cells c.args.board)) _ c.loop-choice.best.choice
     (subst (λ cs. 0 < length cs) c.requires.choices c.requires.some) c.loop-choice.invariant.below
     (IsSearching-all _ _ _ _ _ _ _ c.loop-choice.invariant c.in_default.ensures.cases))
@@ -50,7 +50,8 @@ best_of-returns-clause-choice t c higher lower =
     all_best c.args.window.alpha c.args.window.beta (choice_value c.args.depth (cells c.args.board)) (final_value (cells c.args.board)) (choices (cells c.args.board)) _ c.loop-choice.best.choice
     (subst (λ cs. 0 < length cs) c.requires.choices c.requires.some) c.loop-choice.invariant.below
     (IsSearching-all _ _ _ _ _ _ _ c.loop-choice.invariant c.in_default.ensures.cases) higher
-    ∙ sym (best_choice-suc c.args.depth (cells c.args.board))
+    ∙ ap (λ m. find (λ d. int_equal (choice_value c.args.depth (cells c.args.board) d) m) (choices (cells c.args.board))) (sym (minimax-deeper c.args.depth (cells c.args.board) c.requires.deep))
+    ∙ sym (best_choice-deeper c.args.depth (cells c.args.board) c.requires.deep)
 
 pub best_of-returns-clause-within : goal.best_of-returns-clause-within
 best_of-returns-clause-within t c =
@@ -58,7 +59,7 @@ best_of-returns-clause-within t c =
 
 pub search_below-returns-then-depth-eq0-clause-choice : goal.search_below-returns-then-depth-eq0-clause-choice
 search_below-returns-then-depth-eq0-clause-choice t c higher lower =
-    rw (c.entered.ensures, c.if-depth-eq0.true) (sym (best_choice-zero (cells c.args.board)))
+    rw (c.entered.ensures, c.if-depth-eq0.true) (sym (best_choice-leaf (cells c.args.board)))
 
 no_choice : (t : ℕ) (c : goal.search_below-After-entered-then-is_empty t) → choices (cells c.args.board) ≡ []
 no_choice t c = sym c.new-left.ensures ∙ c.is_empty.ensures.0 c.if-is_empty.true
@@ -73,14 +74,7 @@ pub search_below-returns-then-is_empty-clause-choice : goal.search_below-returns
 search_below-returns-then-is_empty-clause-choice t c higher lower =
     ap (λ (s : Scored). s.choice) c.entered-then-is_empty.ensures ∙ sym (best_choice-over c.args.depth (cells c.args.board) (no_choice t c))
 
--- the depth is the one below, and one more
-one_more : (t : ℕ) (c : goal.search_below-After-best_of t) → suc (c.args.depth - 1) ≡ c.args.depth
-one_more t c = omega arith
-
-pub search_below-returns-clause-bound : goal.search_below-returns-clause-bound
-search_below-returns-clause-bound t c =
-    subst (λ d. IsBound c.args.window.alpha c.args.window.beta c.best_of.result.score (minimax d (cells c.args.board))) (one_more t c) c.best_of.ensures.bound
-
-pub search_below-returns-clause-choice : goal.search_below-returns-clause-choice
-search_below-returns-clause-choice t c higher lower =
-    c.best_of.ensures.choice higher lower ∙ ap (λ d. best_choice d (cells c.args.board)) (one_more t c)
+pub best_of-returns-then-best-window-clause-chosen : goal.best_of-returns-then-best-window-clause-chosen
+best_of-returns-then-best-window-clause-chosen t c =
+    still_chosen (choices (cells c.args.board)) c.loop-choice.best.score c.search_below-child.result.score c.take_in.new.self.score c.loop-choice.best.choice c.take_in.new.self.choice c.in-Some.choice
+    c.loop-choice.invariant.chosen (IsSearching-next _ _ _ _ _ _ _ c.in-Some.choice _ c.loop-choice.invariant c.in-Some.ensures.cases) c.take_in.ensures.better c.take_in.ensures.kept

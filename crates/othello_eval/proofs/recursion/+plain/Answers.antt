@@ -1,4 +1,4 @@
-use Rattle.std.proofs.Common.{◌-◌, ◌<◌, sym, ap, ◌∙◌, subst, to_z, w32, Some, arith}
+use Rattle.std.proofs.Common.{◌<◌, sym, ap, ◌∙◌, subst, to_z, w32, Some, arith}
 use Rattle.othello_board.specs.Words.{cells}
 use Rattle.othello_moves.specs.Choices.{choices}
 use Rattle.othello_moves.proofs.AllowedLemmas.{length-cells}
@@ -36,7 +36,7 @@ loop-next-init t c =
     let board = cells c.args.board in
     let deep : 0 < c.args.depth = omega arith in
     let is = sym c.new-left.ensures ∙ c.in-Some.ensures.cases in
-    let worth = child_value (c.args.depth - 1) board (cells c.after.result) c.in-Some.first c.plain-value.result.value c.after.ensures c.plain-value.ensures.value c.plain-value.ensures.within in
+    let worth = child_value c.args.depth board (cells c.after.result) c.in-Some.first c.plain-value.result.value c.after.ensures c.plain-value.ensures.value c.plain-value.ensures.within in
     record {
       value = start_value c.args.depth board _ c.in-Some.first c.pop_first.new.self is deep worth;
       choice = start_choice c.args.depth board _ c.in-Some.first c.pop_first.new.self is deep worth;
@@ -51,8 +51,8 @@ pub loop-next-preserved-then-other-value : goal.loop-next-preserved-then-other-v
 loop-next-preserved-then-other-value t c =
     let board = cells c.args.board in
     let next = c.in-Some-pop_first.next in
-    let worth = child_value (c.args.depth - 1) board (cells c.after-in-Some-pop_first.result) next c.plain-other.result.value c.after-in-Some-pop_first.ensures c.plain-other.ensures.value c.plain-other.ensures.within in
-    let step = running_more (choice_value (c.args.depth - 1) board) (to_z w32 c.loop-next.value-bits) _ c.loop-next.best next c.loop-next.left c.pop_first-in-loop-next.new.self c.in-Some-pop_first.ensures.cases worth c.if-other-value.true in
+    let worth = child_value c.args.depth board (cells c.after-in-Some-pop_first.result) next c.plain-other.result.value c.after-in-Some-pop_first.ensures c.plain-other.ensures.value c.plain-other.ensures.within in
+    let step = running_more (choice_value c.args.depth board) (to_z w32 c.loop-next.value-bits) _ c.loop-next.best next c.loop-next.left c.pop_first-in-loop-next.new.self c.in-Some-pop_first.ensures.cases worth c.if-other-value.true in
     record {
       value = ap (λ p. p.0) step ∙ c.loop-next.invariant.value;
       choice = ap (λ p. Some p.1) step ∙ c.loop-next.invariant.choice;
@@ -63,8 +63,8 @@ pub loop-next-preserved : goal.loop-next-preserved
 loop-next-preserved t c =
     let board = cells c.args.board in
     let next = c.in-Some-pop_first.next in
-    let worth = child_value (c.args.depth - 1) board (cells c.after-in-Some-pop_first.result) next c.plain-other.result.value c.after-in-Some-pop_first.ensures c.plain-other.ensures.value c.plain-other.ensures.within in
-    let step = running_same (choice_value (c.args.depth - 1) board) (to_z w32 c.loop-next.value-bits) _ c.loop-next.best next c.loop-next.left c.pop_first-in-loop-next.new.self c.in-Some-pop_first.ensures.cases worth c.if-other-value.false in
+    let worth = child_value c.args.depth board (cells c.after-in-Some-pop_first.result) next c.plain-other.result.value c.after-in-Some-pop_first.ensures c.plain-other.ensures.value c.plain-other.ensures.within in
+    let step = running_same (choice_value c.args.depth board) (to_z w32 c.loop-next.value-bits) _ c.loop-next.best next c.loop-next.left c.pop_first-in-loop-next.new.self c.in-Some-pop_first.ensures.cases worth c.if-other-value.false in
     record {
       value = ap (λ p. p.0) step ∙ c.loop-next.invariant.value;
       choice = ap (λ p. Some p.1) step ∙ c.loop-next.invariant.choice;
@@ -74,7 +74,7 @@ loop-next-preserved t c =
 pub returns : goal.returns
 returns t c =
     let board = cells c.args.board in
-    let end = running_all (choice_value (c.args.depth - 1) board) (to_z w32 c.loop-next.value-bits) c.loop-next.best c.loop-next.left c.in_default-pop_first.ensures.cases in
+    let end = running_all (choice_value c.args.depth board) (to_z w32 c.loop-next.value-bits) c.loop-next.best c.loop-next.left c.in_default-pop_first.ensures.cases in
     let value = ap (λ p. p.0) (sym end) ∙ c.loop-next.invariant.value in
     record {
       value = value;

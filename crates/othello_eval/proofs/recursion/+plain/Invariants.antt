@@ -1,4 +1,4 @@
-use Rattle.std.proofs.Common.{◌≡◌, ◌-◌, Some, All, Contains, length}
+use Rattle.std.proofs.Common.{◌≡◌, Some, All, Contains, length}
 use Rattle.othello_board.specs.Words.{cells}
 use Rattle.othello_moves.specs.Choices.{choices}
 use Rattle.othello_eval.specs.Minimax.{minimax, choice_value, best_choice}
@@ -10,8 +10,8 @@ decreases-plain l = l.depth
 
 abbrev pub invariant-loop-next : goal.invariant-loop-next
 invariant-loop-next l = record {
-  value : (running (choice_value (l.fn.depth - 1) (cells l.fn.board)) l.value l.best l.left).0 ≡ minimax l.fn.depth (cells l.fn.board);
-  choice : Some (running (choice_value (l.fn.depth - 1) (cells l.fn.board)) l.value l.best l.left).1 ≡ best_choice l.fn.depth (cells l.fn.board);
+  value : (running (choice_value l.fn.depth (cells l.fn.board)) l.value l.best l.left).0 ≡ minimax l.fn.depth (cells l.fn.board);
+  choice : Some (running (choice_value l.fn.depth (cells l.fn.board)) l.value l.best l.left).1 ≡ best_choice l.fn.depth (cells l.fn.board);
   chosen : All (Contains (choices (cells l.fn.board))) l.left;
 }
 

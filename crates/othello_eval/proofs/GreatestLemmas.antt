@@ -3,6 +3,7 @@ use Rattle.std.proofs.Common.{◌≡◌, ℤ, Bool, true, false, List, [], ◌�
 use Rattle.std.specs.Prelude.{find, ◌≤ℤ◌, ◌<ℤ◌, IsSome, All}
 use Rattle.std.specs.Int.{int_max}
 use Rattle.std.proofs.lemmas.Int.{ints, clamps}
+use Rattle.std.proofs.lemmas.Bool.{false_from_ne_true}
 use Rattle.std.proofs.lemmas.List.Elements.{All-head, All-tail}
 use Rattle.std.proofs.lemmas.List.Folds.{find-append}
 use Rattle.std.specs.Option.{option_or}
@@ -14,6 +15,9 @@ int_equal-same x y same = grind (arith, ints)
 
 pub same_from_int_equal : (x y : ℤ) → int_equal x y ≡ true → x ≡ y
 same_from_int_equal x y passed = grind (arith, ints)
+
+pub int_equal-other : (x y : ℤ) → (x ≡ y → ⊥) → int_equal x y ≡ false
+int_equal-other x y ne = false_from_ne_true (int_equal x y) (λ e. ne (same_from_int_equal x y e))
 
 pub int_equal-below : (x y : ℤ) → x <ℤ y → int_equal x y ≡ false
 int_equal-below x y below = grind (arith, ints)

@@ -1,0 +1,20 @@
+//! What words take of the segments.
+ghost use Rattle.std.specs.Prelude.{◌≡◌, ◌+◌, ◌≤◌};
+ghost use Rattle.cactus_stack.specs.Nodes.{charge as charge_of_words, growth_charge as growth_of_words};
+
+/// The segments of 16 words that so many words take: a sixteenth, rounded up.
+pub fn charge(words: usize) -> usize
+    requires { words ≤ 65536 }
+    ensures { result ≡ charge_of_words words }
+{
+    (words + 15) / 16
+}
+
+/// The segments that so many more words take of a node that has some: none while the last
+/// segment has room for them.
+pub fn growth_charge(words: usize, more: usize) -> usize
+    requires { words + more ≤ 65536 }
+    ensures { result ≡ growth_of_words words more }
+{
+    charge(words + more) - charge(words)
+}
