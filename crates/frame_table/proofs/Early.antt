@@ -17,7 +17,7 @@ use Rattle.frame_table.proofs.Forest.{linked_rises}
 use Rattle.frame_table.proofs.Search.{above_at, serial_read}
 use Rattle.frame_table.proofs.Cutting.{NoParent}
 use Rattle.frame_table.proofs.Leaves.{AllStay, all_stay, filter_all}
-use Rattle.frame_table.proofs.Passes.{length-take-le}
+use Rattle.frame_table.proofs.Lengths.{length-take-le}
 use Rattle.frame_table.proofs.Trees.{cut_linked, cut_length}
 use Rattle.frame_table.proofs.Readies.{ready_in-append, ready_in-take, few_ready_in}
 

@@ -1,5 +1,5 @@
 -- The ready frames among slots, and what each change of the slots does to them.
-use Rattle.std.proofs.Common.{◌≡◌, ℕ, zero, suc, ◌+◌, ◌-◌, ◌<◌, ◌≤◌, Bool, true, false, not, eqb, nat_lt, List, [], ◌∷◌, ◌++◌, Option, Some, None, length, take, get_or, set, slice_index, refl, ap, sym, ◌∙◌, inl, inr, arith, slice_get}
+use Rattle.std.proofs.Common.{◌≡◌, ℕ, zero, suc, ◌+◌, ◌-◌, ◌<◌, ◌≤◌, true, false, not, eqb, nat_lt, List, [], ◌∷◌, ◌++◌, Option, Some, None, length, take, get_or, set, slice_index, refl, ap, sym, ◌∙◌, inl, inr, arith, slice_get}
 use Rattle.std.specs.List.{filter, remove}
 use Rattle.std.proofs.lemmas.Bool.{cases_Bool, eq-eqb, ne_eqb, lt-ltb, ltb-true}
 use Rattle.frame_table.specs.declared.names.FrameId.{FrameId}
@@ -13,7 +13,7 @@ use Rattle.frame_table.specs.Places.{AllAboveBy, RisesBy}
 use Rattle.frame_table.specs.Readies.{ReadyList, IsTenant, with_ready, ready_in, without_ready, put_ready, newest_of}
 use Rattle.frame_table.proofs.Search.{above_at}
 use Rattle.frame_table.proofs.Places.{rises_by-filter, filter_not-above}
-use Rattle.frame_table.proofs.Passes.{length-filter-le}
+use Rattle.frame_table.proofs.Lengths.{length-filter-le}
 use Rattle.frame_table.proofs.Forest.{linked_rises}
 use Rattle.frame_table.proofs.Changes.{in_state}
 
@@ -129,29 +129,7 @@ pub ready_in-without_child : {T : Type 0} (parent : Option ℕ) (xs : List (Slot
 ready_in-without_child None xs = refl
 ready_in-without_child (Some p) xs = ready_in-with_slot p (λ s. record s { children = s.children - 1 }) xs (λ x. refl) (λ x. refl)
 
--- those of slots chosen by serial
-pub ready_in-filter : {T : Type 0} (keep : ℕ → Bool) (xs : List (Slot T)) → ready_in (filter (λ x. keep x.serial) xs) ≡ filter (λ frame. keep frame.serial) (ready_in xs)
-ready_in-filter keep [] = refl
-ready_in-filter keep (x ∷ xs) =
-    elim (cases_Bool (keep x.serial)) [
-      | inl stays ↦ rw (stays, ready_in-filter keep xs) (here keep x.serial x.state (ready_in xs) stays)
-      | inr goes ↦ rw (goes, ready_in-filter keep xs) (gone keep x.serial x.state (ready_in xs) goes)
-    ]
-  where
-    here : (keep : ℕ → Bool) (serial : ℕ) (state : State) (frames : List ReadyFrame) → keep serial ≡ true → with_ready serial state (filter (λ frame. keep frame.serial) frames) ≡ filter (λ frame. keep frame.serial) (with_ready serial state frames)
-    here keep serial (Ready home) frames stays = rw stays refl
-    here keep serial (Running worker) frames stays = refl
-    here keep serial (Computing worker) frames stays = refl
-    here keep serial Waiting frames stays = refl
-    here keep serial Returned frames stays = refl
-
-    gone : (keep : ℕ → Bool) (serial : ℕ) (state : State) (frames : List ReadyFrame) → keep serial ≡ false → filter (λ frame. keep frame.serial) frames ≡ filter (λ frame. keep frame.serial) (with_ready serial state frames)
-    gone keep serial (Ready home) frames goes = rw goes refl
-    gone keep serial (Running worker) frames goes = refl
-    gone keep serial (Computing worker) frames goes = refl
-    gone keep serial Waiting frames goes = refl
-    gone keep serial Returned frames goes = refl
-
+-- ready frames rise without one of them too
 pub without_ready-rises : (serial : ℕ) (was : State) (frames : List ReadyFrame) → RisesBy (λ frame. frame.serial) frames → RisesBy (λ frame. frame.serial) (without_ready serial was frames)
 without_ready-rises serial was frames r = elim (cases_Bool (is_ready was)) [ inl ready ↦ rw ready (rises_by-filter (λ frame. frame.serial) (λ frame. not (eqb frame.serial serial)) frames r) | inr other ↦ rw other r ]
 

@@ -10,6 +10,7 @@ use Rattle.frame_table.specs.declared.shelf.Kept.{Kept}
 use Rattle.frame_table.specs.Shelves.{slots_in, has_key, AreApartKeys, AreThere, NoneMarked, is_marked, swept_in, values_in}
 use Rattle.frame_table.proofs.Shelves.{has_key-append, slots_in-append}
 use Rattle.frame_table.proofs.Marks.{apart_before}
+use Rattle.frame_table.proofs.Lengths.{length_more}
 
 -- after the first keys: those that stay stand in front, the slots of the others are gone, and their values were written down
 pub record HasSwept {T : Type 0} (old now : Slab (Kept T)) (all order : List ℕ) (had values : List T) (kept at : ℕ) : Type 0 where
@@ -128,7 +129,7 @@ swept_goes old now new all order had values kept at key gone h a lt read goes fo
       ];
       written = ap (λ vs. vs ++ gone.slot.value ∷ []) h.written ∙ (append_assoc had _ (gone.slot.value ∷ []) ∙ ap (λ vs. had ++ vs) (sym (ap (values_in old) more ∙ one_more old (filter (λ k. is_marked (get old k)) (take at all)) key gone was)));
       counted = omega (arith, h.counted, len);
-      room = omega (arith, h.room, length_push values gone.slot.value);
+      room = omega (arith, h.room, length_more values gone.slot.value);
       capacity = capacity ∙ h.capacity;
     }
   where
@@ -139,7 +140,3 @@ swept_goes old now new all order had values kept at key gone h a lt read goes fo
     one_more : {T : Type 0} (slab : Slab (Kept T)) (keys : List ℕ) (key : ℕ) (gone : Kept T) → get slab key ≡ Some gone → values_in slab (keys ++ key ∷ []) ≡ values_in slab keys ++ gone.slot.value ∷ []
     one_more slab keys key gone was =
         ap (map (λ s. s.value)) (slots_in-append slab keys (key ∷ [])) ∙ (map_append (λ s. s.value) (slots_in slab keys) (slots_in slab (key ∷ [])) ∙ (rw was refl))
-
-    length_push : {X : Type 0} (xs : List X) (x : X) → length (xs ++ x ∷ []) ≡ length xs + 1
-    length_push [] x = refl
-    length_push (y ∷ ys) x = omega (arith, length_push ys x)

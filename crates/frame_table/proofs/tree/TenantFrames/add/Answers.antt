@@ -5,7 +5,8 @@ use Rattle.frame_table.proofs.Forest.{linked_rises}
 use Rattle.frame_table.proofs.Finds.{has_parent-slots, frames_from-length}
 use Rattle.frame_table.proofs.Trees.{few_counts, added_sound, added_frames}
 use Rattle.frame_table.proofs.Readies.{is_tenant, few_ready_in, added_ready}
-use Rattle.frame_table.proofs.Shelves.{length-with_child, length_more}
+use Rattle.frame_table.proofs.Shelves.{length-with_child}
+use Rattle.frame_table.proofs.Lengths.{length_more}
 use Rattle.frame_table.proofs.tree.TenantFrames.add.Goals as goal
 
 pub adopt-root-requires-clause-rise : goal.adopt-root-requires-clause-rise

@@ -63,7 +63,7 @@ invariant_of-self g c =
     let places = ap (λ (s : Shelved g.row.T.Denot). s.places) c.forget.ensures ∙ ap (λ (s : Shelved g.row.T.Denot). s.places) c.take-slot.ensures.left in
     let gone = ready_in-remove slots c.known_place-at.result c.args.serial c.take-slot.result (linked_rises [] slots c.self.invariant.sound.linked) within at c.take-slot.ensures.value in
     rw c.leave.ensures (is_tenant _ _ _ _
-    (lost_sound slots c.take-slot.new.self.slots c.forget.new.shelf.slots (length c.self.inside.ready.frames) c.known_place-at.result c.args.serial c.take-slot.result _ c.self.invariant.sound within at c.take-slot.ensures.value leaf left fewer refl)
+    (lost_sound slots c.take-slot.new.self.slots c.forget.new.shelf.slots (length c.self.inside.ready.frames) c.known_place-at.result c.args.serial c.take-slot.result c.self.invariant.sound within at c.take-slot.ensures.value leaf left fewer)
     (rw (fewer, ready_in-without_child c.take-slot.result.parent c.take-slot.new.self.slots, left, c.self.invariant.ready_frames) gone)
     (omega (arith, c.self.invariant.within, ap length left, ap length fewer, places, length-remove slots c.known_place-at.result within, length-without_child c.take-slot.result.parent c.take-slot.new.self.slots))
     (omega (arith, places, c.self.invariant.few))
