@@ -8,8 +8,8 @@ use Rattle.frame_table.specs.declared.shelf.Kept.{Kept}
 use Rattle.frame_table.specs.Slots.{frames_from, is_kept, IsLinked, kept_slots, gone_values, child_slots, is_serial, AllAbove, Rises, serials_of}
 use Rattle.frame_table.specs.Shelves.{with_found, slots_in, has_key, AreApartKeys, HasSerial, KnowsParent, IsHere, AllHere, IsShelf, AreThere, is_marked, marked_in, swept_in, values_in}
 use Rattle.frame_table.proofs.Cuts.{IsClosed, IsClosed-from_follows, kept_follows}
-use Rattle.frame_table.proofs.Passes.{length-filter-le}
-use Rattle.frame_table.proofs.Marks.{Marks}
+use Rattle.frame_table.proofs.Lengths.{length-filter-le}
+use Rattle.frame_table.specs.Shelves.{Marks}
 use Rattle.frame_table.proofs.Search.{above_at, serial_read}
 use Rattle.frame_table.proofs.Shelves.{has_key-append, has_key-at, slots_in-length, slot_read}
 
@@ -144,9 +144,6 @@ pub record HasCut {T : Type 0} (under : ℕ) (old marked new : Slab (Kept T)) (o
   pub marks : Marks under (slots_in old order) order old marked
   pub kept : left ≡ filter (λ key. not (is_marked (get marked key))) order
   pub swept : (key : ℕ) → get new key ≡ swept_in marked order key
-
-by_serial_of : {T : Type 0} → ℕ → List (TenantSlot T) → ℕ → Bool
-by_serial_of under slots serial = is_kept under (frames_from [] slots) serial
 
 pub cut_marks : {T : Type 0} (under : ℕ) (old marked new : Slab (Kept T)) (order left : List ℕ) → HasCut under old marked new order left → (k : ℕ) (x : Kept T) → has_key order k ≡ true → get old k ≡ Some x → get marked k ≡ Some (record x { marked = not (is_kept under (frames_from [] (slots_in old order)) x.slot.serial) })
 cut_marks under old marked new order left c k x has is = c.marks k ∙ (rw (is, has) refl)

@@ -12,11 +12,11 @@ use Rattle.frame_table.proofs.Cuts.{stays_by, FollowsBy, kept_follows, kept_slot
 use Rattle.frame_table.proofs.Cutting.{NoParent, no_parent}
 
 -- each slot stays
-abbrev AllStay : {T : Type 0} → (ℕ → Bool) → List (Slot T) → Type 0
+abbrev pub AllStay : {T : Type 0} → (ℕ → Bool) → List (Slot T) → Type 0
 AllStay keep [] = Unit {0}
 AllStay keep (x ∷ xs) = (keep x.serial ≡ true) × AllStay keep xs
 
-all_stay : {T : Type 0} (keep : ℕ → Bool) (n : ℕ) (frames : List (Frame T)) (xs : List (Slot T)) → FollowsBy keep n xs → NoParent n xs → IsLinked frames xs → ((p : ℕ) → has_frame frames p ≡ true → keep p ≡ true) → AllStay keep xs
+pub all_stay : {T : Type 0} (keep : ℕ → Bool) (n : ℕ) (frames : List (Frame T)) (xs : List (Slot T)) → FollowsBy keep n xs → NoParent n xs → IsLinked frames xs → ((p : ℕ) → has_frame frames p ≡ true → keep p ≡ true) → AllStay keep xs
 all_stay keep n frames [] f none l kept = tt
 all_stay {T} keep n frames (x ∷ xs) f none l kept =
     let stays : keep x.serial ≡ true = f.0 ∙ by_parent keep n frames x.parent (λ e. none.0 e) l.0.parent kept in
@@ -36,7 +36,7 @@ all_stay {T} keep n frames (x ∷ xs) f none l kept =
           ]
         ]
 
-filter_all : {T : Type 0} (keep : ℕ → Bool) (xs : List (Slot T)) → AllStay keep xs → filter (λ x. keep x.serial) xs ≡ xs
+pub filter_all : {T : Type 0} (keep : ℕ → Bool) (xs : List (Slot T)) → AllStay keep xs → filter (λ x. keep x.serial) xs ≡ xs
 filter_all keep [] s = refl
 filter_all keep (x ∷ xs) s = rw s.0 (ap (λ ys. x ∷ ys) (filter_all keep xs s.1))
 

@@ -6,21 +6,9 @@ use Rattle.slab.specs.Slab.{Slab, get, Updates}
 use Rattle.frame_table.specs.declared.slot.Slot.{Slot as TenantSlot}
 use Rattle.frame_table.specs.declared.shelf.Kept.{Kept}
 use Rattle.frame_table.specs.Slots.{frames_from, is_kept, IsLinked}
-use Rattle.frame_table.specs.Shelves.{slots_in, has_key, AreApartKeys, HasSerial, KnowsParent, IsHere, AllHere, HasAbove, HasLink, is_marked, is_taken_by, is_taken_in, marked_in}
+use Rattle.frame_table.specs.Shelves.{slots_in, has_key, AreApartKeys, HasSerial, KnowsParent, IsHere, AllHere, HasAbove, HasLink, is_marked, is_taken_by, is_taken_in, marked_in, Marks}
 use Rattle.frame_table.proofs.Cuts.{stays_by, kept_follows, follows_at}
 use Rattle.frame_table.proofs.Shelves.{here_read, slot_read, slots_in-length, kept_read, has_key-at, has_key-append}
-
--- the slots under these keys are marked where the abort takes them, and nothing else changed
-abbrev pub Marks : {T : Type 0} → ℕ → List (TenantSlot T) → List ℕ → Slab (Kept T) → Slab (Kept T) → Type 0
-Marks under slots keys old now = (key : ℕ) → get now key ≡ marked_in under slots keys key (get old key)
-
--- before the first key
-pub marks_none : {T : Type 0} (under : ℕ) (slots : List (TenantSlot T)) (slab : Slab (Kept T)) → Marks under slots [] slab slab
-marks_none under slots slab key = same under slots key (get slab key)
-  where
-    same : {T : Type 0} (under : ℕ) (slots : List (TenantSlot T)) (key : ℕ) (o : Option (Kept T)) → o ≡ marked_in under slots [] key o
-    same under slots key None = refl
-    same under slots key (Some x) = refl
 
 -- a slot is there, and its parent's too
 pub link_marked : {T : Type 0} (under : ℕ) (slots : List (TenantSlot T)) (keys before : List ℕ) (old now : Slab (Kept T)) (key : ℕ) → Marks under slots keys old now → IsHere old before (get old key) → HasLink now (get now key)

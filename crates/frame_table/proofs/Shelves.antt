@@ -8,6 +8,7 @@ use Rattle.frame_table.specs.declared.shelf.Kept.{Kept}
 use Rattle.frame_table.specs.Slots.{serials_of, has_slot, with_slot, with_child, without_child}
 use Rattle.frame_table.specs.Shelves.{with_found, slots_in, has_key, AreApartKeys, HasSerial, KnowsParent, IsHere, AllHere, IsShelf, StandsUnder}
 use Rattle.frame_table.proofs.Search.{serial_read, IsBetween, has_slot-found}
+use Rattle.frame_table.proofs.Lengths.{length_more}
 
 -- a slot that is here is found
 pub here_contains : {T : Type 0} (slab : Slab (Kept T)) (before : List ℕ) (key : ℕ) → IsHere slab before (get slab key) → ContainsKey slab key
@@ -238,7 +239,7 @@ pub push_shelf : {T : Type 0} (old new : Slab (Kept T)) (keys : List ℕ) (room 
 push_shelf old new keys room places key slot above s less knows vacant u len capacity =
     let like = pushed_like old new key _ vacant u in
     let here : IsHere new keys (get new key) = rw u.changed (refl, knows_like old new keys slot.parent above like knows) in
-    let long = length_push keys key in
+    let long = length_more keys key in
     record {
       here = all_here-append new [] keys key (all_here_like old new [] keys like s.here) here;
       apart = apart-append keys key s.apart (vacant_absent old [] keys key s.here vacant);
@@ -255,10 +256,6 @@ push_shelf old new keys room places key slot above s less knows vacant u len cap
       where
         none_some : {X : Type 0} (x : X) → None ≡ Some x → ⊥
         none_some x e = absurd (cc)
-
-    length_push : (xs : List ℕ) (x : ℕ) → length (xs ++ x ∷ []) ≡ length xs + 1
-    length_push [] x = refl
-    length_push (y ∷ ys) x = omega (arith, length_push ys x)
 
 pub push_slots : {T : Type 0} (old new : Slab (Kept T)) (keys : List ℕ) (room places key : ℕ) (kept : Kept T) → IsShelf old keys room places → get old key ≡ None → Updates old new key (Some kept) → slots_in new (keys ++ key ∷ []) ≡ slots_in old keys ++ kept.slot ∷ []
 push_slots old new keys room places key kept s vacant u =
@@ -317,7 +314,3 @@ length-with_child (Some p) slots = length-with_slot p (λ s. record s { children
 pub length-without_child : {T : Type 0} (parent : Option ℕ) (slots : List (TenantSlot T)) → length (without_child parent slots) ≡ length slots
 length-without_child None slots = refl
 length-without_child (Some p) slots = length-with_slot p (λ s. record s { children = s.children - 1 }) slots
-
-pub length_more : {X : Type 0} (xs : List X) (x : X) → length (xs ++ x ∷ []) ≡ length xs + 1
-length_more [] x = refl
-length_more (y ∷ ys) x = omega (arith, length_more ys x)

@@ -7,9 +7,10 @@ use Rattle.std.proofs.lemmas.List.Filters.{FiltersInPlace, FiltersInPlace-more_s
 use Rattle.std.proofs.lemmas.Bool.{cases_eq, eq-eqb, ne_eqb}
 use Rattle.slab.specs.Slab.{Slab, get, slab_len, ContainsKey, Updates}
 use Rattle.frame_table.specs.declared.shelf.Kept.{Kept}
-use Rattle.frame_table.specs.Shelves.{slots_in, has_key, AreApartKeys, AreThere, is_marked, swept_in, values_in}
+use Rattle.frame_table.specs.Shelves.{slots_in, has_key, AreApartKeys, AreThere, NoneMarked, is_marked, swept_in, values_in}
 use Rattle.frame_table.proofs.Shelves.{has_key-append, slots_in-append}
 use Rattle.frame_table.proofs.Marks.{apart_before}
+use Rattle.frame_table.proofs.Lengths.{length_more}
 
 -- after the first keys: those that stay stand in front, the slots of the others are gone, and their values were written down
 pub record HasSwept {T : Type 0} (old now : Slab (Kept T)) (all order : List ℕ) (had values : List T) (kept at : ℕ) : Type 0 where
@@ -20,16 +21,36 @@ pub record HasSwept {T : Type 0} (old now : Slab (Kept T)) (all order : List ℕ
   pub room : length values ≤ length had + at
   pub capacity : now.capacity ≡ old.capacity
 
--- nothing was passed
-pub swept_none : {T : Type 0} (old : Slab (Kept T)) (all : List ℕ) (had : List T) → HasSwept old old all all had had 0 0
-swept_none old all had = record {
-  moved = record { front = refl; rest = refl; behind = omega arith; within = omega arith; long = refl };
-  slots = λ key. refl;
-  written = sym (append-nil had);
+-- where none of the first keys is marked, they were passed
+pub swept_early : {T : Type 0} (old : Slab (Kept T)) (all : List ℕ) (had : List T) (from : ℕ) → from ≤ length all → NoneMarked old (take from all) → HasSwept old old all all had had from from
+swept_early old all had from le none = record {
+  moved = record { front = sym (stay old (take from all) none); rest = refl; behind = omega arith; within = le; long = refl };
+  slots = λ key. same old (take from all) key none;
+  written = rw (go old (take from all) none) (sym (append-nil had));
   counted = refl;
   room = omega arith;
   capacity = refl;
 }
+  where
+    stay : {T : Type 0} (slab : Slab (Kept T)) (keys : List ℕ) → NoneMarked slab keys → filter (λ key. not (is_marked (get slab key))) keys ≡ keys
+    stay slab [] none = refl
+    stay slab (k ∷ keys) none = rw none.0 (ap (λ ks. k ∷ ks) (stay slab keys none.1))
+
+    go : {T : Type 0} (slab : Slab (Kept T)) (keys : List ℕ) → NoneMarked slab keys → filter (λ key. is_marked (get slab key)) keys ≡ []
+    go slab [] none = refl
+    go slab (k ∷ keys) none = rw none.0 (go slab keys none.1)
+
+    same : {T : Type 0} (slab : Slab (Kept T)) (keys : List ℕ) (key : ℕ) → NoneMarked slab keys → get slab key ≡ swept_in slab keys key
+    same slab [] key none = refl
+    same slab (k ∷ keys) key none =
+        elim (cases_eq k key) [
+          | inl here ↦ (let off : is_marked (get slab key) ≡ false = ap (λ j. is_marked (get slab j)) (sym here) ∙ none.0 in rw (off, and_false (has_key (k ∷ keys) key)) refl)
+          | inr differs ↦ rw (ne_eqb k key differs) (same slab keys key none.1)
+        ]
+      where
+        and_false : (b : Bool) → (b && false) ≡ false
+        and_false true = refl
+        and_false false = refl
 
 -- the key that is read is that of all
 pub read_of_all : {T : Type 0} (old now : Slab (Kept T)) (all order : List ℕ) (had values : List T) (kept at key : ℕ) → HasSwept old now all order had values kept at → key ≡ get_or order at key → key ≡ get_or all at key
@@ -108,7 +129,7 @@ swept_goes old now new all order had values kept at key gone h a lt read goes fo
       ];
       written = ap (λ vs. vs ++ gone.slot.value ∷ []) h.written ∙ (append_assoc had _ (gone.slot.value ∷ []) ∙ ap (λ vs. had ++ vs) (sym (ap (values_in old) more ∙ one_more old (filter (λ k. is_marked (get old k)) (take at all)) key gone was)));
       counted = omega (arith, h.counted, len);
-      room = omega (arith, h.room, length_push values gone.slot.value);
+      room = omega (arith, h.room, length_more values gone.slot.value);
       capacity = capacity ∙ h.capacity;
     }
   where
@@ -119,7 +140,3 @@ swept_goes old now new all order had values kept at key gone h a lt read goes fo
     one_more : {T : Type 0} (slab : Slab (Kept T)) (keys : List ℕ) (key : ℕ) (gone : Kept T) → get slab key ≡ Some gone → values_in slab (keys ++ key ∷ []) ≡ values_in slab keys ++ gone.slot.value ∷ []
     one_more slab keys key gone was =
         ap (map (λ s. s.value)) (slots_in-append slab keys (key ∷ [])) ∙ (map_append (λ s. s.value) (slots_in slab keys) (slots_in slab (key ∷ [])) ∙ (rw was refl))
-
-    length_push : {X : Type 0} (xs : List X) (x : X) → length (xs ++ x ∷ []) ≡ length xs + 1
-    length_push [] x = refl
-    length_push (y ∷ ys) x = omega (arith, length_push ys x)

@@ -100,6 +100,15 @@ abbrev pub marked_in : {T : Type 0} → ℕ → List (TenantSlot T) → List ℕ
 marked_in under slots keys key None = None
 marked_in under slots keys key (Some kept) = Some (record kept { marked = if has_key keys key then not (is_kept under (frames_from [] slots) kept.slot.serial) else kept.marked })
 
+-- the slots under these keys are marked where the abort takes them, and nothing else changed
+abbrev pub Marks : {T : Type 0} → ℕ → List (TenantSlot T) → List ℕ → Slab (Kept T) → Slab (Kept T) → Type 0
+Marks under slots keys old now = (key : ℕ) → get now key ≡ marked_in under slots keys key (get old key)
+
+-- no slot under these keys is marked
+abbrev pub NoneMarked : {T : Type 0} → Slab (Kept T) → List ℕ → Type 0
+NoneMarked slab [] = Unit {0}
+NoneMarked slab (key ∷ keys) = (is_marked (get slab key) ≡ false) × NoneMarked slab keys
+
 -- each key has a slot
 abbrev pub AreThere : {T : Type 0} → Slab (Kept T) → List ℕ → Type 0
 AreThere slab [] = Unit {0}

@@ -3,16 +3,19 @@
 //! Seen as the list of slots by rising serial, and a number of places. What makes that true: each key
 //! of the index is of a slot of its own, each slot of the slab has its key in the index, a slot
 //! that has a parent keeps the key of the parent's slot, which stands before it, and none is marked.
-ghost use Rattle.std.specs.Prelude.{◌≡◌, ℕ, ◌+◌, ◌<◌, ◌≤◌, ◌++◌, not, filter, vec_len, vec_capacity, [], ◌∷◌, true, false, Some, length, IfOk, IfSome, IfNone, get_or, set, slice_index};
+ghost use Rattle.std.specs.Prelude.{◌≡◌, ℕ, ◌+◌, ◌<◌, ◌≤◌, ◌++◌, not, filter, vec_len, vec_capacity, [], ◌∷◌, true, false, Some, length, IfOk, IfSome, IfNone, get_or, set, slice_index, take, drop};
 ghost use Rattle.slab.specs.Slab.{get, slab_len, ContainsKey, Updates};
 ghost use Rattle.frame_table.specs.declared.shelf.Kept.{Kept};
 ghost use Rattle.std.specs.List.{remove};
-ghost use Rattle.frame_table.specs.Slots.{serials_of, has_slot, Rises, IsLinked, kept_slots, gone_values, slot_values, child_slots, ready_slots};
-ghost use Rattle.frame_table.specs.Shelves.{slots_in, AllHere, AreApartKeys, StandsUnder, HasLink, is_taken_in, marked_in, AreThere, is_marked, swept_in, values_in};
+ghost use Rattle.frame_table.specs.Slots.{serials_of, has_slot, Rises, IsLinked, kept_slots, gone_values, slot_values, child_slots};
+ghost use Rattle.frame_table.specs.Readies.{ready_in};
+ghost use Rattle.frame_table.specs.Shelves.{slots_in, AllHere, AreApartKeys, StandsUnder, HasLink, is_taken_in, Marks, AreThere, NoneMarked, is_marked, swept_in, values_in};
 
+use crate::names::State;
+use crate::ready::ReadyFrames;
 use crate::slot::Slot;
 use slab::Slab;
-use std::alloc::{AllocError, Global};
+use std::alloc::{AllocError, Allocator, Global};
 use std::marker::Model;
 
 /// One slot as the slab keeps it.
@@ -27,13 +30,13 @@ pub(crate) struct Kept<T> {
 
 /// The slots of one tenant.
 #[derive(Drop)]
-pub(crate) struct Shelf<T> {
+pub(crate) struct Shelf<T, A: Allocator = Global> {
     places: usize,
-    slab: Slab<Kept<T>>,
-    order: Vec<usize>,
+    slab: Slab<Kept<T>, A>,
+    order: Vec<usize, A>,
 }
 
-impl<T> Model for Shelf<T> {
+impl<T, A: Allocator> Model for Shelf<T, A> {
     ghost use Rattle.std.specs.Prelude.{vec_capacity};
     ghost use Rattle.frame_table.specs.Shelves.{Shelved, slots_in, IsShelf};
 
@@ -44,9 +47,11 @@ impl<T> Model for Shelf<T> {
     ghost invariant = { λ s. IsShelf s.slab s.order.items (vec_capacity s.order) s.places };
 }
 
-impl<T: Copy> Shelf<T> {
+impl<T: Copy, A: Allocator> Shelf<T, A> {
     /// An empty shelf with this many places.
-    pub(crate) fn new(alloc: Global, places: usize) -> Result<Self, AllocError>
+    pub(crate) fn new(alloc: A, places: usize) -> Result<Self, AllocError>
+    where
+        A: Copy,
         ensures { IfOk result (λ s. s ≡ record { places = places; slots = [] }) }
     {
         let slab = Slab::with_capacity(alloc, places)?;
@@ -116,15 +121,18 @@ impl<T: Copy> Shelf<T> {
         }
     }
 
-    /// How many slots are those of ready frames.
-    pub(crate) fn count_ready(&self) -> usize
-        ensures { result ≡ length (ready_slots self.now.slots) }
+    /// Adds the ready frames among the slots from a place on.
+    pub(crate) fn add_ready(&self, from: usize, ready: &mut ReadyFrames<A>)
+        requires within { from ≤ length self.now.slots }
+        requires room { length ready.old.frames + length self.now.slots ≤ ready.old.places + from }
+        ensures { ready.new ≡ record ready.old { frames = ready.old.frames ++ ready_in (drop from self.now.slots) } }
     {
-        let mut ready = 0;
-        for at in 0..self.len() {
-            ready += self.at(at).state.is_ready() as usize;
+        for at in from..self.len() {
+            let slot = self.at(at);
+            if let State::Ready(home) = slot.state {
+                ready.push(slot.serial, home);
+            }
         }
-        ready
     }
 
     /// Puts another slot of the same name in the place of one.
@@ -155,21 +163,24 @@ impl<T: Copy> Shelf<T> {
         self.order.push_reserved(key);
     }
 
-    /// Removes the slots under the one with this serial, and adds their values to `removed`: one pass by
-    /// rising serial marks them, and a second removes the marked.
-    pub(crate) fn cut(&mut self, under: u64, removed: &mut Vec<T>)
+    /// Removes the slots under the one with this serial, which stands at a place, and adds their values
+    /// to `removed`: one pass by rising serial marks them, and a second removes the marked. Both begin
+    /// behind that slot.
+    pub(crate) fn cut(&mut self, at: usize, under: u64, removed: &mut Vec<T, A>)
+        requires within { at < length self.old.slots }
+        requires named { slice_index (serials_of self.old.slots) at ≡ under }
         requires linked { IsLinked [] self.old.slots }
         requires room { vec_len removed.old + length self.old.slots ≤ vec_capacity removed.old }
         ensures kept { self.new ≡ record self.old { slots = kept_slots under self.old.slots } }
         ensures values { removed.new.items ≡ removed.old.items ++ gone_values under self.old.slots }
         ensures capacity { vec_capacity removed.new ≡ vec_capacity removed.old }
     {
-        mark_under(&mut self.slab, self.order.as_slice(), under);
-        sweep(&mut self.slab, &mut self.order, removed);
+        mark_under(&mut self.slab, self.order.as_slice(), at, under);
+        sweep(&mut self.slab, &mut self.order, at, removed);
     }
 
     /// Removes all slots, and adds their values to `removed`.
-    pub(crate) fn clear(&mut self, removed: &mut Vec<T>)
+    pub(crate) fn clear(&mut self, removed: &mut Vec<T, A>)
         requires { vec_len removed.old + length self.old.slots ≤ vec_capacity removed.old }
         ensures none { self.new ≡ record self.old { slots = [] } }
         ensures values { removed.new.items ≡ removed.old.items ++ slot_values self.old.slots }
@@ -181,7 +192,7 @@ impl<T: Copy> Shelf<T> {
     }
 
     /// Adds the values of all slots to `values`.
-    fn add_values(&self, values: &mut Vec<T>)
+    fn add_values(&self, values: &mut Vec<T, A>)
         requires { vec_len values.old + length self.now.slots ≤ vec_capacity values.old }
         ensures items { values.new.items ≡ values.old.items ++ slot_values self.now.slots }
         ensures capacity { vec_capacity values.new ≡ vec_capacity values.old }
@@ -205,7 +216,7 @@ impl<T: Copy> Shelf<T> {
 }
 
 /// Puts another slot under a key.
-fn put_kept<T: Copy>(slab: &mut Slab<Kept<T>>, key: usize, slot: Slot<T>)
+fn put_kept<T: Copy, A: Allocator>(slab: &mut Slab<Kept<T>, A>, key: usize, slot: Slot<T>)
     requires { ContainsKey slab.old key }
     ensures put { (kept : Kept T) → get slab.old key ≡ Some kept → Updates slab.old slab.new key (Some (record kept { slot = slot })) }
     ensures len { slab_len slab.new ≡ slab_len slab.old }
@@ -216,7 +227,7 @@ fn put_kept<T: Copy>(slab: &mut Slab<Kept<T>>, key: usize, slot: Slot<T>)
 }
 
 /// Marks a slot.
-fn mark<T: Copy>(slab: &mut Slab<Kept<T>>, key: usize)
+fn mark<T: Copy, A: Allocator>(slab: &mut Slab<Kept<T>, A>, key: usize)
     requires { ContainsKey slab.old key }
     ensures marked { (kept : Kept T) → get slab.old key ≡ Some kept → Updates slab.old slab.new key (Some (record kept { marked = true })) }
     ensures len { slab_len slab.new ≡ slab_len slab.old }
@@ -230,7 +241,7 @@ fn mark<T: Copy>(slab: &mut Slab<Kept<T>>, key: usize)
 }
 
 /// Whether an abort at `under` takes the slot under this key: its parent is that one, or is marked.
-fn is_taken<T: Copy>(slab: &Slab<Kept<T>>, under: u64, key: usize) -> bool
+fn is_taken<T: Copy, A: Allocator>(slab: &Slab<Kept<T>, A>, under: u64, key: usize) -> bool
     requires { HasLink slab.now (get slab.now key) }
     ensures { result ≡ is_taken_in slab.now under (get slab.now key) }
 {
@@ -241,16 +252,24 @@ fn is_taken<T: Copy>(slab: &Slab<Kept<T>>, under: u64, key: usize) -> bool
     }
 }
 
-/// Marks, in one pass by rising serial, each slot whose parent is the one aborted, or is marked.
-fn mark_under<T: Copy>(slab: &mut Slab<Kept<T>>, order: &[usize], under: u64)
+/// Marks, in one pass by rising serial from a place on, each slot whose parent is the one aborted, or
+/// is marked. Those before the place stay.
+fn mark_under<T: Copy, A: Allocator>(
+    slab: &mut Slab<Kept<T>, A>,
+    order: &[usize],
+    from: usize,
+    under: u64,
+)
     requires here { AllHere slab.old [] order.now }
     requires apart { AreApartKeys order.now }
     requires linked { IsLinked [] (slots_in slab.old order.now) }
-    ensures marked { (key : ℕ) → get slab.new key ≡ marked_in under (slots_in slab.old order.now) order.now key (get slab.old key) }
+    requires within { from ≤ length order.now }
+    requires early { Marks under (slots_in slab.old order.now) (take from order.now) slab.old slab.old }
+    ensures marked { Marks under (slots_in slab.old order.now) order.now slab.old slab.new }
     ensures len { slab_len slab.new ≡ slab_len slab.old }
     ensures capacity { slab.new.capacity ≡ slab.old.capacity }
 {
-    for at in 0..order.len() {
+    for at in from..order.len() {
         let key = order[at];
         if is_taken(slab, under, key) {
             mark(slab, key);
@@ -258,10 +277,18 @@ fn mark_under<T: Copy>(slab: &mut Slab<Kept<T>>, order: &[usize], under: u64)
     }
 }
 
-/// Removes the marked slots in one pass, and adds their values to `removed`.
-fn sweep<T: Copy>(slab: &mut Slab<Kept<T>>, order: &mut Vec<usize>, removed: &mut Vec<T>)
+/// Removes the marked slots in one pass from a place on, and adds their values to `removed`. None
+/// before the place is marked.
+fn sweep<T: Copy, A: Allocator>(
+    slab: &mut Slab<Kept<T>, A>,
+    order: &mut Vec<usize, A>,
+    from: usize,
+    removed: &mut Vec<T, A>,
+)
     requires there { AreThere slab.old order.old.items }
     requires apart { AreApartKeys order.old.items }
+    requires within { from ≤ length order.old.items }
+    requires early { NoneMarked slab.old (take from order.old.items) }
     requires room { vec_len removed.old + vec_len order.old ≤ vec_capacity removed.old }
     ensures kept { order.new.items ≡ filter (λ key. not (is_marked (get slab.old key))) order.old.items }
     ensures slots { (key : ℕ) → get slab.new key ≡ swept_in slab.old order.old.items key }
@@ -271,8 +298,8 @@ fn sweep<T: Copy>(slab: &mut Slab<Kept<T>>, order: &mut Vec<usize>, removed: &mu
     ensures order_room { vec_capacity order.new ≡ vec_capacity order.old }
     ensures removed_room { vec_capacity removed.new ≡ vec_capacity removed.old }
 {
-    let mut kept = 0;
-    for at in 0..order.len() {
+    let mut kept = from;
+    for at in from..order.len() {
         let key = order[at];
         if slab[key].marked {
             let gone = slab.remove(key);

@@ -1,18 +1,19 @@
 //! The table: each tenant's frames in the places that were reserved for them.
 //!
 //! Seen as a tree for each tenant: `frames_of table tenant`, the frames by rising serial, and
-//! `places_of table tenant`, how many places it has. What makes that true: each tenant stands once,
-//! its frames are within its places, the list of removed values has room for as many as any tenant
-//! has places, and the count of ready frames is that of all trees.
+//! `places_of table tenant`, how many places it has. What makes that true: the trees stand by rising
+//! number of their tenants, each tree's frames are within its places, the list of removed values has
+//! room for as many as any tenant has places, and the count of ready frames is that of all trees.
 ghost use Rattle.std.specs.Prelude.{◌≡◌, ◌≢◌, ℕ, ◌+◌, ◌<◌, ◌≤◌, ◌↔◌, ◌++◌, [], ◌∷◌, true, false, length, IsTrue, IsNone, IfOk, IfSome, IfNone, OnOk, OnErr};
 ghost use Rattle.std.specs.Borrow.{sem};
 ghost use Rattle.frame_table.specs.Frames.{frame_at, has_frame, path_in, root_of, children_of, frames_under, frames_without, values_of, with_state, ready_frames, AllBelow, entry_of, newest_ready_of, names_of, HasValue, IsTree, IsReadyAt};
 ghost use Rattle.frame_table.specs.Tables.{frames_of, places_of, tenant_count, KeepsOthers, KeepsOtherTenants, serial_of, IsParentIn, new_frame, has_tenant, IsAt, IsTreeOf, HasNoTree, AreApart, first_ready_of};
+ghost use Rattle.frame_table.specs.Places.{RisesBy, IsPlaceFor};
 
 use crate::names::{Entry, FrameId, State};
 use crate::tree::TenantFrames;
 use crate::walk::{Children, Frames};
-use std::alloc::{AllocError, Global};
+use std::alloc::{AllocError, Allocator, Global};
 use std::marker::Model;
 
 /// How many tenants can have places at once.
@@ -23,14 +24,14 @@ pub const PLACES: usize = 4096;
 
 /// The frames of many tenants, each with a value.
 #[derive(Drop)]
-pub struct FrameTable<T> {
-    alloc: Global,
-    trees: Vec<TenantFrames<T>>,
-    removed: Vec<T>,
+pub struct FrameTable<T, A: Allocator = Global> {
+    alloc: A,
+    trees: Vec<TenantFrames<T, A>, A>,
+    removed: Vec<T, A>,
     ready: usize,
 }
 
-impl<T> Model for FrameTable<T> {
+impl<T, A: Allocator> Model for FrameTable<T, A> {
     ghost use Rattle.std.specs.Prelude.{◌≤◌, List, vec_capacity};
     ghost use Rattle.frame_table.specs.Tables.{Tree, IsSoundTable};
 
@@ -41,11 +42,13 @@ impl<T> Model for FrameTable<T> {
     ghost invariant = { λ t. IsSoundTable t.trees.items (vec_capacity t.removed) t.ready × (64 ≤ vec_capacity t.trees) };
 }
 
-impl<T: Copy> FrameTable<T> {
+impl<T: Copy, A: Allocator> FrameTable<T, A> {
     ghost use Rattle.frame_table.specs.Ending.{EndsAborted, EndsEmptied};
 
     /// A table with no tenant. Takes memory: `AllocError` only where a growth was refused.
-    pub fn new(alloc: Global) -> Result<Self, AllocError>
+    pub fn new(alloc: A) -> Result<Self, AllocError>
+    where
+        A: Copy,
         ensures count { IfOk result (λ table. tenant_count table ≡ 0) }
         ensures frames { IfOk result (λ table. (tenant : ℕ) → frames_of table tenant ≡ []) }
         ensures places { IfOk result (λ table. (tenant : ℕ) → places_of table tenant ≡ 0) }
@@ -169,7 +172,7 @@ impl<T: Copy> FrameTable<T> {
     }
 
     /// The names of a frame's children, by rising serial.
-    pub fn children(&self, f: FrameId) -> Children<'_, T>
+    pub fn children(&self, f: FrameId) -> Children<'_, T, A>
         ensures { result ≡ names_of f.tenant (children_of (frames_of self.now f.tenant) f.serial) }
     {
         match find_tree(self.trees.as_slice(), f.tenant) {
@@ -179,7 +182,7 @@ impl<T: Copy> FrameTable<T> {
     }
 
     /// The names of a tenant's frames, by rising serial.
-    pub fn frames(&self, tenant: u64) -> Frames<'_, T>
+    pub fn frames(&self, tenant: u64) -> Frames<'_, T, A>
         ensures names { result ≡ names_of tenant (frames_of self.now tenant) }
         ensures tree { IsTree (frames_of self.now tenant) }
     {
@@ -213,6 +216,8 @@ impl<T: Copy> FrameTable<T> {
     /// Makes places for that many frames of a new tenant, and for their values at an abort. It alone
     /// takes memory after `new`: `AllocError` only where a growth was refused.
     pub fn reserve(&mut self, tenant: u64, segments: usize) -> Result<(), AllocError>
+    where
+        A: Copy,
         requires fresh { places_of self.old tenant ≡ 0 }
         requires free { tenant_count self.old < TENANTS }
         requires some { 1 ≤ segments }
@@ -226,7 +231,10 @@ impl<T: Copy> FrameTable<T> {
         self.removed.clear();
         self.removed.reserve(segments)?;
         let tree = TenantFrames::new(self.alloc, tenant, segments)?;
-        self.trees.push_reserved(tree);
+        let at = place_for(self.trees.as_slice(), tenant);
+        if self.trees.insert(at, tree).is_err() {
+            unreachable!()
+        }
         Ok(())
     }
 
@@ -278,7 +286,7 @@ impl<T: Copy> FrameTable<T> {
     /// serial. Gives their values, each once, by rising serial. Takes no memory.
     pub fn remove_under(&mut self, f: FrameId) -> &[T]
         requires { IsTrue (has_frame (frames_of self.old f.tenant) f.serial) }
-        ensures* ends { sem 𝓛 (EndsAborted T.row self.entry f) }
+        ensures* ends { sem 𝓛 (EndsAborted T.row A.row A.Allocator self.entry f) }
         ensures values { result.now ≡ values_of (frames_under f.serial (frames_of self.old f.tenant)) }
     {
         let at = known_tenant(self.trees.as_slice(), f.tenant);
@@ -294,7 +302,7 @@ impl<T: Copy> FrameTable<T> {
     /// serial. Takes no memory.
     pub fn remove_all(&mut self, tenant: u64) -> &[T]
         requires { 0 < places_of self.old tenant }
-        ensures* ends { sem 𝓛 (EndsEmptied T.row self.entry tenant) }
+        ensures* ends { sem 𝓛 (EndsEmptied T.row A.row A.Allocator self.entry tenant) }
         ensures values { result.now ≡ values_of (frames_of self.old tenant) }
     {
         let at = known_tenant(self.trees.as_slice(), tenant);
@@ -334,7 +342,11 @@ fn parent_serial(parent: Option<FrameId>) -> Option<u64>
 }
 
 /// Whether a parent, if one is named, is a frame of this tenant.
-fn may_follow<T: Copy>(tree: &TenantFrames<T>, tenant: u64, parent: Option<FrameId>) -> bool
+fn may_follow<T: Copy, A: Allocator>(
+    tree: &TenantFrames<T, A>,
+    tenant: u64,
+    parent: Option<FrameId>,
+) -> bool
     ensures parent { IsTrue result → IsParentIn tree.now.frames tenant parent }
     ensures otherwise { IsParentIn tree.now.frames tenant parent → IsTrue result }
 {
@@ -344,22 +356,35 @@ fn may_follow<T: Copy>(tree: &TenantFrames<T>, tenant: u64, parent: Option<Frame
     }
 }
 
+/// Where the tree of a tenant stands, or would stand.
+fn place_for<T: Copy, A: Allocator>(trees: &[TenantFrames<T, A>], tenant: u64) -> usize
+    requires { RisesBy (λ tree. tree.tenant) trees.now }
+    ensures within { result ≤ length trees.now }
+    ensures place { IsPlaceFor (λ tree. tree.tenant) trees.now tenant result }
+{
+    trees.partition_point(|tree| tree.tenant() < tenant)
+}
+
 /// Where a tenant's tree stands.
-fn tenant_place<T: Copy>(trees: &[TenantFrames<T>], tenant: u64) -> Option<usize>
+fn tenant_place<T: Copy, A: Allocator>(trees: &[TenantFrames<T, A>], tenant: u64) -> Option<usize>
+    requires { RisesBy (λ tree. tree.tenant) trees.now }
     ensures within { IfSome result (λ at. at < length trees.now) }
     ensures found { IfSome result (IsAt trees.now tenant) }
     ensures none { IfNone result (has_tenant trees.now tenant ≡ false) }
 {
-    for (at, tree) in trees.iter().enumerate() {
-        if tree.tenant() == tenant {
-            return Some(at);
-        }
+    let at = place_for(trees, tenant);
+    if at < trees.len() && trees[at].tenant() == tenant {
+        return Some(at);
     }
     None
 }
 
 /// A tenant's tree.
-fn find_tree<T: Copy>(trees: &[TenantFrames<T>], tenant: u64) -> Option<&TenantFrames<T>>
+fn find_tree<T: Copy, A: Allocator>(
+    trees: &[TenantFrames<T, A>],
+    tenant: u64,
+) -> Option<&TenantFrames<T, A>>
+    requires { RisesBy (λ tree. tree.tenant) trees.now }
     ensures found { IfSome result (λ tree. IsTreeOf trees.now tenant tree.now) }
     ensures none { IfNone result (HasNoTree trees.now tenant) }
 {
@@ -370,8 +395,9 @@ fn find_tree<T: Copy>(trees: &[TenantFrames<T>], tenant: u64) -> Option<&TenantF
 }
 
 /// Where the tree of a tenant stands that has places.
-fn known_tenant<T: Copy>(trees: &[TenantFrames<T>], tenant: u64) -> usize
-    requires { has_tenant trees.now tenant ≡ true }
+fn known_tenant<T: Copy, A: Allocator>(trees: &[TenantFrames<T, A>], tenant: u64) -> usize
+    requires rise { RisesBy (λ tree. tree.tenant) trees.now }
+    requires there { has_tenant trees.now tenant ≡ true }
     ensures within { result < length trees.now }
     ensures found { IsAt trees.now tenant result }
 {
@@ -382,7 +408,7 @@ fn known_tenant<T: Copy>(trees: &[TenantFrames<T>], tenant: u64) -> usize
 }
 
 /// The newest ready frame of the first tenant that has one.
-fn first_ready<T: Copy>(trees: &[TenantFrames<T>]) -> Option<(FrameId, u8)>
+fn first_ready<T: Copy, A: Allocator>(trees: &[TenantFrames<T, A>]) -> Option<(FrameId, u8)>
     requires { AreApart trees.now }
     ensures value { result ≡ first_ready_of trees.now }
     ensures found { IfSome result (λ ready. IsReadyAt (frame_at (frames_of trees.now ready.0.tenant) ready.0.serial) ready.1) }

@@ -5,47 +5,52 @@
 //! and the counts of children and of ready frames are those of the slots.
 ghost use Rattle.std.specs.Prelude.{◌≡◌, ℕ, ◌+◌, ◌<◌, ◌≤◌, ◌↔◌, ◌++◌, [], ◌∷◌, true, false, length, vec_len, vec_capacity, IsTrue, IfOk, IfSome};
 ghost use Rattle.frame_table.specs.Frames.{frame_at, has_frame, path_in, root_of, children_of, aborted, frames_under, frames_without, values_of, with_state, ready_frames, AllBelow, entry_of, newest_ready_of, HasValue, has_parent, IsReadyAt, IsTree};
-ghost use Rattle.frame_table.specs.Slots.{frames_from, IsLinked, Rises, has_parent_slot, AllCountsBelow, with_child, root_under, without_child, CountsAtParent, newest_in};
+ghost use Rattle.frame_table.specs.Slots.{frames_from, IsLinked, Rises, has_parent_slot, AllCountsBelow, with_child, root_under, without_child, CountsAtParent};
 ghost use Rattle.frame_table.specs.Shelves.{StandsUnder};
 ghost use Rattle.frame_table.specs.Tables.{new_frame};
 
 use crate::names::{Entry, FrameId, State};
+use crate::ready::ReadyFrames;
 use crate::shelf::Shelf;
 use crate::slot::Slot;
-use std::alloc::{AllocError, Global};
+use std::alloc::{AllocError, Allocator, Global};
 use std::marker::Model;
 
 /// The frames of one tenant.
 #[derive(Drop)]
-pub(crate) struct TenantFrames<T> {
+pub(crate) struct TenantFrames<T, A: Allocator = Global> {
     tenant: u64,
-    shelf: Shelf<T>,
-    ready: usize,
+    shelf: Shelf<T, A>,
+    ready: ReadyFrames<A>,
 }
 
-impl<T> Model for TenantFrames<T> {
-    ghost use Rattle.std.specs.Prelude.{◌≤◌, [], length};
+impl<T, A: Allocator> Model for TenantFrames<T, A> {
+    ghost use Rattle.std.specs.Prelude.{[]};
     ghost use Rattle.frame_table.specs.Tables.{Tree};
-    ghost use Rattle.frame_table.specs.Slots.{frames_from, IsSound};
+    ghost use Rattle.frame_table.specs.Slots.{frames_from};
+    ghost use Rattle.frame_table.specs.Readies.{IsTenant};
 
     ghost Value = { Tree T };
 
     ghost view = { λ t. record { tenant = t.tenant; places = t.shelf.places; frames = frames_from [] t.shelf.slots } };
 
-    ghost invariant = { λ t. (IsSound t.shelf.slots t.ready) × (length t.shelf.slots ≤ t.shelf.places) × (t.shelf.places ≤ 4096) };
+    ghost invariant = { λ t. IsTenant t.shelf.slots t.shelf.places t.ready };
 }
 
-impl<T: Copy> TenantFrames<T> {
+impl<T: Copy, A: Allocator> TenantFrames<T, A> {
     /// No frames, with places for this many.
-    pub(crate) fn new(alloc: Global, tenant: u64, places: usize) -> Result<Self, AllocError>
+    pub(crate) fn new(alloc: A, tenant: u64, places: usize) -> Result<Self, AllocError>
+    where
+        A: Copy,
         requires { places ≤ 4096 }
         ensures { IfOk result (λ t. t ≡ record { tenant = tenant; places = places; frames = [] }) }
     {
         let shelf = Shelf::new(alloc, places)?;
+        let ready = ReadyFrames::new(alloc, places)?;
         Ok(TenantFrames {
             tenant,
             shelf,
-            ready: 0,
+            ready,
         })
     }
 
@@ -74,11 +79,11 @@ impl<T: Copy> TenantFrames<T> {
     pub(crate) fn ready(&self) -> usize
         ensures { result ≡ length (ready_frames self.now.frames) }
     {
-        self.ready
+        self.ready.len()
     }
 
     /// The slots.
-    pub(crate) fn shelf(&self) -> &Shelf<T>
+    pub(crate) fn shelf(&self) -> &Shelf<T, A>
         ensures frames { frames_from [] result.now.slots ≡ self.now.frames }
         ensures linked { IsLinked [] result.now.slots }
     {
@@ -140,10 +145,14 @@ impl<T: Copy> TenantFrames<T> {
         ensures value { result ≡ newest_ready_of self.now.tenant self.now.frames }
         ensures found { IfSome result (λ ready. (ready.0.tenant ≡ self.now.tenant) × IsReadyAt (frame_at self.now.frames ready.0.serial) ready.1) }
     {
-        if self.ready == 0 {
-            return None;
+        match self.ready.newest() {
+            Some(frame) => {
+                let tenant = self.tenant;
+                let serial = frame.serial;
+                Some((FrameId { tenant, serial }, frame.home))
+            }
+            None => None,
         }
-        newest_ready(self.tenant, &self.shelf)
     }
 
     /// Adds a ready frame.
@@ -165,7 +174,7 @@ impl<T: Copy> TenantFrames<T> {
             },
             above,
         );
-        self.ready += 1;
+        self.ready.push(serial, home);
     }
 
     /// Puts a frame into another state.
@@ -176,11 +185,11 @@ impl<T: Copy> TenantFrames<T> {
         let at = self.shelf.known_place(serial);
         let slot = self.shelf.at(at);
         self.shelf.put(at, Slot { state, ..slot });
-        self.ready = self.ready - slot.state.is_ready() as usize + state.is_ready() as usize;
+        self.ready.follow(serial, slot.state, state);
     }
 
     /// Removes the frames under one, and adds their values to `removed`.
-    pub(crate) fn remove_under(&mut self, serial: u64, removed: &mut Vec<T>)
+    pub(crate) fn remove_under(&mut self, serial: u64, removed: &mut Vec<T, A>)
         requires there { IsTrue (has_frame self.old.frames serial) }
         requires room { vec_len removed.old + length self.old.frames ≤ vec_capacity removed.old }
         ensures left { self.new ≡ record self.old { frames = aborted serial self.old.frames } }
@@ -199,19 +208,20 @@ impl<T: Copy> TenantFrames<T> {
                 ..slot
             },
         );
-        self.shelf.cut(serial, removed);
-        self.ready = self.shelf.count_ready();
+        self.shelf.cut(at, serial, removed);
+        self.ready.forget_from(serial);
+        self.shelf.add_ready(at, &mut self.ready);
     }
 
     /// Removes all frames, and adds their values to `removed`.
-    pub(crate) fn remove_all(&mut self, removed: &mut Vec<T>)
+    pub(crate) fn remove_all(&mut self, removed: &mut Vec<T, A>)
         requires { vec_len removed.old + length self.old.frames ≤ vec_capacity removed.old }
         ensures left { self.new ≡ record self.old { frames = [] } }
         ensures values { removed.new.items ≡ removed.old.items ++ values_of self.old.frames }
         ensures capacity { vec_capacity removed.new ≡ vec_capacity removed.old }
     {
         self.shelf.clear(removed);
-        self.ready = 0;
+        self.ready.clear();
     }
 
     /// Removes a frame that has no child, and gives its value.
@@ -224,14 +234,18 @@ impl<T: Copy> TenantFrames<T> {
         let at = self.shelf.known_place(serial);
         let slot = self.shelf.take(at);
         forget(&mut self.shelf, slot.parent);
-        self.ready -= slot.state.is_ready() as usize;
+        self.ready.leave(serial, slot.state);
         slot.value
     }
 }
 
 /// Counts one more child at the parent, and gives the root of the new frame, and where the parent
 /// stands.
-fn adopt<T: Copy>(shelf: &mut Shelf<T>, parent: Option<u64>, serial: u64) -> (u64, Option<usize>)
+fn adopt<T: Copy, A: Allocator>(
+    shelf: &mut Shelf<T, A>,
+    parent: Option<u64>,
+    serial: u64,
+) -> (u64, Option<usize>)
     requires rise { Rises shelf.old.slots }
     requires there { has_parent_slot shelf.old.slots parent ≡ true }
     requires few { AllCountsBelow 4096 shelf.old.slots }
@@ -257,7 +271,7 @@ fn adopt<T: Copy>(shelf: &mut Shelf<T>, parent: Option<u64>, serial: u64) -> (u6
 }
 
 /// Counts one child less at the parent.
-fn forget<T: Copy>(shelf: &mut Shelf<T>, parent: Option<u64>)
+fn forget<T: Copy, A: Allocator>(shelf: &mut Shelf<T, A>, parent: Option<u64>)
     requires rise { Rises shelf.old.slots }
     requires there { has_parent_slot shelf.old.slots parent ≡ true }
     requires counted { CountsAtParent shelf.old.slots parent }
@@ -274,20 +288,4 @@ fn forget<T: Copy>(shelf: &mut Shelf<T>, parent: Option<u64>)
             },
         );
     }
-}
-
-/// The last ready slot's name, and its home.
-fn newest_ready<T: Copy>(tenant: u64, shelf: &Shelf<T>) -> Option<(FrameId, u8)>
-    ensures { result ≡ newest_in tenant shelf.now.slots }
-{
-    let mut end = shelf.len();
-    while end > 0 {
-        end -= 1;
-        let slot = shelf.at(end);
-        if let State::Ready(home) = slot.state {
-            let serial = slot.serial;
-            return Some((FrameId { tenant, serial }, home));
-        }
-    }
-    None
 }

@@ -1,12 +1,12 @@
 use Rattle.std.proofs.Common.{◌≡◌, ◌<◌, length, refl, ap, sym, ◌∙◌, arith}
 use Rattle.slab.specs.Slab.{get}
 use Rattle.frame_table.specs.Shelves.{is_marked}
-use Rattle.frame_table.proofs.Sweeps.{swept_none, slot_is, slot_contains, swept_stays, swept_goes}
+use Rattle.frame_table.proofs.Sweeps.{swept_early, slot_is, slot_contains, swept_stays, swept_goes}
 use Rattle.frame_table.proofs.shelf.sweep.Goals as goal
 use Rattle.frame_table.proofs.shelf.sweep.Goals.{then-index, else-index}
 
 pub loop-at-init : goal.loop-at-init
-loop-at-init g c = (swept_none c.args.slab.now c.args.order.now.items c.args.removed.now.items, refl, refl)
+loop-at-init g c = (swept_early c.args.slab.now c.args.order.now.items c.args.removed.now.items c.args.from c.requires.within c.requires.early, refl, refl)
 
 pub index-requires : goal.index-requires
 index-requires g c =

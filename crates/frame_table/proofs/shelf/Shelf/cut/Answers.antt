@@ -2,7 +2,35 @@ use Rattle.std.proofs.Common.{[], refl, ◌∙◌, arith}
 use Rattle.frame_table.specs.Shelves.{slots_in}
 use Rattle.frame_table.proofs.Shelves.{slots_in-length}
 use Rattle.frame_table.proofs.Cutting.{HasCut, all_there, marked_there, cut_shelf, cut_slots, cut_values}
+use Rattle.frame_table.proofs.Early.{marks_early, none_marked_early}
 use Rattle.frame_table.proofs.shelf.Shelf.cut.Goals as goal
+
+pub mark_under-requires-clause-within : goal.mark_under-requires-clause-within
+mark_under-requires-clause-within g c =
+    let within = rw (← c.self.view_is) at c.requires.within in
+    let long = slots_in-length c.self.inside.slab [] c.self.inside.order.items c.self.invariant.here in
+    rw c.as_slice.ensures.value (omega (arith, within, long))
+
+pub mark_under-requires-clause-early : goal.mark_under-requires-clause-early
+mark_under-requires-clause-early g c =
+    let within = rw (← c.self.view_is) at c.requires.within in
+    let named = rw (← c.self.view_is) at c.requires.named in
+    let linked = rw (← c.self.view_is) at c.requires.linked in
+    rw c.as_slice.ensures.value (marks_early c.args.under c.self.inside.slab c.self.inside.order.items c.args.at c.self.invariant.here linked within named)
+
+pub sweep-requires-clause-within : goal.sweep-requires-clause-within
+sweep-requires-clause-within g c =
+    let within = rw (← c.self.view_is) at c.requires.within in
+    let long = slots_in-length c.self.inside.slab [] c.self.inside.order.items c.self.invariant.here in
+    omega (arith, within, long)
+
+pub sweep-requires-clause-early : goal.sweep-requires-clause-early
+sweep-requires-clause-early g c =
+    let marks = rw c.as_slice.ensures.value at c.mark_under.ensures.marked in
+    let within = rw (← c.self.view_is) at c.requires.within in
+    let named = rw (← c.self.view_is) at c.requires.named in
+    let linked = rw (← c.self.view_is) at c.requires.linked in
+    none_marked_early c.args.under c.self.inside.slab c.mark_under.new.slab c.self.inside.order.items c.args.at c.self.invariant.here linked within named marks
 
 pub sweep-requires-clause-there : goal.sweep-requires-clause-there
 sweep-requires-clause-there g c =

@@ -1,11 +1,11 @@
-use Rattle.std.proofs.Common.{refl, ◌∙◌, arith, []}
+use Rattle.std.proofs.Common.{refl, ◌∙◌, arith}
 use Rattle.frame_table.proofs.Tenants.{tree_by_places, at_tree, is_within, HasChanged, changed_sound, changed_frames, changed_keeps}
 use Rattle.frame_table.proofs.table.FrameTable.remove_all.Goals as goal
 
-pub known_tenant-at-requires : goal.known_tenant-at-requires
-known_tenant-at-requires g c =
+pub known_tenant-at-requires-clause-there : goal.known_tenant-at-requires-clause-there
+known_tenant-at-requires-clause-there g c =
     let there = rw (← c.self.view_is) at c.requires in
-    rw c.as_slice.ensures.value (tree_by_places c.self.inside.trees.items c.args.tenant there)
+    rw c.as_slice.ensures.value (tree_by_places _ c.args.tenant there)
 
 pub remove_all-requires : goal.remove_all-requires
 remove_all-requires g c =
@@ -28,8 +28,9 @@ invariant_of-self g c =
 
 pub returns : goal.returns
 returns g c =
-    let changed : HasChanged c.self.inside.trees.items c.args.tenant c.known_tenant-at.result c.index_mut-tree.result.now c.remove_all.new.self [] = record { here = rw c.as_slice.ensures.value at c.known_tenant-at.ensures.found; was = c.index_mut-tree.ensures.value; now = c.remove_all.ensures.left } in
-    let tree = at_tree c.self.inside.trees.items c.args.tenant c.known_tenant-at.result c.index_mut-tree.result.now changed.here changed.was in
+    let here = rw c.as_slice.ensures.value at c.known_tenant-at.ensures.found in
+    let tree = at_tree _ _ _ _ here c.index_mut-tree.ensures.value in
+    let changed : HasChanged _ _ _ _ _ _ = record { here = here; was = c.index_mut-tree.ensures.value; now = c.remove_all.ensures.left } in
     let gone = rw c.clear.ensures.items at c.remove_all.ensures.values in
     rw (← c.self.view_is, tree.frames) (
       (refl, λ _. tt, (changed_frames _ _ _ _ _ _ changed, changed_keeps _ _ _ _ _ _ changed)),

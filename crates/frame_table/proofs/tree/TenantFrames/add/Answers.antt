@@ -1,14 +1,16 @@
-use Rattle.std.proofs.Common.{◌≤◌, length, [], refl, sym, ◌∙◌, arith}
+use Rattle.std.proofs.Common.{ap, length, [], refl, sym, ◌∙◌, arith}
 use Rattle.frame_table.specs.declared.names.State.TheVariants.{Ready}
 use Rattle.frame_table.specs.Slots.{with_child}
 use Rattle.frame_table.proofs.Forest.{linked_rises}
 use Rattle.frame_table.proofs.Finds.{has_parent-slots, frames_from-length}
-use Rattle.frame_table.proofs.Trees.{few_counts, few_ready, added_sound, added_frames}
-use Rattle.frame_table.proofs.Shelves.{length-with_child, length_more}
+use Rattle.frame_table.proofs.Trees.{few_counts, added_sound, added_frames}
+use Rattle.frame_table.proofs.Readies.{is_tenant, few_ready_in, added_ready}
+use Rattle.frame_table.proofs.Shelves.{length-with_child}
+use Rattle.frame_table.proofs.Lengths.{length_more}
 use Rattle.frame_table.proofs.tree.TenantFrames.add.Goals as goal
 
 pub adopt-root-requires-clause-rise : goal.adopt-root-requires-clause-rise
-adopt-root-requires-clause-rise g c = linked_rises [] _ c.self.invariant.0.linked
+adopt-root-requires-clause-rise g c = linked_rises [] _ c.self.invariant.sound.linked
 
 pub adopt-root-requires-clause-there : goal.adopt-root-requires-clause-there
 adopt-root-requires-clause-there g c =
@@ -18,7 +20,7 @@ adopt-root-requires-clause-there g c =
 pub adopt-root-requires-clause-few : goal.adopt-root-requires-clause-few
 adopt-root-requires-clause-few g c =
     let room = rw (← c.self.view_is) at c.requires.room in
-    few_counts c.self.inside.shelf.slots c.self.inside.ready 4096 c.self.invariant.0 (omega (arith, room, c.self.invariant.2))
+    few_counts c.self.inside.shelf.slots (length c.self.inside.ready.frames) 4096 c.self.invariant.sound (omega (arith, room, c.self.invariant.few))
 
 pub push-requires-clause-room : goal.push-requires-clause-room
 push-requires-clause-room g c =
@@ -26,10 +28,12 @@ push-requires-clause-room g c =
     let long = frames_from-length [] c.self.inside.shelf.slots in
     rw c.adopt-root.ensures.counted (omega (arith, room, long, length-with_child c.args.parent c.self.inside.shelf.slots))
 
-pub overflow_add-self : goal.overflow_add-self
-overflow_add-self g c =
-    let few : c.self.inside.ready ≤ length c.self.inside.shelf.slots = few_ready c.self.inside.shelf.slots c.self.inside.ready c.self.invariant.0 in
-    omega (arith, few, c.self.invariant.1, c.self.invariant.2)
+pub push-requires-2 : goal.push-requires-2
+push-requires-2 g c =
+    let room = rw (← c.self.view_is) at c.requires.room in
+    let long = frames_from-length [] c.self.inside.shelf.slots in
+    let few = few_ready_in c.self.inside.shelf.slots in
+    omega (arith, room, long, few, ap length c.self.invariant.ready_frames, c.self.invariant.ready_places)
 
 pub invariant_of-self : goal.invariant_of-self
 invariant_of-self g c =
@@ -39,11 +43,12 @@ invariant_of-self g c =
     let room = rw (← c.self.view_is) at c.requires.room in
     let whole = rw c.adopt-root.ensures.counted at c.push.ensures in
     let long = frames_from-length [] slots in
-    rw whole (
-      added_sound slots _ c.self.inside.ready c.args.serial c.adopt-root.result.0 c.args.home c.args.parent c.args.value c.self.invariant.0 above there c.adopt-root.ensures.root refl,
-      omega (arith, room, long, length-with_child c.args.parent slots, length_more (with_child c.args.parent slots) (record { serial = c.args.serial; parent = c.args.parent; root = c.adopt-root.result.0; state = Ready c.args.home; children = 0; value = c.args.value })),
-      c.self.invariant.2,
-    )
+    rw (whole, c.push-2.ensures) (is_tenant _ _ _ _
+    (added_sound slots _ (length c.self.inside.ready.frames) c.args.serial c.adopt-root.result.0 c.args.home c.args.parent c.args.value c.self.invariant.sound above there c.adopt-root.ensures.root refl)
+    (added_ready slots c.args.parent _ c.args.home c.self.inside.ready.frames c.self.invariant.ready_frames refl)
+    (omega (arith, room, long, length-with_child c.args.parent slots, length_more (with_child c.args.parent slots) (record { serial = c.args.serial; parent = c.args.parent; root = c.adopt-root.result.0; state = Ready c.args.home; children = 0; value = c.args.value })))
+    c.self.invariant.few
+    c.self.invariant.ready_places)
 
 pub returns : goal.returns
 returns g c =

@@ -4,7 +4,7 @@ use Rattle.frame_table.proofs.Shelves.{found_there}
 use Rattle.frame_table.proofs.tree.TenantFrames.contains.Goals as goal
 
 pub place_of-requires : goal.place_of-requires
-place_of-requires g c = linked_rises [] _ c.self.invariant.0.linked
+place_of-requires g c = linked_rises [] _ c.self.invariant.sound.linked
 
 pub returns : goal.returns
 returns g c =

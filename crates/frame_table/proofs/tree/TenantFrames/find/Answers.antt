@@ -5,17 +5,17 @@ use Rattle.frame_table.proofs.Finds.{found, entry_of-found, frame_at-none, IsTre
 use Rattle.frame_table.proofs.tree.TenantFrames.find.Goals as goal
 
 pub place_of-requires : goal.place_of-requires
-place_of-requires g c = linked_rises [] _ c.self.invariant.0.linked
+place_of-requires g c = linked_rises [] _ c.self.invariant.sound.linked
 
 pub returns-in-Some-clause-entry : goal.returns-in-Some-clause-entry
 returns-in-Some-clause-entry g c =
     let slots = c.self.inside.shelf.slots in
     let at = c.in-Some.ensures.found in
-    let f = found [] slots c.in-Some.at c.args.serial c.at.result c.self.invariant.0.linked tt at.0 at.1 c.at.ensures in
+    let f = found [] slots c.in-Some.at c.args.serial c.at.result c.self.invariant.sound.linked tt at.0 at.1 c.at.ensures in
     rw (← c.self.view_is) (entry_of-found c.self.inside.tenant c.args.serial (frames_from [] slots) c.at.result f.0 c.entry.result f.1 c.entry.ensures)
 
 pub returns-in-Some-clause-tree : goal.returns-in-Some-clause-tree
-returns-in-Some-clause-tree g c = rw (← c.self.view_is) (IsTree-linked [] c.self.inside.shelf.slots tt c.self.invariant.0.linked)
+returns-in-Some-clause-tree g c = rw (← c.self.view_is) (IsTree-linked [] c.self.inside.shelf.slots tt c.self.invariant.sound.linked)
 
 pub returns-in-None-clause-entry : goal.returns-in-None-clause-entry
 returns-in-None-clause-entry g c =
@@ -25,4 +25,4 @@ returns-in-None-clause-entry g c =
     rw (← c.self.view_is, gone) refl
 
 pub returns-in-None-clause-tree : goal.returns-in-None-clause-tree
-returns-in-None-clause-tree g c = rw (← c.self.view_is) (IsTree-linked [] c.self.inside.shelf.slots tt c.self.invariant.0.linked)
+returns-in-None-clause-tree g c = rw (← c.self.view_is) (IsTree-linked [] c.self.inside.shelf.slots tt c.self.invariant.sound.linked)

@@ -1,4 +1,4 @@
-use Rattle.std.proofs.Common.{length-set, [], ap, refl, sym, ◌∙◌, arith, append-nil}
+use Rattle.std.proofs.Common.{length, length-set, [], ap, refl, sym, ◌∙◌, arith, append-nil}
 use Rattle.frame_table.specs.Shelves.{Shelved}
 use Rattle.frame_table.proofs.Forest.{linked_rises, has_frame-frames_from}
 use Rattle.frame_table.proofs.Finds.{frames_from-length}
@@ -6,10 +6,12 @@ use Rattle.frame_table.proofs.Changes.{childless}
 use Rattle.frame_table.proofs.Counts.{counted_at, count_in}
 use Rattle.frame_table.proofs.Trees.{cut_linked, cut_sound, cut_frames, cut_values, cut_length}
 use Rattle.frame_table.proofs.Leaves.{leaf_aborted, leaf_under}
+use Rattle.frame_table.proofs.Readies.{is_tenant, tenant_rises}
+use Rattle.frame_table.proofs.Early.{childless_at, cut_ready}
 use Rattle.frame_table.proofs.tree.TenantFrames.remove_under.Goals as goal
 
 pub known_place-at-requires-clause-rise : goal.known_place-at-requires-clause-rise
-known_place-at-requires-clause-rise g c = linked_rises [] _ c.self.invariant.0.linked
+known_place-at-requires-clause-rise g c = linked_rises [] _ c.self.invariant.sound.linked
 
 pub known_place-at-requires-clause-there : goal.known_place-at-requires-clause-there
 known_place-at-requires-clause-there g c =
@@ -19,24 +21,43 @@ known_place-at-requires-clause-there g c =
 pub returns-then-slot-eq0-clause-left : goal.returns-then-slot-eq0-clause-left
 returns-then-slot-eq0-clause-left g c =
     let slots = c.self.inside.shelf.slots in
-    let none = sym (counted_at (λ n. count_in slots n) slots c.known_place-at.result c.args.serial c.at-slot.result c.self.invariant.0.counted c.known_place-at.ensures.within c.known_place-at.ensures.found c.at-slot.ensures) ∙ c.if-slot-eq0.true in
-    rw (← c.self.view_is, leaf_aborted c.args.serial slots c.self.invariant.0.linked none) refl
+    let none = sym (counted_at (λ n. count_in slots n) slots c.known_place-at.result c.args.serial c.at-slot.result c.self.invariant.sound.counted c.known_place-at.ensures.within c.known_place-at.ensures.found c.at-slot.ensures) ∙ c.if-slot-eq0.true in
+    rw (← c.self.view_is, leaf_aborted c.args.serial slots c.self.invariant.sound.linked none) refl
 
 pub returns-then-slot-eq0-clause-values : goal.returns-then-slot-eq0-clause-values
 returns-then-slot-eq0-clause-values g c =
     let slots = c.self.inside.shelf.slots in
-    let none = sym (counted_at (λ n. count_in slots n) slots c.known_place-at.result c.args.serial c.at-slot.result c.self.invariant.0.counted c.known_place-at.ensures.within c.known_place-at.ensures.found c.at-slot.ensures) ∙ c.if-slot-eq0.true in
-    rw (← c.self.view_is, leaf_under c.args.serial slots c.self.invariant.0.linked none) (sym (append-nil _))
+    let none = sym (counted_at (λ n. count_in slots n) slots c.known_place-at.result c.args.serial c.at-slot.result c.self.invariant.sound.counted c.known_place-at.ensures.within c.known_place-at.ensures.found c.at-slot.ensures) ∙ c.if-slot-eq0.true in
+    rw (← c.self.view_is, leaf_under c.args.serial slots c.self.invariant.sound.linked none) (sym (append-nil _))
 
 pub cut-requires-clause-linked : goal.cut-requires-clause-linked
 cut-requires-clause-linked g c =
-    rw c.put.ensures (cut_linked c.self.inside.shelf.slots c.self.inside.ready c.known_place-at.result c.args.serial c.at-slot.result c.self.invariant.0 c.known_place-at.ensures.within c.known_place-at.ensures.found c.at-slot.ensures)
+    rw c.put.ensures (cut_linked c.self.inside.shelf.slots (length c.self.inside.ready.frames) c.known_place-at.result c.args.serial c.at-slot.result c.self.invariant.sound c.known_place-at.ensures.within c.known_place-at.ensures.found c.at-slot.ensures)
 
 pub cut-requires-clause-room : goal.cut-requires-clause-room
 cut-requires-clause-room g c =
     let room = rw (← c.self.view_is) at c.requires.room in
     let long = frames_from-length [] c.self.inside.shelf.slots in
     rw c.put.ensures (omega (arith, room, long, length-set c.self.inside.shelf.slots c.known_place-at.result (childless c.at-slot.result)))
+
+pub cut-requires-clause-named : goal.cut-requires-clause-named
+cut-requires-clause-named g c =
+    rw c.put.ensures (childless_at c.self.inside.shelf.slots c.known_place-at.result c.args.serial c.at-slot.result c.known_place-at.ensures.within c.known_place-at.ensures.found c.at-slot.ensures)
+
+pub forget_from-requires : goal.forget_from-requires
+forget_from-requires g c = tenant_rises _ _ _ c.self.invariant
+
+pub add_ready-requires-clause-within : goal.add_ready-requires-clause-within
+add_ready-requires-clause-within g c =
+    let whole = rw c.put.ensures at c.cut.ensures.kept in
+    let cuts = cut_ready c.self.inside.shelf.slots _ c.known_place-at.result c.args.serial c.self.inside.shelf.places c.at-slot.result c.cut.new.self.slots c.self.inside.ready.frames c.self.invariant.sound c.known_place-at.ensures.within c.known_place-at.ensures.found c.at-slot.ensures (ap (λ (s : Shelved g.row.T.Denot). s.slots) whole) c.self.invariant.ready_frames c.self.invariant.within in
+    cuts.within
+
+pub add_ready-requires-clause-room : goal.add_ready-requires-clause-room
+add_ready-requires-clause-room g c =
+    let whole = rw c.put.ensures at c.cut.ensures.kept in
+    let cuts = cut_ready c.self.inside.shelf.slots _ c.known_place-at.result c.args.serial c.self.inside.shelf.places c.at-slot.result c.cut.new.self.slots c.self.inside.ready.frames c.self.invariant.sound c.known_place-at.ensures.within c.known_place-at.ensures.found c.at-slot.ensures (ap (λ (s : Shelved g.row.T.Denot). s.slots) whole) c.self.invariant.ready_frames c.self.invariant.within in
+    rw (c.forget_from.ensures, c.self.invariant.ready_places) cuts.room
 
 pub invariant_of-self : goal.invariant_of-self
 invariant_of-self g c =
@@ -46,11 +67,14 @@ invariant_of-self g c =
     let whole = rw c.put.ensures at c.cut.ensures.kept in
     let left = ap (λ (s : Shelved g.row.T.Denot). s.slots) whole in
     let places = ap (λ (s : Shelved g.row.T.Denot). s.places) whole in
-    let shorter = cut_length c.args.serial slots c.known_place-at.result c.at-slot.result c.cut.new.self.slots left in (
-      cut_sound slots c.self.inside.ready c.count_ready-self-inside.result c.known_place-at.result c.args.serial c.at-slot.result c.cut.new.self.slots c.self.invariant.0 within at c.at-slot.ensures left c.count_ready-self-inside.ensures,
-      omega (arith, shorter, places, c.self.invariant.1),
-      omega (arith, places, c.self.invariant.2),
-    )
+    let shorter = cut_length c.args.serial slots c.known_place-at.result c.at-slot.result c.cut.new.self.slots left in
+    let cuts = cut_ready slots _ c.known_place-at.result c.args.serial c.self.inside.shelf.places c.at-slot.result c.cut.new.self.slots c.self.inside.ready.frames c.self.invariant.sound within at c.at-slot.ensures left c.self.invariant.ready_frames c.self.invariant.within in
+    rw (c.add_ready.ensures, c.forget_from.ensures) (is_tenant _ _ _ _
+    (cut_sound slots (length c.self.inside.ready.frames) _ c.known_place-at.result c.args.serial c.at-slot.result c.cut.new.self.slots c.self.invariant.sound within at c.at-slot.ensures left refl)
+    cuts.ready
+    (omega (arith, shorter, places, c.self.invariant.within))
+    (omega (arith, places, c.self.invariant.few))
+    (c.self.invariant.ready_places ∙ sym places))
 
 pub returns-clause-left : goal.returns-clause-left
 returns-clause-left g c =
@@ -58,11 +82,11 @@ returns-clause-left g c =
     let whole = rw c.put.ensures at c.cut.ensures.kept in
     let left = ap (λ (s : Shelved g.row.T.Denot). s.slots) whole in
     let places = ap (λ (s : Shelved g.row.T.Denot). s.places) whole in
-    let frames = cut_frames slots c.self.inside.ready c.known_place-at.result c.args.serial c.at-slot.result c.cut.new.self.slots c.self.invariant.0 c.known_place-at.ensures.within c.known_place-at.ensures.found c.at-slot.ensures left in
+    let frames = cut_frames slots (length c.self.inside.ready.frames) c.known_place-at.result c.args.serial c.at-slot.result c.cut.new.self.slots c.self.invariant.sound c.known_place-at.ensures.within c.known_place-at.ensures.found c.at-slot.ensures left in
     rw (← c.self.view_is, frames, places) refl
 
 pub returns-clause-values : goal.returns-clause-values
 returns-clause-values g c =
     let slots = c.self.inside.shelf.slots in
-    let values = cut_values slots c.self.inside.ready c.known_place-at.result c.args.serial c.at-slot.result c.self.invariant.0 c.known_place-at.ensures.within c.known_place-at.ensures.found c.at-slot.ensures in
+    let values = cut_values slots (length c.self.inside.ready.frames) c.known_place-at.result c.args.serial c.at-slot.result c.self.invariant.sound c.known_place-at.ensures.within c.known_place-at.ensures.found c.at-slot.ensures in
     rw (← c.self.view_is) (rw (c.put.ensures, values) at c.cut.ensures.values)

@@ -1,0 +1,29 @@
+-- Lists in the order of a number that each element has.
+use Rattle.std.specs.Prelude.{ℕ, ◌<◌, ◌≤◌, nat_lt, List, [], ◌∷◌, if◌then◌else◌}
+use Prim.Native.Nat.{zero, suc}
+
+-- each number is above this one
+abbrev pub AllAboveBy : {X : Type 0} → (X → ℕ) → ℕ → List X → Type 0
+AllAboveBy number n [] = Unit {0}
+AllAboveBy number n (x ∷ xs) = (n < number x) × AllAboveBy number n xs
+
+-- each number is below the later ones
+abbrev pub RisesBy : {X : Type 0} → (X → ℕ) → List X → Type 0
+RisesBy number [] = Unit {0}
+RisesBy number (x ∷ xs) = AllAboveBy number (number x) xs × RisesBy number xs
+
+-- each number is this one or above
+abbrev pub AllFromBy : {X : Type 0} → (X → ℕ) → ℕ → List X → Type 0
+AllFromBy number n [] = Unit {0}
+AllFromBy number n (x ∷ xs) = (n ≤ number x) × AllFromBy number n xs
+
+-- the numbers before this place are below this one, and those from the place on are not
+abbrev pub IsPlaceFor : {X : Type 0} → (X → ℕ) → List X → ℕ → ℕ → Type 0
+IsPlaceFor number xs n zero = AllFromBy number n xs
+IsPlaceFor number [] n (suc at) = ⊥
+IsPlaceFor number (x ∷ xs) n (suc at) = (number x < n) × IsPlaceFor number xs n at
+
+-- the list with one more element, after those of a lower number
+abbrev pub inserted : {X : Type 0} → (X → ℕ) → X → List X → List X
+inserted number new [] = new ∷ []
+inserted number new (x ∷ xs) = if nat_lt (number x) (number new) then x ∷ inserted number new xs else new ∷ x ∷ xs

@@ -1,0 +1,52 @@
+-- The ready frames of one tenant, by rising serial.
+use Rattle.std.specs.Prelude.{◌≡◌, ℕ, ◌≤◌, ◌==◌, not, filter, if◌then◌else◌, length, List, [], ◌∷◌, Option, Some, None}
+use Rattle.frame_table.specs.declared.names.State.{State}
+use Rattle.frame_table.specs.declared.names.State.TheVariants.{Ready as ReadyAt, Running, Computing, Waiting, Returned}
+use Rattle.frame_table.specs.declared.slot.Slot.{Slot}
+use Rattle.frame_table.specs.declared.ready.ReadyFrame.{ReadyFrame}
+use Rattle.frame_table.specs.Frames.{first_of_two, is_ready}
+use Rattle.frame_table.specs.Places.{inserted}
+use Rattle.frame_table.specs.Slots.{IsSound}
+
+-- a number of places, and ready frames by rising serial
+pub record ReadyList : Type 0 where
+  pub places : ℕ
+  pub frames : List ReadyFrame
+
+-- the frame of this serial before others, if it is ready
+abbrev pub with_ready : ℕ → State → List ReadyFrame → List ReadyFrame
+with_ready serial (ReadyAt home) frames = record { serial = serial; home = home } ∷ frames
+with_ready serial (Running worker) frames = frames
+with_ready serial (Computing worker) frames = frames
+with_ready serial Waiting frames = frames
+with_ready serial Returned frames = frames
+
+-- the ready frames among slots
+abbrev pub ready_in : {T : Type 0} → List (Slot T) → List ReadyFrame
+ready_in [] = []
+ready_in (slot ∷ slots) = with_ready slot.serial slot.state (ready_in slots)
+
+-- ready frames without the one of this serial, if its state was to be ready
+abbrev pub without_ready : ℕ → State → List ReadyFrame → List ReadyFrame
+without_ready serial was frames = if is_ready was then filter (λ frame. not (frame.serial == serial)) frames else frames
+
+-- ready frames with the one of this serial in its place, if it is ready now
+abbrev pub put_ready : ℕ → State → List ReadyFrame → List ReadyFrame
+put_ready serial (ReadyAt home) frames = inserted (λ frame. frame.serial) (record { serial = serial; home = home }) frames
+put_ready serial (Running worker) frames = frames
+put_ready serial (Computing worker) frames = frames
+put_ready serial Waiting frames = frames
+put_ready serial Returned frames = frames
+
+-- the last of ready frames
+abbrev pub newest_of : List ReadyFrame → Option ReadyFrame
+newest_of [] = None
+newest_of (frame ∷ frames) = first_of_two (newest_of frames) (Some frame)
+
+-- what is true of a tenant's slots, its number of places, and its ready frames
+pub record IsTenant {T : Type 0} (slots : List (Slot T)) (places : ℕ) (ready : ReadyList) : Type 0 where
+  pub sound : IsSound slots (length ready.frames)
+  pub ready_frames : ready.frames ≡ ready_in slots
+  pub within : length slots ≤ places
+  pub few : places ≤ 4096
+  pub ready_places : ready.places ≡ places
