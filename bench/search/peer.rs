@@ -1,9 +1,12 @@
-//! Serial window search of Othello positions, twice: by the proved crate `leaf_search`, linked as a
-//! static library, and by this program's own bit boards. Both take the choices in one order (legal
-//! corners a1, h1, a8, h8, then the other squares by rising index) with the same windows, so values,
-//! moves and counts must agree. The two alternate over the same positions; the best round of each counts.
+//! Serial window search of Othello positions by three engines: the proved crate `leaf_search`, linked as
+//! a static library; plain bit boards, below; and bit boards in vectors (`vectors.rs`). All take the choices
+//! in one order (legal corners a1, h1, a8, h8, then the other squares by rising index) with the same
+//! windows, so values, moves and counts must agree. They alternate over the same positions; the best round
+//! of each counts.
 //!
-//! usage: search_peer DEPTH ROUNDS
+//! usage: search_peer DEPTH ROUNDS, or DEPTH ENGINE for one round of one engine (proved, plain, vectors)
+mod vectors;
+
 use std::time::Instant;
 
 #[repr(C)]
@@ -165,34 +168,53 @@ fn positions() -> Vec<(u64, u64)> {
     found
 }
 
-/// Positions entered, and how many a second.
-fn timed(positions: &[(u64, u64)], depth: u8, engine: fn(u64, u64, u8) -> Found) -> (Vec<Found>, f64) {
+fn plain(own: u64, opp: u64, depth: u8) -> Found {
+    search(own, opp, depth, -INF, INF)
+}
+
+fn by_vectors(own: u64, opp: u64, depth: u8) -> Found {
+    let mut visited = 0;
+    let (score, choice) = vectors::search(own, opp, u32::from(depth), -INF, INF, &mut visited);
+    Found { score, choice: choice as u8, visited }
+}
+
+type Engine = fn(u64, u64, u8) -> Found;
+
+const ENGINES: [(&str, Engine); 3] = [("proved", proved), ("plain", plain), ("vectors", by_vectors)];
+
+/// What an engine finds in all positions, and how many positions it enters a second.
+fn timed(positions: &[(u64, u64)], depth: u8, engine: Engine) -> (Vec<Found>, f64) {
     let start = Instant::now();
     let found: Vec<Found> = positions.iter().map(|(own, opp)| engine(*own, *opp, depth)).collect();
     let seconds = start.elapsed().as_secs_f64();
-    let visited: u64 = found.iter().map(|one| one.visited).sum();
-    (found, visited as f64 / seconds)
+    let speed = visited_of(&found) as f64 / seconds;
+    (found, speed)
 }
 
-fn peer(own: u64, opp: u64, depth: u8) -> Found {
-    search(own, opp, depth, -INF, INF)
+fn visited_of(found: &[Found]) -> u64 {
+    found.iter().map(|one| one.visited).sum()
 }
 
 fn main() {
     let words: Vec<String> = std::env::args().collect();
     let depth: u8 = words[1].parse().expect("a depth");
-    let rounds: u32 = words[2].parse().expect("a number of rounds");
     let positions = positions();
-    let (mut best_proved, mut best_peer) = (0.0f64, 0.0f64);
-    for round in 1..=rounds {
-        let (found, speed) = timed(&positions, depth, proved);
-        let (wanted, peer_speed) = timed(&positions, depth, peer);
-        assert_eq!(found, wanted, "value, move or count differs");
-        let visited: u64 = found.iter().map(|one| one.visited).sum();
-        println!("round {round}: {visited} positions, proved {speed:.0}/s, peer {peer_speed:.0}/s");
-        best_proved = best_proved.max(speed);
-        best_peer = best_peer.max(peer_speed);
+    if let Some((_, engine)) = ENGINES.iter().find(|(name, _)| *name == words[2]) {
+        let (found, _) = timed(&positions, depth, *engine);
+        println!("{}", visited_of(&found));
+        return;
     }
-    println!("depth {depth}, {POSITIONS} positions: proved {best_proved:.0}/s, peer {best_peer:.0}/s");
-    println!("ratio {:.4}", best_proved / best_peer);
+    let rounds: u32 = words[2].parse().expect("a number of rounds, or an engine");
+    let mut best = [0.0f64; ENGINES.len()];
+    for round in 1..=rounds {
+        let results: Vec<(Vec<Found>, f64)> = ENGINES.iter().map(|(_, engine)| timed(&positions, depth, *engine)).collect();
+        for (result, fastest) in results.iter().zip(&mut best) {
+            assert_eq!(result.0, results[0].0, "value, move or count differs");
+            *fastest = fastest.max(result.1);
+        }
+        println!("round {round}: {} positions", visited_of(&results[0].0));
+    }
+    for ((name, _), speed) in ENGINES.iter().zip(best) {
+        println!("depth {depth}, {POSITIONS} positions: {name} {speed:.0}/s, proved to {name} {:.3}", best[0] / speed);
+    }
 }

@@ -1,10 +1,10 @@
 -- The cells of two words, square by square.
-use Rattle.std.proofs.Common.{◌≡◌, ◌≢◌, ℕ, zero, suc, ◌+◌, ◌/◌, ◌<◌, ◌≤◌, ◌^◌, cond, nat_eq, List, [], ◌∷◌, map, bit_and, min, ◌⊎◌, inl, inr, refl, sym, ap, ◌∙◌, arith}
+use Rattle.std.proofs.Common.{◌≡◌, ◌≢◌, ℕ, zero, suc, ◌+◌, ◌/◌, ◌<◌, ◌≤◌, ◌^◌, cond, nat_eq, List, [], ◌∷◌, map, length, bit_and, min, ◌⊎◌, inl, inr, refl, sym, ap, ◌∙◌, arith}
 use Rattle.std.proofs.lemmas.Bool.{cases_lt}
 use Rattle.std.specs.Int.{bit_at}
 use Rattle.std.specs.List.{range_with_len}
 use Rattle.std.proofs.lemmas.Nat.Bits.{shr_and_one, bit_at-lt}
-use Rattle.std.proofs.lemmas.List.FromFn.{get_or-map-range_with_len}
+use Rattle.std.proofs.lemmas.List.FromFn.{get_or-map-range_with_len, length-map-range_with_len}
 use Rattle.othello_board.specs.declared.cells.Cell.{Cell}
 use Rattle.othello_board.specs.declared.cells.Cell.TheVariants.{Empty, Own, Opp}
 use Rattle.othello_board.specs.Rules.{squares, cell_at, exchanged_cell, exchanged}
@@ -34,6 +34,10 @@ map-squares_same f g same = map-range_same f g 0 64 (λ s low high. same s (omeg
 
 pub cell_at-cells_of : (own opp s : ℕ) → s < 64 → cell_at (cells_of own opp) s ≡ cell_of own opp s
 cell_at-cells_of own opp s below = cell_at-map (cell_of own opp) s below
+
+pub length-cells_of : (own opp : ℕ) → length (cells_of own opp) ≡ 64
+unfolding squares
+length-cells_of own opp = length-map-range_with_len (cell_of own opp) 0 64
 
 -- what the tests of `cell` say
 pub reads_own : (own opp s : ℕ) → s < 64 → bit_and (own / 2 ^ s) 1 ≡ 1 → Own ≡ cell_at (cells_of own opp) s

@@ -1,41 +1,20 @@
 -- The two words after a move, square by square.
-use Rattle.std.proofs.Common.{◌≡◌, ℕ, ◌-◌, ◌<◌, ◌^◌, Bool, true, false, cond, eqb, ◌||◌, List, [], ◌∷◌, bit_or, bit_and, min, max, inl, inr, refl, sym, ◌∙◌, arith}
+use Rattle.std.proofs.Common.{◌≡◌, ℕ, ◌-◌, ◌<◌, ◌^◌, Bool, true, false, cond, eqb, ◌||◌, List, ◌∷◌, bit_or, bit_and, min, max, refl, sym, ◌∙◌, arith}
 use Rattle.std.proofs.Common.{w64}
 use Rattle.std.specs.Int.{bit_at}
-use Rattle.std.proofs.lemmas.Bool.Decides.{eqb_tells}
 use Rattle.std.proofs.lemmas.Nat.{and_le_l}
-use Rattle.std.proofs.lemmas.Nat.Bits.{bit_at_and, bit_at_or, bit_at_not, bit_at-zero, bit_at-lt, bit_at-pow_same, bit_at-pow_other, same_from_bits_below}
+use Rattle.std.proofs.lemmas.Nat.Bits.{bit_at_and, bit_at_or, bit_at_not, bit_at-zero, bit_at-lt, same_from_bits_below}
 use Rattle.othello_board.specs.declared.cells.Cell.TheVariants.{Empty, Own, Opp}
 use Rattle.othello_board.specs.Rules.{squares, cell_at, is_among, made_own, exchanged_cell, exchanged}
 use Rattle.othello_board.specs.Words.{cell_of, cells_of, bits_of}
-use Rattle.othello_board.proofs.BitLemmas.{apart}
+use Rattle.othello_board.proofs.BitLemmas.{apart, bit_at-pow, bit_at-bits_of}
 use Rattle.othello_board.proofs.CellLemmas.{map-map, map-squares_same, cell_at-cells_of, exchanged-cell_of-by}
-
--- a power of two, bit by bit
-bit_at-pow : (s i : ℕ) → bit_at (2 ^ s) i ≡ cond (eqb s i) 1 0
-bit_at-pow s i =
-    elim (eqb_tells s i) [
-      | inl same ↦ rw (same.0, same.1) (bit_at-pow_same i)
-      | inr other ↦ rw other.0 (bit_at-pow_other s i (λ e. other.1 (sym e)))
-    ]
-
-max_of_tests : (a b : Bool) → max (cond a 1 0) (cond b 1 0) ≡ cond (a || b) 1 0
-max_of_tests true true = refl
-max_of_tests true false = refl
-max_of_tests false true = refl
-max_of_tests false false = refl
 
 max_of_tests_turned : (a b : Bool) → max (cond b 1 0) (cond a 1 0) ≡ cond (a || b) 1 0
 max_of_tests_turned true true = refl
 max_of_tests_turned true false = refl
 max_of_tests_turned false true = refl
 max_of_tests_turned false false = refl
-
--- the bits of a list of squares are set just at those squares
-pub bit_at-bits_of : (xs : List ℕ) (i : ℕ) → bit_at (bits_of xs) i ≡ cond (is_among i xs) 1 0
-bit_at-bits_of [] i = bit_at-zero i
-bit_at-bits_of (x ∷ xs) i =
-    rw (bit_at_or (2 ^ x) (bits_of xs) i, bit_at-pow x i, bit_at-bits_of xs i) (max_of_tests (eqb x i) (is_among i xs))
 
 -- the words after these discs were made own and the board was exchanged share no bit
 pub play_disjoint : (own opp discs : ℕ) → opp < 2 ^ 64 → discs < 2 ^ 64 → bit_and own opp ≡ 0 → bit_and (bit_and opp (2 ^ 64 - 1 - discs)) (bit_or own discs) ≡ 0

@@ -10,6 +10,7 @@ use Rattle.othello_board.specs.declared.cells.Cell.{Cell}
 use Rattle.othello_board.specs.Rules.{squares, is_legal, is_nil, exchanged}
 use Rattle.othello_board.specs.declared.boards.Board.{Board}
 use Rattle.othello_board.specs.Words.{cells}
+use Rattle.othello_board.proofs.CellLemmas.{length-cells_of}
 use Rattle.othello_moves.specs.declared.choices.Choice.{Choice}
 use Rattle.othello_moves.specs.declared.choices.Choice.TheVariants.{Square, Pass}
 use Rattle.othello_moves.specs.Choices.{in_order, legal_squares, choices, choices_without_move, after, IsAllowed}
@@ -59,4 +60,4 @@ length-after board Pass e = length-map board _ ∙ e
 
 -- a board has 64 cells
 pub length-cells : (b : Board) → length (cells b) ≡ 64
-length-cells b = length-map squares _ ∙ squares_length
+length-cells b = length-cells_of b.own b.opp

@@ -1,39 +1,17 @@
 -- Words of bits, and the lists of squares that they stand for.
-use Rattle.std.proofs.Common.{◌≡◌, ℕ, zero, suc, ◌+◌, ◌*◌, ◌/◌, ◌%◌, ◌^◌, ◌<◌, max, Bool, true, false, cond, ◌&&◌, ◌||◌, eqb, List, [], ◌∷◌, length, filter, count_ones, bit_and, refl, sym, ap, ap₂, ◌∙◌, ⊎_elim, w64, pow-suc, arith}
+use Rattle.std.proofs.Common.{◌≡◌, ℕ, zero, suc, ◌+◌, ◌*◌, ◌/◌, ◌%◌, ◌^◌, ◌<◌, Bool, true, false, cond, ◌&&◌, ◌||◌, eqb, List, [], ◌∷◌, length, filter, count_ones, bit_and, refl, sym, ap, ◌∙◌, w64, pow-suc, arith}
 use Rattle.std.specs.List.{range_with_len}
 use Rattle.std.specs.Int.{bit_at, bit_not, trailing_zeros}
-use Rattle.std.proofs.lemmas.Bool.{cases_eq, eqb-true, true≢false, eq-eqb, ne_eqb, cond-true, cond-false, agree_below_at}
-use Rattle.std.proofs.lemmas.Nat.Bits.{bit_at-zero, bit_at-suc, bit_at_lowest, bit_at_or, bit_at-pow_same, bit_at-pow_other, bit_at-trailing_zeros, bit_at_clear_same, bit_at_clear_other}
+use Rattle.std.proofs.lemmas.Bool.{eqb-true, true≢false, agree_below_at}
+use Rattle.std.proofs.lemmas.Nat.Bits.{bit_at-suc, bit_at_lowest, bit_at-trailing_zeros, bit_at_clear_same, bit_at_clear_other}
 use lib.Count.{ones_step, ones-le}
 use Rattle.othello_board.specs.Rules.{squares, is_among}
 use Rattle.othello_board.specs.Words.{bits_of}
+use Rattle.othello_board.proofs.BitLemmas.{bit_at-bits_of}
 use Rattle.othello_moves.specs.Sequence.{squares_of}
 use Rattle.othello_moves.proofs.ListLemmas.{ascends, length-cond, filter_first}
 
 -- ---- bits
-
-bit_at-pow : (x s : ℕ) → bit_at (2 ^ x) s ≡ cond (eqb x s) 1 0
-bit_at-pow x s = ⊎_elim same other (cases_eq x s)
-  where
-    same : x ≡ s → bit_at (2 ^ x) s ≡ cond (eqb x s) 1 0
-    same e = ap (λ k. bit_at (2 ^ x) k) (sym e) ∙ bit_at-pow_same x ∙ sym (cond-true (eqb x s) 1 0 (eq-eqb x s e))
-
-    other : (x ≡ s → ⊥) → bit_at (2 ^ x) s ≡ cond (eqb x s) 1 0
-    other ne = bit_at-pow_other x s (λ e. ne (sym e)) ∙ sym (cond-false (eqb x s) 1 0 (ne_eqb x s ne))
-
-max-cond : (b c : Bool) → max (cond b 1 0) (cond c 1 0) ≡ cond (b || c) 1 0
-max-cond true true = refl
-max-cond true false = refl
-max-cond false true = refl
-max-cond false false = refl
-
--- the word of a list of squares has just their bits
-pub bit_at-bits_of : (xs : List ℕ) (s : ℕ) → bit_at (bits_of xs) s ≡ cond (is_among s xs) 1 0
-bit_at-bits_of [] s = bit_at-zero s
-bit_at-bits_of (x ∷ xs) s =
-    bit_at_or (2 ^ x) (bits_of xs) s
-    ∙ ap₂ max (bit_at-pow x s) (bit_at-bits_of xs s)
-    ∙ max-cond (eqb x s) (is_among s xs)
 
 is_one-cond : (b : Bool) → eqb (cond b 1 0) 1 ≡ b
 is_one-cond true = refl

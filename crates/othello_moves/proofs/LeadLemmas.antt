@@ -20,7 +20,8 @@ use Rattle.othello_board.proofs.BitLemmas.{apart}
 use Rattle.othello_board.proofs.CellLemmas.{cell_at-cells_of, bit_cases}
 use Rattle.othello_board.proofs.RunLemmas.{beside_edge, beside_next}
 use Rattle.othello_board.proofs.WalkLemmas.{step_back, opposite_twice}
-use Rattle.othello_moves.proofs.BitLemmas.{bit_at-bits_of, is_among-filter, is_square}
+use Rattle.othello_moves.proofs.BitLemmas.{is_among-filter, is_square}
+use Rattle.othello_board.proofs.BitLemmas.{bit_at-bits_of}
 use Rattle.othello_moves.specs.Leading.{bit_of, goes_on, leads}
 
 -- ---- the bits of a square

@@ -1,7 +1,6 @@
 pub mod ListLemmas
 pub mod BitLemmas
 pub mod OrderLemmas
-pub mod WordLemmas
 pub mod SequenceLemmas
 pub mod AllowedLemmas
 pub mod LeadLemmas

@@ -14,7 +14,8 @@ use Rattle.othello_moves.specs.declared.choices.Choice.TheVariants.{Square, Pass
 use Rattle.othello_moves.specs.Choices.{corners, in_order, legal_squares, choices, choices_without_move}
 use Rattle.othello_moves.specs.Sequence.{squares_of, pass_if, sequence}
 use Rattle.othello_moves.proofs.ListLemmas.{filter-filter, length-filter_split, filter_agree_between}
-use Rattle.othello_moves.proofs.BitLemmas.{bit_at-bits_of, has-bits_of, is_among-filter, squares_ascend, is_square, count_ones-squares, squares_of-zero}
+use Rattle.othello_moves.proofs.BitLemmas.{has-bits_of, is_among-filter, squares_ascend, is_square, count_ones-squares, squares_of-zero}
+use Rattle.othello_board.proofs.BitLemmas.{bit_at-bits_of}
 
 -- ---- corners first, then the others
 

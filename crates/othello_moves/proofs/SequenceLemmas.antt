@@ -1,5 +1,5 @@
 -- Choices that are left, by two words and a flag.
-use Rattle.std.proofs.Common.{◌≡◌, ℕ, zero, suc, ◌+◌, ◌*◌, ◌%◌, ◌^◌, ◌<◌, Bool, true, false, cond, Some, None, List, [], ◌∷◌, ◌++◌, map, length, drop, slice_get, slice_index_or, Contains, count_ones, bit_and, refl, sym, ap, ◌∙◌, w64, arith}
+use Rattle.std.proofs.Common.{◌≡◌, ℕ, zero, suc, ◌+◌, ◌*◌, ◌%◌, ◌^◌, ◌<◌, Bool, true, false, cond, Some, None, List, [], ◌∷◌, ◌++◌, map, length, drop, slice_get, count_ones, bit_and, refl, sym, ap, ◌∙◌, w64, arith}
 use Rattle.std.specs.Int.{bit_not, trailing_zeros}
 use Rattle.std.proofs.lemmas.List.{length-append, length-map}
 use mir.Val.{bool_byte}
@@ -59,21 +59,3 @@ pub slice_get-drop : {X : Type 0} (i : ℕ) (xs : List X) → slice_get (drop i 
 slice_get-drop zero xs = refl
 slice_get-drop (suc i) [] = refl
 slice_get-drop (suc i) (x ∷ xs) = slice_get-drop i xs
-
-pub slice_get-within : {X : Type 0} (i : ℕ) (xs : List X) → i < length xs → slice_get xs i ≡ None → ⊥
-slice_get-within i [] lt e = absurd (omega arith)
-slice_get-within zero (x ∷ xs) lt e = cc
-slice_get-within (suc i) (x ∷ xs) lt e = slice_get-within i xs (omega arith) e
-
-pub Contains-slice_get : {X : Type 0} (xs : List X) (i : ℕ) (x : X) → slice_get xs i ≡ Some x → Contains xs x
-Contains-slice_get {X = X} xs i x e = (i, within xs i e, at xs i e)
-  where
-    within : (xs : List X) (i : ℕ) → slice_get xs i ≡ Some x → i < length xs
-    within [] i e = cc
-    within (y ∷ ys) zero e = omega arith
-    within (y ∷ ys) (suc i) e = let h = within ys i e in omega arith
-
-    at : (xs : List X) (i : ℕ) → slice_get xs i ≡ Some x → slice_index_or xs i x ≡ x
-    at [] i e = refl
-    at (y ∷ ys) zero e = cc
-    at (y ∷ ys) (suc i) e = at ys i e

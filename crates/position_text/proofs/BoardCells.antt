@@ -1,23 +1,13 @@
 -- The cells of a board, square by square, and boards with the same cells.
-use Rattle.std.proofs.Common.{◌≡◌, ℕ, zero, suc, ◌<◌, ◌^◌, cond, nat_eq, length, min, bit_and, refl, sym, ap, subst, ◌∙◌, arith}
+use Rattle.std.proofs.Common.{◌≡◌, ℕ, zero, suc, ◌<◌, ◌^◌, cond, nat_eq, min, bit_and, refl, sym, ap, subst, ◌∙◌, arith}
 use Rattle.std.proofs.Math.Nat.{ℕ_set}
 use Rattle.std.specs.Int.{bit_at}
 use Rattle.std.proofs.lemmas.Nat.Bits.{bit_at-lt, same_from_bits_below}
-use Rattle.std.proofs.lemmas.List.FromFn.{get_or-map-range_with_len, length-map-range_with_len}
 use Rattle.othello_board.specs.declared.cells.Cell.{Cell}
 use Rattle.othello_board.specs.declared.cells.Cell.TheVariants.{Empty, Own, Opp}
 use Rattle.othello_board.specs.declared.boards.Board.{Board}
-use Rattle.othello_board.specs.Rules.{squares, cell_at}
-use Rattle.othello_board.specs.Words.{cell_of, cells_of}
-use Rattle.position_text.proofs.DiscLemmas.{apart}
-
-pub cell_at-cells_of : (own opp s : ℕ) → s < 64 → cell_at (cells_of own opp) s ≡ cell_of own opp s
-unfolding squares
-cell_at-cells_of own opp s below = get_or-map-range_with_len (cell_of own opp) 0 64 s s Empty below (omega arith)
-
-pub length-cells_of : (own opp : ℕ) → length (cells_of own opp) ≡ 64
-unfolding squares
-length-cells_of own opp = length-map-range_with_len (cell_of own opp) 0 64
+use Rattle.othello_board.specs.Words.{cell_of}
+use Rattle.othello_board.proofs.BitLemmas.{apart}
 
 -- whether a cell is own, as a bit
 own_bit : Cell → ℕ

@@ -4,15 +4,12 @@ use Rattle.std.specs.Int.{bit_at}
 use Rattle.std.proofs.lemmas.Nat.{and_comm}
 use Rattle.std.proofs.lemmas.Nat.Bits.{bit_at_and, bit_at-zero, same_from_bits}
 use Rattle.std.proofs.lemmas.Bool.{cases_eq}
+use Rattle.othello_board.proofs.BitLemmas.{apart}
 use Rattle.position_text.specs.declared.marks.Mark.{Mark}
 use Rattle.position_text.specs.Spelling.{spelled, AllSpelled}
 use Rattle.position_text.specs.Discs.{mark_at, HoldsFirst}
 
--- two words share no bit
-pub apart : (a b s : ℕ) → bit_and a b ≡ 0 → min (bit_at a s) (bit_at b s) ≡ 0
-apart a b s h = sym (bit_at_and a b s) ∙ ap (λ n. bit_at n s) h ∙ bit_at-zero s
-
--- in whichever order they stand
+-- two words that share no bit share none in either order
 pub apart_other_way : (a b : ℕ) → bit_and a b ≡ 0 → bit_and b a ≡ 0
 apart_other_way a b h = and_comm b a ∙ h
 

@@ -2,3 +2,4 @@ pub mod BoardCells
 pub mod DiscLemmas
 pub mod WrittenText
 pub mod Readings
+pub mod ReadingLemmas

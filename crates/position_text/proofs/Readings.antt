@@ -14,8 +14,9 @@ use Rattle.position_text.specs.declared.faults.TextFault.{TextFault}
 use Rattle.position_text.specs.declared.marks.Mark.TheVariants.{Disc, Blank}
 use Rattle.position_text.specs.Spelling.{side_spelled, mark_of, Spells, FitsWords}
 use Rattle.position_text.specs.Discs.{mark_at, HoldsFirst}
-use Rattle.position_text.proofs.DiscLemmas.{apart}
-use Rattle.position_text.proofs.BoardCells.{cell_at-cells_of, board_same_from_cells}
+use Rattle.othello_board.proofs.BitLemmas.{apart}
+use Rattle.othello_board.proofs.CellLemmas.{cell_at-cells_of}
+use Rattle.position_text.proofs.BoardCells.{board_same_from_cells}
 
 -- a side sees different cells where different marks stand
 mark_of-injective : (side : Side) (a b : Cell) → mark_of side a ≡ mark_of side b → a ≡ b

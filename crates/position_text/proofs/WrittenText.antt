@@ -11,7 +11,7 @@ use Rattle.position_text.specs.declared.positions.Position.{Position}
 use Rattle.position_text.specs.declared.marks.Mark.{Mark}
 use Rattle.position_text.specs.declared.marks.Mark.TheVariants.{Disc, Blank}
 use Rattle.position_text.specs.Spelling.{spelled, side_spelled, mark_of, byte_of, written, Spells}
-use Rattle.position_text.proofs.BoardCells.{length-cells_of}
+use Rattle.othello_board.proofs.CellLemmas.{length-cells_of}
 
 -- how the cell of a square is written
 abbrev pub byte_at : Position → ℕ → ℕ

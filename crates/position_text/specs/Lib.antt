@@ -1,4 +1,5 @@
 pub mod Spelling
 pub mod Faults
+pub mod Readings
 pub mod Discs
 pub mod Rows

@@ -1,6 +1,11 @@
 //! What follows of spellings: laws, each the contract of a function that is there to state it.
-ghost use Rattle.std.specs.Prelude.{◌≡◌, Ok};
-ghost use Rattle.position_text.specs.Spelling.{Spells, FitsWords, written};
+ghost use Rattle.std.specs.Prelude.{◌≡◌, ℕ, List, map, Ok, Some, None, IsSome};
+ghost use Rattle.othello_board.specs.declared.cells.Cell.{Cell};
+ghost use Rattle.othello_board.specs.Words.{cells};
+ghost use Rattle.position_text.specs.declared.positions.Position.{Position};
+ghost use Rattle.position_text.specs.declared.positions.Side.{Side};
+ghost use Rattle.position_text.specs.Readings.{marks_of, mover_of, seen_by};
+ghost use Rattle.position_text.specs.Spelling.{Spells, IsBadCell, IsBadSide, FitsWords, mark_of, written};
 
 use super::faults::TextFault;
 use super::positions::Position;
@@ -36,3 +41,14 @@ pub fn read_again(position: &Position) -> Result<Position, TextFault>
     let _words = words(*position);
     read(&write(position))
 }
+
+/// A text read byte by byte: what spells a position reads as the marks of its board and its side, and a
+/// side sees a cell's mark as that cell; a bad cell leaves no marks, and a bad side no side to move.
+pub fn readings_of_texts()
+    ensures marks { (text : List ℕ) (p : Position) → Spells text p → marks_of text ≡ Some (map (mark_of p.side) (cells p.board)) }
+    ensures mover { (text : List ℕ) (p : Position) → Spells text p → mover_of text ≡ Some p.side }
+    ensures seen { (side : Side) (cell : Cell) → seen_by side (mark_of side cell) ≡ cell }
+    ensures bad_cell { (text : List ℕ) (at : ℕ) → IsBadCell text at → marks_of text ≡ None }
+    ensures bad_side { (text : List ℕ) → IsBadSide text → mover_of text ≡ None }
+    ensures cells_before_bad_side { (text : List ℕ) → IsBadSide text → IsSome (marks_of text) }
+{}

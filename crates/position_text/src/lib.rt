@@ -25,7 +25,7 @@ pub mod rows;
 mod writing;
 
 pub use faults::TextFault;
-pub use laws::{one_position, read_again, written_spells};
+pub use laws::{one_position, read_again, readings_of_texts, written_spells};
 pub use positions::{Position, Side};
 pub use reading::read;
 pub use writing::write;
