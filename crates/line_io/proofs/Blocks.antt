@@ -16,15 +16,15 @@ pub record BlockSoFar {K A : Type 0} (takes : K → WriteAnswer → K → Type 0
   pub to_come : lines ++ ended_within h' (drop i block) ≡ ended_within h block
   pub held : held_after h' (drop i block) ≡ held_after h block
 
-pub Block-start : {K A : Type 0} (takes : K → WriteAnswer → K → Type 0) (answers : A → LineText → List ℕ → A → Type 0) (k : K) (a : A) (h : Option (List ℕ)) (block : List ℕ) → BlockSoFar takes answers k a h block 0 k a h
+abbrev pub Block-start : {K A : Type 0} (takes : K → WriteAnswer → K → Type 0) (answers : A → LineText → List ℕ → A → Type 0) (k : K) (a : A) (h : Option (List ℕ)) (block : List ℕ) → BlockSoFar takes answers k a h block 0 k a h
 Block-start takes answers k a h block =
     record { lines = []; answered = LinesAnswered-none takes answers k a tt; to_come = refl; held = refl }
 
-not_lf : (b : ℕ) → b ≢ 10 → eqb b 10 ≡ false
+pub not_lf : (b : ℕ) → b ≢ 10 → eqb b 10 ≡ false
 not_lf b ne = grind (arith, nat_tests)
 
 -- a byte that is no LF
-pub Block-byte : {K A : Type 0} (takes : K → WriteAnswer → K → Type 0) (answers : A → LineText → List ℕ → A → Type 0) (k : K) (a : A) (h : Option (List ℕ)) (block : List ℕ) (i : ℕ) (k' : K) (a' : A) (h' h'' : Option (List ℕ)) → BlockSoFar takes answers k a h block i k' a' h' → i < length block → get_or block i 0 ≢ 10 → h'' ≡ with_byte h' (get_or block i 0) → BlockSoFar takes answers k a h block (i + 1) k' a' h''
+abbrev pub Block-byte : {K A : Type 0} (takes : K → WriteAnswer → K → Type 0) (answers : A → LineText → List ℕ → A → Type 0) (k : K) (a : A) (h : Option (List ℕ)) (block : List ℕ) (i : ℕ) (k' : K) (a' : A) (h' h'' : Option (List ℕ)) → BlockSoFar takes answers k a h block i k' a' h' → i < length block → get_or block i 0 ≢ 10 → h'' ≡ with_byte h' (get_or block i 0) → BlockSoFar takes answers k a h block (i + 1) k' a' h''
 Block-byte takes answers k a h block i k' a' h' h'' s l ne e =
     let b = get_or block i 0 in
     let rest = drop (i + 1) block in
@@ -37,12 +37,12 @@ Block-byte takes answers k a h block i k' a' h' h'' s l ne e =
     }
 
 -- the lines to come, where the next byte is an LF
-lf-next : (lines : List LineText) (h : Option (List ℕ)) (block : List ℕ) (i : ℕ) → i < length block → get_or block i 0 ≡ 10 → lines ++ ended_within h (drop i block) ≡ (lines ++ ended_line h ∷ []) ++ ended_within (Some []) (drop (i + 1) block)
+pub lf-next : (lines : List LineText) (h : Option (List ℕ)) (block : List ℕ) (i : ℕ) → i < length block → get_or block i 0 ≡ 10 → lines ++ ended_within h (drop i block) ≡ (lines ++ ended_line h ∷ []) ++ ended_within (Some []) (drop (i + 1) block)
 lf-next lines h block i l e =
     at_drop_more (λ z. lines ++ ended_within h z) block i 0 l ∙ (ap (λ z. lines ++ ended_within h (z ∷ drop (i + 1) block)) e ∙ sym (append_assoc lines (ended_line h ∷ []) (ended_within (Some []) (drop (i + 1) block))))
 
 -- an LF, and the line before it answered
-pub Block-line : {K A : Type 0} (takes : K → WriteAnswer → K → Type 0) (answers : A → LineText → List ℕ → A → Type 0) (k : K) (a : A) (h : Option (List ℕ)) (block : List ℕ) (i : ℕ) (k' : K) (a' : A) (h' : Option (List ℕ)) (line : LineText) (k'' : K) (a'' : A) (h'' : Option (List ℕ)) (u : Unit {0}) → BlockSoFar takes answers k a h block i k' a' h' → i < length block → get_or block i 0 ≡ 10 → line ≡ ended_line h' → LinesAnswered takes answers k' a' (line ∷ []) k'' a'' (Ok u) → h'' ≡ Some [] → BlockSoFar takes answers k a h block (i + 1) k'' a'' h''
+abbrev pub Block-line : {K A : Type 0} (takes : K → WriteAnswer → K → Type 0) (answers : A → LineText → List ℕ → A → Type 0) (k : K) (a : A) (h : Option (List ℕ)) (block : List ℕ) (i : ℕ) (k' : K) (a' : A) (h' : Option (List ℕ)) (line : LineText) (k'' : K) (a'' : A) (h'' : Option (List ℕ)) (u : Unit {0}) → BlockSoFar takes answers k a h block i k' a' h' → i < length block → get_or block i 0 ≡ 10 → line ≡ ended_line h' → LinesAnswered takes answers k' a' (line ∷ []) k'' a'' (Ok u) → h'' ≡ Some [] → BlockSoFar takes answers k a h block (i + 1) k'' a'' h''
 Block-line takes answers k a h block i k' a' h' line k'' a'' h'' u s l e f x n =
     let rest = drop (i + 1) block in
     record {

@@ -6,3 +6,5 @@ pub mod Blocks
 pub mod Whole
 pub mod ByFunction
 pub mod Known
+pub mod Talked
+pub mod Talks

@@ -40,21 +40,21 @@ pub length-front : (count : ℕ) (room : List ℕ) → count ≤ length room →
 length-front count room l = omega (arith, length-take count room)
 
 module _ {S K A : Type 0} (gives : S → ReadAnswer → S → Type 0) (takes : K → WriteAnswer → K → Type 0) (answers : A → LineText → List ℕ → A → Type 0) (s : S) (k : K) (a : A) where
-  pub Run-start : (h : Option (List ℕ)) → h ≡ Some [] → RunSoFar gives takes answers s k a 0 s k a h
+  abbrev pub Run-start : (h : Option (List ℕ)) → h ≡ Some [] → RunSoFar gives takes answers s k a 0 s k a h
   Run-start h e =
       record { blocks = []; reads = refl; count = refl; lines = LinesAnswered-none takes answers k a tt; held = e }
 
   -- one more read
-  reads-more : (blocks : List (List ℕ)) (block : List ℕ) (s' s'' : S) → Leads gives s (map Gave blocks) s' → gives s' (Gave block) s'' → Leads gives s (map Gave (blocks ++ block ∷ [])) s''
+  pub reads-more : (blocks : List (List ℕ)) (block : List ℕ) (s' s'' : S) → Leads gives s (map Gave blocks) s' → gives s' (Gave block) s'' → Leads gives s (map Gave (blocks ++ block ∷ [])) s''
   reads-more blocks block s' s'' p q =
       subst (λ rs. Leads gives s rs s'') (sym (map-append Gave blocks (block ∷ []))) (Leads-more gives s (map Gave blocks) s' (Gave block) s'' p q)
 
   -- the lines of one more block
-  lines-more : (blocks : List (List ℕ)) (block : List ℕ) (h : Option (List ℕ)) → h ≡ held_after (Some []) (concat blocks) → ended_within (Some []) (concat blocks) ++ ended_within h block ≡ ended_within (Some []) (concat (blocks ++ block ∷ []))
+  pub lines-more : (blocks : List (List ℕ)) (block : List ℕ) (h : Option (List ℕ)) → h ≡ held_after (Some []) (concat blocks) → ended_within (Some []) (concat blocks) ++ ended_within h block ≡ ended_within (Some []) (concat (blocks ++ block ∷ []))
   lines-more blocks block h e =
       ap (λ z. ended_within (Some []) (concat blocks) ++ ended_within z block) e ∙ (sym (ended_within-append (Some []) (concat blocks) block) ∙ ap (ended_within (Some [])) (sym (concat-more blocks block)))
 
-  pub Run-more : (total : ℕ) (s' : S) (k' : K) (a' : A) (h : Option (List ℕ)) (block : List ℕ) (s'' : S) (k'' : K) (a'' : A) (h' : Option (List ℕ)) (u : Unit {0}) (count : ℕ) → RunSoFar gives takes answers s k a total s' k' a' h → gives s' (Gave block) s'' → count ≡ length block → LinesAnswered takes answers k' a' (ended_within h block) k'' a'' (Ok u) → h' ≡ held_after h block → RunSoFar gives takes answers s k a (total + count) s'' k'' a'' h'
+  abbrev pub Run-more : (total : ℕ) (s' : S) (k' : K) (a' : A) (h : Option (List ℕ)) (block : List ℕ) (s'' : S) (k'' : K) (a'' : A) (h' : Option (List ℕ)) (u : Unit {0}) (count : ℕ) → RunSoFar gives takes answers s k a total s' k' a' h → gives s' (Gave block) s'' → count ≡ length block → LinesAnswered takes answers k' a' (ended_within h block) k'' a'' (Ok u) → h' ≡ held_after h block → RunSoFar gives takes answers s k a (total + count) s'' k'' a'' h'
   Run-more total s' k' a' h block s'' k'' a'' h' u count x r n y e =
       record {
         blocks = x.blocks ++ block ∷ [];
@@ -87,7 +87,7 @@ module _ {S K A : Type 0} (gives : S → ReadAnswer → S → Type 0) (takes : K
       }
 
   -- all lines, the last one too
-  last-lines : (blocks : List (List ℕ)) (h : Option (List ℕ)) → h ≡ held_after (Some []) (concat blocks) → ended_within (Some []) (concat blocks) ++ option_to_list (last_line h) ≡ lines_of (concat blocks)
+  pub last-lines : (blocks : List (List ℕ)) (h : Option (List ℕ)) → h ≡ held_after (Some []) (concat blocks) → ended_within (Some []) (concat blocks) ++ option_to_list (last_line h) ≡ lines_of (concat blocks)
   last-lines blocks h e =
       ap (λ z. ended_within (Some []) (concat blocks) ++ option_to_list (last_line z)) e ∙ lines_of-all (concat blocks)
 

@@ -5,4 +5,5 @@ pub mod Leads
 pub mod Streams
 pub mod Writes
 pub mod Runs
+pub mod Talks
 pub mod Views

@@ -10,14 +10,14 @@ use Rattle.line_io.specs.Streams.{ReadAnswer, Gave, Ended, Failed, WriteAnswer}
 use Rattle.line_io.specs.Writes.{LinesAnswered, with_end, writes_of}
 
 -- the bytes whose lines are to be answered: all, where the end of the input was read or a write failed, and else those up to the last LF
-abbrev pub bytes_due : Result (Unit {0}) LineFault → List ℕ → List ℕ
+abbrev pub bytes_due : {X : Type 0} → Result X LineFault → List ℕ → List ℕ
 bytes_due (Ok _) bytes = bytes
 bytes_due (Err Read) bytes = up_to_last_end bytes
 bytes_due (Err Write) bytes = bytes
 bytes_due (Err TooMuch) bytes = up_to_last_end bytes
 
 -- how the writes ended: by a failure at fault 2 alone
-abbrev pub write_result : Result (Unit {0}) LineFault → Result (Unit {0}) WriteFailed
+abbrev pub write_result : {X : Type 0} → Result X LineFault → Result (Unit {0}) WriteFailed
 write_result (Ok _) = Ok tt
 write_result (Err Read) = Ok tt
 write_result (Err Write) = Err (record {})

@@ -4,53 +4,48 @@ ghost use Rattle.std.specs.Option.{option_to_list};
 ghost use Rattle.line_io.specs.Lines.{LineText};
 ghost use Rattle.line_io.specs.Held.{held_after, ended_within, last_line};
 ghost use Rattle.line_io.specs.Views.{text_of};
-ghost use Rattle.line_io.specs.Writes.{LinesAnswered};
+ghost use Rattle.line_io.specs.Writes.{LinesAnswered, with_end};
 ghost use Rattle.line_io.specs.Runs.{Run};
 
 use crate::cutting::{LF, Line, LineCutter};
 use crate::faults::{LineFault, WriteFailed};
 use crate::input::Source;
 use crate::output::{Sink, write_text};
-use arrayvec::ArrayVec;
-
-/// The most bytes of an answer without its LF.
-const TEXT_BYTES: usize = 63;
-
-/// The bytes of an answer with its LF.
-const WRITE_BYTES: usize = TEXT_BYTES + 1;
 
 /// The bytes that one read asks for at most.
-const BLOCK_BYTES: usize = 4096;
+pub(crate) const BLOCK_BYTES: usize = 4096;
 
 /// A run that has read so many bytes reads no more.
 const MOST_BYTES: u64 = 1 << 62;
 
-/// The answer to a line, without LF: at most 63 bytes.
-pub type Text = ArrayVec<u8, TEXT_BYTES>;
-
-/// Answers lines, one after another.
+/// Answers lines, one after another, and keeps the last answer until the next. An array of the answerer's own holds
+/// it, so each answerer chooses how long its answers can be.
 pub trait Answer {
     /// Which texts may answer a line, and the states before and after it.
     ghost answers: { Self → LineText → List ℕ → Self → Type 0 };
 
+    /// The last answer, with its LF.
+    ghost kept: { Self → List ℕ };
+
     /// Answers the next line.
-    fn answer(&mut self, line: Line<'_>) -> Text
-        ensures { answers self.old (text_of line.entry) result.items self.new };
+    fn answer(&mut self, line: Line<'_>)
+        ensures { (text : List ℕ) × answers self.old (text_of line.entry) text self.new × (kept self.new ≡ with_end text) };
+
+    /// The last answer, with its LF.
+    fn text(&self) -> &[u8]
+        ensures { result.now ≡ kept self.now };
 }
 
 /// Answers one line, and writes the answer with its LF.
-fn answer_line<K: Sink, A: Answer>(
+pub(crate) fn answer_line<K: Sink, A: Answer>(
     sink: &mut K,
     answerer: &mut A,
     line: Line<'_>,
 ) -> Result<(), WriteFailed>
     ensures { LinesAnswered K.takes A.answers sink.old answerer.old (text_of line.entry ∷ []) sink.new answerer.new result }
 {
-    let text = answerer.answer(line);
-    let mut bytes: ArrayVec<u8, WRITE_BYTES> = ArrayVec::new();
-    bytes.try_extend_from_slice(text.as_slice()).unwrap();
-    bytes.push(LF);
-    write_text(sink, bytes.as_slice())
+    answerer.answer(line);
+    write_text(sink, answerer.text())
 }
 
 /// Answers each line that ends in this block.
@@ -75,7 +70,7 @@ fn answer_block<K: Sink, A: Answer>(
 }
 
 /// Answers the line that the end of the input ends, if there is one.
-fn answer_last<K: Sink, A: Answer>(
+pub(crate) fn answer_last<K: Sink, A: Answer>(
     sink: &mut K,
     answerer: &mut A,
     cutter: &LineCutter,

@@ -16,7 +16,7 @@
 //!
 //! ```text
 //! let mut source = FromReader { reader: b"one\r\ntwo".as_slice() };
-//! let mut sink = FromWriter { writer: Vec::new(alloc) };
+//! let mut sink = FromWriter::new(Vec::new(alloc));
 //! answer_lines(&mut source, &mut sink, &mut answerer)?;   // asks for `one`, writes, asks for `two`, writes
 //! ```
 #![tactic(auto)]
@@ -27,10 +27,11 @@ mod faults;
 mod input;
 mod laws;
 mod output;
+mod talking;
 #[cfg(test)]
 mod tests;
 
-pub use answering::{Answer, Text, answer_lines};
+pub use answering::{Answer, answer_lines};
 pub use cutting::{Line, LineCutter};
 pub use faults::{LineFault, ReadFailed, WriteFailed};
 pub use input::{FromReader, Source};
@@ -39,3 +40,4 @@ pub use laws::{
     run_by_function,
 };
 pub use output::{FromWriter, Sink, write_text};
+pub use talking::{Ends, TalkEnd, talk_lines};

@@ -1,5 +1,5 @@
 //! Where answers go.
-ghost use Rattle.std.specs.Prelude.{◌≡◌, ◌<◌, ◌≤◌, length, IfOk};
+ghost use Rattle.std.specs.Prelude.{◌≡◌, ◌<◌, ◌≤◌, length, None, IfOk, OnOk};
 ghost use Rattle.line_io.specs.Streams.{WriteAnswer, write_answer, WritesKnown};
 ghost use Rattle.line_io.specs.Writes.{IsWritten};
 
@@ -29,6 +29,29 @@ pub trait Sink {
 pub struct FromWriter<W> {
     /// The writer, which has what `put` took.
     pub writer: W,
+    /// Why the last of the writes that have failed did, where one has.
+    pub failure: Option<ErrorKind>,
+}
+
+impl<W> FromWriter<W> {
+    /// A sink that has written nothing.
+    pub fn new(writer: W) -> FromWriter<W>
+        ensures { result ≡ record { writer = writer; failure = None } }
+    {
+        FromWriter {
+            writer,
+            failure: None,
+        }
+    }
+
+    /// Notes why a write has failed.
+    fn fail(&mut self, failure: ErrorKind) -> Result<usize, WriteFailed>
+        ensures failed { OnOk result ⊥ }
+        ensures kept { self.new.writer ≡ self.old.writer }
+    {
+        self.failure = Some(failure);
+        Err(WriteFailed)
+    }
 }
 
 impl<W: Write> Sink for FromWriter<W> {
@@ -37,13 +60,13 @@ impl<W: Write> Sink for FromWriter<W> {
     fn put(&mut self, bytes: &[u8]) -> Result<usize, WriteFailed> {
         for _ in 0..WRITE_TRIES {
             match self.writer.write(bytes) {
-                Ok(0) => return Err(WriteFailed),
+                Ok(0) => return self.fail(ErrorKind::WriteZero),
                 Ok(count) => return Ok(count),
                 Err(error) if error.kind() == ErrorKind::Interrupted => {}
-                Err(_) => return Err(WriteFailed),
+                Err(error) => return self.fail(error.kind()),
             }
         }
-        Err(WriteFailed)
+        self.fail(ErrorKind::Interrupted)
     }
 }
 

@@ -1,3 +1,2 @@
-pub mod Requests
-pub mod Replies
-pub mod Solving
+pub mod CommandLine
+pub mod Statuses

@@ -1,0 +1,51 @@
+-- Talks: lines are answered up to one that ends the talk.
+use Rattle.std.specs.Prelude.{◌≡◌, ◌⊎◌, ℕ, List, [], ◌∷◌, ◌++◌, map, Bool, true, false, not, ◌&&◌, if◌then◌else◌, Result, Ok, Err}
+use Rattle.std.specs.List.{concat}
+use Rattle.line_io.specs.declared.faults.LineFault.{LineFault}
+use Rattle.line_io.specs.declared.faults.LineFault.TheVariants.{Read, Write, TooMuch}
+use Rattle.line_io.specs.declared.faults.WriteFailed.{WriteFailed}
+use Rattle.line_io.specs.declared.talking.TalkEnd.{TalkEnd}
+use Rattle.line_io.specs.declared.talking.TalkEnd.TheVariants.{Line as by_line, Input as by_input}
+use Rattle.line_io.specs.Lines.{LineText, lines_of, up_to_last_end}
+use Rattle.line_io.specs.Leads.{Leads}
+use Rattle.line_io.specs.Streams.{ReadAnswer, Gave, Ended, Failed, WriteAnswer}
+use Rattle.line_io.specs.Writes.{LinesAnswered}
+use Rattle.line_io.specs.Runs.{bytes_due, write_result}
+
+-- the lines up to the first that ends the talk, that one too
+abbrev pub upto : (LineText → Bool) → List LineText → List LineText
+upto ends [] = []
+upto ends (l ∷ ls) = if ends l then l ∷ [] else l ∷ upto ends ls
+
+-- none of these lines ends the talk
+abbrev pub none_ends : (LineText → Bool) → List LineText → Bool
+none_ends ends [] = true
+none_ends ends (l ∷ ls) = not (ends l) && none_ends ends ls
+
+-- how a talk ended, where all its lines were read
+abbrev pub end_of : Bool → TalkEnd
+end_of true = by_input
+end_of false = by_line
+
+-- whether the writes succeeded
+abbrev pub written : {X : Type 0} → Result X WriteFailed → Result (Unit {0}) WriteFailed
+written (Ok _) = Ok tt
+written (Err e) = Err e
+
+-- the read after those that gave bytes, and whether a line ended the talk. By a line the talk ends exactly where one of
+-- the lines ends it, by the input where the input's end was read and none did. At fault 1 the read failed, and no line before
+-- ended the talk. Fault 3 never comes
+abbrev pub IsTalkEnd : (LineText → Bool) → Result TalkEnd LineFault → List ℕ → List ReadAnswer → Type 0
+IsTalkEnd ends (Ok by_line) bytes last = ((last ≡ []) ⊎ (last ≡ Ended ∷ [])) × (none_ends ends (lines_of bytes) ≡ false)
+IsTalkEnd ends (Ok by_input) bytes last = (last ≡ Ended ∷ []) × (none_ends ends (lines_of bytes) ≡ true)
+IsTalkEnd ends (Err Read) bytes last = (last ≡ Failed ∷ []) × (none_ends ends (lines_of (up_to_last_end bytes)) ≡ true)
+IsTalkEnd ends (Err Write) bytes last = (last ≡ []) ⊎ (last ≡ Ended ∷ [])
+IsTalkEnd ends (Err TooMuch) bytes last = ⊥
+
+-- these blocks were read, and of the lines in them those up to the one that ends the talk answered
+pub record Talk {S K A : Type 0} (gives : S → ReadAnswer → S → Type 0) (takes : K → WriteAnswer → K → Type 0) (answers : A → LineText → List ℕ → A → Type 0) (ends : LineText → Bool) (source : S) (sink : K) (answerer : A) (source' : S) (sink' : K) (answerer' : A) (r : Result TalkEnd LineFault) : Type 0 where
+  pub blocks : List (List ℕ)
+  pub last : List ReadAnswer
+  pub reads : Leads gives source (map Gave blocks ++ last) source'
+  pub ending : IsTalkEnd ends r (concat blocks) last
+  pub lines : LinesAnswered takes answers sink answerer (upto ends (lines_of (bytes_due r (concat blocks)))) sink' answerer' (write_result r)

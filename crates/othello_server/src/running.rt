@@ -1,0 +1,115 @@
+//! What the program does, over any streams: from the words of the command line to the exit status.
+use crate::options::{Options, WordsFault};
+use line_io::{FromReader, FromWriter, LineFault, Sink, Source, write_text};
+use solve_engine::{solve, solve_visited};
+use std::alloc::Global;
+use std::convert::AsStr;
+use std::fmt::{self, Display, Write as _};
+use std::io::{ErrorKind, IsTerminal, Read, Write};
+
+/// The exit status where all went well.
+const DONE: u8 = 0;
+
+/// The exit status where the input or the output failed.
+const FAILED: u8 = 1;
+
+/// What somebody is told who types the lines.
+const HINT: &str = "reading lines `depth position`; `othello solve --help` explains them";
+
+/// An input of the program.
+pub trait Input: Source {
+    /// Whether somebody types it.
+    fn is_typed(&self) -> bool;
+}
+
+impl<R: Read + IsTerminal> Input for FromReader<R> {
+    fn is_typed(&self) -> bool {
+        self.reader.is_terminal()
+    }
+}
+
+/// An output of the program.
+pub trait Output: Sink {
+    /// Whether a write failed since nobody reads the output any more.
+    fn is_closed(&self) -> bool;
+}
+
+impl<W: Write> Output for FromWriter<W> {
+    fn is_closed(&self) -> bool {
+        self.failure == Some(ErrorKind::BrokenPipe)
+    }
+}
+
+/// Does what the words ask for, and gives the exit status. Answers, help and the version go to the output, and all
+/// else that there is to say to the errors. A status doesn't change where a text of the program's own can't be
+/// written.
+pub fn run<T: AsStr, S: Input, K: Output, E: Sink>(
+    alloc: Global,
+    words: &[T],
+    source: &mut S,
+    sink: &mut K,
+    errors: &mut E,
+) -> u8 {
+    match Options::read(alloc, words) {
+        Ok(Options::Solve { visited }) => answer(visited, source, sink, errors),
+        Err(fault) => refuse(&fault, sink, errors),
+    }
+}
+
+/// Answers the lines of the input. An output that nobody reads any more ends the program without a word.
+fn answer<S: Input, K: Output, E: Sink>(
+    visited: bool,
+    source: &mut S,
+    sink: &mut K,
+    errors: &mut E,
+) -> u8 {
+    if source.is_typed() {
+        say(errors, HINT);
+    }
+    let result = if visited {
+        solve_visited(source, sink)
+    } else {
+        solve(source, sink)
+    };
+    match result {
+        Ok(()) => DONE,
+        Err(LineFault::Write) if sink.is_closed() => FAILED,
+        Err(fault) => {
+            say(errors, fault);
+            FAILED
+        }
+    }
+}
+
+/// Says why the words are not followed, or what they ask to be told.
+fn refuse<K: Sink, E: Sink>(fault: &WordsFault, sink: &mut K, errors: &mut E) -> u8 {
+    match fault {
+        WordsFault::OutOfMemory => say(errors, "no memory to read the command line"),
+        WordsFault::Refused(error) if error.use_stderr() => put(errors, error),
+        WordsFault::Refused(error) => put(sink, error),
+    }
+    fault.status()
+}
+
+/// Writes a line of the program's own.
+fn say<K: Sink, D: Display + Drop>(sink: &mut K, text: D) {
+    let _ = writeln!(Pen(sink), "othello: {text}");
+}
+
+/// Writes a text.
+fn put<K: Sink, D: Display + Drop>(sink: &mut K, text: D) {
+    let _ = write!(Pen(sink), "{text}");
+}
+
+/// A sink as a writer of texts.
+#[derive(Drop)]
+struct Pen<'a, K>(&'a mut K);
+
+impl<K: Sink> fmt::Write for Pen<'_, K> {
+    fn write_str(&mut self, text: &str) -> fmt::Result {
+        match write_text(self.0, text.as_bytes()) {
+            Ok(()) => Ok(()),
+            Err(_) => Err(fmt::Error),
+        }
+    }
+}

@@ -1,0 +1,17 @@
+use Rattle.std.proofs.Common.{refl}
+use Rattle.std.specs.Fmt.{digits}
+use Rattle.othello_board.specs.Rules.{squares}
+use Rattle.solve_engine.proofs.rows.faults_come_in_order.Goals as goal
+
+pub returns : goal.returns
+unfolding digits squares
+returns c = record {
+  too_long = refl;
+  no_space = refl;
+  no_number = refl;
+  too_deep = refl;
+  length = refl;
+  cell = refl;
+  space = refl;
+  side = refl;
+}

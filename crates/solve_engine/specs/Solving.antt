@@ -1,0 +1,97 @@
+-- What `solve` answers to a line, and to a whole input.
+use Rattle.std.specs.Prelude.{ℕ, ◌≡◌, ◌==◌, Bool, true, false, if◌then◌else◌, nat_le, List, [], ◌∷◌, ◌++◌, map, length, slice_index, Option, Some, None, flat_map}
+use Rattle.std.specs.Option.{option_map}
+use Rattle.othello_board.specs.declared.cells.Cell.{Cell}
+use Rattle.othello_board.specs.declared.cells.Cell.TheVariants.{Empty, Own, Opp}
+use Rattle.othello_board.specs.Rules.{squares}
+use Rattle.othello_eval.specs.Minimax.{minimax, best_choice}
+use Rattle.position_text.specs.declared.positions.Side.{Side}
+use Rattle.position_text.specs.declared.positions.Side.TheVariants.{Black, White}
+use Rattle.position_text.specs.declared.marks.Mark.{Mark}
+use Rattle.position_text.specs.declared.marks.Mark.TheVariants.{Disc, Blank}
+use Rattle.position_text.specs.Spelling.{spelled, side_spelled}
+use Rattle.line_io.specs.Lines.{LineText, Whole, TooLong, lines_of}
+use Rattle.line_io.specs.Runs.{answers_to}
+use Rattle.line_words.specs.Words.{split_at_space, number_of}
+use Rattle.line_words.specs.Texts.{value_text, visited_text, error_text}
+
+-- the values of all these, if each has one
+abbrev pub all_of : {X : Type 0} → List (Option X) → Option (List X)
+all_of [] = Some []
+all_of (None ∷ more) = None
+all_of (Some x ∷ more) = option_map (λ xs. x ∷ xs) (all_of more)
+
+-- what the first 64 bytes of a text spell, if each spells a cell
+abbrev pub marks_of : List ℕ → Option (List Mark)
+marks_of text = all_of (map (λ s. spelled (slice_index text s)) squares)
+
+-- the side to move, which stands after the cells and a space
+abbrev pub mover_of : List ℕ → Option Side
+mover_of text = if slice_index text 64 == 32 then side_spelled (slice_index text 65) else None
+
+-- a cell, seen by a side
+abbrev pub seen_by : Side → Mark → Cell
+seen_by side Blank = Empty
+seen_by Black (Disc Black) = Own
+seen_by Black (Disc White) = Opp
+seen_by White (Disc Black) = Opp
+seen_by White (Disc White) = Own
+
+-- 26 where no side is spelled, and else what is replied to the board
+abbrev pub mover_answer : (ℕ → List Cell → List ℕ) → ℕ → List Mark → Option Side → List ℕ
+mover_answer reply depth marks None = error_text 26
+mover_answer reply depth marks (Some side) = reply depth (map (seen_by side) marks)
+
+-- 25 where a cell isn't spelled
+abbrev pub marks_answer : (ℕ → List Cell → List ℕ) → ℕ → Option (List Mark) → Option Side → List ℕ
+marks_answer reply depth None mover = error_text 25
+marks_answer reply depth (Some marks) mover = mover_answer reply depth marks mover
+
+-- 24 where the position's text hasn't 66 bytes
+abbrev pub position_answer : (ℕ → List Cell → List ℕ) → ℕ → List ℕ → List ℕ
+position_answer reply depth text =
+    if length text == 66 then marks_answer reply depth (marks_of text) (mover_of text) else error_text 24
+
+-- 23 where the depth is no number, 27 where it is over 12
+abbrev pub depth_answer : (ℕ → List Cell → List ℕ) → Option ℕ → List ℕ → List ℕ
+depth_answer reply None text = error_text 23
+depth_answer reply (Some depth) text = if nat_le depth 12 then position_answer reply depth text else error_text 27
+
+-- 21 where there is no space; the position is all that follows the first space
+abbrev pub words_answer : (ℕ → List Cell → List ℕ) → Option (List ℕ × List ℕ) → List ℕ
+words_answer reply None = error_text 21
+words_answer reply (Some words) = depth_answer reply (number_of words.0) words.1
+
+-- the answer to a line of at most 128 bytes, where this is replied to a depth and a board
+abbrev pub line_answer : (ℕ → List Cell → List ℕ) → List ℕ → List ℕ
+line_answer reply bytes = words_answer reply (split_at_space bytes)
+
+-- the answer to a line: 22 where it is too long
+abbrev pub answer_to : (ℕ → List Cell → List ℕ) → LineText → List ℕ
+answer_to reply (Whole bytes) = line_answer reply bytes
+answer_to reply TooLong = error_text 22
+
+-- the minimax value of a board to a depth, and its best choice
+abbrev pub solved : ℕ → List Cell → List ℕ
+solved depth board = value_text (minimax depth board) (best_choice depth board)
+
+-- the same, and a number of positions
+abbrev pub solved_with_count : ℕ → ℕ → List Cell → List ℕ
+solved_with_count count depth board = visited_text (minimax depth board) (best_choice depth board) count
+
+-- with a count or without
+abbrev pub reply_of : Bool → ℕ → ℕ → List Cell → List ℕ
+reply_of true count = solved_with_count count
+reply_of false count = solved
+
+-- what `solve` answers to a line
+abbrev pub solve_line : LineText → List ℕ
+solve_line line = answer_to solved line
+
+-- what `solve` writes for an input: for each of its lines the answer and LF
+abbrev pub solve_out : List ℕ → List ℕ
+solve_out bytes = answers_to solve_line (lines_of bytes)
+
+-- with `--visited` each answer has a third word, a number of positions
+abbrev pub IsVisitedLine : LineText → List ℕ → Type 0
+IsVisitedLine line text = (count : ℕ) × (text ≡ answer_to (solved_with_count count) line)

@@ -1,0 +1,46 @@
+//! The texts of answers, each without LF.
+ghost use Rattle.std.specs.Prelude.{◌≡◌, ◌≤◌, length};
+ghost use Rattle.line_words.specs.Texts.{value_text, visited_text, error_text};
+
+use arrayvec::ArrayVec;
+use line_words::{push_error, push_move, push_number, push_value};
+use othello_moves::Choice;
+
+/// The most bytes of an answer with its LF.
+const ANSWER_BYTES: usize = 40;
+
+/// An answer: of at most 37 bytes, and an LF.
+pub(crate) type Text = ArrayVec<u8, ANSWER_BYTES>;
+
+/// A value and a move, with a space between them.
+pub(crate) fn value_text(value: i32, choice: Option<Choice>) -> Text
+    ensures text { result.items ≡ value_text value choice }
+    ensures short { length result.items ≤ 16 }
+{
+    let mut text = Text::new();
+    push_value(&mut text, value);
+    text.push(b' ');
+    push_move(&mut text, choice);
+    text
+}
+
+/// A value, a move and the number of positions that were entered.
+pub(crate) fn visited_text(value: i32, choice: Option<Choice>, visited: u64) -> Text
+    ensures text { result.items ≡ visited_text value choice visited }
+    ensures short { length result.items ≤ 37 }
+{
+    let mut text = value_text(value, choice);
+    text.push(b' ');
+    push_number(&mut text, visited);
+    text
+}
+
+/// The fault of this number.
+pub(crate) fn error_text(number: u8) -> Text
+    ensures text { result.items ≡ error_text number }
+    ensures short { length result.items ≤ 7 }
+{
+    let mut text = Text::new();
+    push_error(&mut text, number);
+    text
+}
