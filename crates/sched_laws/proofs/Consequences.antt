@@ -67,12 +67,12 @@ job-found root (job ∷ jobs) some = elim (cases_Bool (is_live_at root job)) [
     minus : (n : ℕ) → n + 1 - 1 ≡ n
     minus n = omega arith
 
-    later : 1 ≤ live_count root jobs → job_at (job ∷ jobs) (number_from (1 + 1) root jobs) ≡ Some (Live root)
-    later rest =
+    later : 1 ≤ live_count root jobs → job_at jobs (number_from 1 root jobs) ≡ Some (Live root) → job_at (job ∷ jobs) (number_from (1 + 1) root jobs) ≡ Some (Live root)
+    later rest found =
         let shift = number-shift 1 root jobs rest in
         let above = number-above 1 root jobs rest in
         let n = number_from 1 root jobs in
-        ap (job_at (job ∷ jobs)) shift ∙ (rw (ne_eqb (n + 1) 1 (λ e. omega (arith, e, above))) (ap (job_at jobs) (minus n) ∙ job-found root jobs rest))
+        ap (job_at (job ∷ jobs)) shift ∙ (rw (ne_eqb (n + 1) 1 (λ e. omega (arith, e, above))) (ap (job_at jobs) (minus n) ∙ found))
 
 root-counted : (jobs : List Job) (xs : Tree) (s : ℕ) (f : Frame (List ℕ)) → AreRootsLive jobs xs → frame_at xs s ≡ Some f → is_root f.path ≡ true → live_count s jobs ≡ 1
 root-counted jobs [] s f roots at root = absurd cc
