@@ -61,7 +61,7 @@ job-found : (root : ℕ) (jobs : List Job) → 1 ≤ live_count root jobs → jo
 job-found root [] some = absurd (omega (arith, some))
 job-found root (job ∷ jobs) some = elim (cases_Bool (is_live_at root job)) [
   | inl is ↦ rw is (ap Some (is-live root job is))
-  | inr not_so ↦ rw not_so (later (rw not_so at some))
+  | inr not_so ↦ rw not_so (later (rw not_so at some) (job-found root jobs (rw not_so at some)))
 ]
   where
     minus : (n : ℕ) → n + 1 - 1 ≡ n
