@@ -1,0 +1,107 @@
+-- Whatever a step is answered, each tenant has its shape after it.
+use Rattle.std.proofs.Common.{◌≡◌, ℕ, Bool, true, false, eqb, List, [], ◌∷◌, Option, Some, None, Result, Ok, Err, refl, ap, sym, ◌∙◌, subst, inl, inr}
+use Rattle.std.proofs.lemmas.Bool.{cases_Bool}
+use Rattle.sched_rules.specs.declared.refusal.Refusal.{Refusal}
+use Rattle.sched_rules.specs.declared.refusal.Refusal.TheVariants.{Busy, NoTenant}
+use Rattle.sched_rules.specs.declared.step.StepOf.{StepOf}
+use Rattle.sched_rules.specs.declared.step.StepOf.TheVariants.{Admit, Submit, Take, Steal, Advance, Answer, Inlet, Finish, Spend, Cancel, Leave}
+use Rattle.sched_rules.specs.declared.step.DidOf.{DidOf}
+use Rattle.sched_rules.specs.declared.step.DidOf.TheVariants.{Admitted}
+use Rattle.sched_rules.specs.Functions.{Functions}
+use Rattle.sched_rules.specs.Trees.{Tenant, admitted_with}
+use Rattle.sched_rules.specs.Lone.{Outcome, lone}
+use Rattle.sched_rules.specs.Runs.{tenant_of}
+use Rattle.sched_rules.specs.Cores.{Shared, tenant_in, with_tenant, without_tenant, with_outcome, meets_busy, admit_tests, unless_busy, step_among, judged, shared_after}
+use Rattle.sched_rules.specs.Headline.{after_answer, after_answers}
+use Rattle.sched_laws.specs.Shapes.{IsShaped, AreShaped}
+use Rattle.sched_laws.proofs.Shaped.{LeftShaped, unless-passed, step-shaped, admitted-shaped, came}
+
+abbrev Entries : Type 0
+Entries = List (ℕ × Tenant)
+
+pub shaped-in : (n : ℕ) (es : Entries) (t : Tenant) → AreShaped es → tenant_in es n ≡ Some t → IsShaped t
+shaped-in n [] t all is = absurd cc
+shaped-in n (e ∷ es) t all is = elim (cases_Bool (eqb e.0 n)) [
+  | inl same ↦ (let both : Some e.1 ≡ Some t = rw same at is in let own : e.1 ≡ t = cc in let P : Tenant → Type 0 = λ u. IsShaped u in subst P own all.0)
+  | inr other ↦ shaped-in n es t all.1 (rw other at is)
+]
+
+with-shaped : (n : ℕ) (t : Tenant) (es : Entries) → IsShaped t → AreShaped es → AreShaped (with_tenant n t es)
+with-shaped n t [] s all = (s, tt)
+with-shaped n t (e ∷ es) s all = elim (cases_Bool (eqb e.0 n)) [ inl same ↦ rw same (s, all.1) | inr other ↦ rw other (all.0, with-shaped n t es s all.1) ]
+
+without-shaped : (n : ℕ) (es : Entries) → AreShaped es → AreShaped (without_tenant n es)
+without-shaped n [] all = tt
+without-shaped n (e ∷ es) all = elim (cases_Bool (eqb e.0 n)) [ inl same ↦ rw same (without-shaped n es all.1) | inr other ↦ rw other (all.0, without-shaped n es all.1) ]
+
+outcome-shaped : (n : ℕ) (t : Option Tenant) (es : Entries) → LeftShaped t → AreShaped es → AreShaped (with_outcome n t es)
+outcome-shaped n None es s all = without-shaped n es all
+outcome-shaped n (Some t) es s all = with-shaped n t es s all
+
+-- a tenant that has the core to itself
+refused : {I : Type 0} (refusal : Refusal) (outcome : Outcome I) → ◌≡◌ {A = Result (Outcome I) Refusal} (Err refusal) (Ok outcome) → LeftShaped outcome.0
+refused refusal outcome e = absurd cc
+
+pub lone-shaped : {I A : Type 0} (functions : Functions I A) (own : Option Tenant) (step : StepOf A) (outcome : Outcome I) → lone functions own step ≡ Ok outcome → LeftShaped own → LeftShaped outcome.0
+lone-shaped functions (Some tenant) step outcome is s = step-shaped functions tenant step outcome is s
+lone-shaped {I} functions None (Admit number quota) outcome is s =
+    let both : ◌≡◌ {A = Result (Outcome I) Refusal} (Ok (Some (admitted_with quota), Admitted)) (Ok outcome) = is in
+    let e : ◌≡◌ {A = Outcome I} (Some (admitted_with quota), Admitted) outcome = cc in
+    came (Some (admitted_with quota), Admitted) outcome e (admitted-shaped quota)
+lone-shaped functions None (Submit number words size) outcome is s = refused NoTenant outcome is
+lone-shaped functions None (Take worker name) outcome is s = refused NoTenant outcome is
+lone-shaped functions None (Steal worker from name) outcome is s = refused NoTenant outcome is
+lone-shaped functions None (Advance worker name) outcome is s = refused NoTenant outcome is
+lone-shaped functions None (Answer worker name answer) outcome is s = refused NoTenant outcome is
+lone-shaped functions None (Inlet worker name) outcome is s = refused NoTenant outcome is
+lone-shaped functions None (Finish worker name) outcome is s = refused NoTenant outcome is
+lone-shaped functions None (Spend name) outcome is s = refused NoTenant outcome is
+lone-shaped functions None (Cancel number job) outcome is s = refused NoTenant outcome is
+lone-shaped functions None (Leave number) outcome is s = refused NoTenant outcome is
+
+-- a step among several tenants
+pub not-busy : {I : Type 0} (busy : Bool) (alone : Result (Outcome I) Refusal) (outcome : Outcome I) → unless_busy busy alone ≡ Ok outcome → alone ≡ Ok outcome
+not-busy busy (Err refusal) outcome is = is
+not-busy false (Ok own) outcome is = is
+not-busy {I} true (Ok own) outcome is = (let e : ◌≡◌ {A = Result (Outcome I) Refusal} (Err Busy) (Ok outcome) = is in absurd cc)
+
+pub own-shaped : (n : ℕ) (es : Entries) → AreShaped es → LeftShaped (tenant_in es n)
+own-shaped n es all = by (tenant_in es n) refl
+  where
+    by : (own : Option Tenant) → tenant_in es n ≡ own → LeftShaped own
+    by None is = tt
+    by (Some t) is = shaped-in n es t all is
+
+among-shaped : {I A : Type 0} (functions : Functions I A) (before : Shared) (step : StepOf A) (outcome : Outcome I) → step_among functions before step ≡ Ok outcome → AreShaped before.tenants → LeftShaped outcome.0
+among-shaped functions before step outcome is all =
+    lone-shaped functions (tenant_in before.tenants (tenant_of step)) step outcome
+    (not-busy (meets_busy step before.tenants) (lone functions (tenant_in before.tenants (tenant_of step)) step) outcome is) (own-shaped (tenant_of step) before.tenants all)
+
+pub judged-shaped : {I A : Type 0} (functions : Functions I A) (before : Shared) (step : StepOf A) (outcome : Outcome I) → judged functions before step ≡ Ok outcome → AreShaped before.tenants → LeftShaped outcome.0
+judged-shaped {I} functions before (Admit number quota) outcome is all =
+    let effect : Outcome I = (Some (admitted_with quota), Admitted) in
+    let p = unless-passed (admit_tests before number quota) effect outcome is in came effect outcome p.1 (admitted-shaped quota)
+judged-shaped functions before (Submit number words size) outcome is all = among-shaped functions before (Submit number words size) outcome is all
+judged-shaped functions before (Take worker name) outcome is all = among-shaped functions before (Take worker name) outcome is all
+judged-shaped functions before (Steal worker from name) outcome is all = among-shaped functions before (Steal worker from name) outcome is all
+judged-shaped functions before (Advance worker name) outcome is all = among-shaped functions before (Advance worker name) outcome is all
+judged-shaped functions before (Answer worker name answer) outcome is all = among-shaped functions before (Answer worker name answer) outcome is all
+judged-shaped functions before (Inlet worker name) outcome is all = among-shaped functions before (Inlet worker name) outcome is all
+judged-shaped functions before (Finish worker name) outcome is all = among-shaped functions before (Finish worker name) outcome is all
+judged-shaped functions before (Spend name) outcome is all = among-shaped functions before (Spend name) outcome is all
+judged-shaped functions before (Cancel number job) outcome is all = among-shaped functions before (Cancel number job) outcome is all
+judged-shaped functions before (Leave number) outcome is all = among-shaped functions before (Leave number) outcome is all
+
+after-shaped : {I A : Type 0} (functions : Functions I A) (before : Shared) (step : StepOf A) (came_to : Result (Outcome I) Refusal) → judged functions before step ≡ came_to → AreShaped before.tenants → AreShaped (shared_after before step came_to).tenants
+after-shaped functions before step (Err refusal) is all = all
+after-shaped functions before step (Ok outcome) is all = outcome-shaped (tenant_of step) outcome.0 before.tenants (judged-shaped functions before step outcome is all) all
+
+pub shaped-answer : {I A : Type 0} (functions : Functions I A) (before : Shared) (step : StepOf A) (answer : Result (DidOf I) Refusal) → AreShaped before.tenants → AreShaped (after_answer functions before step answer).tenants
+shaped-answer functions before step (Err refusal) all = all
+shaped-answer functions before step (Ok did) all = after-shaped functions before step (judged functions before step) refl all
+
+pub shaped-answers : {I A : Type 0} (functions : Functions I A) (before : Shared) (steps : List (StepOf A)) (answers : List (Result (DidOf I) Refusal)) → AreShaped before.tenants → AreShaped (after_answers functions before steps answers).tenants
+shaped-answers functions before [] answers all = all
+shaped-answers functions before (step ∷ steps) [] all = all
+shaped-answers functions before (step ∷ steps) (answer ∷ answers) all =
+    shaped-answers functions (after_answer functions before step answer) steps answers (shaped-answer functions before step answer all)

@@ -1,0 +1,120 @@
+-- What the shape of a tenant gives.
+use Rattle.std.proofs.Common.{◌≡◌, ◌≢◌, ℕ, suc, ◌+◌, ◌-◌, ◌*◌, ◌<◌, ◌≤◌, inl, inr, Bool, true, false, eqb, List, [], ◌∷◌, Option, Some, None, length, refl, ap, sym, ◌∙◌, subst, arith}
+use Rattle.std.specs.Prelude.{if◌then◌else◌}
+use Rattle.std.specs.List.{filter}
+use Rattle.std.proofs.lemmas.Bool.{cases_Bool, false≢true, true≢false, eqb-true, eq-eqb, ne_eqb}
+use Rattle.std.proofs.lemmas.List.Sums.{sum_by-cons}
+use Rattle.cactus_stack.specs.Nodes.{charge}
+use Rattle.tenant_quota.specs.Quota.{IsWithinLimits}
+use Rattle.tenant_quota.specs.Accounts.{IsWithinReserve}
+use Rattle.frame_table.specs.declared.names.State.{State}
+use Rattle.frame_table.specs.declared.names.State.TheVariants.{Computing, Returned}
+use Rattle.frame_table.specs.Frames.{Frame, frame_at, path_in, root_of, children_of}
+use Rattle.frame_table.proofs.TreeValues.{root-there}
+use Rattle.sched_rules.specs.declared.job.Job.{Job}
+use Rattle.sched_rules.specs.declared.job.Job.TheVariants.{Live, Done, Spent, Cancelled}
+use Rattle.sched_rules.specs.Trees.{Tree, Tenant, account_in, charged_for, is_root, job_at, is_live_at, number_from, job_under}
+use Rattle.sched_rules.specs.Laws.{Neither, mark_of}
+use Rattle.sched_laws.specs.Shapes.{IsShaped, live_count, AreRootsLive, IsRootThere, AreLiveRootsThere, HaveWords}
+use Rattle.sched_laws.proofs.Shaped.{returned-childless}
+
+-- a frame that has returned or computes has no child
+pub returned-leaf : (tenant : Tenant) (s : ℕ) (f : Frame (List ℕ)) → IsShaped tenant → frame_at tenant.frames s ≡ Some f → f.state ≡ Returned → children_of tenant.frames s ≡ []
+returned-leaf tenant s f shape at is = returned-childless tenant s f shape at (λ e. let k = ap mark_of is in absurd cc)
+
+pub computing-leaf : (tenant : Tenant) (s worker : ℕ) (f : Frame (List ℕ)) → IsShaped tenant → frame_at tenant.frames s ≡ Some f → f.state ≡ Computing worker → children_of tenant.frames s ≡ []
+computing-leaf tenant s worker f shape at is = returned-childless tenant s f shape at (λ e. let k = ap mark_of is in absurd cc)
+
+-- the root of a live job is there
+job-there : (tree : Tree) (jobs : List Job) (number root : ℕ) → AreLiveRootsThere tree jobs → job_at jobs number ≡ Some (Live root) → path_in tree root ≡ root ∷ []
+job-there tree [] number root live is = absurd cc
+job-there tree (job ∷ jobs) number root live is = elim (cases_Bool (eqb number 1)) [
+  | inl first ↦ (let both : Some job ≡ Some (Live root) = rw first at is in let own : job ≡ Live root = cc in let P : Job → Type 0 = λ j. IsRootThere tree j in subst P own live.0)
+  | inr later ↦ job-there tree jobs (number - 1) root live.1 (rw later at is)
+]
+
+pub live-root : (tenant : Tenant) (number root : ℕ) → IsShaped tenant → job_at tenant.jobs number ≡ Some (Live root) → path_in tenant.frames root ≡ root ∷ []
+live-root tenant number root shape is = job-there tenant.frames tenant.jobs number root shape.live is
+
+-- the job that lives under a root is found
+is-live : (root : ℕ) (job : Job) → is_live_at root job ≡ true → job ≡ Live root
+is-live root (Live s) is = ap Live (eqb-true s root is)
+is-live root (Done words) is = absurd (false≢true is)
+is-live root Spent is = absurd (false≢true is)
+is-live root Cancelled is = absurd (false≢true is)
+
+number-above : (first root : ℕ) (jobs : List Job) → 1 ≤ live_count root jobs → first ≤ number_from first root jobs
+number-above first root [] some = absurd (omega (arith, some))
+number-above first root (job ∷ jobs) some = elim (cases_Bool (is_live_at root job)) [
+  | inl is ↦ rw is (omega arith)
+  | inr not_so ↦ rw not_so (let rest = number-above (first + 1) root jobs (rw not_so at some) in omega (arith, rest))
+]
+
+number-shift : (first root : ℕ) (jobs : List Job) → 1 ≤ live_count root jobs → number_from (first + 1) root jobs ≡ number_from first root jobs + 1
+number-shift first root [] some = absurd (omega (arith, some))
+number-shift first root (job ∷ jobs) some = elim (cases_Bool (is_live_at root job)) [
+  | inl is ↦ rw is refl
+  | inr not_so ↦ rw not_so (number-shift (first + 1) root jobs (rw not_so at some))
+]
+
+job-found : (root : ℕ) (jobs : List Job) → 1 ≤ live_count root jobs → job_at jobs (number_from 1 root jobs) ≡ Some (Live root)
+job-found root [] some = absurd (omega (arith, some))
+job-found root (job ∷ jobs) some = elim (cases_Bool (is_live_at root job)) [
+  | inl is ↦ rw is (ap Some (is-live root job is))
+  | inr not_so ↦ rw not_so (later (rw not_so at some) (job-found root jobs (rw not_so at some)))
+]
+  where
+    minus : (n : ℕ) → n + 1 - 1 ≡ n
+    minus n = omega arith
+
+    later : 1 ≤ live_count root jobs → job_at jobs (number_from 1 root jobs) ≡ Some (Live root) → job_at (job ∷ jobs) (number_from (1 + 1) root jobs) ≡ Some (Live root)
+    later rest found =
+        let shift = number-shift 1 root jobs rest in
+        let above = number-above 1 root jobs rest in
+        let n = number_from 1 root jobs in
+        ap (job_at (job ∷ jobs)) shift ∙ (rw (ne_eqb (n + 1) 1 (λ e. omega (arith, e, above))) (ap (job_at jobs) (minus n) ∙ found))
+
+root-counted : (jobs : List Job) (xs : Tree) (s : ℕ) (f : Frame (List ℕ)) → AreRootsLive jobs xs → frame_at xs s ≡ Some f → is_root f.path ≡ true → live_count s jobs ≡ 1
+root-counted jobs [] s f roots at root = absurd cc
+root-counted jobs (x ∷ xs) s f roots at root = elim (cases_Bool (eqb x.serial s)) [
+  | inl same ↦ (let both : ◌≡◌ {A = Option (Frame (List ℕ))} (Some x) (Some f) = rw same at at in let own : x ≡ f = cc in
+      ap (λ (n : ℕ). live_count n jobs) (sym (eqb-true x.serial s same)) ∙ roots.0 (ap (λ (y : Frame (List ℕ)). is_root y.path) own ∙ root))
+  | inr other ↦ root-counted jobs xs s f roots.1 (rw other at at) root
+]
+
+pub root-live : (tenant : Tenant) (s : ℕ) (f : Frame (List ℕ)) → IsShaped tenant → frame_at tenant.frames s ≡ Some f → is_root f.path ≡ true → job_at tenant.jobs (job_under s tenant.jobs) ≡ Some (Live s)
+root-live tenant s f shape at root = (let one = root-counted tenant.jobs tenant.frames s f shape.roots at root in job-found s tenant.jobs (omega (arith, one)))
+
+-- the root above any frame
+pub root-above : (tenant : Tenant) (s : ℕ) (f : Frame (List ℕ)) → IsShaped tenant → frame_at tenant.frames s ≡ Some f → path_in tenant.frames (root_of f.path) ≡ root_of f.path ∷ []
+root-above tenant s f shape at = root-there tenant.frames s f shape.tree at
+
+-- nothing is used beyond what is reserved
+pub within-reserve : (tenant : Tenant) → IsWithinLimits tenant.reserve → IsShaped tenant → IsWithinReserve (account_in tenant)
+within-reserve tenant limits shape =
+    record {
+      some_segments = limits.some_segments;
+      segments_within = limits.segments_within;
+      some_nodes = limits.some_nodes;
+      nodes_within = limits.nodes_within;
+      charged_within = shape.charged;
+      opened_within = shape.opened;
+      ticks_within = shape.ticks;
+    }
+
+-- each frame charges a segment at least
+frames-charged : (xs : Tree) → HaveWords xs → length xs ≤ charged_for xs
+frames-charged [] words = omega arith
+frames-charged (x ∷ xs) words =
+    let rest = frames-charged xs words.1 in
+    let own = sum_by-cons (λ (frame : Frame (List ℕ)). charge (length frame.value)) x xs in
+    more (length xs) (charged_for xs) (charged_for (x ∷ xs)) (charge (length x.value)) rest own (some (length x.value) words.0.0)
+  where
+    some : (n : ℕ) → 1 ≤ n → 1 ≤ charge n
+    some n le = omega arith
+
+    more : (a b c d : ℕ) → a ≤ b → c ≡ d + b → 1 ≤ d → suc a ≤ c
+    more a b c d p q r = omega arith
+
+pub few-frames : (tenant : Tenant) → IsShaped tenant → length tenant.frames ≤ tenant.reserve.segments
+few-frames tenant shape = (let some = frames-charged tenant.frames shape.words in let within = shape.charged in omega (arith, some, within))

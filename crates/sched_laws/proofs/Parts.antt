@@ -1,0 +1,338 @@
+-- Each part of a tenant's shape, under each change of the tree and of the jobs.
+use Rattle.std.proofs.Common.{◌≡◌, ◌≢◌, ℕ, zero, suc, ◌+◌, ◌<◌, ◌≤◌, ◌⊎◌, inl, inr, Bool, true, false, not, eqb, ltb, List, [], ◌∷◌, ◌++◌, Option, Some, None, length, refl, ap, sym, ◌∙◌, subst, arith, length-append}
+use Rattle.std.specs.Prelude.{if◌then◌else◌}
+use Rattle.std.specs.List.{filter}
+use Rattle.std.proofs.lemmas.List.Elements.{filter-append}
+use Rattle.std.proofs.lemmas.Bool.{cases_Bool, cases_eq, false≢true, true≢false, eq-eqb, ne_eqb, eqb-true, eqb-false, ltb-false, lt-ltb, not_from_false, not_from_true}
+use Rattle.frame_table.specs.declared.names.State.{State}
+use Rattle.frame_table.specs.declared.names.State.TheVariants.{Ready}
+use Rattle.frame_table.specs.Frames.{Frame, frame_at, has_frame, path_in, AllBelow, parent_of, path_under, goes_under, aborted, frames_without, with_state, children_of, values_of, IsNextFrame, IsTree}
+use Rattle.frame_table.specs.Tables.{new_frame}
+use Rattle.frame_table.specs.TreeLaws.{is_that, is_child_of, AreRising, Each, AreAlike}
+use Rattle.frame_table.proofs.Forest.{path_in-left, path_in-right, has_frame-above}
+use Rattle.frame_table.proofs.TreeLaws.{found-there, there-found, found-serial, found-path, missing, frame_at-push, frame_at_other-push, below-found, tree-rising, each-found, found-each, children-by-paths}
+use Rattle.frame_table.proofs.TreeChanges.{rising-filter, filter-found, frame_at-stays}
+use Rattle.frame_table.proofs.TreeValues.{tree-push, children_of-push, path_in-alike, with_state-alike, tree-with_state, frame_at-with_state, frame_at_other-with_state, children_of-with_state}
+use Rattle.sched_rules.specs.declared.job.Job.{Job}
+use Rattle.sched_rules.specs.declared.job.Job.TheVariants.{Live, Done, Spent, Cancelled}
+use Rattle.sched_rules.specs.Trees.{Tree, has_child, is_root, is_live_at, with_words, with_ended, without_job}
+use Rattle.sched_rules.specs.Laws.{Mark, Neither, Computes, HasReturned, mark_of}
+use Rattle.sched_laws.specs.Shapes.{AreMarkedChildless, live_count, AreRootsLive, IsRootThere, AreLiveRootsThere, HaveWords}
+use Rattle.sched_laws.proofs.Words.{with_words-alike, tree-with_words, frame_at-with_words, frame_at_other-with_words, children_of-with_words, length-with_words}
+
+-- a frame that computes or has returned has no child in this tree
+abbrev pub IsMarkedChildless : Tree → Frame (List ℕ) → Type 0
+IsMarkedChildless tree frame = (mark_of frame.state ≡ Neither) ⊎ (has_child tree frame.serial ≡ false)
+
+pub childless-each : (tree frames : Tree) → AreMarkedChildless tree frames → Each (IsMarkedChildless tree) frames
+childless-each tree [] all = tt
+childless-each tree (x ∷ xs) all = (all.0, childless-each tree xs all.1)
+
+pub each-childless : (tree frames : Tree) → Each (IsMarkedChildless tree) frames → AreMarkedChildless tree frames
+each-childless tree [] each = tt
+each-childless tree (x ∷ xs) each = (each.0, each-childless tree xs each.1)
+
+pub childless-at : (tree : Tree) (s : ℕ) (f : Frame (List ℕ)) → AreMarkedChildless tree tree → frame_at tree s ≡ Some f → IsMarkedChildless tree f
+childless-at tree s f all at = each-found (IsMarkedChildless tree) tree s f (childless-each tree tree all) at
+
+-- no child, as a fact of lists
+pub no-child : (tree : Tree) (s : ℕ) → has_child tree s ≡ false → children_of tree s ≡ []
+no-child tree s none = empty (children_of tree s) none
+  where
+    empty : (xs : Tree) → ltb 0 (length xs) ≡ false → xs ≡ []
+    empty [] e = refl
+    empty (x ∷ xs) e = absurd (omega (arith, ltb-false 0 (length (x ∷ xs)) e))
+
+pub none-has_child : (tree : Tree) (s : ℕ) → children_of tree s ≡ [] → has_child tree s ≡ false
+none-has_child tree s none = rw none refl
+
+-- as many children: the same answer
+has_child-length : (tree other : Tree) (s : ℕ) → length (children_of other s) ≡ length (children_of tree s) → has_child other s ≡ has_child tree s
+has_child-length tree other s e = ap (λ (n : ℕ). ltb 0 n) e
+
+-- another state in a frame
+length-with_state : (n : ℕ) (state : State) (xs : Tree) → length (with_state n state xs) ≡ length xs
+length-with_state n state [] = refl
+length-with_state n state (x ∷ xs) = ap (λ (k : ℕ). suc k) (length-with_state n state xs)
+
+pub has_child-with_state : (n : ℕ) (state : State) (tree : Tree) (s : ℕ) → IsTree tree → has_child (with_state n state tree) s ≡ has_child tree s
+has_child-with_state n state tree s t =
+    has_child-length tree (with_state n state tree) s (ap length (children_of-with_state n state tree s t) ∙ length-with_state n state (children_of tree s))
+
+pub childless-with_state : (n : ℕ) (state : State) (tree : Tree) → IsTree tree → (mark_of state ≡ Neither) ⊎ (has_child tree n ≡ false) → AreMarkedChildless tree tree → AreMarkedChildless (with_state n state tree) (with_state n state tree)
+childless-with_state n state tree t ok all =
+    let new = with_state n state tree in
+    each-childless new new (found-each (IsMarkedChildless new) new (tree-rising new (tree-with_state n state tree t)) at)
+  where
+    keep : (f : Frame (List ℕ)) → IsMarkedChildless tree f → IsMarkedChildless (with_state n state tree) f
+    keep f (inl neither) = inl neither
+    keep f (inr none) = inr (has_child-with_state n state tree f.serial t ∙ none)
+
+    own : (f : Frame (List ℕ)) → f.serial ≡ n → f.state ≡ state → (mark_of state ≡ Neither) ⊎ (has_child tree n ≡ false) → IsMarkedChildless (with_state n state tree) f
+    own f e is (inl neither) = inl (ap mark_of is ∙ neither)
+    own f e is (inr none) = inr (ap (has_child (with_state n state tree)) e ∙ has_child-with_state n state tree n t ∙ none)
+
+    found : (s : ℕ) (f g : Frame (List ℕ)) → n ≡ s → frame_at tree n ≡ Some g → frame_at (with_state n state tree) s ≡ Some f → f.state ≡ state
+    found s f g e was is =
+        let both : ◌≡◌ {A = Option (Frame (List ℕ))} (Some (record g { state = state })) (Some f) = sym (frame_at-with_state n state tree g was) ∙ ap (frame_at (with_state n state tree)) e ∙ is in
+        let same : record g { state = state } ≡ f = cc in sym (ap (λ (y : Frame (List ℕ)). y.state) same)
+
+    at : (s : ℕ) (f : Frame (List ℕ)) → frame_at (with_state n state tree) s ≡ Some f → IsMarkedChildless (with_state n state tree) f
+    at s f is = elim (cases_eq n s) [
+      | inl same ↦ elim (cases_Bool (has_frame tree n)) [
+        | inl there ↦ (let g = there-found tree n there in own f (found-serial (with_state n state tree) s f is ∙ sym same) (found s f g.0 same g.1 is) ok)
+        | inr lacks ↦ (let e : frame_at (with_state n state tree) n ≡ None = missing (with_state n state tree) n (lacking n state tree lacks) in absurd cc)
+      ]
+      | inr other ↦ keep f (childless-at tree s f all (sym (frame_at_other-with_state n state tree s other) ∙ is))
+    ]
+      where
+        lacking : (n : ℕ) (state : State) (xs : Tree) → has_frame xs n ≡ false → has_frame (with_state n state xs) n ≡ false
+        lacking n state [] lacks = refl
+        lacking n state (x ∷ xs) lacks = elim (cases_Bool (eqb x.serial n)) [
+          | inl same ↦ absurd (false≢true (sym lacks ∙ (rw same refl)))
+          | inr other ↦ rw (other, other) (lacking n state xs (rw other at lacks))
+        ]
+
+pub childless-from : (new : Tree) → IsTree new → ((s : ℕ) (f : Frame (List ℕ)) → frame_at new s ≡ Some f → IsMarkedChildless new f) → AreMarkedChildless new new
+childless-from new t at = each-childless new new (found-each (IsMarkedChildless new) new (tree-rising new t) at)
+
+-- other words in a frame
+pub has_child-with_words : (n : ℕ) (words : List ℕ) (tree : Tree) (s : ℕ) → IsTree tree → has_child (with_words n words tree) s ≡ has_child tree s
+has_child-with_words n words tree s t =
+    has_child-length tree (with_words n words tree) s (ap length (children_of-with_words n words tree s t) ∙ length-with_words n words (children_of tree s))
+
+words-kept : (n : ℕ) (words : List ℕ) (tree frames : Tree) → IsTree tree → AreMarkedChildless tree frames → AreMarkedChildless (with_words n words tree) (with_words n words frames)
+words-kept n words tree [] t all = tt
+words-kept n words tree (x ∷ xs) t all = elim (cases_Bool (eqb x.serial n)) [
+  | inl same ↦ rw same (keep x all.0, words-kept n words tree xs t all.1)
+  | inr other ↦ rw other (keep x all.0, words-kept n words tree xs t all.1)
+]
+  where
+    keep : (f : Frame (List ℕ)) → IsMarkedChildless tree f → IsMarkedChildless (with_words n words tree) f
+    keep f (inl neither) = inl neither
+    keep f (inr none) = inr (has_child-with_words n words tree f.serial t ∙ none)
+
+pub childless-with_words : (n : ℕ) (words : List ℕ) (tree : Tree) → IsTree tree → AreMarkedChildless tree tree → AreMarkedChildless (with_words n words tree) (with_words n words tree)
+childless-with_words n words tree t all = words-kept n words tree tree t all
+
+-- one frame more, under a frame that neither computes nor has returned, or under none
+other-child : (s : ℕ) (parent : Option ℕ) (y : Frame (List ℕ)) → parent_of y.path ≡ parent → is_that s parent ≡ false → filter (λ x. is_child_of s x.path) (y ∷ []) ≡ []
+other-child s parent y named other = rw (named, other) refl
+
+pub childless-push : (tree : Tree) (y : Frame (List ℕ)) → IsTree tree → IsNextFrame tree y → mark_of y.state ≡ Neither →
+    ((p : ℕ) (f : Frame (List ℕ)) → parent_of y.path ≡ Some p → frame_at tree p ≡ Some f → mark_of f.state ≡ Neither) →
+    AreMarkedChildless tree tree → AreMarkedChildless (tree ++ y ∷ []) (tree ++ y ∷ [])
+childless-push tree y t next new free all = childless-from (tree ++ y ∷ []) (tree-push tree y t next) at
+  where
+    stays : (f : Frame (List ℕ)) → is_child_of f.serial y.path ≡ false → IsMarkedChildless tree f → IsMarkedChildless (tree ++ y ∷ []) f
+    stays f other (inl neither) = inl neither
+    stays f other (inr none) = inr (none-has_child (tree ++ y ∷ []) f.serial (children_of-push tree y f.serial t next ∙ (rw (no-child tree f.serial none, other) refl)))
+
+    old : (s : ℕ) (f : Frame (List ℕ)) → frame_at tree s ≡ Some f → IsMarkedChildless (tree ++ y ∷ []) f
+    old s f is = by (parent_of y.path) refl
+      where
+        by : (parent : Option ℕ) → parent_of y.path ≡ parent → IsMarkedChildless (tree ++ y ∷ []) f
+        by None named = stays f (rw named refl) (childless-at tree s f all is)
+        by (Some p) named = elim (cases_eq p f.serial) [
+          | inl same ↦ inl (free p f named (ap (frame_at tree) (same ∙ found-serial tree s f is) ∙ is))
+          | inr other ↦ stays f (rw named (ne_eqb p f.serial other)) (childless-at tree s f all is)
+        ]
+
+    at : (s : ℕ) (f : Frame (List ℕ)) → frame_at (tree ++ y ∷ []) s ≡ Some f → IsMarkedChildless (tree ++ y ∷ []) f
+    at s f is = elim (cases_eq y.serial s) [
+      | inl same ↦ (let both : ◌≡◌ {A = Option (Frame (List ℕ))} (Some y) (Some f) = sym (frame_at-push tree y next.above) ∙ ap (frame_at (tree ++ y ∷ [])) same ∙ is in
+          let e : y ≡ f = cc in inl (ap (λ (z : Frame (List ℕ)). mark_of z.state) (sym e) ∙ new))
+      | inr other ↦ old s f (sym (frame_at_other-push tree y s other) ∙ is)
+    ]
+
+-- fewer frames
+none-filter : (p q : Frame (List ℕ) → Bool) (xs : Tree) → filter q xs ≡ [] → filter q (filter p xs) ≡ []
+none-filter p q [] none = refl
+none-filter p q (x ∷ xs) none = elim (cases_Bool (q x)) [
+  | inl is ↦ (let e : (x ∷ filter q xs) ≡ [] = rw is at none in absurd cc)
+  | inr not_so ↦ elim (cases_Bool (p x)) [
+    | inl kept ↦ rw (kept, not_so) (none-filter p q xs (rw not_so at none))
+    | inr gone ↦ rw gone (none-filter p q xs (rw not_so at none))
+  ]
+]
+
+pub no-child-filter : (keep : Frame (List ℕ) → Bool) (tree : Tree) (s : ℕ) → IsTree tree → IsTree (filter keep tree) → has_child tree s ≡ false → has_child (filter keep tree) s ≡ false
+no-child-filter keep tree s t left none =
+    none-has_child (filter keep tree) s (children-by-paths (filter keep tree) s left ∙ none-filter keep (λ x. is_child_of s x.path) tree (sym (children-by-paths tree s t) ∙ no-child tree s none))
+
+pub childless-filter : (keep : Frame (List ℕ) → Bool) (tree : Tree) → IsTree tree → IsTree (filter keep tree) → AreMarkedChildless tree tree → AreMarkedChildless (filter keep tree) (filter keep tree)
+childless-filter keep tree t left all = childless-from (filter keep tree) left (λ s f is. stays f (childless-at tree s f all (filter-found keep tree s f (tree-rising tree t) is).0))
+  where
+    stays : (f : Frame (List ℕ)) → IsMarkedChildless tree f → IsMarkedChildless (filter keep tree) f
+    stays f (inl neither) = inl neither
+    stays f (inr none) = inr (no-child-filter keep tree f.serial t left none)
+
+-- the root frames, where serials and paths stay
+pub roots-alike : (jobs : List Job) (xs ys : Tree) → AreAlike xs ys → AreRootsLive jobs xs → AreRootsLive jobs ys
+roots-alike jobs [] [] alike roots = tt
+roots-alike jobs [] (y ∷ ys) alike roots = absurd alike
+roots-alike jobs (x ∷ xs) [] alike roots = absurd alike
+roots-alike jobs (x ∷ xs) (y ∷ ys) alike roots =
+    ((λ is. ap (λ s. live_count s jobs) alike.0 ∙ roots.0 (sym (ap is_root alike.1) ∙ is)), roots-alike jobs xs ys alike.2 roots.1)
+
+pub roots-append : (jobs : List Job) (xs ys : Tree) → AreRootsLive jobs xs → AreRootsLive jobs ys → AreRootsLive jobs (xs ++ ys)
+roots-append jobs [] ys p q = q
+roots-append jobs (x ∷ xs) ys p q = (p.0, roots-append jobs xs ys p.1 q)
+
+pub roots-filter : (keep : Frame (List ℕ) → Bool) (jobs : List Job) (xs : Tree) → AreRootsLive jobs xs → AreRootsLive jobs (filter keep xs)
+roots-filter keep jobs [] roots = tt
+roots-filter keep jobs (x ∷ xs) roots =
+    elim (cases_Bool (keep x)) [ inl is ↦ rw is (roots.0, roots-filter keep jobs xs roots.1) | inr not_so ↦ rw not_so (roots-filter keep jobs xs roots.1) ]
+
+-- a job more, under a root above all
+pub live_count-append : (root : ℕ) (jobs more : List Job) → live_count root (jobs ++ more) ≡ live_count root jobs + live_count root more
+live_count-append root jobs more =
+    ap length (filter-append (λ job. is_live_at root job) jobs more) ∙ length-append (filter (λ job. is_live_at root job) jobs) (filter (λ job. is_live_at root job) more)
+
+pub one-live : (root : ℕ) → live_count root (Live root ∷ []) ≡ 1
+one-live root = rw (eq-eqb root root refl) refl
+
+none-live : (s root : ℕ) → s ≢ root → live_count s (Live root ∷ []) ≡ 0
+none-live s root other = rw (ne_eqb root s (λ e. other (sym e))) refl
+
+pub roots-more : (root : ℕ) (jobs : List Job) (xs : Tree) → AllBelow root xs → AreRootsLive jobs xs → AreRootsLive (jobs ++ Live root ∷ []) xs
+roots-more root jobs [] below roots = tt
+roots-more root jobs (x ∷ xs) below roots = (
+  (λ is. let old = roots.0 is in let new = none-live x.serial root (λ e. omega (arith, e, below.0)) in live_count-append x.serial jobs (Live root ∷ []) ∙ omega (arith, old, new)),
+  roots-more root jobs xs below.1 roots.1,
+)
+
+-- a path that is there
+pub path-there : (tree : Tree) (root : ℕ) → path_in tree root ≡ root ∷ [] → has_frame tree root ≡ true
+path-there [] root e = absurd cc
+path-there (x ∷ xs) root e = elim (cases_Bool (eqb x.serial root)) [ inl same ↦ rw same refl | inr other ↦ rw other (path-there xs root (rw other at e)) ]
+
+-- no job lives under a serial that is no frame's
+pub no-live : (tree : Tree) (root : ℕ) (jobs : List Job) → has_frame tree root ≡ false → AreLiveRootsThere tree jobs → live_count root jobs ≡ 0
+no-live tree root [] lacks live = refl
+no-live tree root (Live s ∷ jobs) lacks live = elim (cases_Bool (eqb s root)) [
+  | inl same ↦ absurd (true≢false (sym (path-there tree s live.0) ∙ ap (has_frame tree) (eqb-true s root same) ∙ lacks))
+  | inr other ↦ rw other (no-live tree root jobs lacks live.1)
+]
+no-live tree root (Done words ∷ jobs) lacks live = no-live tree root jobs lacks live.1
+no-live tree root (Spent ∷ jobs) lacks live = no-live tree root jobs lacks live.1
+no-live tree root (Cancelled ∷ jobs) lacks live = no-live tree root jobs lacks live.1
+
+-- the job that lives under a root ended
+abbrev pub IsEnd : Job → Type 0
+IsEnd job = (root : ℕ) → is_live_at root job ≡ false
+
+pub length-with_ended : (root : ℕ) (job : Job) (jobs : List Job) → length (with_ended root job jobs) ≡ length jobs
+length-with_ended root job [] = refl
+length-with_ended root job (x ∷ xs) = ap (λ (n : ℕ). suc n) (length-with_ended root job xs)
+
+-- two roots have no live job in common
+live-one : (job : Job) (a b : ℕ) → is_live_at a job ≡ true → is_live_at b job ≡ true → a ≡ b
+live-one (Live s) a b p q = sym (eqb-true s a p) ∙ eqb-true s b q
+live-one (Done words) a b p q = absurd (false≢true p)
+live-one Spent a b p q = absurd (false≢true p)
+live-one Cancelled a b p q = absurd (false≢true p)
+
+pub live_count-with_ended : (s root : ℕ) (job : Job) (jobs : List Job) → IsEnd job → s ≢ root → live_count s (with_ended root job jobs) ≡ live_count s jobs
+live_count-with_ended s root job [] end other = refl
+live_count-with_ended s root job (x ∷ xs) end other =
+    let rest = live_count-with_ended s root job xs end other in
+    elim (cases_Bool (is_live_at root x)) [
+      | inl is ↦ elim (cases_Bool (is_live_at s x)) [
+        | inl both ↦ absurd (other (live-one x s root both is))
+        | inr not_so ↦ rw (is, end s, not_so) rest
+      ]
+      | inr not_so ↦ elim (cases_Bool (is_live_at s x)) [
+        | inl is ↦ rw (not_so, is) (ap (λ (n : ℕ). suc n) rest)
+        | inr neither ↦ rw (not_so, neither) rest
+      ]
+    ]
+
+pub roots-with_ended : (root : ℕ) (job : Job) (jobs : List Job) (xs : Tree) → IsEnd job → has_frame xs root ≡ false → AreRootsLive jobs xs → AreRootsLive (with_ended root job jobs) xs
+roots-with_ended root job jobs [] end gone roots = tt
+roots-with_ended root job jobs (x ∷ xs) end gone roots =
+    elim (cases_Bool (eqb x.serial root)) [
+      | inl same ↦ absurd (false≢true (sym gone ∙ (rw same refl)))
+      | inr other ↦ ((λ is. live_count-with_ended x.serial root job jobs end (eqb-false x.serial root other) ∙ roots.0 is), roots-with_ended root job jobs xs end (rw other at gone) roots.1)
+    ]
+
+-- the roots of the live jobs, by their paths
+abbrev pub KeepsRoots : Tree → Tree → Type 0
+KeepsRoots old new = (root : ℕ) → path_in old root ≡ root ∷ [] → path_in new root ≡ root ∷ []
+
+pub live-kept : (old new : Tree) (jobs : List Job) → KeepsRoots old new → AreLiveRootsThere old jobs → AreLiveRootsThere new jobs
+live-kept old new [] kept live = tt
+live-kept old new (Live root ∷ jobs) kept live = (kept root live.0, live-kept old new jobs kept live.1)
+live-kept old new (Done words ∷ jobs) kept live = (tt, live-kept old new jobs kept live.1)
+live-kept old new (Spent ∷ jobs) kept live = (tt, live-kept old new jobs kept live.1)
+live-kept old new (Cancelled ∷ jobs) kept live = (tt, live-kept old new jobs kept live.1)
+
+pub live-append : (tree : Tree) (jobs more : List Job) → AreLiveRootsThere tree jobs → AreLiveRootsThere tree more → AreLiveRootsThere tree (jobs ++ more)
+live-append tree [] more p q = q
+live-append tree (job ∷ jobs) more p q = (p.0, live-append tree jobs more p.1 q)
+
+-- an ended job has no root to be there
+end-there : (tree : Tree) (job : Job) → IsEnd job → IsRootThere tree job
+end-there tree (Live root) end = absurd (false≢true (sym (end root) ∙ eq-eqb root root refl))
+end-there tree (Done words) end = tt
+end-there tree Spent end = tt
+end-there tree Cancelled end = tt
+
+other-there : (old new : Tree) (root : ℕ) (job : Job) → ((s : ℕ) → s ≢ root → path_in old s ≡ s ∷ [] → path_in new s ≡ s ∷ []) → is_live_at root job ≡ false → IsRootThere old job → IsRootThere new job
+other-there old new root (Live s) kept other there = kept s (eqb-false s root other) there
+other-there old new root (Done words) kept other there = tt
+other-there old new root Spent kept other there = tt
+other-there old new root Cancelled kept other there = tt
+
+pub live-with_ended : (old new : Tree) (root : ℕ) (job : Job) (jobs : List Job) → IsEnd job → ((s : ℕ) → s ≢ root → path_in old s ≡ s ∷ [] → path_in new s ≡ s ∷ []) →
+    AreLiveRootsThere old jobs → AreLiveRootsThere new (with_ended root job jobs)
+live-with_ended old new root job [] end kept live = tt
+live-with_ended old new root job (x ∷ xs) end kept live =
+    elim (cases_Bool (is_live_at root x)) [
+      | inl is ↦ rw is (end-there new job end, live-with_ended old new root job xs end kept live.1)
+      | inr not_so ↦ rw not_so (other-there old new root x kept not_so live.0, live-with_ended old new root job xs end kept live.1)
+    ]
+
+-- the roots that pass a test are still there
+pub roots-stay : (keep : Frame (List ℕ) → Bool) (tree : Tree) (s : ℕ) → IsTree tree → ((f : Frame (List ℕ)) → f.serial ≡ s → f.path ≡ s ∷ [] → keep f ≡ true) → path_in tree s ≡ s ∷ [] → path_in (filter keep tree) s ≡ s ∷ []
+roots-stay keep tree s t stays is =
+    let f = there-found tree s (path-there tree s is) in
+    let path = sym (found-path tree s f.0 f.1) ∙ is in
+    let kept = frame_at-stays keep tree s f.0 (tree-rising tree t) f.1 (stays f.0 (found-serial tree s f.0 f.1) path) in
+    found-path (filter keep tree) s f.0 kept ∙ path
+
+-- the numbers of words
+pub words-values : (xs ys : Tree) → values_of ys ≡ values_of xs → HaveWords xs → HaveWords ys
+words-values [] [] e all = tt
+words-values [] (y ∷ ys) e all = absurd cc
+words-values (x ∷ xs) [] e all = absurd cc
+words-values (x ∷ xs) (y ∷ ys) e all =
+    let head : y.value ≡ x.value = cc in
+    let tail : values_of ys ≡ values_of xs = cc in
+    let P : List ℕ → Type 0 = λ v. (1 ≤ length v) × (length v ≤ 128) in
+    (subst P (sym head) all.0, words-values xs ys tail all.1)
+
+pub words-append : (xs ys : Tree) → HaveWords xs → HaveWords ys → HaveWords (xs ++ ys)
+words-append [] ys p q = q
+words-append (x ∷ xs) ys p q = (p.0, words-append xs ys p.1 q)
+
+pub words-filter : (keep : Frame (List ℕ) → Bool) (xs : Tree) → HaveWords xs → HaveWords (filter keep xs)
+words-filter keep [] all = tt
+words-filter keep (x ∷ xs) all =
+    elim (cases_Bool (keep x)) [ inl is ↦ rw is (all.0, words-filter keep xs all.1) | inr not_so ↦ rw not_so (words-filter keep xs all.1) ]
+
+pub words-with_words : (n : ℕ) (words : List ℕ) (xs : Tree) → (1 ≤ length words) × (length words ≤ 128) → HaveWords xs → HaveWords (with_words n words xs)
+words-with_words n words [] fit all = tt
+words-with_words n words (x ∷ xs) fit all = elim (cases_Bool (eqb x.serial n)) [
+  | inl same ↦ rw same (fit, words-with_words n words xs fit all.1)
+  | inr other ↦ rw other (all.0, words-with_words n words xs fit all.1)
+]
+
+pub words-at : (xs : Tree) (s : ℕ) (f : Frame (List ℕ)) → HaveWords xs → frame_at xs s ≡ Some f → (1 ≤ length f.value) × (length f.value ≤ 128)
+words-at [] s f all at = absurd cc
+words-at (x ∷ xs) s f all at = elim (cases_Bool (eqb x.serial s)) [
+  | inl same ↦ (let is : ◌≡◌ {A = Option (Frame (List ℕ))} (Some x) (Some f) = rw same at at in
+      let e : x ≡ f = cc in
+      let P : Frame (List ℕ) → Type 0 = λ y. (1 ≤ length y.value) × (length y.value ≤ 128) in subst P e all.0)
+  | inr other ↦ words-at xs s f all.1 (rw other at at)
+]

@@ -1,0 +1,330 @@
+-- Every step keeps the shape of its tenant, and so every answer that of all tenants.
+use Rattle.std.proofs.Common.{◌≡◌, ◌≢◌, ℕ, ◌+◌, ◌-◌, ◌*◌, ◌<◌, ◌≤◌, ◌⊎◌, inl, inr, Bool, true, false, not, ◌||◌, ◌&&◌, eqb, ltb, leb, List, [], ◌∷◌, ◌++◌, Option, Some, None, Result, Ok, Err, length, replicate, refl, ap, sym, ◌∙◌, subst, arith, length-append}
+use Rattle.std.specs.Prelude.{if◌then◌else◌}
+use Rattle.std.proofs.lemmas.List.{length-replicate}
+use Rattle.std.proofs.lemmas.Bool.{cases_Bool, false≢true, true≢false, eqb-false, ltb-false, leb-true, leb-false, not-false, or_parts, and_parts, not_from_true}
+use Rattle.cactus_stack.specs.Nodes.{charge, growth_charge}
+use Rattle.tenant_quota.specs.Quota.{Quota}
+use Rattle.frame_table.specs.declared.names.State.{State}
+use Rattle.frame_table.specs.declared.names.State.TheVariants.{Ready, Running, Computing, Waiting, Returned}
+use Rattle.frame_table.specs.declared.names.FrameId.{FrameId}
+use Rattle.frame_table.specs.Frames.{Frame, frame_at, has_frame, parent_of, root_of, children_of, aborted, frames_without}
+use Rattle.frame_table.proofs.TreeLaws.{found-there, there-found, found-serial, tree-rising, under-there, under-below}
+use Rattle.frame_table.proofs.TreeChanges.{aborted-itself, frame_at_other-without}
+use Rattle.sched_rules.specs.declared.act.Act.{Act}
+use Rattle.sched_rules.specs.declared.act.InletAct.{InletAct}
+use Rattle.sched_rules.specs.declared.act.Then.{Then}
+use Rattle.sched_rules.specs.declared.act.Then.TheVariants.{Grow, Spawn, Go, Wait, Compute, Return}
+use Rattle.sched_rules.specs.declared.job.Job.{Job}
+use Rattle.sched_rules.specs.declared.job.Job.TheVariants.{Live, Done, Spent as SpentJob, Cancelled as CancelledJob}
+use Rattle.sched_rules.specs.declared.refusal.Refusal.{Refusal}
+use Rattle.sched_rules.specs.declared.refusal.Refusal.TheVariants.{NotReady, NotHere, NotRunning, NotComputing, Mismatch, NotReturned, NoSegments, NoNodes, NoSteps, NoJobsLeft, BadAct, NotSpent, Busy, NoJob, OldTenant, NoTenant}
+use Rattle.sched_rules.specs.declared.step.StepOf.{StepOf}
+use Rattle.sched_rules.specs.declared.step.StepOf.TheVariants.{Admit, Submit, Take, Steal, Advance, Answer, Inlet, Finish, Spend, Cancel, Leave}
+use Rattle.sched_rules.specs.declared.step.DidOf.{DidOf}
+use Rattle.sched_rules.specs.declared.step.DidOf.TheVariants.{Cancelled, Left}
+use Rattle.sched_rules.specs.Functions.{Functions}
+use Rattle.sched_rules.specs.Trees.{Tree, Tenant, admitted_with, words_of, words_in, charged_for, left, is_root, with_words, stored, is_outside, has_child, job_at, kept_words}
+use Rattle.sched_rules.specs.Laws.{Neither, mark_of}
+use Rattle.sched_rules.specs.Lone.{Outcome, unless, applies, lone, lone_step, first_step, no_step, not_free, counted, in_state, holding, opened, ended, is_frame_size, submit_tests, submitted, take_tests, steal_tests, taken_by, is_run_by, is_computed_by, is_returned, act_of, is_bad_then, is_bad_act, is_spawn, segments_for, act_tests, advance_tests, then_done, advanced, answer_tests, answered, inlet_tests, does_wait, staying, taken_in, inlet_under, finish_tests, finished, is_spendable, spent, cancelled, at_frame}
+use Rattle.sched_laws.specs.Shapes.{IsShaped, AreShaped}
+use Rattle.sched_laws.proofs.Words.{length-stored, frame_at-with_words, charged-with_words}
+use Rattle.sched_laws.proofs.Parts.{childless-at, no-child, has_child-with_words, words-at, IsEnd}
+use Rattle.sched_laws.proofs.Moves.{shaped-counted, shaped-in_state, shaped-holding, shaped-aborted, shaped-without, shaped-ended, HasRoomFor, shaped-child, shaped-root}
+
+-- what a step leaves, if it leaves a tenant, has its shape
+abbrev pub LeftShaped : Option Tenant → Type 0
+LeftShaped None = Unit {0}
+LeftShaped (Some tenant) = IsShaped tenant
+
+-- a taken step passed its tests
+pub unless-passed : {X : Type 0} (tests : List (Bool × Refusal)) (effect outcome : X) → unless tests effect ≡ Ok outcome → (applies tests ≡ false) × (effect ≡ outcome)
+unless-passed {X} [] effect outcome is = (refl, (let e : ◌≡◌ {A = Result X Refusal} (Ok effect) (Ok outcome) = is in cc))
+unless-passed {X} (test ∷ tests) effect outcome is = elim (cases_Bool test.0) [
+  | inl applied ↦ (let e : ◌≡◌ {A = Result X Refusal} (Err test.1) (Ok outcome) = rw applied at is in absurd cc)
+  | inr passed ↦ (let rest = unless-passed tests effect outcome (rw passed at is) in (rw (passed, rest.0) refl, rest.1))
+]
+
+-- what a step at a frame found
+pub frame-found : {X : Type 0} (frames : Tree) (s : ℕ) (step : Frame (List ℕ) → Result X Refusal) (outcome : X) → at_frame (frame_at frames s) step ≡ Ok outcome →
+    (f : Frame (List ℕ)) × (frame_at frames s ≡ Some f) × (step f ≡ Ok outcome)
+frame-found {X} frames s step outcome is = by (frame_at frames s) refl
+  where
+    by : (o : Option (Frame (List ℕ))) → frame_at frames s ≡ o → (f : Frame (List ℕ)) × (frame_at frames s ≡ Some f) × (step f ≡ Ok outcome)
+    by None e = (let none : ◌≡◌ {A = Result X Refusal} (at_frame None step) (Ok outcome) = ap (λ o. at_frame o step) (sym e) ∙ is in absurd cc)
+    by (Some f) e = (f, e, ap (λ o. at_frame o step) (sym e) ∙ is)
+
+-- a step that is left
+step-left : (tenant : Tenant) → (eqb (left tenant).steps 0) ≡ false → tenant.steps < 16 * tenant.reserve.nodes
+step-left tenant is = let some = eqb-false (left tenant).steps 0 is in omega (arith, some)
+
+-- a node that is left, and segments
+node-left : (tenant : Tenant) → (eqb (left tenant).nodes 0) ≡ false → tenant.serials < tenant.reserve.nodes
+node-left tenant is = let some = eqb-false (left tenant).nodes 0 is in omega (arith, some)
+
+segments-left : (tenant : Tenant) (n : ℕ) → charged_for tenant.frames ≤ tenant.reserve.segments → ltb (left tenant).segments n ≡ false → charged_for tenant.frames + n ≤ tenant.reserve.segments
+segments-left tenant n within is = let enough = ltb-false (left tenant).segments n is in omega (arith, enough, within)
+
+-- a frame of a size that can be opened
+size-parts : (words : List ℕ) (size : ℕ) → not (is_frame_size words size) ≡ false → (1 ≤ size) × (size ≤ 128) × (length words ≤ size)
+size-parts words size is =
+    let all = and_parts (leb 1 size && leb size 128) (leb (length words) size) (not-false (is_frame_size words size) is) in
+    let first = and_parts (leb 1 size) (leb size 128) all.0 in
+    (leb-true 1 size first.0, leb-true size 128 first.1, leb-true (length words) size all.1)
+
+-- Submit
+submit-shaped : (I : Type 0) (tenant : Tenant) (number : ℕ) (words : List ℕ) (size : ℕ) → applies (submit_tests tenant words size) ≡ false → IsShaped tenant → LeftShaped (submitted {I = I} tenant number words size).0
+submit-shaped I tenant number words size passed s =
+    let p = or_parts (not (is_frame_size words size)) (applies ((leb 256 (length tenant.jobs), NoJobsLeft) ∷ (eqb (left tenant).nodes 0, NoNodes) ∷ (ltb (left tenant).segments (charge size), NoSegments) ∷ [])) passed in
+    let q = or_parts (leb 256 (length tenant.jobs)) (applies ((eqb (left tenant).nodes 0, NoNodes) ∷ (ltb (left tenant).segments (charge size), NoSegments) ∷ [])) p.1 in
+    let r = or_parts (eqb (left tenant).nodes 0) (applies ((ltb (left tenant).segments (charge size), NoSegments) ∷ [])) q.1 in
+    let last = or_parts (ltb (left tenant).segments (charge size)) false r.1 in
+    let fits = size-parts words size p.0 in
+    shaped-root words size 0 tenant (leb-false 256 (length tenant.jobs) q.0)
+    (record { some = fits.0; few = fits.1; fewer = fits.2; node = node-left tenant r.0; segments = segments-left tenant (charge size) s.charged last.0 }) s
+
+-- Take and Steal
+taken-shaped : (I : Type 0) (tenant : Tenant) (worker : ℕ) (f : Frame (List ℕ)) → eqb (left tenant).steps 0 ≡ false → IsShaped tenant → LeftShaped (taken_by {I = I} tenant worker f).0
+taken-shaped I tenant worker f some s =
+    shaped-counted (in_state f.serial (Running worker) tenant) (step-left tenant some) (shaped-in_state f.serial (Running worker) tenant (inl refl) s)
+
+-- a frame that a worker runs or computes, and one that has returned
+run-free : (worker : ℕ) (state : State) → is_run_by worker state ≡ true → mark_of state ≡ Neither
+run-free worker (Ready home) is = refl
+run-free worker (Running holder) is = refl
+run-free worker (Computing holder) is = absurd (false≢true is)
+run-free worker Waiting is = refl
+run-free worker Returned is = absurd (false≢true is)
+
+returned-marked : (state : State) → is_returned state ≡ true → mark_of state ≢ Neither
+returned-marked (Ready home) is = absurd (false≢true is)
+returned-marked (Running holder) is = absurd (false≢true is)
+returned-marked (Computing holder) is = absurd (false≢true is)
+returned-marked Waiting is = absurd (false≢true is)
+returned-marked Returned is = λ e. cc
+
+pub returned-childless : (tenant : Tenant) (s : ℕ) (f : Frame (List ℕ)) → IsShaped tenant → frame_at tenant.frames s ≡ Some f → mark_of f.state ≢ Neither → children_of tenant.frames s ≡ []
+returned-childless tenant s f shape at marked =
+    elim (childless-at tenant.frames s f shape.childless at) [
+      | inl neither ↦ absurd (marked neither)
+      | inr none ↦ no-child tenant.frames s (ap (has_child tenant.frames) (sym (found-serial tenant.frames s f at)) ∙ none)
+    ]
+
+-- stores in a frame
+same-room : (c a r b : ℕ) → a ≡ b → c ≤ r → c + a ≤ r + b
+same-room c a r b e le = omega arith
+
+pub shaped-stored : (n : ℕ) (words : List ℕ) (tenant : Tenant) (f : Frame (List ℕ)) → frame_at tenant.frames n ≡ Some f → length words ≡ length f.value → IsShaped tenant → IsShaped (holding n words tenant)
+shaped-stored n words tenant f at long s =
+    let fits = words-at tenant.frames n f s.words at in
+    shaped-holding n words tenant f at (omega (arith, fits.0, long), omega (arith, fits.1, long)) (same-room (charged_for tenant.frames) (charge (length words)) tenant.reserve.segments (charge (length f.value)) (ap charge long) s.charged) s
+
+-- what comes after the stores of an act
+grow-room : (c a b r : ℕ) → c + (a - b) ≤ r → c + a ≤ r + b
+grow-room c a b r le = omega arith
+
+grow-fits : (words more : ℕ) → ((eqb more 0) || ltb 128 (words + more)) ≡ false → words + more ≤ 128
+grow-fits words more is = ltb-false 128 (words + more) (or_parts (eqb more 0) (ltb 128 (words + more)) is).1
+
+then-shaped : {I A : Type 0} (functions : Functions I A) (t : Tenant) (worker : ℕ) (name : FrameId) (path words : List ℕ) (after : Then) (g : Frame (List ℕ)) → frame_at t.frames name.serial ≡ Some g → g.value ≡ words → mark_of g.state ≡ Neither →
+    is_bad_then (length words) (has_child t.frames name.serial) after ≡ false → (is_spawn after ≡ true → t.serials < t.reserve.nodes) → charged_for t.frames + segments_for g after ≤ t.reserve.segments →
+    IsShaped t → LeftShaped (then_done functions t worker name path words after).0
+then-shaped functions t worker name path words (Grow more) g at is free good node room s =
+    let whole = length-append words (replicate more 0) in let zeros = length-replicate {A = ℕ} more 0 in
+    let fits = words-at t.frames name.serial g s.words at in
+    let few = grow-fits (length words) more good in
+    let long : length (words ++ replicate more 0) ≡ length words + more = omega (arith, whole, zeros) in
+    let own : length g.value ≡ length words = ap length is in
+    shaped-holding name.serial (words ++ replicate more 0) t g at (omega (arith, fits.0, long, own), omega (arith, long, few))
+    (grown (charged_for t.frames) (length (words ++ replicate more 0)) (length g.value) t.reserve.segments (length words) more long own room) s
+  where
+    grown : (c n o r w m : ℕ) → n ≡ w + m → o ≡ w → c + growth_charge o m ≤ r → c + charge n ≤ r + charge o
+    grown c n o r w m long own le = grow-room c (charge n) (charge o) r (let P : ℕ → Type 0 = λ k. c + (charge k - charge o) ≤ r in subst P (ap (λ (k : ℕ). k + m) own ∙ sym long) le)
+then-shaped functions t worker name path words (Spawn given size) g at is free good node room s =
+    let fits = size-parts given size good in
+    shaped-child name.serial worker given size t g at free (record { some = fits.0; few = fits.1; fewer = fits.2; node = node refl; segments = room }) s
+then-shaped functions t worker name path words Go g at is free good node room s = s
+then-shaped functions t worker name path words Wait g at is free good node room s = elim (cases_Bool (has_child t.frames name.serial)) [
+  | inl some ↦ rw some (shaped-in_state name.serial Waiting t (inl refl) s)
+  | inr none ↦ rw none s
+]
+then-shaped functions t worker name path words Compute g at is free good node room s = shaped-in_state name.serial (Computing worker) t (inr good) s
+then-shaped functions t worker name path words Return g at is free good node room s = elim (cases_Bool (has_child t.frames name.serial)) [
+  | inl some ↦ rw some (shaped-in_state name.serial Waiting t (inl refl) s)
+  | inr none ↦ rw none (shaped-in_state name.serial Returned t (inr none) s)
+]
+
+-- Advance
+advance-shaped : {I A : Type 0} (functions : Functions I A) (tenant : Tenant) (worker : ℕ) (name : FrameId) (f : Frame (List ℕ)) (act : Act) → frame_at tenant.frames name.serial ≡ Some f →
+    applies (advance_tests tenant worker f act) ≡ false → IsShaped tenant → LeftShaped (advanced functions tenant worker name f act).0
+advance-shaped functions tenant worker name f act at passed s =
+    let p = or_parts (not (is_run_by worker f.state)) (applies (no_step tenant ∷ act_tests tenant f act)) passed in
+    let q = or_parts (eqb (left tenant).steps 0) (applies (act_tests tenant f act)) p.1 in
+    let bad = is_bad_act f.value (has_child tenant.frames f.serial) act in
+    let nodes = is_spawn act.after && eqb (left tenant).nodes 0 in
+    let segments = ltb (left tenant).segments (segments_for f act.after) in
+    let r = or_parts bad (applies ((nodes, NoNodes) ∷ (segments, NoSegments) ∷ [])) q.1 in
+    let u = or_parts nodes (applies ((segments, NoSegments) ∷ [])) r.1 in
+    let v = or_parts segments false u.1 in
+    let good = (or_parts (is_outside act.stores f.value) (is_bad_then (length f.value) (has_child tenant.frames f.serial) act.after) r.0).1 in
+    let own = found-serial tenant.frames name.serial f at in
+    let words = stored act.stores f.value in
+    let long : length words ≡ length f.value = length-stored act.stores f.value in
+    let t = holding f.serial words tenant in
+    let at_own : frame_at tenant.frames f.serial ≡ Some f = ap (frame_at tenant.frames) own ∙ at in
+    let st = shaped-counted t (step-left tenant q.0) (shaped-stored f.serial words tenant f at_own long s) in
+    let g : Frame (List ℕ) = record f { value = words } in
+    let at_g : frame_at t.frames name.serial ≡ Some g = ap (frame_at t.frames) (sym own) ∙ frame_at-with_words f.serial words tenant.frames f at_own in
+    let child : has_child t.frames name.serial ≡ has_child tenant.frames f.serial = ap (has_child t.frames) (sym own) ∙ has_child-with_words f.serial words tenant.frames f.serial s.tree in
+    then-shaped functions (counted t) worker name f.path words act.after g at_g refl (run-free worker f.state (not-false (is_run_by worker f.state) p.0))
+    (ap (λ (n : ℕ). is_bad_then n (has_child t.frames name.serial) act.after) long ∙ ap (λ (b : Bool). is_bad_then (length f.value) b act.after) child ∙ good)
+    (λ spawn. node-left tenant (node (is_spawn act.after) (eqb (left tenant).nodes 0) spawn u.0))
+    (room act.after (segments-left tenant (segments_for f act.after) s.charged v.0)
+    (same (charged_for t.frames) (charge (length f.value)) (charged_for tenant.frames) (charge (length words)) (ap charge long) (charged-with_words f.serial words tenant.frames f (tree-rising tenant.frames s.tree) at_own)) g long)
+    st
+  where
+    node : (spawn none : Bool) → spawn ≡ true → (spawn && none) ≡ false → none ≡ false
+    node true none is both = both
+    node false none is both = absurd (false≢true is)
+
+    same : (a b c d : ℕ) → d ≡ b → a + b ≡ c + d → a ≡ c
+    same a b c d e is = omega arith
+
+    room : (after : Then) {c : ℕ} → charged_for tenant.frames + segments_for f after ≤ tenant.reserve.segments → c ≡ charged_for tenant.frames → (g : Frame (List ℕ)) → length g.value ≡ length f.value → c + segments_for g after ≤ tenant.reserve.segments
+    room (Grow more) le e g long = (let m = ap (λ (n : ℕ). growth_charge n more) long in sum le e m)
+      where
+        sum : {a b c d r : ℕ} → a + b ≤ r → c ≡ a → d ≡ b → c + d ≤ r
+        sum le e f = omega arith
+    room (Spawn given size) le e g long = rw e le
+    room Go le e g long = rw e le
+    room Wait le e g long = rw e le
+    room Compute le e g long = rw e le
+    room Return le e g long = rw e le
+
+-- Answer
+answer-shaped : {I A : Type 0} (functions : Functions I A) (tenant : Tenant) (worker : ℕ) (s : ℕ) (f : Frame (List ℕ)) (answer : A) → frame_at tenant.frames s ≡ Some f →
+    applies (answer_tests functions tenant worker f answer) ≡ false → IsShaped tenant → LeftShaped (answered functions tenant worker f answer).0
+answer-shaped functions tenant worker s f answer at passed shape =
+    let outside = is_outside (functions.accept f.value answer) f.value in
+    let other = not (functions.same (functions.asked answer) (functions.input f.value)) in
+    let p = or_parts (not (is_computed_by worker f.state)) (applies ((other, Mismatch) ∷ no_step tenant ∷ (outside, BadAct) ∷ [])) passed in
+    let q = or_parts other (applies (no_step tenant ∷ (outside, BadAct) ∷ [])) p.1 in
+    let r = or_parts (eqb (left tenant).steps 0) (applies ((outside, BadAct) ∷ [])) q.1 in
+    let at_own : frame_at tenant.frames f.serial ≡ Some f = ap (frame_at tenant.frames) (found-serial tenant.frames s f at) ∙ at in
+    let words = stored (functions.accept f.value answer) f.value in
+    let t = holding f.serial words tenant in
+    shaped-counted (in_state f.serial (Running worker) t) (step-left tenant r.0)
+    (shaped-in_state f.serial (Running worker) t (inl refl) (shaped-stored f.serial words tenant f at_own (length-stored (functions.accept f.value answer) f.value) shape))
+
+-- Inlet: the frames that stay, with the parent among them
+staying-shaped : (tenant : Tenant) (n parent : ℕ) (f : Frame (List ℕ)) (abort : Bool) → frame_at tenant.frames n ≡ Some f → parent_of f.path ≡ Some parent → children_of tenant.frames n ≡ [] → IsShaped tenant →
+    IsShaped (record tenant { frames = staying tenant.frames n parent abort })
+staying-shaped tenant n parent f true at named leaf s = shaped-aborted parent tenant s
+staying-shaped tenant n parent f false at named leaf s = shaped-without n tenant f parent at named leaf s
+
+pub staying-parent : (tenant : Tenant) (n parent : ℕ) (f g : Frame (List ℕ)) (abort : Bool) → frame_at tenant.frames n ≡ Some f → parent_of f.path ≡ Some parent → frame_at tenant.frames parent ≡ Some g → IsShaped tenant →
+    frame_at (staying tenant.frames n parent abort) parent ≡ Some g
+staying-parent tenant n parent f g true at named at_g s = aborted-itself parent tenant.frames g s.tree at_g
+staying-parent tenant n parent f g false at named at_g s =
+    let below = under-below tenant.frames n parent f s.tree at named in
+    frame_at_other-without n tenant.frames parent (λ e. omega (arith, e, below)) ∙ at_g
+
+inlet-shaped : (I : Type 0) (tenant : Tenant) (worker : ℕ) (name : FrameId) (f : Frame (List ℕ)) (parent : ℕ) (act : InletAct) → frame_at tenant.frames name.serial ≡ Some f → parent_of f.path ≡ Some parent →
+    applies (inlet_tests tenant worker f parent act) ≡ false → IsShaped tenant → LeftShaped (taken_in {I = I} tenant worker name parent act).0
+inlet-shaped I tenant worker name f parent act at named passed s =
+    let outside = is_outside act.stores (words_in tenant.frames parent) in
+    let p = or_parts (not (is_returned f.state)) (applies (no_step tenant ∷ (outside, BadAct) ∷ not_free tenant worker ∷ [])) passed in
+    let q = or_parts (eqb (left tenant).steps 0) (applies ((outside, BadAct) ∷ not_free tenant worker ∷ [])) p.1 in
+    let leaf = returned-childless tenant name.serial f s at (returned-marked f.state (not-false (is_returned f.state) p.0)) in
+    let g = there-found tenant.frames parent (under-there tenant.frames name.serial parent f s.tree at named) in
+    let frames = staying tenant.frames name.serial parent act.abort in
+    let at_g : frame_at frames parent ≡ Some g.0 = staying-parent tenant name.serial parent f g.0 act.abort at named g.1 s in
+    let words = stored act.stores (words_in frames parent) in
+    let long : length words ≡ length g.0.value = length-stored act.stores (words_in frames parent) ∙ ap (λ o. length (words_of o)) at_g in
+    let after = counted (holding parent words (record tenant { frames = frames })) in
+    let sa = shaped-counted (holding parent words (record tenant { frames = frames })) (step-left tenant q.0) (shaped-stored parent words (record tenant { frames = frames }) g.0 at_g long (staying-shaped tenant name.serial parent f act.abort at named leaf s)) in
+    elim (cases_Bool (does_wait (frame_at frames parent) && (act.abort || act.wake || not (has_child frames parent)))) [
+      | inl woken ↦ rw woken (shaped-in_state parent (Ready worker) after (inl refl) sa)
+      | inr sleeps ↦ rw sleeps sa
+    ]
+
+-- Finish, Spend and Cancel
+finish-shaped : (I : Type 0) (tenant : Tenant) (worker : ℕ) (f : Frame (List ℕ)) → applies (finish_tests tenant worker f) ≡ false → IsShaped tenant → LeftShaped (finished {I = I} tenant f).0
+finish-shaped I tenant worker f passed s =
+    let p = or_parts (not (is_returned f.state) || not (is_root f.path)) (applies (no_step tenant ∷ not_free tenant worker ∷ [])) passed in
+    let q = or_parts (eqb (left tenant).steps 0) (applies (not_free tenant worker ∷ [])) p.1 in
+    shaped-counted (ended f.serial (Done (kept_words f.value)) tenant) (step-left tenant q.0) (shaped-ended f.serial (Done (kept_words f.value)) tenant (λ root. refl) s)
+
+spend-shaped : (I : Type 0) (tenant : Tenant) (f : Frame (List ℕ)) → IsShaped tenant → LeftShaped (spent {I = I} tenant f).0
+spend-shaped I tenant f s = shaped-ended (root_of f.path) SpentJob tenant (λ root. refl) s
+
+cancel-shaped : {I : Type 0} (tenant : Tenant) (job : Option Job) (outcome : Outcome I) → cancelled tenant job ≡ Ok outcome → IsShaped tenant → LeftShaped outcome.0
+cancel-shaped {I} tenant None outcome is s = (let e : ◌≡◌ {A = Result (Outcome I) Refusal} (Err NoJob) (Ok outcome) = is in absurd cc)
+cancel-shaped {I} tenant (Some (Live root)) outcome is s =
+    let e : ◌≡◌ {A = Result (Outcome I) Refusal} (Ok (Some (ended root CancelledJob tenant), Cancelled)) (Ok outcome) = is in
+    let own : Some (ended root CancelledJob tenant) ≡ outcome.0 = let pair : ◌≡◌ {A = Outcome I} (Some (ended root CancelledJob tenant), Cancelled) outcome = cc in ap (λ (o : Outcome I). o.0) pair in
+    let P : Option Tenant → Type 0 = λ o. LeftShaped o in
+    subst P own (shaped-ended root CancelledJob tenant (λ r. refl) s)
+cancel-shaped {I} tenant (Some (Done words)) outcome is s = (let e : ◌≡◌ {A = Result (Outcome I) Refusal} (Err NoJob) (Ok outcome) = is in absurd cc)
+cancel-shaped {I} tenant (Some SpentJob) outcome is s = (let e : ◌≡◌ {A = Result (Outcome I) Refusal} (Err NoJob) (Ok outcome) = is in absurd cc)
+cancel-shaped {I} tenant (Some CancelledJob) outcome is s = (let e : ◌≡◌ {A = Result (Outcome I) Refusal} (Err NoJob) (Ok outcome) = is in absurd cc)
+
+-- an effect that came out
+pub came : {I : Type 0} (effect outcome : Outcome I) → effect ≡ outcome → LeftShaped effect.0 → LeftShaped outcome.0
+came {I} effect outcome is s = let P : Outcome I → Type 0 = λ o. LeftShaped o.0 in subst P is s
+
+-- every step of a tenant that has the core to itself
+pub step-shaped : {I A : Type 0} (functions : Functions I A) (tenant : Tenant) (step : StepOf A) (outcome : Outcome I) → lone_step functions tenant step ≡ Ok outcome → IsShaped tenant → LeftShaped outcome.0
+step-shaped {I} functions tenant (Admit number quota) outcome is s = (let e : ◌≡◌ {A = Result (Outcome I) Refusal} (Err OldTenant) (Ok outcome) = is in absurd cc)
+step-shaped {I} functions tenant (Submit number words size) outcome is s =
+    let p = unless-passed (submit_tests tenant words size) (submitted {I = I} tenant number words size) outcome is in
+    came (submitted tenant number words size) outcome p.1 (submit-shaped I tenant number words size p.0 s)
+step-shaped {I} functions tenant (Take worker name) outcome is s =
+    let f = frame-found tenant.frames name.serial (λ frame. unless (take_tests tenant worker frame) (taken_by tenant worker frame)) outcome is in
+    let p = unless-passed (take_tests tenant worker f.0) (taken_by {I = I} tenant worker f.0) outcome f.2 in
+    came (taken_by tenant worker f.0) outcome p.1 (taken-shaped I tenant worker f.0 (third _ _ (eqb (left tenant).steps 0) _ p.0) s)
+  where
+    third : (a b c d : Bool) → (a || (b || (c || (d || false)))) ≡ false → c ≡ false
+    third a b c d e = (or_parts c (d || false) (or_parts b (c || (d || false)) (or_parts a (b || (c || (d || false))) e).1).1).0
+step-shaped {I} functions tenant (Steal worker from name) outcome is s =
+    let f = frame-found tenant.frames name.serial (λ frame. unless (steal_tests tenant worker from frame) (taken_by tenant worker frame)) outcome is in
+    let p = unless-passed (steal_tests tenant worker from f.0) (taken_by {I = I} tenant worker f.0) outcome f.2 in
+    came (taken_by tenant worker f.0) outcome p.1 (taken-shaped I tenant worker f.0 (third _ _ (eqb (left tenant).steps 0) _ p.0) s)
+  where
+    third : (a b c d : Bool) → (a || (b || (c || (d || false)))) ≡ false → c ≡ false
+    third a b c d e = (or_parts c (d || false) (or_parts b (c || (d || false)) (or_parts a (b || (c || (d || false))) e).1).1).0
+step-shaped {I} functions tenant (Advance worker name) outcome is s =
+    let f = frame-found tenant.frames name.serial (λ frame. unless (advance_tests tenant worker frame (act_of functions tenant frame)) (advanced functions tenant worker name frame (act_of functions tenant frame))) outcome is in
+    let act = act_of functions tenant f.0 in
+    let p = unless-passed (advance_tests tenant worker f.0 act) (advanced functions tenant worker name f.0 act) outcome f.2 in
+    came (advanced functions tenant worker name f.0 act) outcome p.1 (advance-shaped functions tenant worker name f.0 act f.1 p.0 s)
+step-shaped {I} functions tenant (Answer worker name answer) outcome is s =
+    let f = frame-found tenant.frames name.serial (λ frame. unless (answer_tests functions tenant worker frame answer) (answered functions tenant worker frame answer)) outcome is in
+    let p = unless-passed (answer_tests functions tenant worker f.0 answer) (answered functions tenant worker f.0 answer) outcome f.2 in
+    came (answered functions tenant worker f.0 answer) outcome p.1 (answer-shaped functions tenant worker name.serial f.0 answer f.1 p.0 s)
+step-shaped {I} functions tenant (Inlet worker name) outcome is s =
+    let f = frame-found tenant.frames name.serial (λ frame. inlet_under functions tenant worker name frame (parent_of frame.path)) outcome is in
+    by f.0 f.1 (parent_of f.0.path) refl f.2
+  where
+    by : (f : Frame (List ℕ)) → frame_at tenant.frames name.serial ≡ Some f → (parent : Option ℕ) → parent_of f.path ≡ parent → inlet_under functions tenant worker name f parent ≡ Ok outcome → LeftShaped outcome.0
+    by f at None named e = (let no : ◌≡◌ {A = Result (Outcome I) Refusal} (Err NotReturned) (Ok outcome) = e in absurd cc)
+    by f at (Some parent) named e =
+        let act = functions.inlet (words_in tenant.frames parent) f.value in
+        let p = unless-passed (inlet_tests tenant worker f parent act) (taken_in {I = I} tenant worker name parent act) outcome e in
+        came (taken_in tenant worker name parent act) outcome p.1 (inlet-shaped I tenant worker name f parent act at named p.0 s)
+step-shaped {I} functions tenant (Finish worker name) outcome is s =
+    let f = frame-found tenant.frames name.serial (λ frame. unless (finish_tests tenant worker frame) (finished tenant frame)) outcome is in
+    let p = unless-passed (finish_tests tenant worker f.0) (finished {I = I} tenant f.0) outcome f.2 in
+    came (finished tenant f.0) outcome p.1 (finish-shaped I tenant worker f.0 p.0 s)
+step-shaped {I} functions tenant (Spend name) outcome is s =
+    let f = frame-found tenant.frames name.serial (λ frame. unless ((not (is_spendable functions tenant frame), NotSpent) ∷ []) (spent tenant frame)) outcome is in
+    let p = unless-passed ((not (is_spendable functions tenant f.0), NotSpent) ∷ []) (spent {I = I} tenant f.0) outcome f.2 in
+    came (spent tenant f.0) outcome p.1 (spend-shaped I tenant f.0 s)
+step-shaped functions tenant (Cancel number job) outcome is s = cancel-shaped tenant (job_at tenant.jobs job) outcome is s
+step-shaped {I} functions tenant (Leave number) outcome is s =
+    let e : ◌≡◌ {A = Result (Outcome I) Refusal} (Ok (None, Left)) (Ok outcome) = is in
+    let own : ◌≡◌ {A = Outcome I} (None, Left) outcome = cc in came (None, Left) outcome own tt
+
+-- from nothing: an admission
+pub admitted-shaped : (quota : Quota) → IsShaped (admitted_with quota)
+admitted-shaped quota = record { tree = tt; given = tt; childless = tt; roots = tt; live = tt; few_jobs = omega arith; words = tt; charged = omega arith; opened = omega arith; ticks = omega arith }

@@ -1,0 +1,37 @@
+//! What every step keeps.
+ghost use Rattle.std.specs.Prelude.{◌≡◌, ℕ, ◌≤◌, List, [], ◌∷◌, Some, Result, length, true};
+ghost use Rattle.tenant_quota.specs.Quota.{IsWithinLimits};
+ghost use Rattle.tenant_quota.specs.Accounts.{IsWithinReserve};
+ghost use Rattle.frame_table.specs.declared.names.State.TheVariants.{Computing, Returned};
+ghost use Rattle.frame_table.specs.Frames.{Frame, frame_at, path_in, root_of, children_of};
+ghost use Rattle.sched_rules.specs.declared.job.Job.TheVariants.{Live};
+ghost use Rattle.sched_rules.specs.declared.refusal.Refusal.{Refusal};
+ghost use Rattle.sched_rules.specs.declared.step.StepOf.{StepOf};
+ghost use Rattle.sched_rules.specs.declared.step.DidOf.{DidOf};
+ghost use Rattle.sched_rules.specs.Trees.{Tenant, account_in, is_root, job_at, job_under};
+ghost use Rattle.sched_rules.specs.Cores.{Shared};
+ghost use Rattle.sched_rules.specs.Headline.{after_answer, after_answers};
+ghost use Rattle.sched_laws.specs.Shapes.{IsShaped, AreShaped};
+
+use sched_rules::Procedure;
+
+/// Whatever a step is answered, each tenant has its shape after it; and so it is after a list of steps.
+pub fn every_tenant_keeps_its_shape<P: Procedure>()
+    ensures step { (procedure : P) (before : Shared) (step : StepOf P.Answer) (answer : Result (DidOf P.Input) Refusal) →
+        AreShaped before.tenants → AreShaped (after_answer (P.functions procedure) before step answer).tenants }
+    ensures run { (procedure : P) (before : Shared) (steps : List (StepOf P.Answer)) (answers : List (Result (DidOf P.Input) Refusal)) →
+        AreShaped before.tenants → AreShaped (after_answers (P.functions procedure) before steps answers).tenants }
+{}
+
+/// What the shape of a tenant gives: a frame that has returned, or is computed, has no child; the root
+/// of a live job is there; a root frame's job is found under it, and lives; above each frame there is
+/// its root; and neither frames nor charges pass what is reserved.
+pub fn what_the_shape_gives()
+    ensures returned { (tenant : Tenant) (s : ℕ) (frame : Frame (List ℕ)) → IsShaped tenant → frame_at tenant.frames s ≡ Some frame → frame.state ≡ Returned → children_of tenant.frames s ≡ [] }
+    ensures computing { (tenant : Tenant) (s worker : ℕ) (frame : Frame (List ℕ)) → IsShaped tenant → frame_at tenant.frames s ≡ Some frame → frame.state ≡ Computing worker → children_of tenant.frames s ≡ [] }
+    ensures root { (tenant : Tenant) (number root : ℕ) → IsShaped tenant → job_at tenant.jobs number ≡ Some (Live root) → path_in tenant.frames root ≡ root ∷ [] }
+    ensures job { (tenant : Tenant) (s : ℕ) (frame : Frame (List ℕ)) → IsShaped tenant → frame_at tenant.frames s ≡ Some frame → is_root frame.path ≡ true → job_at tenant.jobs (job_under s tenant.jobs) ≡ Some (Live s) }
+    ensures above { (tenant : Tenant) (s : ℕ) (frame : Frame (List ℕ)) → IsShaped tenant → frame_at tenant.frames s ≡ Some frame → path_in tenant.frames (root_of frame.path) ≡ root_of frame.path ∷ [] }
+    ensures within { (tenant : Tenant) → IsWithinLimits tenant.reserve → IsShaped tenant → IsWithinReserve (account_in tenant) }
+    ensures few { (tenant : Tenant) → IsShaped tenant → length tenant.frames ≤ tenant.reserve.segments }
+{}

@@ -1,0 +1,5 @@
+//! What every list of right answers keeps, proved of the definitions of `sched_rules` for every
+//! procedure.
+#![tactic(auto)]
+
+pub mod laws;
