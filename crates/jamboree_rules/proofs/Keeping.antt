@@ -1,0 +1,246 @@
+-- The laws of Jamboree as a procedure: frames stay fitting, whatever the order of spawns, steals, inlets and aborts.
+use Rattle.std.specs.Prelude.{◌≡◌, ◌≢◌, ℕ, zero, suc, ◌+◌, ◌-◌, ◌<◌, ◌≤◌, ◌⊎◌, ◌==◌, ◌&&◌, ◌||◌, nat_lt, nat_le, Bool, true, false, ℤ, neg_ℤ, int_le, bit_and, List, [], ◌∷◌, ◌++◌, map, length, refl, slice_index, if◌then◌else◌, cond}
+use Rattle.std.proofs.Common.{sym, ◌∙◌, ap, subst, arith, inl, inr, ⊎_elim}
+use Rattle.std.proofs.lemmas.Bool.{and_from, eq-eqb}
+use Rattle.std.proofs.lemmas.Bool.Decides.{nat_tests}
+use Rattle.std.proofs.lemmas.Int.{ints}
+use Rattle.othello_board.specs.declared.cells.Cell.{Cell}
+use Rattle.othello_board.specs.Words.{cells_of}
+use Rattle.othello_moves.specs.Choices.{choices, after}
+use Rattle.sched_rules.specs.declared.act.Act.{Act}
+use Rattle.sched_rules.specs.declared.act.InletAct.{InletAct}
+use Rattle.sched_rules.specs.Functions.{Functions}
+use Rattle.sched_rules.specs.Trees.{stored, is_outside}
+use Rattle.sched_rules.specs.Lone.{is_bad_act}
+use Rattle.sched_rules.specs.Laws.{ParentFits, NewChildFits, ActFits, AllFit, NextKeeps, InletKeeps, Mark, Neither, Computes, HasReturned, grown, children_after, mark_after, has_one, children_left}
+use Rattle.jamboree_rules.specs.Frames.{Frame, board, choice_at, own_word, opp_word, may_be_child}
+use Rattle.jamboree_rules.specs.Places.{frame_of, is_formed, is_placed, Change, pairs_of}
+use Rattle.jamboree_rules.specs.Acts.{returns, is_computed, opening_on, opening_under, first_search, first_open, tests_from, act_by, act_of, parent_in, next_act, seen, changes_of, inlet_of, inlet_act}
+use Rattle.jamboree_rules.specs.Fits.{IsInRole, First, Test, Again, IsChildOf, IsSearchingFrame, Fits, AreFitting, IsRoot}
+use Rattle.jamboree_rules.proofs.Kinship.{IsSameGoal, parent-kept, child-of, in-search}
+use Rattle.jamboree_rules.proofs.BoardWords.{words-apart, after-holds}
+use Rattle.jamboree_rules.proofs.Forms.{IsFrame, IsFormed, formed-told, formed-passes, child-passes}
+use Rattle.jamboree_rules.proofs.Steps.{HasSameGoal, IsGoodAct, IsAtTests, status-count, map-joined, none-told, first-good, tests-good, done-good, opening-good}
+use Rattle.jamboree_rules.proofs.Takings.{frame_after, frames_left, IsGoodStore, inlet-good, inlet-fits}
+
+-- ---- a frame among its parent's children
+
+pub kin-of : (parent own : List ℕ) (older younger : List (List ℕ)) (mark : Mark) → AreFitting parent (older ++ own ∷ younger) mark → IsChildOf (frame_of parent) (frame_of own)
+kin-of parent own older younger mark fits =
+    let there : Fits (frame_of parent) (map frame_of older ++ frame_of own ∷ map frame_of younger) mark =
+        subst (λ (fs : List Frame). Fits (frame_of parent) fs mark) (map-joined older (own ∷ younger)) fits.frame in
+    child-of (frame_of parent) (frame_of own) (map frame_of older) (map frame_of younger) there.kin
+
+-- a parent of words that changed to those of the same goal
+parent-one : (parent own own' : List ℕ) (older younger : List (List ℕ)) → IsSameGoal (frame_of parent) (frame_of own) (frame_of own') →
+    AreFitting parent (older ++ own ∷ younger) Neither → AreFitting parent (older ++ own' ∷ younger) Neither
+parent-one parent own own' older younger goal fits =
+    let there : Fits (frame_of parent) (map frame_of older ++ frame_of own ∷ map frame_of younger) Neither =
+        subst (λ (fs : List Frame). Fits (frame_of parent) fs Neither) (map-joined older (own ∷ younger)) fits.frame in
+    record {
+      formed = fits.formed;
+      frame = subst (λ (fs : List Frame). Fits (frame_of parent) fs Neither) (sym (map-joined older (own' ∷ younger)))
+          (parent-kept (frame_of parent) (frame_of own) (frame_of own') (map frame_of older) (map frame_of younger) goal there);
+    }
+
+-- the board of a frame of these words, as those above it say: a root keeps its own, a child has the one after its choice
+abbrev pub IsBoardOf : List (List ℕ) → Frame → ℕ → ℕ → Type 0
+IsBoardOf [] f o p = (o ≡ f.own) × (p ≡ f.opp)
+IsBoardOf (parent ∷ above) f o p = cells_of o p ≡ after (board (frame_of parent)) (choice_at (frame_of parent) f.number)
+
+-- what stands above a frame fits after its words changed to ones of the same goal, and of the board that those above it say
+above-kept : (origin own own' : List ℕ) (above older younger : List (List ℕ)) → HasSameGoal (frame_of own) (frame_of own') → IsBoardOf above (frame_of own) (frame_of own').own (frame_of own').opp →
+    ParentFits AreFitting IsRoot origin above older own younger → ParentFits AreFitting IsRoot origin above older own' younger
+above-kept origin own own' [] older younger goal words root = record {
+  own_is = words.0 ∙ root.own_is; opp_is = words.1 ∙ root.opp_is; depth_is = goal.depth ∙ root.depth_is;
+  role_is = goal.role ∙ root.role_is; alpha_is = goal.alpha ∙ root.alpha_is; beta_is = goal.beta ∙ root.beta_is;
+}
+above-kept origin own own' (parent ∷ above) older younger goal words fits =
+    parent-one parent own own' older younger
+    (record { depth = goal.depth; alpha = goal.alpha; beta = goal.beta; role = goal.role; number = goal.number; known = λ _. words }) fits
+
+-- the board that a frame knows is the one that those above it say
+known-board : (origin own : List ℕ) (above older younger : List (List ℕ)) → (frame_of own).phase ≢ 0 → ParentFits AreFitting IsRoot origin above older own younger →
+    IsBoardOf above (frame_of own) (frame_of own).own (frame_of own).opp
+known-board origin own [] older younger known root = (refl, refl)
+known-board origin own (parent ∷ above) older younger known fits = (kin-of parent own older younger Neither fits).known known
+
+-- a child has a role, and a number that is one of its parent's choices
+role-there : (f c : Frame) → IsInRole f c → 0 < c.role
+role-there f c (First r) = let e : c.role ≡ 1 = r.role in omega arith
+role-there f c (Test r) = let e : c.role ≡ 2 = r.role in omega arith
+role-there f c (Again r) = let e : c.role ≡ 3 = r.role in omega arith
+
+child-may : (parent : List ℕ) (c : Frame) (children : List Frame) (mark : Mark) → IsFormed parent → Fits (frame_of parent) children mark → IsChildOf (frame_of parent) c → may_be_child (frame_of parent) c ≡ true
+child-may parent c children mark form fits kin =
+    let s : IsSearchingFrame (frame_of parent) = fits.searching (in-search (frame_of parent) c kin.in_role) in
+    child-passes (frame_of parent) c (role-there (frame_of parent) c kin.in_role) (omega (arith, kin.inside, status-count parent form)) (omega (arith, kin.inside, s.places))
+
+-- so it stands where its role says
+placed : (origin own : List ℕ) (above older younger : List (List ℕ)) → ParentFits AreFitting IsRoot origin above older own younger → is_placed own above ≡ true
+placed origin own [] older younger root = eq-eqb (frame_of own).role 0 root.role_is
+placed origin own (parent ∷ above) older younger fits =
+    and_from (is_formed parent) (may_be_child (frame_of parent) (frame_of own)) fits.formed
+    (child-may parent (frame_of own) (map frame_of (older ++ own ∷ younger)) Neither (formed-told parent fits.formed) fits.frame (kin-of parent own older younger Neither fits))
+
+-- ---- the next act
+
+is-told : (n k : ℕ) → true ≡ (n == k) → n ≡ k
+is-told n k e = grind (arith, nat_tests)
+
+isn't-told : (n k : ℕ) → false ≡ (n == k) → n ≢ k
+isn't-told n k e = λ h. absurd (grind (arith, nat_tests, h))
+
+last-phase : (n : ℕ) → n ≤ 4 → false ≡ (n == 0) → false ≡ (n == 2) → false ≡ (n == 3) → n ≢ 1 → n ≡ 4
+last-phase n h e0 e2 e3 no1 =
+    let a : n ≢ 0 = isn't-told n 0 e0 in
+    let b : n ≢ 2 = isn't-told n 2 e2 in
+    let c : n ≢ 3 = isn't-told n 3 e3 in
+    let d : n ≢ 1 = no1 in
+    omega (arith, a, b, c, d)
+
+open-settled-zero : (s : ℕ) (st : List ℕ) → 0 < first_open (s ∷ st) → s ≡ 2
+open-settled-zero s st below = grind (arith, nat_tests)
+
+open-settled-suc : (s : ℕ) (st : List ℕ) (k : ℕ) → suc k < first_open (s ∷ st) → k < first_open st
+open-settled-suc s st k below = grind (arith, nat_tests)
+
+open-settled : (st : List ℕ) (k : ℕ) → k < first_open st → slice_index st k ≡ 2
+open-settled [] k below = absurd (omega arith)
+open-settled (s ∷ st) zero below = open-settled-zero s st below
+open-settled (s ∷ st) (suc k) below = open-settled st k (open-settled-suc s st k below)
+
+open-inside : (st : List ℕ) → first_open st ≤ length st
+open-inside [] = omega arith
+open-inside (s ∷ st) = let rest : first_open st ≤ length st = open-inside st in grind (arith, nat_tests, rest)
+
+computed-told : (grain depth n : ℕ) → (nat_le depth grain || (n == 0)) ≡ false → (0 < depth) × (0 < n)
+computed-told grain depth n e = (grind (arith, nat_tests), grind (arith, nat_tests))
+
+-- an act that can be done and leaves the frame fitting, with the board that those above it say
+abbrev pub Goes : List ℕ → List (List ℕ) → List (List ℕ) → Act → Type 0
+Goes own above children act = (o : ℕ) × (p : ℕ) × IsGoodAct own children o p act × IsBoardOf above (frame_of own) o p
+
+opening-goes : (grain : ℕ) (own : List ℕ) (above children : List (List ℕ)) (o p : ℕ) → (frame_of own).phase ≡ 0 → bit_and o p ≡ 0 → IsBoardOf above (frame_of own) o p →
+    IsFormed own → Fits (frame_of own) (map frame_of children) Neither → Goes own above children (opening_on grain (frame_of own) o p)
+opening-goes grain own above children o p phase apart words form fits =
+    (o, p, opening-good (is_computed grain (frame_of own) (cells_of o p)) own children o p (λ e. computed-told grain (frame_of own).depth (length (choices (cells_of o p))) e) apart phase form fits, words)
+
+opens : (grain : ℕ) (own : List ℕ) (above children : List (List ℕ)) → (frame_of own).phase ≡ 0 → IsFormed own → Fits (frame_of own) (map frame_of children) Neither → Goes own above children (opening_under grain (frame_of own) (parent_in above))
+opens grain own [] children phase form fits = opening-goes grain own [] children (frame_of own).own (frame_of own).opp phase form.frame.leaf.disjoint (refl, refl) form fits
+opens grain own (parent ∷ above) children phase form fits =
+    let q : Frame = frame_of parent in
+    let b : List Cell = after (board q) (choice_at q (frame_of own).number) in
+    opening-goes grain own (parent ∷ above) children (own_word b) (opp_word b) phase (words-apart b) (after-holds q.own q.opp (choice_at q (frame_of own).number)) form fits
+
+act-goes : (p0 p1 p2 p3 : Bool) (grain : ℕ) (origin own : List ℕ) (above older younger children : List (List ℕ)) →
+    p0 ≡ ((frame_of own).phase == 0) → p1 ≡ ((frame_of own).phase == 1) → p2 ≡ ((frame_of own).phase == 2) → p3 ≡ ((frame_of own).phase == 3) →
+    IsFormed own → Fits (frame_of own) (map frame_of children) Neither → ParentFits AreFitting IsRoot origin above older own younger → Goes own above children (act_by p0 p1 p2 p3 grain (frame_of own) (parent_in above))
+act-goes true p1 p2 p3 grain origin own above older younger children e0 e1 e2 e3 form fits parent = opens grain own above children (none-told (frame_of own).phase e0) form fits
+act-goes false true p2 p3 grain origin own above older younger children e0 e1 e2 e3 form fits parent = absurd (fits.marked (is-told (frame_of own).phase 1 e1))
+act-goes false false true p3 grain origin own above older younger children e0 e1 e2 e3 form fits parent =
+    ((frame_of own).own, (frame_of own).opp, first-good ((frame_of own).spawned == 0) own children refl (is-told (frame_of own).phase 2 e2) form fits,
+      known-board origin own above older younger (isn't-told (frame_of own).phase 0 e0) parent)
+act-goes false false false true grain origin own above older younger children e0 e1 e2 e3 form fits parent =
+    let st : List ℕ = (frame_of own).statuses in
+    ((frame_of own).own, (frame_of own).opp,
+      tests-good (nat_lt (first_open st) (length st) && (slice_index st (first_open st) == 3)) (nat_lt (frame_of own).spawned (length st)) (nat_le (length st) (first_open st)) own children (first_open st)
+        (record { settled = open-settled st; inside = open-inside st }) refl refl refl (is-told (frame_of own).phase 3 e3) form fits,
+      known-board origin own above older younger (isn't-told (frame_of own).phase 0 e0) parent)
+act-goes false false false false grain origin own above older younger children e0 e1 e2 e3 form fits parent =
+    ((frame_of own).own, (frame_of own).opp, done-good own children (last-phase (frame_of own).phase form.frame.phase e0 e2 e3 fits.marked) form fits,
+      known-board origin own above older younger (isn't-told (frame_of own).phase 0 e0) parent)
+
+chosen-act : (formed placed : Bool) (act other : Act) → formed ≡ true → placed ≡ true → act ≡ (if formed && placed then act else other)
+chosen-act formed placed act other ef ep = rw (ef, ep) refl
+
+-- the next act of a frame that fits, under what fits
+pub next-goes : (grain : ℕ) (origin own : List ℕ) (above older younger children : List (List ℕ)) → AreFitting own children Neither → ParentFits AreFitting IsRoot origin above older own younger →
+    Goes own above children (next_act grain (own ∷ above))
+next-goes grain origin own above older younger children fits parent =
+    let f : Frame = frame_of own in
+    subst (λ (act : Act). Goes own above children act)
+    (chosen-act (is_formed own) (is_placed own above) (act_of grain f (parent_in above)) returns fits.formed (placed origin own above older younger parent))
+    (act-goes (f.phase == 0) (f.phase == 1) (f.phase == 2) (f.phase == 3) grain origin own above older younger children refl refl refl refl (formed-told own fits.formed) fits.frame parent)
+
+-- Advance keeps that frames fit
+pub next-keeps : {I A : Type 0} (functions : Functions I A) (grain : ℕ) → functions.next ≡ next_act grain → NextKeeps functions AreFitting IsRoot
+next-keeps functions grain is origin own above older younger children fits parent all_fit done =
+    let goes = next-goes grain origin own above older younger children fits parent in
+    let act : Act = next_act grain (own ∷ above) in
+    let after : List ℕ = grown act.after (stored act.stores own) in
+    let whole : ActFits AreFitting IsRoot origin own above older younger children act =
+        (record { formed = formed-passes after goes.2.formed; frame = goes.2.fits },
+         above-kept origin own after above older younger goes.2.goal
+           (subst (λ (o : ℕ). IsBoardOf above (frame_of own) o (frame_of after).opp) (sym goes.2.own_is) (subst (λ (p : ℕ). IsBoardOf above (frame_of own) goes.0 p) (sym goes.2.opp_is) goes.3)) parent,
+         goes.2.child) in
+    subst (λ (next : List (List ℕ) → Act). ActFits AreFitting IsRoot origin own above older younger children (next (own ∷ above))) (sym is) whole
+
+-- the next act of a frame that fits can be done
+pub next-possible : (grain : ℕ) (origin own : List ℕ) (above older younger children : List (List ℕ)) → AreFitting own children Neither → ParentFits AreFitting IsRoot origin above older own younger →
+    is_bad_act own (has_one children) (next_act grain (own ∷ above)) ≡ false
+next-possible grain origin own above older younger children fits parent = (next-goes grain origin own above older younger children fits parent).2.good
+
+-- ---- the inlet
+
+chosen-inlet : (own child may : Bool) (act other : InletAct) → own ≡ true → child ≡ true → may ≡ true → act ≡ (if own && (child && may) then act else other)
+chosen-inlet own child may act other eo ec em = rw (eo, ec, em) refl
+
+-- the inlet of words that fit for those of a child that has returned is that of the frames in them
+pub inlet-is : (own child : List ℕ) (before behind : List (List ℕ)) → AreFitting own (before ++ child ∷ behind) Neither → AreFitting child [] HasReturned → inlet_of (frame_of own) (frame_of child) ≡ inlet_act own child
+inlet-is own child before behind fits returned =
+    chosen-inlet (is_formed own) (is_formed child) (may_be_child (frame_of own) (frame_of child)) (inlet_of (frame_of own) (frame_of child)) (record { stores = []; abort = false; wake = true }) fits.formed returned.formed
+    (child-may own (frame_of child) (map frame_of (before ++ child ∷ behind)) Neither (formed-told own fits.formed) fits.frame (kin-of own child before behind Neither fits))
+
+inlet-stores : (own child : List ℕ) (before behind : List (List ℕ)) → AreFitting own (before ++ child ∷ behind) Neither → AreFitting child [] HasReturned →
+    IsGoodStore own (changes_of (frame_of own) (frame_of child)) (frame_after (frame_of own) (frame_of child))
+inlet-stores own child before behind fits returned =
+    let form : IsFormed child = formed-told child returned.formed in
+    inlet-good own (frame_of child) (formed-told own fits.formed) form.frame (kin-of own child before behind Neither fits) returned.frame.marked
+
+left-joined : (cuts : Bool) (before behind : List (List ℕ)) → map frame_of (children_left cuts (before ++ behind)) ≡ frames_left cuts (map frame_of before ++ map frame_of behind)
+left-joined true before behind = refl
+left-joined false before behind = map-joined before behind
+
+searching-known : (f : Frame) → (f.phase ≡ 2) ⊎ (f.phase ≡ 3) → f.phase ≢ 0
+searching-known f (inl e) = λ (z : f.phase ≡ 0). absurd (omega arith)
+searching-known f (inr e) = λ (z : f.phase ≡ 0). absurd (omega arith)
+
+-- what stands above a frame that knows its board fits after stores that leave its goal and its board
+pub store-above : (origin own own' : List ℕ) (g : Frame) (above older younger : List (List ℕ)) → (frame_of own).phase ≢ 0 → frame_of own' ≡ g → HasSameGoal (frame_of own) g → g.own ≡ (frame_of own).own → g.opp ≡ (frame_of own).opp →
+    ParentFits AreFitting IsRoot origin above older own younger → ParentFits AreFitting IsRoot origin above older own' younger
+store-above origin own own' g above older younger known is goal own_is opp_is parent =
+    above-kept origin own own' above older younger (subst (λ (h : Frame). HasSameGoal (frame_of own) h) (sym is) goal)
+    (subst (λ (h : Frame). IsBoardOf above (frame_of own) h.own h.opp) (sym is)
+      (subst (λ (o : ℕ). IsBoardOf above (frame_of own) o g.opp) (sym own_is) (subst (λ (p : ℕ). IsBoardOf above (frame_of own) (frame_of own).own p) (sym opp_is)
+        (known-board origin own above older younger known parent)))) parent
+
+-- what an inlet of the frames leaves
+inlet-leaves : (origin own child : List ℕ) (above older younger before behind : List (List ℕ)) → AreFitting own (before ++ child ∷ behind) Neither → ParentFits AreFitting IsRoot origin above older own younger → AreFitting child [] HasReturned →
+    AreFitting (stored (inlet_of (frame_of own) (frame_of child)).stores own) (children_left (inlet_of (frame_of own) (frame_of child)).abort (before ++ behind)) Neither
+    × ParentFits AreFitting IsRoot origin above older (stored (inlet_of (frame_of own) (frame_of child)).stores own) younger
+inlet-leaves origin own child above older younger before behind fits parent returned =
+    let f : Frame = frame_of own in
+    let c : Frame = frame_of child in
+    let cuts : Bool = int_le f.beta (seen c) in
+    let s = inlet-stores own child before behind fits returned in
+    let after : List ℕ = stored (pairs_of (changes_of f c)) own in
+    let there : Fits f (map frame_of before ++ c ∷ map frame_of behind) Neither = subst (λ (fs : List Frame). Fits f fs Neither) (map-joined before (child ∷ behind)) fits.frame in
+    let phase : (f.phase ≡ 2) ⊎ (f.phase ≡ 3) = in-search f c (kin-of own child before behind Neither fits).in_role in
+    (record {
+      formed = formed-passes after s.formed;
+      frame = subst (λ (g : Frame). Fits g (map frame_of (children_left cuts (before ++ behind))) Neither) (sym s.is)
+          (subst (λ (fs : List Frame). Fits (frame_after f c) fs Neither) (sym (left-joined cuts before behind)) (inlet-fits f c (map frame_of before) (map frame_of behind) there returned.frame));
+    }, store-above origin own after (frame_after f c) above older younger (searching-known f phase) s.is s.goal s.own_is s.opp_is parent)
+
+-- Inlet keeps that frames fit, also after an abort
+pub inlet-keeps : {I A : Type 0} (functions : Functions I A) → functions.inlet ≡ inlet_act → InletKeeps functions AreFitting IsRoot
+inlet-keeps functions is origin own child above older younger before behind fits parent all_before returned all_behind inside =
+    subst (λ (act : InletAct). AreFitting (stored act.stores own) (children_left act.abort (before ++ behind)) Neither × ParentFits AreFitting IsRoot origin above older (stored act.stores own) younger)
+    (inlet-is own child before behind fits returned ∙ ap (λ (i : List ℕ → List ℕ → InletAct). i own child) (sym is))
+    (inlet-leaves origin own child above older younger before behind fits parent returned)
+
+-- the stores of the inlet of a frame that fits can be done
+pub inlet-possible : (own child : List ℕ) (before behind : List (List ℕ)) → AreFitting own (before ++ child ∷ behind) Neither → AreFitting child [] HasReturned → is_outside (inlet_act own child).stores own ≡ false
+inlet-possible own child before behind fits returned =
+    subst (λ (act : InletAct). is_outside act.stores own ≡ false) (inlet-is own child before behind fits returned) (inlet-stores own child before behind fits returned).good

@@ -1,0 +1,472 @@
+-- The inlets keep that a frame fits.
+use Rattle.std.specs.Prelude.{◌≡◌, ◌≢◌, ℕ, suc, ◌+◌, ◌-◌, ◌<◌, ◌≤◌, ◌⊎◌, ◌==◌, Bool, true, false, ℤ, pos, negsuc, neg_ℤ, ◌<ℤ◌, ◌≤ℤ◌, ◌+ℤ◌, List, [], ◌∷◌, ◌++◌, Option, Some, None, length, refl, slice_index, slice_index_or, slice_set, count_by}
+use Rattle.std.specs.Int.{int_max}
+use Rattle.std.proofs.Common.{sym, ◌∙◌, ap, subst, arith, inl, inr, ⊎_elim}
+use Rattle.std.proofs.lemmas.Grind.{common_steps}
+use Rattle.std.proofs.lemmas.Bool.{cases_eq}
+use Rattle.std.proofs.lemmas.Int.{ints, clamps, by_lt_z}
+use Rattle.othello_moves.specs.Choices.{choices, after}
+use Rattle.leaf_search.specs.Bounds.{IsBound}
+use Rattle.sched_rules.specs.Laws.{Mark, Neither, Computes, HasReturned}
+use Rattle.othello_eval.specs.Minimax.{best_choice}
+use Rattle.jamboree_rules.specs.Fits.{IsFound, IsSearching}
+use Rattle.jamboree_rules.proofs.Searching.{all_settled, IsSearching-mark, IsSearching-low, IsSearching-higher, set_there, set_beside, set_length, low_side, high_side, inner_side, cut, IsGreatest, floor-kept}
+use Rattle.jamboree_rules.specs.Frames.{Frame, coded, board, choice_at, code_at, value_at, value, floor}
+use Rattle.jamboree_rules.specs.Fits.{IsFirst, IsTest, IsAgain, IsInRole, First, Test, Again, IsChildOf, AreChildren, how_many, IsSearchingFrame, IsDoneFrame, Fits}
+use Rattle.jamboree_rules.proofs.Roles.{worth_of, role-kept-mark}
+
+-- a child of another number stays a child where a choice is settled
+pub role-kept-settle : (f c : Frame) (i choice : ℕ) (best : ℤ) → i < length f.statuses → c.number ≢ i → f.phase ≡ 3 →
+    floor f ≤ℤ int_max f.alpha best → (IsAgain f c → int_max f.alpha best ≡ floor f) →
+    IsInRole f c → IsInRole (record f { phase = 3; best = best; choice = choice; statuses = slice_set f.statuses i 2 }) c
+role-kept-settle f c i choice best inside other phase more same (First r) = absurd (omega (arith, r.phase, phase))
+role-kept-settle f c i choice best inside other phase more same (Test r) =
+    let most : neg_ℤ c.beta ≤ℤ floor f = r.most in
+    Test (record { role = r.role; phase = refl; status = set_beside f.statuses i 2 c.number other ∙ r.status; low = r.low; least = r.least; most = omega (arith, ints, clamps) })
+role-kept-settle f c i choice best inside other phase more same (Again r) = Again (record {
+  role = r.role; phase = refl; status = set_beside f.statuses i 2 c.number other ∙ r.status; low = r.low; high = r.high ∙ ap neg_ℤ (sym (same r));
+  earlier = λ k below. let e : slice_index f.statuses k ≡ 2 = r.earlier k below in grind (arith, common_steps, set_there, set_beside);
+})
+
+none_first : (c : Frame) (cs : List Frame) (i : ℕ) → how_many i (c ∷ cs) ≡ 0 → c.number ≢ i
+none_first c cs i none = λ e. absurd (grind (arith, common_steps, none, e))
+
+none_rest : (c : Frame) (cs : List Frame) (i : ℕ) → how_many i (c ∷ cs) ≡ 0 → how_many i cs ≡ 0
+none_rest c cs i none = grind (arith, common_steps)
+
+-- the children of a list that aren't for choice i
+pub children-kept : (f f' : Frame) (i : ℕ) → ((c : Frame) → c.number ≢ i → IsChildOf f c → IsChildOf f' c) → (cs : List Frame) → how_many i cs ≡ 0 → AreChildren f cs → AreChildren f' cs
+children-kept f f' i step [] none kin = tt
+children-kept f f' i step (c ∷ cs) none kin = (step c (none_first c cs i none) kin.0, children-kept f f' i step cs (none_rest c cs i none) kin.1)
+
+pub children-front : (f : Frame) (before behind : List Frame) → AreChildren f (before ++ behind) → AreChildren f before
+children-front f [] behind kin = tt
+children-front f (c ∷ before) behind kin = (kin.0, children-front f before behind kin.1)
+
+pub children-back : (f : Frame) (before behind : List Frame) → AreChildren f (before ++ behind) → AreChildren f behind
+children-back f [] behind kin = kin
+children-back f (c ∷ before) behind kin = children-back f before behind kin.1
+
+pub children-joined : (f : Frame) (before behind : List Frame) → AreChildren f before → AreChildren f behind → AreChildren f (before ++ behind)
+children-joined f [] behind front back = back
+children-joined f (c ∷ before) behind front back = (front.0, children-joined f before behind front.1 back)
+
+pub how_many-append : (i : ℕ) (before behind : List Frame) → how_many i (before ++ behind) ≡ how_many i before + how_many i behind
+how_many-append i [] behind = grind (arith, common_steps)
+how_many-append i (c ∷ before) behind = grind (arith, common_steps, how_many-append i before behind)
+
+pub how_many-own : (c : Frame) (cs : List Frame) → how_many c.number (c ∷ cs) ≡ how_many c.number cs + 1
+how_many-own c cs = grind (arith, common_steps)
+
+pub how_many-cons : (i : ℕ) (c : Frame) (cs : List Frame) → how_many i cs ≤ how_many i (c ∷ cs)
+how_many-cons i c cs = grind (arith, common_steps)
+
+-- what an inlet leaves: the frame goes on searching, with other statuses, best score and choice, and its other children stay children
+pub record IsTakenIn (f f' : Frame) (i : ℕ) : Type 0 where
+  pub own : f'.own ≡ f.own
+  pub phase : f'.phase ≡ 3
+  pub window : f'.alpha <ℤ f'.beta
+  pub searching : IsSearchingFrame f'
+  pub step : (c : Frame) → c.number ≢ i → IsChildOf f c → IsChildOf f' c
+
+pub Fits-taken : (f f' c : Frame) (before behind : List Frame) → Fits f (before ++ c ∷ behind) Neither → IsTakenIn f f' c.number → Fits f' (before ++ behind) Neither
+Fits-taken f f' c before behind fits t =
+    let all : how_many c.number (before ++ c ∷ behind) ≤ 1 = fits.once c.number in
+    let sum : how_many c.number (before ++ c ∷ behind) ≡ how_many c.number before + how_many c.number (c ∷ behind) = how_many-append c.number before (c ∷ behind) in
+    let one : how_many c.number (c ∷ behind) ≡ how_many c.number behind + 1 = how_many-own c behind in
+    let none_before : how_many c.number before ≡ 0 = omega arith in
+    let none_behind : how_many c.number behind ≡ 0 = omega arith in
+    let phase : f'.phase ≡ 3 = t.phase in
+    record {
+      window = t.window;
+      marked = λ (e : f'.phase ≡ 1). absurd (omega arith);
+      idle = λ _ not3. absurd (not3 t.phase);
+      searching = λ _. t.searching;
+      done = λ (e : f'.phase ≡ 4). absurd (omega arith);
+      kin = children-joined f' before behind
+          (children-kept f f' c.number t.step before none_before (children-front f before (c ∷ behind) fits.kin))
+          (children-kept f f' c.number t.step behind none_behind (children-back f before (c ∷ behind) fits.kin).1);
+      once = λ i.
+          let most : how_many i (before ++ c ∷ behind) ≤ 1 = fits.once i in
+          let sum_i : how_many i (before ++ c ∷ behind) ≡ how_many i before + how_many i (c ∷ behind) = how_many-append i before (c ∷ behind) in
+          let cons_i : how_many i behind ≤ how_many i (c ∷ behind) = how_many-cons i c behind in
+          let joined : how_many i (before ++ behind) ≡ how_many i before + how_many i behind = how_many-append i before behind in
+          omega arith;
+    }
+
+-- the child among its parent's children
+pub child-of : (f c : Frame) (before behind : List Frame) → AreChildren f (before ++ c ∷ behind) → IsChildOf f c
+child-of f c before behind kin = (children-back f before (c ∷ behind) kin).0
+
+-- a parent of a child is in phase 2 or 3
+pub in-search : (f c : Frame) → IsInRole f c → (f.phase ≡ 2) ⊎ (f.phase ≡ 3)
+in-search f c (First r) = inl r.phase
+in-search f c (Test r) = inr r.phase
+in-search f c (Again r) = inr r.phase
+
+-- a child with status 1 or 4 isn't settled
+pub unsettled : (f c : Frame) → IsInRole f c → slice_index f.statuses c.number ≢ 2
+unsettled f c (First r) = λ e. absurd (omega (arith, r.status, e))
+unsettled f c (Test r) = λ e. absurd (omega (arith, r.status, e))
+unsettled f c (Again r) = λ e. absurd (omega (arith, r.status, e))
+
+-- a child's status isn't 0
+pub begun : (f c : Frame) → IsInRole f c → slice_index f.statuses c.number ≢ 0
+begun f c (First r) = λ e. absurd (omega (arith, r.status, e))
+begun f c (Test r) = λ e. absurd (omega (arith, r.status, e))
+begun f c (Again r) = λ e. absurd (omega (arith, r.status, e))
+
+pub unspawned-set : (st : List ℕ) (i x spawned : ℕ) → slice_index st i ≢ 0 → ((k : ℕ) → spawned ≤ k → k < length st → slice_index st k ≡ 0) →
+    (k : ℕ) → spawned ≤ k → k < length (slice_set st i x) → slice_index (slice_set st i x) k ≡ 0
+unspawned-set st i x spawned here h k low high =
+    let below : k < length st = omega (arith, set_length st i x) in
+    let zero : slice_index st k ≡ 0 = h k low below in
+    set_beside st i x k (λ (e : k ≡ i). here (subst (λ j. slice_index st j ≡ 0) e zero)) ∙ zero
+
+-- inlet case 4: a test above its window's lower end, below beta
+pub inlet-failed : (f c : Frame) (before behind : List Frame) → Fits f (before ++ c ∷ behind) Neither → Fits c [] HasReturned → IsTest f c →
+    Fits (record f { statuses = slice_set f.statuses c.number 3 }) (before ++ behind) Neither
+inlet-failed f c before behind fits returned test =
+    let kin : IsChildOf f c = child-of f c before behind fits.kin in
+    let s : IsSearchingFrame f = fits.searching (inr test.phase) in
+    let open_ : slice_index f.statuses c.number ≢ 2 = unsettled f c kin.in_role in
+    let f' : Frame = record f { statuses = slice_set f.statuses c.number 3 } in
+    Fits-taken f f' c before behind fits (record {
+      own = refl;
+      phase = test.phase;
+      window = fits.window;
+      searching = record {
+        places = set_length f.statuses c.number 3 ∙ s.places;
+        some = rw (set_length f.statuses c.number 3) s.some;
+        deep = s.deep;
+        spawned_in = rw (set_length f.statuses c.number 3) s.spawned_in;
+        unspawned = unspawned-set f.statuses c.number 3 f.spawned (begun f c kin.in_role) s.unspawned;
+        search = IsSearching-mark (value_at f) (code_at f) f.statuses f.alpha f.beta f.best f.choice c.number 3 kin.inside open_ (λ e. absurd (omega (arith, e))) s.search;
+      };
+      step = λ d other dkin. record {
+        inside = rw (set_length f.statuses c.number 3) dkin.inside;
+        shallower = dkin.shallower;
+        known = dkin.known;
+        in_role = role-kept-mark f d c.number 3 kin.inside other open_ dkin.in_role;
+      };
+    })
+
+-- what a returned child's score says: of any role, below beta, and at most the window's end towards alpha
+pub record IsScored (f c : Frame) : Type 0 where
+  pub under : neg_ℤ c.best <ℤ f.beta
+  pub worth : value_at f c.number ≡ neg_ℤ (value c)
+  pub bound : IsBound c.alpha c.beta c.best (value c)
+
+pub scored : (f c : Frame) (before behind : List Frame) → Fits f (before ++ c ∷ behind) Neither → Fits c [] HasReturned → IsChildOf f c → (value_at f c.number ≡ neg_ℤ (value c)) × IsBound c.alpha c.beta c.best (value c)
+scored f c before behind fits returned kin =
+    let phase : c.phase ≡ 4 = returned.marked in
+    (worth_of f c kin (λ (e : c.phase ≡ 0). absurd (omega arith)), (returned.done phase).bound)
+
+-- inlet cases 2 and 3 with a score that is at most the greater of alpha and best, and an upper bound of the choice's value
+pub inlet-low : (f c : Frame) (before behind : List Frame) → Fits f (before ++ c ∷ behind) Neither →
+    neg_ℤ c.best ≤ℤ floor f → value_at f c.number ≤ℤ neg_ℤ c.best → f.phase ≡ 3 →
+    Fits (record f { phase = 3; best = int_max f.best (neg_ℤ c.best); statuses = slice_set f.statuses c.number 2 }) (before ++ behind) Neither
+inlet-low f c before behind fits low worth phase =
+    let kin : IsChildOf f c = child-of f c before behind fits.kin in
+    let s : IsSearchingFrame f = fits.searching (inr phase) in
+    let f' : Frame = record f { phase = 3; best = int_max f.best (neg_ℤ c.best); statuses = slice_set f.statuses c.number 2 } in
+    Fits-taken f f' c before behind fits (record {
+      own = refl;
+      phase = refl;
+      window = fits.window;
+      searching = record {
+        places = set_length f.statuses c.number 2 ∙ s.places;
+        some = rw (set_length f.statuses c.number 2) s.some;
+        deep = s.deep;
+        spawned_in = rw (set_length f.statuses c.number 2) s.spawned_in;
+        unspawned = unspawned-set f.statuses c.number 2 f.spawned (begun f c kin.in_role) s.unspawned;
+        search = IsSearching-low (value_at f) (code_at f) f.statuses f.alpha f.beta f.best (neg_ℤ c.best) f.choice c.number fits.window kin.inside low worth s.search;
+      };
+      step = λ d other dkin. record {
+        inside = rw (set_length f.statuses c.number 2) dkin.inside;
+        shallower = dkin.shallower;
+        known = dkin.known;
+        in_role = role-kept-settle f d c.number f.choice (int_max f.best (neg_ℤ c.best)) kin.inside other phase (omega (arith, ints, clamps)) (λ _. omega (arith, ints, clamps)) dkin.in_role;
+      };
+    })
+
+-- two searches again are of one choice
+pub one-again : (f c d : Frame) → IsAgain f c → IsAgain f d → d.number ≢ c.number → ⊥
+one-again f c d r q other =
+    let here : slice_index f.statuses c.number ≡ 4 = r.status in
+    let there : slice_index f.statuses d.number ≡ 4 = q.status in
+    let above : c.number < d.number → slice_index f.statuses c.number ≡ 2 = λ below. q.earlier c.number below in
+    let under : d.number < c.number → slice_index f.statuses d.number ≡ 2 = λ below. r.earlier d.number below in
+    let apart : (d.number ≡ c.number) → ⊥ = other in
+    grind (arith, ints, above, under, apart)
+
+-- inlet case 2 of a search again, with a better score
+pub inlet-higher : (f c : Frame) (before behind : List Frame) → Fits f (before ++ c ∷ behind) Neither → IsAgain f c →
+    floor f <ℤ neg_ℤ c.best → neg_ℤ c.best <ℤ f.beta → value_at f c.number ≡ neg_ℤ c.best →
+    Fits (record f { phase = 3; best = int_max f.best (neg_ℤ c.best); choice = code_at f c.number; statuses = slice_set f.statuses c.number 2 }) (before ++ behind) Neither
+inlet-higher f c before behind fits again high under worth =
+    let kin : IsChildOf f c = child-of f c before behind fits.kin in
+    let s : IsSearchingFrame f = fits.searching (inr again.phase) in
+    let f' : Frame = record f { phase = 3; best = int_max f.best (neg_ℤ c.best); choice = code_at f c.number; statuses = slice_set f.statuses c.number 2 } in
+    Fits-taken f f' c before behind fits (record {
+      own = refl;
+      phase = refl;
+      window = fits.window;
+      searching = record {
+        places = set_length f.statuses c.number 2 ∙ s.places;
+        some = rw (set_length f.statuses c.number 2) s.some;
+        deep = s.deep;
+        spawned_in = rw (set_length f.statuses c.number 2) s.spawned_in;
+        unspawned = unspawned-set f.statuses c.number 2 f.spawned (begun f c kin.in_role) s.unspawned;
+        search = IsSearching-higher (value_at f) (code_at f) f.statuses f.alpha f.beta f.best (neg_ℤ c.best) f.choice c.number kin.inside high under worth again.earlier s.search;
+      };
+      step = λ d other dkin. record {
+        inside = rw (set_length f.statuses c.number 2) dkin.inside;
+        shallower = dkin.shallower;
+        known = dkin.known;
+        in_role = role-kept-settle f d c.number (code_at f c.number) (int_max f.best (neg_ℤ c.best)) kin.inside other again.phase (omega (arith, ints, clamps))
+            (λ r. absurd (one-again f c d again r other)) dkin.in_role;
+      };
+    })
+
+-- inlet case 1: the frame is done, and has no child
+pub inlet-cut : (f c : Frame) (before behind : List Frame) (m : ℤ) (g : IsGreatest (value_at f) (length f.statuses) (value f)) → Fits f (before ++ c ∷ behind) Neither →
+    f.beta ≤ℤ neg_ℤ c.best → neg_ℤ c.best ≤ℤ value_at f c.number →
+    Fits (record f { phase = 4; best = neg_ℤ c.best; choice = code_at f c.number; statuses = slice_set f.statuses c.number 2 }) [] Neither
+inlet-cut f c before behind m g fits high under =
+    let kin : IsChildOf f c = child-of f c before behind fits.kin in
+    record {
+      window = fits.window;
+      marked = λ (e : 4 ≡ 1). absurd (omega arith);
+      idle = λ _ _. refl;
+      searching = ⊎_elim (λ (e : 4 ≡ 2). absurd (omega arith)) (λ (e : 4 ≡ 3). absurd (omega arith));
+      done = λ _. record {
+        bound = cut (value_at f) (length f.statuses) f.alpha f.beta (neg_ℤ c.best) (value f) c.number kin.inside fits.window high under g;
+        named = λ _ (low : neg_ℤ c.best <ℤ f.beta). absurd (omega (arith, ints));
+      };
+      kin = tt;
+      once = λ i. omega arith;
+    }
+
+-- in phase 2 the first child is the only one
+pub first-alone : {P : Type 0} (f c d : Frame) → IsFirst f c → IsInRole f d → d.number ≢ c.number → P
+first-alone f c d first (First r) other = absurd (other (r.number ∙ sym first.number))
+first-alone f c d first (Test r) other = absurd (omega (arith, first.phase, r.phase))
+first-alone f c d first (Again r) other = absurd (omega (arith, first.phase, r.phase))
+
+-- inlet case 2 of the first child: below beta
+pub inlet-first : (f c : Frame) (before behind : List Frame) (choice : ℕ) → Fits f (before ++ c ∷ behind) Neither → IsFirst f c →
+    IsSearching (value_at f) (code_at f) (slice_set f.statuses c.number 2) f.alpha f.beta (int_max f.best (neg_ℤ c.best)) choice →
+    Fits (record f { phase = 3; best = int_max f.best (neg_ℤ c.best); choice = choice; statuses = slice_set f.statuses c.number 2 }) (before ++ behind) Neither
+inlet-first f c before behind choice fits first search =
+    let kin : IsChildOf f c = child-of f c before behind fits.kin in
+    let s : IsSearchingFrame f = fits.searching (inl first.phase) in
+    let f' : Frame = record f { phase = 3; best = int_max f.best (neg_ℤ c.best); choice = choice; statuses = slice_set f.statuses c.number 2 } in
+    Fits-taken f f' c before behind fits (record {
+      own = refl;
+      phase = refl;
+      window = fits.window;
+      searching = record {
+        places = set_length f.statuses c.number 2 ∙ s.places;
+        some = rw (set_length f.statuses c.number 2) s.some;
+        deep = s.deep;
+        spawned_in = rw (set_length f.statuses c.number 2) s.spawned_in;
+        unspawned = unspawned-set f.statuses c.number 2 f.spawned (begun f c kin.in_role) s.unspawned;
+        search = search;
+      };
+      step = λ d other dkin. first-alone f c d first dkin.in_role other;
+    })
+
+-- what the windows say of a returned child's score
+pub first-low : (f c : Frame) → IsFirst f c → value_at f c.number ≡ neg_ℤ (value c) → IsBound c.alpha c.beta c.best (value c) → neg_ℤ c.best <ℤ f.beta → value_at f c.number ≤ℤ neg_ℤ c.best
+first-low f c r worth bound under =
+    let low : c.alpha ≡ neg_ℤ f.beta = r.low in
+    by_lt_z c.best c.beta
+    (λ inner. let e : neg_ℤ (value c) ≡ neg_ℤ c.best = inner_side c.alpha c.beta c.best (value c) bound (omega (arith, ints)) inner in omega (arith, ints))
+    (λ high. let e : neg_ℤ (value c) ≤ℤ neg_ℤ c.best = low_side c.alpha c.beta c.best (value c) bound high in omega (arith, ints))
+
+pub first-exact : (f c : Frame) → IsFirst f c → value_at f c.number ≡ neg_ℤ (value c) → IsBound c.alpha c.beta c.best (value c) → neg_ℤ c.best <ℤ f.beta → floor f <ℤ neg_ℤ c.best → value_at f c.number ≡ neg_ℤ c.best
+first-exact f c r worth bound under over =
+    let low : c.alpha ≡ neg_ℤ f.beta = r.low in
+    let high : c.beta ≡ neg_ℤ f.alpha = r.high in
+    worth ∙ inner_side c.alpha c.beta c.best (value c) bound (omega (arith, ints)) (omega (arith, ints, clamps))
+
+pub again-low : (f c : Frame) → IsAgain f c → value_at f c.number ≡ neg_ℤ (value c) → IsBound c.alpha c.beta c.best (value c) → neg_ℤ c.best ≤ℤ floor f → value_at f c.number ≤ℤ neg_ℤ c.best
+again-low f c r worth bound under =
+    let high : c.beta ≡ neg_ℤ (floor f) = r.high in
+    let e : neg_ℤ (value c) ≤ℤ neg_ℤ c.best = low_side c.alpha c.beta c.best (value c) bound (omega (arith, ints)) in omega (arith, ints)
+
+pub again-exact : (f c : Frame) → IsAgain f c → value_at f c.number ≡ neg_ℤ (value c) → IsBound c.alpha c.beta c.best (value c) → neg_ℤ c.best <ℤ f.beta → floor f <ℤ neg_ℤ c.best → value_at f c.number ≡ neg_ℤ c.best
+again-exact f c r worth bound under over =
+    let low : c.alpha ≡ neg_ℤ f.beta = r.low in
+    let high : c.beta ≡ neg_ℤ (floor f) = r.high in
+    worth ∙ inner_side c.alpha c.beta c.best (value c) bound (omega (arith, ints)) (omega (arith, ints))
+
+pub test-low : (f c : Frame) → value_at f c.number ≡ neg_ℤ (value c) → IsBound c.alpha c.beta c.best (value c) → neg_ℤ c.best ≤ℤ neg_ℤ c.beta → value_at f c.number ≤ℤ neg_ℤ c.best
+test-low f c worth bound under =
+    let e : neg_ℤ (value c) ≤ℤ neg_ℤ c.best = low_side c.alpha c.beta c.best (value c) bound (omega (arith, ints)) in omega (arith, ints)
+
+-- a score of at least beta is a lower bound of the choice's value, whatever the role
+pub over-beta : (f c : Frame) → f.alpha <ℤ f.beta → f.best <ℤ f.beta → IsInRole f c → value_at f c.number ≡ neg_ℤ (value c) → IsBound c.alpha c.beta c.best (value c) → f.beta ≤ℤ neg_ℤ c.best → neg_ℤ c.best ≤ℤ value_at f c.number
+over-beta f c window below (First r) worth bound high =
+    let low : c.alpha ≡ neg_ℤ f.beta = r.low in
+    let e : neg_ℤ c.best ≤ℤ neg_ℤ (value c) = high_side c.alpha c.beta c.best (value c) bound (omega (arith, ints)) in omega (arith, ints)
+over-beta f c window below (Test r) worth bound high =
+    let low : c.alpha ≡ neg_ℤ (neg_ℤ c.beta +ℤ pos 1) = r.low in
+    let most : neg_ℤ c.beta ≤ℤ floor f = r.most in
+    let e : neg_ℤ c.best ≤ℤ neg_ℤ (value c) = high_side c.alpha c.beta c.best (value c) bound (omega (arith, ints, clamps)) in omega (arith, ints)
+over-beta f c window below (Again r) worth bound high =
+    let low : c.alpha ≡ neg_ℤ f.beta = r.low in
+    let e : neg_ℤ c.best ≤ℤ neg_ℤ (value c) = high_side c.alpha c.beta c.best (value c) bound (omega (arith, ints)) in omega (arith, ints)
+
+not-there : (f c : Frame) (i : ℕ) → slice_index f.statuses i ≢ 1 → slice_index f.statuses i ≢ 4 → c.number ≡ i → IsInRole f c → ⊥
+not-there f c i not1 not4 e (First r) = not1 (subst (λ j. slice_index f.statuses j ≡ 1) e r.status)
+not-there f c i not1 not4 e (Test r) = not1 (subst (λ j. slice_index f.statuses j ≡ 1) e r.status)
+not-there f c i not1 not4 e (Again r) = not4 (subst (λ j. slice_index f.statuses j ≡ 4) e r.status)
+
+-- no child is for a choice whose status is neither 1 nor 4
+pub none-for : (f : Frame) (i : ℕ) (cs : List Frame) → slice_index f.statuses i ≢ 1 → slice_index f.statuses i ≢ 4 → AreChildren f cs → how_many i cs ≡ 0
+none-for f i [] not1 not4 kin = refl
+none-for f i (c ∷ cs) not1 not4 kin =
+    let rest : how_many i cs ≡ 0 = none-for f i cs not1 not4 kin.1 in
+    let apart : c.number ≢ i = λ e. not-there f c i not1 not4 e kin.0.in_role in
+    grind (arith, common_steps, rest, apart)
+
+respawned : (f c : Frame) (spawned i x : ℕ) → IsInRole (record f { statuses = slice_set f.statuses i x }) c → IsInRole (record f { spawned = spawned; statuses = slice_set f.statuses i x }) c
+respawned f c spawned i x (First r) = First (record { role = r.role; phase = r.phase; number = r.number; status = r.status; low = r.low; high = r.high })
+respawned f c spawned i x (Test r) = Test (record { role = r.role; phase = r.phase; status = r.status; low = r.low; least = r.least; most = r.most })
+respawned f c spawned i x (Again r) = Again (record { role = r.role; phase = r.phase; status = r.status; low = r.low; high = r.high; earlier = r.earlier })
+
+once-more : (j i : ℕ) (c : Frame) (children : List Frame) → c.number ≡ i → how_many i children ≡ 0 → how_many j children ≤ 1 → how_many j (children ++ c ∷ []) ≡ how_many j children + how_many j (c ∷ []) → how_many j (children ++ c ∷ []) ≤ 1
+once-more j i c children number none most sum =
+    elim (cases_eq j i) [
+      inl e ↦
+        let here : how_many j children ≡ 0 = ap (λ (k : ℕ). how_many k children) e ∙ none in
+        let single : how_many j (c ∷ []) ≤ 1 = grind (arith, common_steps) in
+        omega arith
+      | inr other ↦
+        let apart : c.number ≢ j = λ (e : c.number ≡ j). other (sym e ∙ number) in
+        let zero : how_many j (c ∷ []) ≡ 0 = grind (arith, common_steps, apart) in
+        omega arith
+    ]
+
+-- next, phases 2 and 3: a child is opened for choice i, whose status was 0 or 3 and is 1 or 4 now
+pub spawned-child : (f c : Frame) (children : List Frame) (i x spawned : ℕ) → Fits f children Neither → (f.phase ≡ 2) ⊎ (f.phase ≡ 3) →
+    i < length f.statuses → slice_index f.statuses i ≢ 1 → slice_index f.statuses i ≢ 2 → slice_index f.statuses i ≢ 4 → x ≢ 2 → x ≢ 0 →
+    f.spawned ≤ spawned → spawned ≤ length f.statuses → i < spawned →
+    c.number ≡ i → IsChildOf (record f { spawned = spawned; statuses = slice_set f.statuses i x }) c →
+    Fits (record f { spawned = spawned; statuses = slice_set f.statuses i x }) (children ++ c ∷ []) Neither
+spawned-child f c children i x spawned fits phase inside not1 not2 not4 x2 x0 more few before number kin =
+    let s : IsSearchingFrame f = fits.searching phase in
+    let f' : Frame = record f { spawned = spawned; statuses = slice_set f.statuses i x } in
+    let none : how_many i children ≡ 0 = none-for f i children not1 not4 fits.kin in
+    record {
+      window = fits.window;
+      marked = fits.marked;
+      idle = λ no2 no3. ⊎_elim (λ e. absurd (no2 e)) (λ e. absurd (no3 e)) phase;
+      searching = λ _. record {
+        places = set_length f.statuses i x ∙ s.places;
+        some = rw (set_length f.statuses i x) s.some;
+        deep = s.deep;
+        spawned_in = rw (set_length f.statuses i x) (omega arith);
+        unspawned = λ k low high. set_beside f.statuses i x k (λ (e : k ≡ i). omega arith) ∙ s.unspawned k (omega arith) (omega (arith, set_length f.statuses i x));
+        search = IsSearching-mark (value_at f) (code_at f) f.statuses f.alpha f.beta f.best f.choice i x inside not2 x2 s.search;
+      };
+      done = λ (e : f.phase ≡ 4). ⊎_elim (λ (p : f.phase ≡ 2). absurd (omega arith)) (λ (p : f.phase ≡ 3). absurd (omega arith)) phase;
+      kin = children-joined f' children (c ∷ [])
+          (children-kept f f' i (λ d other dkin. record {
+            inside = rw (set_length f.statuses i x) dkin.inside;
+            shallower = dkin.shallower;
+            known = dkin.known;
+            in_role = respawned f d spawned i x (role-kept-mark f d i x inside other not2 dkin.in_role);
+          }) children none fits.kin)
+          (kin, tt);
+      once = λ j.
+          let sum : how_many j (children ++ c ∷ []) ≡ how_many j children + how_many j (c ∷ []) = how_many-append j children (c ∷ []) in
+          let most : how_many j children ≤ 1 = fits.once j in
+          once-more j i c children number none most sum;
+    }
+
+
+-- a child whose words changed stays its parent's: its goal is the same, and once it knows its board, that is the board after its choice
+pub record IsSameGoal (p c c' : Frame) : Type 0 where
+  pub depth : c'.depth ≡ c.depth
+  pub alpha : c'.alpha ≡ c.alpha
+  pub beta : c'.beta ≡ c.beta
+  pub role : c'.role ≡ c.role
+  pub number : c'.number ≡ c.number
+  pub known : c'.phase ≢ 0 → board c' ≡ after (board p) (choice_at p c.number)
+
+role-same : (p c c' : Frame) → IsSameGoal p c c' → IsInRole p c → IsInRole p c'
+role-same p c c' g (First r) = First (record {
+  role = g.role ∙ r.role; phase = r.phase; number = g.number ∙ r.number; status = ap (λ (i : ℕ). slice_index p.statuses i) g.number ∙ r.status; low = g.alpha ∙ r.low; high = g.beta ∙ r.high })
+role-same p c c' g (Test r) = Test (record {
+  role = g.role ∙ r.role; phase = r.phase; status = ap (λ (i : ℕ). slice_index p.statuses i) g.number ∙ r.status;
+  low = g.alpha ∙ r.low ∙ ap (λ (b : ℤ). neg_ℤ (neg_ℤ b +ℤ pos 1)) (sym g.beta);
+  least = rw g.beta r.least; most = rw g.beta r.most })
+role-same p c c' g (Again r) = Again (record {
+  role = g.role ∙ r.role; phase = r.phase; status = ap (λ (i : ℕ). slice_index p.statuses i) g.number ∙ r.status; low = g.alpha ∙ r.low; high = g.beta ∙ r.high;
+  earlier = λ k below. r.earlier k (subst (λ (n : ℕ). k < n) g.number below) })
+
+pub child-same : (p c c' : Frame) → IsSameGoal p c c' → IsChildOf p c → IsChildOf p c'
+child-same p c c' g kin = record {
+  inside = rw g.number kin.inside;
+  shallower = g.depth ∙ kin.shallower;
+  known = λ there. g.known there ∙ ap (λ (i : ℕ). after (board p) (choice_at p i)) (sym g.number);
+  in_role = role-same p c c' g kin.in_role;
+}
+
+kin-replaced : (p c c' : Frame) (older younger : List Frame) → IsSameGoal p c c' → AreChildren p (older ++ c ∷ younger) → AreChildren p (older ++ c' ∷ younger)
+kin-replaced p c c' [] younger g kin = (child-same p c c' g kin.0, kin.1)
+kin-replaced p c c' (d ∷ older) younger g kin = (kin.0, kin-replaced p c c' older younger g kin.1)
+
+many-replaced : (i : ℕ) (c c' : Frame) (older younger : List Frame) → c'.number ≡ c.number → how_many i (older ++ c' ∷ younger) ≡ how_many i (older ++ c ∷ younger)
+many-replaced i c c' older younger e =
+    let a : how_many i (older ++ c' ∷ younger) ≡ how_many i older + how_many i (c' ∷ younger) = how_many-append i older (c' ∷ younger) in
+    let b : how_many i (older ++ c ∷ younger) ≡ how_many i older + how_many i (c ∷ younger) = how_many-append i older (c ∷ younger) in
+    let same : how_many i (c' ∷ younger) ≡ how_many i (c ∷ younger) = rw e in
+    omega arith
+
+-- a list with something in it isn't empty
+not-empty : {P : Type 0} (older younger : List Frame) (c : Frame) → older ++ c ∷ younger ≡ [] → P
+not-empty [] younger c e = absurd (cc)
+not-empty (d ∷ older) younger c e = absurd (cc)
+
+-- the parent fits after its child changed
+pub parent-kept : (p c c' : Frame) (older younger : List Frame) → IsSameGoal p c c' → Fits p (older ++ c ∷ younger) Neither → Fits p (older ++ c' ∷ younger) Neither
+parent-kept p c c' older younger g fits = record {
+  window = fits.window;
+  marked = fits.marked;
+  idle = λ no2 no3. not-empty older younger c (fits.idle no2 no3);
+  searching = fits.searching;
+  done = fits.done;
+  kin = kin-replaced p c c' older younger g fits.kin;
+  once = λ i. rw (many-replaced i c c' older younger g.number) (fits.once i);
+}
+
+-- where all choices are settled there is no child
+childless : (f : Frame) (children : List Frame) → ((k : ℕ) → k < length f.statuses → slice_index f.statuses k ≡ 2) → AreChildren f children → children ≡ []
+childless f [] all kin = refl
+childless f (c ∷ cs) all kin = absurd (unsettled f c kin.0.in_role (all c.number kin.0.inside))
+
+-- next, phase 3, all settled: the frame is done, and returns with no child
+pub next-settled : (f : Frame) (children : List Frame) → Fits f children Neither → f.phase ≡ 3 → ((k : ℕ) → k < length f.statuses → slice_index f.statuses k ≡ 2) →
+    IsGreatest (value_at f) (length f.statuses) (value f) → (f.alpha <ℤ f.best → f.best <ℤ f.beta → f.choice ≡ coded (best_choice f.depth (board f))) →
+    (children ≡ []) × Fits (record f { phase = 4 }) [] HasReturned
+next-settled f children fits phase all g named =
+    let s : IsSearchingFrame f = fits.searching (inr phase) in
+    (childless f children all fits.kin, record {
+      window = fits.window;
+      marked = refl;
+      idle = λ _ _. refl;
+      searching = ⊎_elim (λ (e : 4 ≡ 2). absurd (omega arith)) (λ (e : 4 ≡ 3). absurd (omega arith));
+      done = λ _. record { bound = all_settled (value_at f) (code_at f) f.statuses f.alpha f.beta f.best (value f) f.choice s.search all g; named = named };
+      kin = tt;
+      once = λ i. omega arith;
+    })
+
+-- next, phase 4
+pub next-done : (f : Frame) (children : List Frame) → Fits f children Neither → f.phase ≡ 4 → (children ≡ []) × Fits f [] HasReturned
+next-done f children fits phase = (fits.idle (λ e. absurd (omega arith)) (λ e. absurd (omega arith)), record {
+  window = fits.window; marked = phase; idle = λ _ _. refl; searching = fits.searching; done = fits.done; kin = tt; once = λ i. omega arith;
+})

@@ -1,0 +1,15 @@
+pub mod Searching
+pub mod Roles
+pub mod Best
+pub mod Kinship
+pub mod Openings
+pub mod PlaceLemmas
+pub mod Forms
+pub mod Codes
+pub mod Steps
+pub mod BoardWords
+pub mod Takings
+pub mod Keeping
+pub mod LeafLemmas
+pub mod Answers
+pub mod Soundness

@@ -1,0 +1,148 @@
+-- Stores by what they set: the frame in the words after them, and the form of these words.
+use Rattle.std.specs.Prelude.{◌≡◌, ◌≢◌, ℕ, ◌+◌, ◌-◌, ◌<◌, ◌≤◌, ◌==◌, ◌&&◌, nat_le, Bool, true, ℤ, pos, ◌≤ℤ◌, ◌+ℤ◌, ◌-ℤ◌, nat_abs, if◌then◌else◌, List, [], ◌∷◌, ◌++◌, map, drop, replicate, length, refl, slice_index, slice_set}
+use Rattle.std.proofs.Common.{zero, suc, zero-add, suc-add, sym, ◌∙◌, ap, subst, arith}
+use Rattle.std.proofs.lemmas.Grind.{common_steps}
+use Rattle.std.proofs.lemmas.Bool.{le-leb}
+use Rattle.std.proofs.lemmas.List.{get_or-set_other, get_or-set_same, map-set}
+use Rattle.std.proofs.lemmas.List.Recursion.{and_set}
+use Rattle.std.proofs.lemmas.Int.{ints, clamps}
+use Rattle.std.proofs.Math.ListN.{length-set}
+use Rattle.std.proofs.Math.Path.{fun_ext}
+use Rattle.sched_rules.specs.Trees.{stored}
+use Rattle.jamboree_rules.specs.Frames.{Frame, least}
+use Rattle.jamboree_rules.specs.Places.{score_of, word_of, status_of, frame_of, are_statuses, Change, OwnBits, OppBits, Phase, Best, Chosen, Count, Spawned, Status, pair_of, pairs_of, changed}
+
+-- the word of a score holds it
+pub held : (s : ℤ) → least ≤ℤ s → score_of (word_of s) ≡ s
+held s low = omega (arith, ints)
+
+-- a word among others changed
+abbrev pub put : (ℕ → ℕ) → ℕ → ℕ → ℕ → ℕ
+put g k x j = if j == k then x else g j
+
+-- the frame of these first words and statuses
+abbrev pub frame_with : (ℕ → ℕ) → List ℕ → Frame
+frame_with g statuses = record {
+  own = g 0; opp = g 1; depth = g 2; alpha = score_of (g 3); beta = score_of (g 4);
+  role = g 5; number = g 6; phase = g 7; best = score_of (g 8); choice = g 9;
+  count = g 10; spawned = g 11; statuses = statuses;
+}
+
+pub there : (w : List ℕ) (place x : ℕ) → place < length w → slice_index (slice_set w place x) place ≡ x
+there w place x inside = get_or-set_same w place x 0 inside
+
+pub beside : (w : List ℕ) (k place x : ℕ) → k ≢ place → slice_index (slice_set w place x) k ≡ slice_index w k
+beside w k place x apart = get_or-set_other w place k x 0 apart
+
+put-is : (w : List ℕ) (k x j : ℕ) → k < length w → slice_index (slice_set w k x) j ≡ put (slice_index w) k x j
+put-is w k x j inside = grind (arith, common_steps, there w k x, beside w j k x)
+
+-- a store among the first places leaves what lies behind them, and one behind them is one there
+drop-front : (w : List ℕ) (n place x : ℕ) → place < n → drop n (slice_set w place x) ≡ drop n w
+drop-front w n place x h = grind (arith, common_steps)
+
+drop-behind : (w : List ℕ) (n i x : ℕ) → drop n (slice_set w (n + i) x) ≡ slice_set (drop n w) i x
+drop-behind w zero i x = ap (λ j. slice_set w j x) (zero-add i)
+drop-behind [] (suc n) i x = refl
+drop-behind (y ∷ w) (suc n) i x = rw suc-add (drop-behind w n i x)
+
+set-first : (w : List ℕ) (k x : ℕ) → k < 12 → 12 ≤ length w → frame_of (slice_set w k x) ≡ frame_with (put (slice_index w) k x) (map status_of (drop 12 w))
+set-first w k x early long =
+    let words : slice_index (slice_set w k x) ≡ put (slice_index w) k x = fun_ext (λ j. put-is w k x j (omega arith)) in
+    let statuses : drop 12 (slice_set w k x) ≡ drop 12 w = drop-front w 12 k x early in
+    ap (λ (g : ℕ → ℕ). frame_with g (map status_of (drop 12 (slice_set w k x)))) words ∙ ap (λ (st : List ℕ). frame_with (put (slice_index w) k x) (map status_of st)) statuses
+
+set-status : (w : List ℕ) (i x : ℕ) → frame_of (slice_set w (12 + i) x) ≡ record (frame_of w) { statuses = slice_set (map status_of (drop 12 w)) i (status_of x) }
+set-status w i x =
+    let same : (j : ℕ) → j < 12 → slice_index (slice_set w (12 + i) x) j ≡ slice_index w j = λ j below. beside w j (12 + i) x (λ e. absurd (omega (arith, e))) in
+    rw (same 0 (omega arith), same 1 (omega arith), same 2 (omega arith), same 3 (omega arith), same 4 (omega arith), same 5 (omega arith), same 6 (omega arith),
+      same 7 (omega arith), same 8 (omega arith), same 9 (omega arith), same 10 (omega arith), same 11 (omega arith), drop-behind w 12 i x, map-set status_of (drop 12 w) i x)
+
+-- what is stored can be read again: a score is one, and a status is one
+abbrev pub IsSafe : Change → Type 0
+IsSafe (OwnBits word) = Unit {0}
+IsSafe (OppBits word) = Unit {0}
+IsSafe (Phase phase) = Unit {0}
+IsSafe (Best score) = least ≤ℤ score
+IsSafe (Chosen code) = Unit {0}
+IsSafe (Count count) = Unit {0}
+IsSafe (Spawned count) = Unit {0}
+IsSafe (Status i status) = status ≤ 4
+
+abbrev pub AreSafe : List Change → Type 0
+AreSafe [] = Unit {0}
+AreSafe (change ∷ changes) = IsSafe change × AreSafe changes
+
+-- one store changes the frame so
+set-one : (change : Change) (w : List ℕ) → IsSafe change → 12 ≤ length w → frame_of (slice_set w (pair_of change).0 (pair_of change).1) ≡ changed change (frame_of w)
+set-one (OwnBits word) w safe long = set-first w 0 word (omega arith) long
+set-one (OppBits word) w safe long = set-first w 1 word (omega arith) long
+set-one (Phase phase) w safe long = set-first w 7 phase (omega arith) long
+set-one (Best score) w safe long = set-first w 8 (word_of score) (omega arith) long ∙ ap (λ (b : ℤ). record (frame_of w) { best = b }) (held score safe)
+set-one (Chosen code) w safe long = set-first w 9 code (omega arith) long
+set-one (Count count) w safe long = set-first w 10 count (omega arith) long
+set-one (Spawned count) w safe long = set-first w 11 count (omega arith) long
+set-one (Status i status) w safe long = set-status w i status
+
+-- the frame after stores
+abbrev pub changed_by : List Change → Frame → Frame
+changed_by [] f = f
+changed_by (change ∷ changes) f = changed_by changes (changed change f)
+
+pub length-stored : (stores : List (ℕ × ℕ)) (words : List ℕ) → length (stored stores words) ≡ length words
+length-stored [] words = refl
+length-stored (store ∷ stores) words = length-stored stores (slice_set words store.0 store.1) ∙ length-set words store.0 store.1
+
+-- the frame in the words after stores, read off the frame before
+pub frame-stored : (changes : List Change) (w : List ℕ) → AreSafe changes → 12 ≤ length w → frame_of (stored (pairs_of changes) w) ≡ changed_by changes (frame_of w)
+frame-stored [] w safe long = refl
+frame-stored (change ∷ changes) w safe long =
+    frame-stored changes (slice_set w (pair_of change).0 (pair_of change).1) safe.1 (omega (arith, length-set w (pair_of change).0 (pair_of change).1))
+    ∙ ap (λ (f : Frame). changed_by changes f) (set-one change w safe.0 long)
+
+-- entries stay statuses
+entries-front : (w : List ℕ) (k x : ℕ) → k < 12 → are_statuses (drop 12 w) ≡ true → are_statuses (drop 12 (slice_set w k x)) ≡ true
+entries-front w k x early h = ap are_statuses (drop-front w 12 k x early) ∙ h
+
+entries-one : (change : Change) (w : List ℕ) → IsSafe change → are_statuses (drop 12 w) ≡ true → are_statuses (drop 12 (slice_set w (pair_of change).0 (pair_of change).1)) ≡ true
+entries-one (OwnBits word) w safe h = entries-front w 0 word (omega arith) h
+entries-one (OppBits word) w safe h = entries-front w 1 word (omega arith) h
+entries-one (Phase phase) w safe h = entries-front w 7 phase (omega arith) h
+entries-one (Best score) w safe h = entries-front w 8 (word_of score) (omega arith) h
+entries-one (Chosen code) w safe h = entries-front w 9 code (omega arith) h
+entries-one (Count count) w safe h = entries-front w 10 count (omega arith) h
+entries-one (Spawned count) w safe h = entries-front w 11 count (omega arith) h
+entries-one (Status i status) w safe h =
+    ap are_statuses (drop-behind w 12 i status)
+    ∙ and_set are_statuses (λ entry. nat_le entry 4) refl (λ entry entries. refl) (drop 12 w) i status (le-leb status 4 safe) h
+
+pub entries-stored : (changes : List Change) (w : List ℕ) → AreSafe changes → are_statuses (drop 12 w) ≡ true → are_statuses (drop 12 (stored (pairs_of changes) w)) ≡ true
+entries-stored [] w safe h = h
+entries-stored (change ∷ changes) w safe h =
+    entries-stored changes (slice_set w (pair_of change).0 (pair_of change).1) safe.1 (entries-one change w safe.0 h)
+
+-- words that grow by zeros
+first-grown : (w zeros : List ℕ) (j : ℕ) → 12 ≤ length w → j < 12 → slice_index (w ++ zeros) j ≡ slice_index w j
+first-grown w zeros j long below = let inside : j < length w = omega arith in grind (arith, common_steps)
+
+drop-own : (w zeros : List ℕ) → drop (length w) (w ++ zeros) ≡ zeros
+drop-own [] zeros = refl
+drop-own (x ∷ w) zeros = drop-own w zeros
+
+pub drop-grown : (w zeros : List ℕ) → length w ≡ 12 → drop 12 (w ++ zeros) ≡ zeros
+drop-grown w zeros len = ap (λ (n : ℕ). drop n (w ++ zeros)) (sym len) ∙ drop-own w zeros
+
+statuses-zeros : (n : ℕ) → map status_of (replicate n 0) ≡ replicate n 0
+statuses-zeros zero = refl
+statuses-zeros (suc n) = ap (λ rest. 0 ∷ rest) (statuses-zeros n)
+
+pub entries-zeros : (n : ℕ) → are_statuses (replicate n 0) ≡ true
+entries-zeros zero = refl
+entries-zeros (suc n) = entries-zeros n
+
+pub frame-grown : (w : List ℕ) (n : ℕ) → length w ≡ 12 → frame_of (w ++ replicate n 0) ≡ record (frame_of w) { statuses = replicate n 0 }
+frame-grown w n len =
+    let long : 12 ≤ length w = omega arith in
+    let same : (j : ℕ) → j < 12 → slice_index (w ++ replicate n 0) j ≡ slice_index w j = λ j below. first-grown w (replicate n 0) j long below in
+    rw (same 0 (omega arith), same 1 (omega arith), same 2 (omega arith), same 3 (omega arith), same 4 (omega arith), same 5 (omega arith), same 6 (omega arith),
+      same 7 (omega arith), same 8 (omega arith), same 9 (omega arith), same 10 (omega arith), same 11 (omega arith), drop-grown w (replicate n 0) len, statuses-zeros n)

@@ -1,0 +1,134 @@
+-- One frame's search, over the values v of its choices, the codes of its choices and the statuses of its choices.
+use Rattle.std.specs.Prelude.{◌≡◌, ◌≢◌, ℕ, ◌+◌, ◌<◌, ◌≤◌, ◌⊎◌, ℤ, pos, negsuc, neg_ℤ, ◌<ℤ◌, ◌≤ℤ◌, ◌+ℤ◌, List, length, refl, slice_index, slice_set}
+use Rattle.std.specs.Int.{int_max}
+use Rattle.std.proofs.Common.{sym, ◌∙◌, ap, subst, arith, inl, inr}
+use Rattle.std.proofs.lemmas.Grind.{common_steps}
+use Rattle.std.proofs.lemmas.Int.{ints, clamps, by_lt_z}
+use Rattle.leaf_search.specs.Bounds.{IsBound}
+use Rattle.jamboree_rules.specs.Fits.{IsFound, IsSearching}
+
+-- the score of a child with the window from -high to -low, seen from the parent
+pub low_side : (low high sc m : ℤ) → IsBound low high sc m → high ≤ℤ sc → neg_ℤ m ≤ℤ neg_ℤ sc
+low_side low high sc m b h = let over : sc ≤ℤ m = b.lower h in omega (arith, ints)
+
+pub high_side : (low high sc m : ℤ) → IsBound low high sc m → sc ≤ℤ low → neg_ℤ sc ≤ℤ neg_ℤ m
+high_side low high sc m b h = let under : m ≤ℤ sc = b.upper h in omega (arith, ints)
+
+pub inner_side : (low high sc m : ℤ) → IsBound low high sc m → low <ℤ sc → sc <ℤ high → neg_ℤ m ≡ neg_ℤ sc
+inner_side low high sc m b h g = ap neg_ℤ (b.exact h g)
+
+-- a status that is set
+pub set_there : (st : List ℕ) (i x : ℕ) → i < length st → slice_index (slice_set st i x) i ≡ x
+set_there st i x h = grind (arith, common_steps)
+
+pub set_beside : (st : List ℕ) (i x k : ℕ) → k ≢ i → slice_index (slice_set st i x) k ≡ slice_index st k
+set_beside st i x k h = grind (arith, common_steps)
+
+pub set_length : (st : List ℕ) (i x : ℕ) → length (slice_set st i x) ≡ length st
+set_length st i x = grind (arith, common_steps)
+
+-- the found choice stays where a status that isn't settled is set, or one is set to settled
+pub found-set : (v : ℕ → ℤ) (code : ℕ → ℕ) (st : List ℕ) (best : ℤ) (choice i x : ℕ) → i < length st → (slice_index st i ≢ 2) ⊎ (x ≡ 2) →
+    IsFound v code st best choice → IsFound v code (slice_set st i x) best choice
+found-set v code st best choice i x inside (inl other) f = record {
+  place = f.place;
+  inside = omega (arith, set_length st i x, f.inside);
+  settled = set_beside st i x f.place (λ (e : f.place ≡ i). other (subst (λ k. slice_index st k ≡ 2) e f.settled)) ∙ f.settled;
+  named = f.named; worth = f.worth; earlier = f.earlier;
+}
+found-set v code st best choice i x inside (inr two) f = record {
+  place = f.place;
+  inside = omega (arith, set_length st i x, f.inside);
+  settled = grind (arith, common_steps, set_there, set_beside, f.settled);
+  named = f.named; worth = f.worth; earlier = f.earlier;
+}
+
+-- a settled choice after a status was set
+pub settled-set : (v : ℕ → ℤ) (st : List ℕ) (best : ℤ) (i x : ℕ) → i < length st → (x ≡ 2 → v i ≤ℤ best) →
+    ((k : ℕ) → k < length st → slice_index st k ≡ 2 → v k ≤ℤ best) → (k : ℕ) → k < length (slice_set st i x) → slice_index (slice_set st i x) k ≡ 2 → v k ≤ℤ best
+settled-set v st best i x inside here h k below is = grind (arith, ints, common_steps, set_there, set_beside, set_length st i x, h k, here)
+
+-- next: a failed choice is searched again (3 to 4), a choice is tested (0 to 1); inlet case 4: a test failed (1 to 3)
+pub IsSearching-mark : (v : ℕ → ℤ) (code : ℕ → ℕ) (st : List ℕ) (alpha beta best : ℤ) (choice i x : ℕ) → i < length st → slice_index st i ≢ 2 → x ≢ 2 →
+    IsSearching v code st alpha beta best choice → IsSearching v code (slice_set st i x) alpha beta best choice
+IsSearching-mark v code st alpha beta best choice i x inside unsettled other s = record {
+  below = s.below;
+  settled = settled-set v st best i x inside (λ e. absurd (other e)) s.settled;
+  found = λ higher. found-set v code st best choice i x inside (inl unsettled) (s.found higher);
+}
+
+-- inlet cases 2 and 3 with a score at most the greater of alpha and best
+pub IsSearching-low : (v : ℕ → ℤ) (code : ℕ → ℕ) (st : List ℕ) (alpha beta best score : ℤ) (choice i : ℕ) → alpha <ℤ beta → i < length st →
+    score ≤ℤ int_max alpha best → v i ≤ℤ score →
+    IsSearching v code st alpha beta best choice → IsSearching v code (slice_set st i 2) alpha beta (int_max best score) choice
+IsSearching-low v code st alpha beta best score choice i window inside low under s = record {
+  below = let b : best <ℤ beta = s.below in omega (arith, ints, clamps);
+  settled = settled-set v st (int_max best score) i 2 inside (λ e. omega (arith, ints, clamps)) (λ k below is. let h : v k ≤ℤ best = s.settled k below is in omega (arith, ints, clamps));
+  found = λ (higher : alpha <ℤ int_max best score).
+      let same : int_max best score ≡ best = omega (arith, ints, clamps) in
+      let above : alpha <ℤ best = omega (arith, ints, clamps) in
+      subst (λ (b : ℤ). IsFound v code (slice_set st i 2) b choice) (sym same) (found-set v code st best choice i 2 inside (inr refl) (s.found above));
+}
+
+-- inlet case 2 with a score above the greater of alpha and best: it is exact, and every earlier choice is settled
+pub IsSearching-higher : (v : ℕ → ℤ) (code : ℕ → ℕ) (st : List ℕ) (alpha beta best score : ℤ) (choice i : ℕ) → i < length st →
+    int_max alpha best <ℤ score → score <ℤ beta → v i ≡ score → ((k : ℕ) → k < i → slice_index st k ≡ 2) →
+    IsSearching v code st alpha beta best choice → IsSearching v code (slice_set st i 2) alpha beta (int_max best score) (code i)
+IsSearching-higher v code st alpha beta best score choice i inside high below exact earlier s =
+    let same : int_max best score ≡ score = omega (arith, ints, clamps) in
+    record {
+      below = omega (arith, ints, clamps);
+      settled = settled-set v st (int_max best score) i 2 inside (λ e. omega (arith, ints, clamps)) (λ k under is. let h : v k ≤ℤ best = s.settled k under is in omega (arith, ints, clamps));
+      found = λ higher. record {
+        place = i;
+        inside = omega (arith, set_length st i 2);
+        settled = set_there st i 2 inside;
+        named = refl;
+        worth = exact ∙ sym same;
+        earlier = λ k under. let h : v k ≤ℤ best = s.settled k (omega arith) (earlier k under) in omega (arith, ints, clamps);
+      };
+    }
+
+-- m is the greatest of the first n values
+pub record IsGreatest (v : ℕ → ℤ) (n : ℕ) (m : ℤ) : Type 0 where
+  pub above : (k : ℕ) → k < n → v k ≤ℤ m
+  pub place : ℕ
+  pub inside : place < n
+  pub attained : v place ≡ m
+
+-- inlet case 1: a score of at least beta ends the node
+pub cut : (v : ℕ → ℤ) (n : ℕ) (alpha beta score m : ℤ) (i : ℕ) → i < n → alpha <ℤ beta → beta ≤ℤ score → score ≤ℤ v i → IsGreatest v n m → IsBound alpha beta score m
+cut v n alpha beta score m i inside window high under g =
+    let h : v i ≤ℤ m = g.above i inside in
+    record {
+      upper = λ (low : score ≤ℤ alpha). absurd (omega (arith, ints));
+      lower = λ _. omega (arith, ints);
+      exact = λ (up : alpha <ℤ score) (down : score <ℤ beta). absurd (omega (arith, ints));
+    }
+
+-- next, phase 3, all settled
+pub all_settled : (v : ℕ → ℤ) (code : ℕ → ℕ) (st : List ℕ) (alpha beta best m : ℤ) (choice : ℕ) → IsSearching v code st alpha beta best choice →
+    ((k : ℕ) → k < length st → slice_index st k ≡ 2) → IsGreatest v (length st) m → IsBound alpha beta best m
+all_settled v code st alpha beta best m choice s all g =
+    let most : v g.place ≤ℤ best = s.settled g.place g.inside (all g.place g.inside) in
+    let b : best <ℤ beta = s.below in
+    let is : v g.place ≡ m = g.attained in
+    record {
+      upper = λ _. omega (arith, ints);
+      lower = λ (high : beta ≤ℤ best). absurd (omega (arith, ints));
+      exact = λ higher _.
+          let f = s.found higher in
+          let least : v f.place ≤ℤ m = g.above f.place f.inside in
+          let worth : v f.place ≡ best = f.worth in
+          omega (arith, ints);
+    }
+
+-- the window of a test is inside the parent's, and the floor of a search again stays while tests come in low
+pub floor-kept : (alpha best t score : ℤ) → alpha ≤ℤ t → t ≤ℤ int_max alpha best → score ≤ℤ t → int_max alpha (int_max best score) ≡ int_max alpha best
+floor-kept alpha best t score a b c = omega (arith, ints, clamps)
+
+-- a test's score that is above t and at least beta bounds from below
+pub test-cut : (alpha beta best t score sc m : ℤ) → t ≤ℤ int_max alpha best → best <ℤ beta → alpha <ℤ beta → score ≡ neg_ℤ sc → IsBound (neg_ℤ (t +ℤ pos 1)) (neg_ℤ t) sc m → beta ≤ℤ score → score ≤ℤ neg_ℤ m
+test-cut alpha beta best t score sc m under below window is bound high =
+    let at : sc ≤ℤ neg_ℤ (t +ℤ pos 1) = omega (arith, ints, clamps) in
+    let h : m ≤ℤ sc = bound.upper at in omega (arith, ints)

@@ -1,0 +1,42 @@
+-- A frame that fits is sound.
+use Rattle.std.specs.Prelude.{◌≡◌, ◌≢◌, ℕ, ◌-◌, ◌<◌, ◌≤◌, ◌⊎◌, ℤ, pos, neg_ℤ, ◌<ℤ◌, ◌≤ℤ◌, ◌+ℤ◌, List, [], ◌∷◌, map, length, refl, slice_index}
+use Rattle.std.proofs.Common.{sym, ◌∙◌, ap, subst, arith, inl, inr, ⊎_elim}
+use Rattle.std.proofs.lemmas.Int.{ints}
+use Rattle.std.proofs.lemmas.Bool.{cases_lt}
+use Rattle.std.proofs.lemmas.List.{get_or_past}
+use Rattle.sched_rules.specs.Laws.{Mark}
+use Rattle.jamboree_rules.specs.Frames.{Frame, board, choice_at, value_at, floor}
+use Rattle.jamboree_rules.specs.Places.{frame_of}
+use Rattle.jamboree_rules.specs.Fits.{IsInRole, First, Test, Again, IsChildOf, AreChildren, Fits, AreFitting}
+use Rattle.jamboree_rules.specs.Sound.{IsSettled, IsFirstBest, HasWindow, First as WholeWindow, Test as TestWindow, Again as AgainWindow, HasGoal, HaveGoals, IsSound}
+use Rattle.jamboree_rules.proofs.Kinship.{in-search}
+
+window-of : (f c : Frame) → IsInRole f c → HasWindow f c
+window-of f c (First r) = WholeWindow r.role r.low r.high
+window-of f c (Test r) = TestWindow r.role (neg_ℤ c.beta) r.low (omega (arith, ints)) r.least r.most
+window-of f c (Again r) = AgainWindow r.role r.low r.high r.earlier
+
+goals-of : (f : Frame) (cs : List Frame) → AreChildren f cs → HaveGoals f cs
+goals-of f [] kin = tt
+goals-of f (c ∷ cs) kin =
+    (record { searches = in-search f c kin.0.in_role; board = kin.0.known; depth = kin.0.shallower; window = window-of f c kin.0.in_role }, goals-of f cs kin.1)
+
+-- a settled choice is one of the choices
+settled-inside : (f : Frame) (i : ℕ) → IsSettled f i → i < length f.statuses
+settled-inside f i h =
+    ⊎_elim (λ (below : i < length f.statuses). below)
+    (λ (past : length f.statuses ≤ i). let none : slice_index f.statuses i ≡ 0 = get_or_past f.statuses i 0 past in absurd (omega (arith, none, h)))
+    (cases_lt i (length f.statuses))
+
+frame-sound : (f : Frame) (cs : List Frame) (mark : Mark) → Fits f cs mark → IsSound f cs
+frame-sound f cs mark fits = record {
+  below = λ phase. (fits.searching phase).search.below;
+  settled = λ phase i h. (fits.searching phase).search.settled i (settled-inside f i h) h;
+  chosen = λ phase higher. let found = (fits.searching phase).search.found higher in record { place = found.place; stored = found.named; settled = found.settled; worth = found.worth; earlier = found.earlier };
+  bound = λ phase. (fits.done phase).bound;
+  named = λ phase. (fits.done phase).named;
+  children = goals-of f cs fits.kin;
+}
+
+pub fits-sound : (words : List ℕ) (children : List (List ℕ)) (mark : Mark) → AreFitting words children mark → IsSound (frame_of words) (map frame_of children)
+fits-sound words children mark fits = frame-sound (frame_of words) (map frame_of children) mark fits.frame

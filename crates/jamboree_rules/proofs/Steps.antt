@@ -1,0 +1,381 @@
+-- What the acts of a frame that fits leave.
+use Rattle.std.specs.Prelude.{◌≡◌, ◌≢◌, ℕ, zero, suc, ◌+◌, ◌-◌, ◌<◌, ◌≤◌, ◌⊎◌, ◌==◌, ◌||◌, ◌&&◌, nat_lt, nat_le, Bool, true, false, ℤ, pos, negsuc, neg_ℤ, ◌<ℤ◌, ◌≤ℤ◌, ◌+ℤ◌, List, [], ◌∷◌, ◌++◌, map, length, drop, replicate, refl, slice_index, slice_set, if◌then◌else◌, bit_and}
+use Rattle.std.specs.Int.{int_max}
+use Rattle.std.proofs.Common.{sym, ◌∙◌, ap, subst, arith, inl, inr, ⊎_elim}
+use Rattle.std.proofs.lemmas.Grind.{common_steps}
+use Rattle.std.proofs.lemmas.Bool.{lt-leb}
+use Rattle.std.proofs.lemmas.Bool.Decides.{nat_tests}
+use Rattle.std.proofs.lemmas.Int.{ints, clamps}
+use Rattle.std.proofs.lemmas.List.{length-map, length-drop}
+use Rattle.cactus_stack.specs.Nodes.{padded}
+use Rattle.othello_board.specs.Words.{cells_of}
+use Rattle.othello_moves.specs.Choices.{choices}
+use Rattle.sched_rules.specs.declared.act.Act.{Act}
+use Rattle.sched_rules.specs.declared.act.Then.{Then}
+use Rattle.sched_rules.specs.declared.act.Then.TheVariants.{Grow, Spawn, Go, Wait, Compute, Return}
+use Rattle.sched_rules.specs.Trees.{stored, is_outside}
+use Rattle.sched_rules.specs.Lone.{is_bad_then, is_bad_act}
+use Rattle.sched_rules.specs.Laws.{NewChildFits, Mark, Neither, Computes, HasReturned, grown, children_after, mark_after, has_one}
+use Rattle.leaf_search.specs.Bounds.{IsBound}
+use Rattle.jamboree_rules.specs.Frames.{Frame, board, choice_at, code_at, value_at, value, floor, least, greatest, unscored}
+use Rattle.jamboree_rules.specs.Places.{word_of, status_of, frame_of, are_statuses, Change, OwnBits, OppBits, Phase, Best, Chosen, Count, Spawned, Status, pair_of, pairs_of, given_words, frame_size}
+use Rattle.jamboree_rules.specs.Acts.{returns, spawns, opening, first_search, tests}
+use Rattle.jamboree_rules.specs.Fits.{IsSearchingFrame, Fits, AreFitting}
+use Rattle.jamboree_rules.specs.Leaves.{IsLeaf}
+use Rattle.jamboree_rules.proofs.Searching.{IsGreatest, all_settled}
+use Rattle.jamboree_rules.proofs.Best.{IsGreatest-frame, named-best}
+use Rattle.jamboree_rules.proofs.Kinship.{next-settled, next-done}
+use Rattle.jamboree_rules.proofs.Openings.{new_child, next-first, next-again, next-test, next-opened, next-computed}
+use Rattle.jamboree_rules.proofs.Codes.{few-choices}
+use Rattle.jamboree_rules.proofs.PlaceLemmas.{held, changed_by, length-stored, frame-stored, entries-stored, drop-grown, entries-zeros, frame-grown}
+use Rattle.jamboree_rules.proofs.Forms.{IsFrame, IsFormed, formed-told, formed-passes, formed-stored}
+
+-- a frame of the same depth, window, role and number
+pub record HasSameGoal (f g : Frame) : Type 0 where
+  pub depth : g.depth ≡ f.depth
+  pub alpha : g.alpha ≡ f.alpha
+  pub beta : g.beta ≡ f.beta
+  pub role : g.role ≡ f.role
+  pub number : g.number ≡ f.number
+
+-- an act can be done; the frame has the form and fits after it, with the same goal and the board of the words o and p, and a new child fits
+pub record IsGoodAct (own : List ℕ) (children : List (List ℕ)) (o p : ℕ) (act : Act) : Type 0 where
+  pub good : is_bad_act own (has_one children) act ≡ false
+  pub formed : IsFormed (grown act.after (stored act.stores own))
+  pub fits : Fits (frame_of (grown act.after (stored act.stores own))) (map frame_of (children_after act.after children)) (mark_after act.after children)
+  pub child : NewChildFits AreFitting act.after
+  pub goal : HasSameGoal (frame_of own) (frame_of (grown act.after (stored act.stores own)))
+  pub own_is : (frame_of (grown act.after (stored act.stores own))).own ≡ o
+  pub opp_is : (frame_of (grown act.after (stored act.stores own))).opp ≡ p
+  pub known : (frame_of (grown act.after (stored act.stores own))).phase ≢ 0
+
+-- so it is where the frame after it is known to be g
+good-by : (own : List ℕ) (children : List (List ℕ)) (o p : ℕ) (act : Act) (g : Frame) → frame_of (grown act.after (stored act.stores own)) ≡ g →
+    is_bad_act own (has_one children) act ≡ false → IsFormed (grown act.after (stored act.stores own)) → Fits g (map frame_of (children_after act.after children)) (mark_after act.after children) →
+    NewChildFits AreFitting act.after → HasSameGoal (frame_of own) g → g.own ≡ o → g.opp ≡ p → g.phase ≢ 0 → IsGoodAct own children o p act
+good-by own children o p act g is good formed fits child goal own_is opp_is known = record {
+  good = good;
+  formed = formed;
+  fits = subst (λ (h : Frame). Fits h (map frame_of (children_after act.after children)) (mark_after act.after children)) (sym is) fits;
+  child = child;
+  goal = subst (λ (h : Frame). HasSameGoal (frame_of own) h) (sym is) goal;
+  own_is = subst (λ (h : Frame). h.own ≡ o) (sym is) own_is;
+  opp_is = subst (λ (h : Frame). h.opp ≡ p) (sym is) opp_is;
+  known = subst (λ (h : Frame). h.phase ≢ 0) (sym is) known;
+}
+
+-- stores at places that are there
+abbrev pub IsInside : ℕ → Change → Type 0
+IsInside n (OwnBits word) = Unit {0}
+IsInside n (OppBits word) = Unit {0}
+IsInside n (Phase phase) = Unit {0}
+IsInside n (Best score) = Unit {0}
+IsInside n (Chosen code) = Unit {0}
+IsInside n (Count count) = Unit {0}
+IsInside n (Spawned count) = Unit {0}
+IsInside n (Status i status) = i < n
+
+abbrev pub AreInside : ℕ → List Change → Type 0
+AreInside n [] = Unit {0}
+AreInside n (change ∷ changes) = IsInside n change × AreInside n changes
+
+inside-place : (n : ℕ) (change : Change) → IsInside n change → (pair_of change).0 < 12 + n
+inside-place n (OwnBits word) h = omega arith
+inside-place n (OppBits word) h = omega arith
+inside-place n (Phase phase) h = omega arith
+inside-place n (Best score) h = omega arith
+inside-place n (Chosen code) h = omega arith
+inside-place n (Count count) h = omega arith
+inside-place n (Spawned count) h = omega arith
+inside-place n (Status i status) h = omega arith
+
+neither : (a b : Bool) → a ≡ false → b ≡ false → (a || b) ≡ false
+neither a b ea eb = rw (ea, eb) refl
+
+pub inside-stored : (changes : List Change) (w : List ℕ) (n : ℕ) → length w ≡ 12 + n → AreInside n changes → is_outside (pairs_of changes) w ≡ false
+inside-stored [] w n len h = refl
+inside-stored (change ∷ changes) w n len h =
+    let place : (pair_of change).0 < 12 + n = inside-place n change h.0 in
+    neither (nat_le (length w) (pair_of change).0) (is_outside (pairs_of changes) w) (lt-leb (length w) (pair_of change).0 (omega arith)) (inside-stored changes w n len h.1)
+
+good-act : (changes : List Change) (own : List ℕ) (n : ℕ) (has : Bool) (after : Then) → length own ≡ 12 + n → AreInside n changes → is_bad_then (length own) has after ≡ false →
+    is_bad_act own has (record { stores = pairs_of changes; after = after }) ≡ false
+good-act changes own n has after len inside fine = neither (is_outside (pairs_of changes) own) (is_bad_then (length own) has after) (inside-stored changes own n len inside) fine
+
+-- a frame has a status for each choice
+pub status-count : (w : List ℕ) → IsFormed w → length (frame_of w).statuses ≡ (frame_of w).count
+status-count w h = omega (arith, length-map (drop 12 w) status_of, length-drop 12 w, h.places)
+
+-- a frame that goes on searching, or ends
+pub searched : (f : Frame) (phase choice spawned : ℕ) (best : ℤ) (st : List ℕ) → IsFrame f → (f.phase ≡ 2) ⊎ (f.phase ≡ 3) → 1 < phase → phase ≤ 4 → choice ≤ 65 → spawned ≤ f.count → least ≤ℤ best → best ≤ℤ greatest →
+    IsFrame (record f { phase = phase; best = best; choice = choice; spawned = spawned; statuses = st })
+searched f phase choice spawned best st h before later last small few low high = record {
+  leaf = h.leaf;
+  role = h.role;
+  phase = last;
+  choice = small;
+  spawned = few;
+  early = λ (e : phase ≤ 1). absurd (omega arith);
+  late = λ _. (low, high);
+  counts = λ _. h.counts before;
+}
+
+pub searching-late : (f : Frame) → (f.phase ≡ 2) ⊎ (f.phase ≡ 3) → 1 < f.phase
+searching-late f (inl e) = omega arith
+searching-late f (inr e) = omega arith
+
+late-known : (phase : ℕ) → 1 < phase → phase ≢ 0
+late-known phase h = λ (e : phase ≡ 0). absurd (omega arith)
+
+-- the frame in a new child's words
+pub child-frame : (f : Frame) (role i : ℕ) (low high : ℤ) → least ≤ℤ low → least ≤ℤ high → frame_of (padded (given_words (f.depth - 1) low high role i) frame_size) ≡ new_child f role i low high
+child-frame f role i low high l h =
+    ap (λ (x : ℤ). record (new_child f role i low high) { alpha = x; beta = Rattle.jamboree_rules.specs.Places.score_of (word_of high) }) (held low l) ∙ ap (λ (x : ℤ). record (new_child f role i low high) { beta = x }) (held high h)
+
+-- a new child has the form, and fits
+pub child-fits : (f : Frame) (role i : ℕ) (low high : ℤ) → IsFrame f → role ≤ 3 → least ≤ℤ low → low <ℤ high → high ≤ℤ greatest → Fits (new_child f role i low high) [] Neither →
+    AreFitting (padded (given_words (f.depth - 1) low high role i) frame_size) [] Neither
+child-fits f role i low high form small l window h fits =
+    let is : frame_of (padded (given_words (f.depth - 1) low high role i) frame_size) ≡ new_child f role i low high = child-frame f role i low high l (omega (arith, ints)) in
+    let shallow : f.depth ≤ 12 = form.leaf.shallow in
+    let frame : IsFrame (new_child f role i low high) = record {
+      leaf = record { disjoint = refl; shallow = omega arith; low = l; window = window; high = h };
+      role = small;
+      phase = omega arith;
+      choice = omega arith;
+      spawned = omega arith;
+      early = λ _. (refl, refl);
+      late = λ (e : 1 < 0). absurd (omega arith);
+      counts = ⊎_elim (λ (e : 0 ≡ 2). absurd (omega arith)) (λ (e : 0 ≡ 3). absurd (omega arith));
+    } in
+    record {
+      formed = formed-passes (padded (given_words (f.depth - 1) low high role i) frame_size) (record { places = refl; entries = refl; frame = subst IsFrame (sym is) frame });
+      frame = subst (λ (g : Frame). Fits g [] Neither) (sym is) fits;
+    }
+
+pub map-joined : (before behind : List (List ℕ)) → map frame_of (before ++ behind) ≡ map frame_of before ++ map frame_of behind
+map-joined [] behind = refl
+map-joined (w ∷ before) behind = ap (λ (fs : List Frame). frame_of w ∷ fs) (map-joined before behind)
+
+-- the child's words behind the other children's
+children-behind : (f c : Frame) (children : List (List ℕ)) (child : List ℕ) (mark : Mark) → frame_of child ≡ c → Fits f (map frame_of children ++ c ∷ []) mark → Fits f (map frame_of (children ++ child ∷ [])) mark
+children-behind f c children child mark is fits =
+    subst (λ (fs : List Frame). Fits f fs mark) (sym (map-joined children (child ∷ [])))
+    (subst (λ (g : Frame). Fits f (map frame_of children ++ g ∷ []) mark) (sym is) fits)
+
+-- to open a child, which is the frame c under the frame g that these stores leave
+spawn-good : (own : List ℕ) (children : List (List ℕ)) (changes : List Change) (role i : ℕ) (low high : ℤ) (g : Frame) → IsFormed own → frame_of (stored (pairs_of changes) own) ≡ g →
+    AreInside (frame_of own).count changes → IsFormed (stored (pairs_of changes) own) → role ≤ 3 → least ≤ℤ low → low <ℤ high → high ≤ℤ greatest →
+    Fits g (map frame_of children ++ new_child (frame_of own) role i low high ∷ []) Neither × Fits (new_child (frame_of own) role i low high) [] Neither →
+    HasSameGoal (frame_of own) g → g.own ≡ (frame_of own).own → g.opp ≡ (frame_of own).opp → g.phase ≢ 0 →
+    IsGoodAct own children (frame_of own).own (frame_of own).opp (record { stores = pairs_of changes; after = spawns (frame_of own) role i low high })
+spawn-good own children changes role i low high g form is inside formed small l window h both goal own_is opp_is known =
+    let f : Frame = frame_of own in
+    good-by own children f.own f.opp (record { stores = pairs_of changes; after = spawns f role i low high }) g is
+    (good-act changes own f.count (has_one children) (spawns f role i low high) form.places inside refl) formed
+    (children-behind g (new_child f role i low high) children (padded (given_words (f.depth - 1) low high role i) frame_size) Neither (child-frame f role i low high l (omega (arith, ints))) both.0)
+    (child-fits f role i low high form.frame small l window h both.1) goal own_is opp_is known
+
+-- to do nothing but wait
+wait-good : (own : List ℕ) (children : List (List ℕ)) → IsFormed own → Fits (frame_of own) (map frame_of children) Neither → (frame_of own).phase ≢ 0 →
+    IsGoodAct own children (frame_of own).own (frame_of own).opp (record { stores = []; after = Wait })
+wait-good own children form fits known = record {
+  good = refl; formed = form; fits = fits; child = tt;
+  goal = record { depth = refl; alpha = refl; beta = refl; role = refl; number = refl }; own_is = refl; opp_is = refl; known = known;
+}
+
+pub none-told : (n : ℕ) → true ≡ (n == 0) → n ≡ 0
+none-told n e = grind (arith, nat_tests)
+
+-- phase 2
+pub first-good : (none : Bool) (own : List ℕ) (children : List (List ℕ)) → none ≡ ((frame_of own).spawned == 0) → (frame_of own).phase ≡ 2 → IsFormed own → Fits (frame_of own) (map frame_of children) Neither →
+    IsGoodAct own children (frame_of own).own (frame_of own).opp (first_search none (frame_of own))
+first-good true own children e phase form fits =
+    let f : Frame = frame_of own in
+    let changes : List Change = Spawned 1 ∷ Status 0 1 ∷ [] in
+    let counts = form.frame.counts (inl phase) in
+    let some : 0 < f.count = counts.1 in
+    let late = form.frame.late (searching-late f (inl phase)) in
+    let leaf : IsLeaf f.own f.opp f.depth f.alpha f.beta = form.frame.leaf in
+    let low : least ≤ℤ f.alpha = leaf.low in
+    let window : f.alpha <ℤ f.beta = leaf.window in
+    let high : f.beta ≤ℤ greatest = leaf.high in
+    spawn-good own children changes 1 0 (neg_ℤ f.beta) (neg_ℤ f.alpha) (record f { spawned = 1; statuses = slice_set f.statuses 0 1 }) form
+    (frame-stored changes own (tt, (omega arith, tt)) (omega (arith, form.places))) (tt, (some, tt))
+    (formed-stored changes own form (tt, (omega arith, tt)) refl
+      (searched f f.phase f.choice 1 f.best (slice_set f.statuses 0 1) form.frame (inl phase) (searching-late f (inl phase)) form.frame.phase form.frame.choice (omega arith) late.0 late.1))
+    (omega arith) (omega (arith, ints)) (omega (arith, ints)) (omega (arith, ints))
+    (next-first f (map frame_of children) fits phase (none-told f.spawned e))
+    (record { depth = refl; alpha = refl; beta = refl; role = refl; number = refl }) refl refl (late-known f.phase (searching-late f (inl phase)))
+first-good false own children e phase form fits = wait-good own children form fits (late-known (frame_of own).phase (searching-late (frame_of own) (inl phase)))
+
+-- no children: a list whose frames are none
+no-children : (children : List (List ℕ)) → map frame_of children ≡ [] → [] ≡ children
+no-children [] none = refl
+no-children (child ∷ children) none = absurd (cc)
+
+-- phase 3
+failed-told : (j n s : ℕ) → true ≡ (nat_lt j n && (s == 3)) → (j < n) × (s ≡ 3)
+failed-told j n s e = (grind (arith, nat_tests), grind (arith, nat_tests))
+
+more-told : (i n : ℕ) → true ≡ nat_lt i n → i < n
+more-told i n e = grind (arith, nat_tests)
+
+all-told : (n j : ℕ) → true ≡ nat_le n j → n ≤ j
+all-told n j e = grind (arith, nat_tests)
+
+pub greatest-of : (f : Frame) → IsSearchingFrame f → IsGreatest (value_at f) (length f.statuses) (value f)
+greatest-of f s = subst (λ (n : ℕ). IsGreatest (value_at f) n (value f)) (sym s.places) (IsGreatest-frame f s.deep (subst (λ (n : ℕ). 0 < n) s.places s.some))
+
+all-bound : (f : Frame) → IsSearchingFrame f → ((k : ℕ) → k < length f.statuses → slice_index f.statuses k ≡ 2) → IsGreatest (value_at f) (length f.statuses) (value f) → IsBound f.alpha f.beta f.best (value f)
+all-bound f s all g = all_settled (value_at f) (code_at f) f.statuses f.alpha f.beta f.best (value f) f.choice s.search all g
+
+-- to return where no child is left
+return-good : (own : List ℕ) (children : List (List ℕ)) (changes : List Change) (g : Frame) → IsFormed own → frame_of (stored (pairs_of changes) own) ≡ g → AreInside (frame_of own).count changes →
+    IsFormed (stored (pairs_of changes) own) → map frame_of children ≡ [] → Fits g [] HasReturned → HasSameGoal (frame_of own) g → g.own ≡ (frame_of own).own → g.opp ≡ (frame_of own).opp → g.phase ≢ 0 →
+    IsGoodAct own children (frame_of own).own (frame_of own).opp (record { stores = pairs_of changes; after = Return })
+return-good own children changes g form is inside formed none fits goal own_is opp_is known =
+    subst (λ (cs : List (List ℕ)). IsGoodAct own cs (frame_of own).own (frame_of own).opp (record { stores = pairs_of changes; after = Return })) (no-children children none)
+    (good-by own [] (frame_of own).own (frame_of own).opp (record { stores = pairs_of changes; after = Return }) g is
+      (good-act changes own (frame_of own).count false Return form.places inside refl) formed fits tt goal own_is opp_is known)
+
+-- every choice before j is settled
+pub record IsAtTests (f : Frame) (j : ℕ) : Type 0 where
+  pub settled : (k : ℕ) → k < j → slice_index f.statuses k ≡ 2
+  pub inside : j ≤ length f.statuses
+
+pub tests-good : (failed more all : Bool) (own : List ℕ) (children : List (List ℕ)) (j : ℕ) → IsAtTests (frame_of own) j →
+    failed ≡ (nat_lt j (length (frame_of own).statuses) && (slice_index (frame_of own).statuses j == 3)) → more ≡ nat_lt (frame_of own).spawned (length (frame_of own).statuses) → all ≡ nat_le (length (frame_of own).statuses) j →
+    (frame_of own).phase ≡ 3 → IsFormed own → Fits (frame_of own) (map frame_of children) Neither →
+    IsGoodAct own children (frame_of own).own (frame_of own).opp (tests failed more all (frame_of own) j)
+tests-good true more all own children j at ef em ea phase form fits =
+    let f : Frame = frame_of own in
+    let changes : List Change = Status j 4 ∷ [] in
+    let told = failed-told j (length f.statuses) (slice_index f.statuses j) ef in
+    let late = form.frame.late (searching-late f (inr phase)) in
+    let leaf : IsLeaf f.own f.opp f.depth f.alpha f.beta = form.frame.leaf in
+    let low : least ≤ℤ f.alpha = leaf.low in
+    let window : f.alpha <ℤ f.beta = leaf.window in
+    let high : f.beta ≤ℤ greatest = leaf.high in
+    let s : IsSearchingFrame f = fits.searching (inr phase) in
+    let below : f.best <ℤ f.beta = s.search.below in
+    let inside : j < f.count = omega (arith, status-count own form, told.0) in
+    spawn-good own children changes 3 j (neg_ℤ f.beta) (neg_ℤ (floor f)) (record f { statuses = slice_set f.statuses j 4 }) form
+    (frame-stored changes own (omega arith, tt) (omega (arith, form.places))) (inside, tt)
+    (formed-stored changes own form (omega arith, tt) refl
+      (searched f f.phase f.choice f.spawned f.best (slice_set f.statuses j 4) form.frame (inr phase) (searching-late f (inr phase)) form.frame.phase form.frame.choice form.frame.spawned late.0 late.1))
+    (omega arith) (omega (arith, ints)) (omega (arith, ints, clamps)) (omega (arith, ints, clamps))
+    (next-again f (map frame_of children) j fits phase told.0 told.1 at.settled)
+    (record { depth = refl; alpha = refl; beta = refl; role = refl; number = refl }) refl refl (late-known f.phase (searching-late f (inr phase)))
+tests-good false true all own children j at ef em ea phase form fits =
+    let f : Frame = frame_of own in
+    let changes : List Change = Spawned (f.spawned + 1) ∷ Status f.spawned 1 ∷ [] in
+    let told : f.spawned < length f.statuses = more-told f.spawned (length f.statuses) em in
+    let late = form.frame.late (searching-late f (inr phase)) in
+    let leaf : IsLeaf f.own f.opp f.depth f.alpha f.beta = form.frame.leaf in
+    let low : least ≤ℤ f.alpha = leaf.low in
+    let window : f.alpha <ℤ f.beta = leaf.window in
+    let high : f.beta ≤ℤ greatest = leaf.high in
+    let s : IsSearchingFrame f = fits.searching (inr phase) in
+    let below : f.best <ℤ f.beta = s.search.below in
+    let inside : f.spawned < f.count = omega (arith, status-count own form, told) in
+    spawn-good own children changes 2 f.spawned (neg_ℤ (floor f +ℤ pos 1)) (neg_ℤ (floor f)) (record f { spawned = f.spawned + 1; statuses = slice_set f.statuses f.spawned 1 }) form
+    (frame-stored changes own (tt, (omega arith, tt)) (omega (arith, form.places))) (tt, (inside, tt))
+    (formed-stored changes own form (tt, (omega arith, tt)) refl
+      (searched f f.phase f.choice (f.spawned + 1) f.best (slice_set f.statuses f.spawned 1) form.frame (inr phase) (searching-late f (inr phase)) form.frame.phase form.frame.choice (omega arith) late.0 late.1))
+    (omega arith) (omega (arith, ints, clamps)) (omega (arith, ints, clamps)) (omega (arith, ints, clamps))
+    (next-test f (map frame_of children) fits phase told)
+    (record { depth = refl; alpha = refl; beta = refl; role = refl; number = refl }) refl refl (late-known f.phase (searching-late f (inr phase)))
+tests-good false false true own children j at ef em ea phase form fits =
+    let f : Frame = frame_of own in
+    let changes : List Change = Phase 4 ∷ [] in
+    let s : IsSearchingFrame f = fits.searching (inr phase) in
+    let late = form.frame.late (searching-late f (inr phase)) in
+    let far : length f.statuses ≤ j = all-told (length f.statuses) j ea in
+    let settled : (k : ℕ) → k < length f.statuses → slice_index f.statuses k ≡ 2 = λ k below. at.settled k (omega arith) in
+    let g : IsGreatest (value_at f) (length f.statuses) (value f) = greatest-of f s in
+    let done = next-settled f (map frame_of children) fits phase settled g (λ higher below.
+        let bound = all-bound f s settled g in
+        named-best f f.statuses s.deep s.places (s.search.found higher) (bound.exact higher below)) in
+    return-good own children changes (record f { phase = 4 }) form (frame-stored changes own (tt, tt) (omega (arith, form.places))) (tt, tt)
+    (formed-stored changes own form (tt, tt) refl
+      (searched f 4 f.choice f.spawned f.best f.statuses form.frame (inr phase) (omega arith) (omega arith) form.frame.choice form.frame.spawned late.0 late.1))
+    done.0 done.1 (record { depth = refl; alpha = refl; beta = refl; role = refl; number = refl }) refl refl (λ (e : 4 ≡ 0). absurd (omega arith))
+tests-good false false false own children j at ef em ea phase form fits = wait-good own children form fits (late-known (frame_of own).phase (searching-late (frame_of own) (inr phase)))
+
+-- phase 4
+pub done-good : (own : List ℕ) (children : List (List ℕ)) → (frame_of own).phase ≡ 4 → IsFormed own → Fits (frame_of own) (map frame_of children) Neither →
+    IsGoodAct own children (frame_of own).own (frame_of own).opp returns
+done-good own children phase form fits =
+    let done = next-done (frame_of own) (map frame_of children) fits phase in
+    return-good own children [] (frame_of own) form refl tt form done.0 done.1
+    (record { depth = refl; alpha = refl; beta = refl; role = refl; number = refl }) refl refl (λ e. absurd (omega arith))
+
+-- phase 0
+abbrev pub opened_changes : ℕ → ℕ → ℕ → List Change
+opened_changes o p n = OwnBits o ∷ OppBits p ∷ Phase 2 ∷ Best least ∷ Chosen 65 ∷ Count n ∷ Spawned 0 ∷ []
+
+abbrev pub opened_frame : Frame → ℕ → ℕ → ℕ → Frame
+opened_frame f o p n = record f { own = o; opp = p; phase = 2; best = least; choice = 65; count = n; spawned = 0; statuses = replicate n 0 }
+
+opened-is : (own : List ℕ) (o p n : ℕ) → length own ≡ 12 → frame_of (stored (pairs_of (opened_changes o p n)) own ++ replicate n 0) ≡ opened_frame (frame_of own) o p n
+opened-is own o p n len =
+    frame-grown (stored (pairs_of (opened_changes o p n)) own) n (length-stored (pairs_of (opened_changes o p n)) own ∙ len)
+    ∙ ap (λ (g : Frame). record g { statuses = replicate n 0 }) (frame-stored (opened_changes o p n) own (tt, (tt, (tt, (omega (arith, ints), (tt, (tt, (tt, tt))))))) (omega arith))
+
+length-grown : (w : List ℕ) (n : ℕ) → length w ≡ 12 → length (w ++ replicate n 0) ≡ 12 + n
+length-grown w n len = grind (arith, common_steps)
+
+entries-grown : (w : List ℕ) (n : ℕ) → length w ≡ 12 → are_statuses (drop 12 (w ++ replicate n 0)) ≡ true
+entries-grown w n len = ap are_statuses (drop-grown w (replicate n 0) len) ∙ entries-zeros n
+
+grow-fine : (length n : ℕ) → length ≡ 12 → 0 < n → n ≤ 64 → ((n == 0) || nat_lt 128 (length + n)) ≡ false
+grow-fine length n len some few = grind (arith, nat_tests)
+
+pub opening-good : (computed : Bool) (own : List ℕ) (children : List (List ℕ)) (o p : ℕ) → (computed ≡ false → (0 < (frame_of own).depth) × (0 < length (choices (cells_of o p)))) → bit_and o p ≡ 0 → (frame_of own).phase ≡ 0 →
+    IsFormed own → Fits (frame_of own) (map frame_of children) Neither → IsGoodAct own children o p (opening computed o p (length (choices (cells_of o p))))
+opening-good true own children o p deep apart phase form fits =
+    let f : Frame = frame_of own in
+    let done = next-computed f (map frame_of children) o p fits phase in
+    let changes : List Change = OwnBits o ∷ OppBits p ∷ Phase 1 ∷ [] in
+    let early = form.frame.early (omega arith) in
+    let frame : IsFrame (record f { own = o; opp = p; phase = 1 }) = record {
+      leaf = record { disjoint = apart; shallow = form.frame.leaf.shallow; low = form.frame.leaf.low; window = form.frame.leaf.window; high = form.frame.leaf.high };
+      role = form.frame.role; phase = omega arith; choice = form.frame.choice; spawned = form.frame.spawned;
+      early = λ _. early;
+      late = λ (e : 1 < 1). absurd (omega arith);
+      counts = ⊎_elim (λ (e : 1 ≡ 2). absurd (omega arith)) (λ (e : 1 ≡ 3). absurd (omega arith));
+    } in
+    let act : Act = record { stores = pairs_of changes; after = Compute } in
+    subst (λ (cs : List (List ℕ)). IsGoodAct own cs o p act) (no-children children done.0)
+    (good-by own [] o p act (record f { own = o; opp = p; phase = 1 }) (frame-stored changes own (tt, (tt, (tt, tt))) (omega (arith, form.places)))
+      (good-act changes own f.count false Compute form.places (tt, (tt, (tt, tt))) refl)
+      (formed-stored changes own form (tt, (tt, (tt, tt))) refl frame) done.1 tt
+      (record { depth = refl; alpha = refl; beta = refl; role = refl; number = refl }) refl refl (λ (e : 1 ≡ 0). absurd (omega arith)))
+opening-good false own children o p deep apart phase form fits =
+    let f : Frame = frame_of own in
+    let n : ℕ = length (choices (cells_of o p)) in
+    let d = deep refl in
+    let early = form.frame.early (omega arith) in
+    let none : f.count ≡ 0 = early.1 in
+    let len : length own ≡ 12 = omega (arith, form.places) in
+    let done = next-opened f (map frame_of children) o p fits phase form.frame.leaf.low d.0 d.1 in
+    let is : frame_of (stored (pairs_of (opened_changes o p n)) own ++ replicate n 0) ≡ opened_frame f o p n = opened-is own o p n len in
+    let same : length (stored (pairs_of (opened_changes o p n)) own) ≡ 12 = length-stored (pairs_of (opened_changes o p n)) own ∙ len in
+    let frame : IsFrame (opened_frame f o p n) = record {
+      leaf = record { disjoint = apart; shallow = form.frame.leaf.shallow; low = form.frame.leaf.low; window = form.frame.leaf.window; high = form.frame.leaf.high };
+      role = form.frame.role; phase = omega arith; choice = omega arith; spawned = omega arith;
+      early = λ (e : 2 ≤ 1). absurd (omega arith);
+      late = λ _. (omega (arith, ints), omega (arith, ints));
+      counts = λ _. (d.0, d.1, refl);
+    } in
+    let act : Act = record { stores = pairs_of (opened_changes o p n); after = Grow n } in
+    subst (λ (cs : List (List ℕ)). IsGoodAct own cs o p act) (no-children children done.0)
+    (good-by own [] o p act (opened_frame f o p n) is
+      (good-act (opened_changes o p n) own f.count false (Grow n) form.places (tt, (tt, (tt, (tt, (tt, (tt, (tt, tt))))))) (grow-fine (length own) n len d.1 (few-choices (cells_of o p))))
+      (record {
+        places = length-grown (stored (pairs_of (opened_changes o p n)) own) n same ∙ ap (λ (g : Frame). 12 + g.count) (sym is);
+        entries = entries-grown (stored (pairs_of (opened_changes o p n)) own) n same;
+        frame = subst IsFrame (sym is) frame;
+      }) done.1 tt
+      (record { depth = refl; alpha = refl; beta = refl; role = refl; number = refl }) refl refl (λ (e : 2 ≡ 0). absurd (omega arith)))

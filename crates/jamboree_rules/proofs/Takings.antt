@@ -1,0 +1,217 @@
+-- What an inlet leaves of a frame that fits, and what an answer leaves.
+use Rattle.std.specs.Prelude.{◌≡◌, ◌≢◌, ℕ, suc, ◌+◌, ◌-◌, ◌<◌, ◌≤◌, ◌⊎◌, ◌==◌, Bool, true, false, ℤ, pos, negsuc, neg_ℤ, ◌<ℤ◌, ◌≤ℤ◌, ◌+ℤ◌, int_le, int_lt, List, [], ◌∷◌, ◌++◌, map, length, drop, refl, slice_index, slice_set}
+use Rattle.std.specs.Int.{int_max}
+use Rattle.std.proofs.Common.{sym, ◌∙◌, ap, subst, arith, inl, inr, ⊎_elim}
+use Rattle.std.proofs.lemmas.Int.{ints, clamps}
+use Rattle.leaf_search.specs.Bounds.{IsBound}
+use Rattle.sched_rules.specs.Trees.{stored, is_outside}
+use Rattle.sched_rules.specs.Laws.{Mark, Neither, HasReturned, children_left}
+use Rattle.jamboree_rules.specs.Frames.{Frame, board, choice_at, code_at, value_at, value, floor, least, greatest}
+use Rattle.jamboree_rules.specs.Places.{frame_of, Change, Phase, Best, Chosen, Status, pairs_of}
+use Rattle.jamboree_rules.specs.Acts.{seen, changes_by, changes_of}
+use Rattle.jamboree_rules.specs.Fits.{IsFirst, IsTest, IsAgain, IsInRole, First, Test, Again, IsChildOf, IsSearchingFrame, Fits}
+use Rattle.jamboree_rules.proofs.Searching.{IsSearching-low, IsSearching-higher}
+use Rattle.jamboree_rules.proofs.Kinship.{child-of, in-search, scored, inlet-failed, inlet-low, inlet-higher, inlet-first, inlet-cut, first-low, first-exact, again-low, again-exact, test-low, over-beta}
+use Rattle.jamboree_rules.proofs.Codes.{code-small}
+use Rattle.jamboree_rules.proofs.PlaceLemmas.{AreSafe, changed_by, frame-stored}
+use Rattle.jamboree_rules.proofs.Forms.{IsFrame, IsFormed, formed-stored}
+use Rattle.jamboree_rules.proofs.Steps.{AreInside, inside-stored, searched, searching-late, greatest-of, status-count, HasSameGoal}
+
+-- the frame after each of the five cases of an inlet
+abbrev pub frame_by : (cuts test low higher : Bool) → Frame → Frame → Frame
+frame_by true test low higher f c = record f { phase = 4; best = seen c; choice = code_at f c.number; statuses = slice_set f.statuses c.number 2 }
+frame_by false true true higher f c = record f { best = int_max f.best (seen c); statuses = slice_set f.statuses c.number 2 }
+frame_by false true false higher f c = record f { statuses = slice_set f.statuses c.number 3 }
+frame_by false false low true f c = record f { phase = 3; best = int_max f.best (seen c); choice = code_at f c.number; statuses = slice_set f.statuses c.number 2 }
+frame_by false false low false f c = record f { phase = 3; best = int_max f.best (seen c); statuses = slice_set f.statuses c.number 2 }
+
+-- the same, from the two frames
+abbrev pub frame_after : Frame → Frame → Frame
+frame_after f c = frame_by (int_le f.beta (seen c)) (c.role == 2) (int_le (seen c) (neg_ℤ c.beta)) (int_lt (floor f) (seen c)) f c
+
+abbrev pub frames_left : Bool → List Frame → List Frame
+frames_left true fs = []
+frames_left false fs = fs
+
+-- what the tests tell
+le-told : (x y : ℤ) → true ≡ int_le x y → x ≤ℤ y
+le-told x y e = grind (arith, ints)
+
+not-le-told : (x y : ℤ) → false ≡ int_le x y → y <ℤ x
+not-le-told x y e = grind (arith, ints)
+
+lt-told : (x y : ℤ) → true ≡ int_lt x y → x <ℤ y
+lt-told x y e = grind (arith, ints)
+
+not-lt-told : (x y : ℤ) → false ≡ int_lt x y → y ≤ℤ x
+not-lt-told x y e = grind (arith, ints)
+
+test-told : (f c : Frame) → true ≡ (c.role == 2) → IsInRole f c → IsTest f c
+test-told f c e (First r) = let one : c.role ≡ 1 = r.role in absurd (grind (arith))
+test-told f c e (Test r) = r
+test-told f c e (Again r) = let three : c.role ≡ 3 = r.role in absurd (grind (arith))
+
+-- another than a test: the first child or a search again
+other-told : (f c : Frame) → false ≡ (c.role == 2) → IsInRole f c → IsFirst f c ⊎ IsAgain f c
+other-told f c e (First r) = inl r
+other-told f c e (Test r) = let two : c.role ≡ 2 = r.role in absurd (grind (arith))
+other-told f c e (Again r) = inr r
+
+-- each case keeps that the frame fits
+fits-by : (cuts test low higher : Bool) (f c : Frame) (before behind : List Frame) → cuts ≡ int_le f.beta (seen c) → test ≡ (c.role == 2) → low ≡ int_le (seen c) (neg_ℤ c.beta) → higher ≡ int_lt (floor f) (seen c) →
+    Fits f (before ++ c ∷ behind) Neither → Fits c [] HasReturned → Fits (frame_by cuts test low higher f c) (frames_left cuts (before ++ behind)) Neither
+fits-by true test low higher f c before behind ec et el eh fits returned =
+    let kin : IsChildOf f c = child-of f c before behind fits.kin in
+    let s : IsSearchingFrame f = fits.searching (in-search f c kin.in_role) in
+    let worth = scored f c before behind fits returned kin in
+    let over : f.beta ≤ℤ seen c = le-told f.beta (seen c) ec in
+    inlet-cut f c before behind (value f) (greatest-of f s) fits over (over-beta f c fits.window s.search.below kin.in_role worth.0 worth.1 over)
+fits-by false true true higher f c before behind ec et el eh fits returned =
+    let kin : IsChildOf f c = child-of f c before behind fits.kin in
+    let r : IsTest f c = test-told f c et kin.in_role in
+    let worth = scored f c before behind fits returned kin in
+    let under : seen c ≤ℤ neg_ℤ c.beta = le-told (seen c) (neg_ℤ c.beta) el in
+    let most : neg_ℤ c.beta ≤ℤ floor f = r.most in
+    subst (λ (p : ℕ). Fits (record f { phase = p; best = int_max f.best (seen c); statuses = slice_set f.statuses c.number 2 }) (before ++ behind) Neither) (sym r.phase)
+    (inlet-low f c before behind fits (omega (arith, ints)) (test-low f c worth.0 worth.1 under) r.phase)
+fits-by false true false higher f c before behind ec et el eh fits returned =
+    let kin : IsChildOf f c = child-of f c before behind fits.kin in
+    inlet-failed f c before behind fits returned (test-told f c et kin.in_role)
+fits-by false false low true f c before behind ec et el eh fits returned =
+    let kin : IsChildOf f c = child-of f c before behind fits.kin in
+    let s : IsSearchingFrame f = fits.searching (in-search f c kin.in_role) in
+    let worth = scored f c before behind fits returned kin in
+    let under : seen c <ℤ f.beta = not-le-told f.beta (seen c) ec in
+    let over : floor f <ℤ seen c = lt-told (floor f) (seen c) eh in
+    ⊎_elim
+    (λ (r : IsFirst f c). inlet-first f c before behind (code_at f c.number) fits r
+      (IsSearching-higher (value_at f) (code_at f) f.statuses f.alpha f.beta f.best (seen c) f.choice c.number kin.inside over under
+        (first-exact f c r worth.0 worth.1 under over) (λ k below. absurd (omega (arith, r.number, below))) s.search))
+    (λ (r : IsAgain f c). inlet-higher f c before behind fits r over under (again-exact f c r worth.0 worth.1 under over))
+    (other-told f c et kin.in_role)
+fits-by false false low false f c before behind ec et el eh fits returned =
+    let kin : IsChildOf f c = child-of f c before behind fits.kin in
+    let s : IsSearchingFrame f = fits.searching (in-search f c kin.in_role) in
+    let worth = scored f c before behind fits returned kin in
+    let under : seen c <ℤ f.beta = not-le-told f.beta (seen c) ec in
+    let small : seen c ≤ℤ floor f = not-lt-told (floor f) (seen c) eh in
+    ⊎_elim
+    (λ (r : IsFirst f c). inlet-first f c before behind f.choice fits r
+      (IsSearching-low (value_at f) (code_at f) f.statuses f.alpha f.beta f.best (seen c) f.choice c.number fits.window kin.inside small (first-low f c r worth.0 worth.1 under) s.search))
+    (λ (r : IsAgain f c). inlet-low f c before behind fits small (again-low f c r worth.0 worth.1 small) r.phase)
+    (other-told f c et kin.in_role)
+
+-- a score from -INF to INF
+pub record IsRanged (f : Frame) : Type 0 where
+  pub low : least ≤ℤ f.best
+  pub high : f.best ≤ℤ greatest
+
+pub ranged : (f : Frame) → IsFrame f → 1 < f.phase → IsRanged f
+ranged f form late = let r = form.late late in record { low = r.0; high = r.1 }
+
+-- what an inlet stores can be read again, lies inside, and leaves the frame so
+record AreTaken (f c : Frame) (changes : List Change) (g : Frame) : Type 0 where
+  safe : AreSafe changes
+  inside : AreInside f.count changes
+  is : changed_by changes f ≡ g
+  count : g.count ≡ f.count
+  form : IsFrame g
+  goal : HasSameGoal f g
+  own_is : g.own ≡ f.own
+  opp_is : g.opp ≡ f.opp
+  known : g.phase ≢ 0
+
+same-goal : (f g : Frame) → g.depth ≡ f.depth → g.alpha ≡ f.alpha → g.beta ≡ f.beta → g.role ≡ f.role → g.number ≡ f.number → HasSameGoal f g
+same-goal f g a b c d e = record { depth = a; alpha = b; beta = c; role = d; number = e }
+
+taken-by : (cuts test low higher : Bool) (f c : Frame) → IsFrame f → (f.phase ≡ 2) ⊎ (f.phase ≡ 3) → c.number < f.count → IsRanged f → IsRanged c → AreTaken f c (changes_by cuts test low higher f c) (frame_by cuts test low higher f c)
+taken-by true test low higher f c form phase inside rf rc =
+    let h : c.best ≤ℤ greatest = rc.high in
+    let l : least ≤ℤ c.best = rc.low in
+    let code : code_at f c.number ≤ 64 = code-small f c.number in
+    record {
+      safe = (omega (arith, ints), (tt, (omega arith, (tt, tt)))); inside = (tt, (tt, (inside, (tt, tt)))); is = refl; count = refl;
+      form = searched f 4 (code_at f c.number) f.spawned (seen c) (slice_set f.statuses c.number 2) form phase (omega arith) (omega arith) (omega arith) form.spawned (omega (arith, ints)) (omega (arith, ints));
+      goal = record { depth = refl; alpha = refl; beta = refl; role = refl; number = refl }; own_is = refl; opp_is = refl; known = λ (e : 4 ≡ 0). absurd (omega arith);
+    }
+taken-by false true true higher f c form phase inside rf rc =
+    let h : c.best ≤ℤ greatest = rc.high in
+    let l : least ≤ℤ c.best = rc.low in
+    let fh : f.best ≤ℤ greatest = rf.high in
+    let fl : least ≤ℤ f.best = rf.low in
+    let late : 1 < f.phase = searching-late f phase in
+    record {
+      safe = (omega (arith, ints, clamps), (omega arith, tt)); inside = (tt, (inside, tt)); is = refl; count = refl;
+      form = searched f f.phase f.choice f.spawned (int_max f.best (seen c)) (slice_set f.statuses c.number 2) form phase late form.phase form.choice form.spawned (omega (arith, ints, clamps)) (omega (arith, ints, clamps));
+      goal = record { depth = refl; alpha = refl; beta = refl; role = refl; number = refl }; own_is = refl; opp_is = refl; known = λ (e : f.phase ≡ 0). absurd (omega arith);
+    }
+taken-by false true false higher f c form phase inside rf rc =
+    let late : 1 < f.phase = searching-late f phase in
+    record {
+      safe = (omega arith, tt); inside = (inside, tt); is = refl; count = refl;
+      form = searched f f.phase f.choice f.spawned f.best (slice_set f.statuses c.number 3) form phase late form.phase form.choice form.spawned rf.low rf.high;
+      goal = record { depth = refl; alpha = refl; beta = refl; role = refl; number = refl }; own_is = refl; opp_is = refl; known = λ (e : f.phase ≡ 0). absurd (omega arith);
+    }
+taken-by false false low true f c form phase inside rf rc =
+    let h : c.best ≤ℤ greatest = rc.high in
+    let l : least ≤ℤ c.best = rc.low in
+    let fh : f.best ≤ℤ greatest = rf.high in
+    let fl : least ≤ℤ f.best = rf.low in
+    let code : code_at f c.number ≤ 64 = code-small f c.number in
+    record {
+      safe = (omega (arith, ints, clamps), (tt, (omega arith, (tt, tt)))); inside = (tt, (tt, (inside, (tt, tt)))); is = refl; count = refl;
+      form = searched f 3 (code_at f c.number) f.spawned (int_max f.best (seen c)) (slice_set f.statuses c.number 2) form phase (omega arith) (omega arith) (omega arith) form.spawned (omega (arith, ints, clamps)) (omega (arith, ints, clamps));
+      goal = record { depth = refl; alpha = refl; beta = refl; role = refl; number = refl }; own_is = refl; opp_is = refl; known = λ (e : 3 ≡ 0). absurd (omega arith);
+    }
+taken-by false false low false f c form phase inside rf rc =
+    let h : c.best ≤ℤ greatest = rc.high in
+    let l : least ≤ℤ c.best = rc.low in
+    let fh : f.best ≤ℤ greatest = rf.high in
+    let fl : least ≤ℤ f.best = rf.low in
+    record {
+      safe = (omega (arith, ints, clamps), (omega arith, (tt, tt))); inside = (tt, (inside, (tt, tt))); is = refl; count = refl;
+      form = searched f 3 f.choice f.spawned (int_max f.best (seen c)) (slice_set f.statuses c.number 2) form phase (omega arith) (omega arith) form.choice form.spawned (omega (arith, ints, clamps)) (omega (arith, ints, clamps));
+      goal = record { depth = refl; alpha = refl; beta = refl; role = refl; number = refl }; own_is = refl; opp_is = refl; known = λ (e : 3 ≡ 0). absurd (omega arith);
+    }
+
+-- stores that can be done leave words of the form, with the same goal and the same board
+pub record IsGoodStore (own : List ℕ) (changes : List Change) (g : Frame) : Type 0 where
+  pub good : is_outside (pairs_of changes) own ≡ false
+  pub is : frame_of (stored (pairs_of changes) own) ≡ g
+  pub formed : IsFormed (stored (pairs_of changes) own)
+  pub goal : HasSameGoal (frame_of own) g
+  pub own_is : g.own ≡ (frame_of own).own
+  pub opp_is : g.opp ≡ (frame_of own).opp
+  pub known : g.phase ≢ 0
+
+pub good-store : (own : List ℕ) (changes : List Change) → IsFormed own → AreSafe changes → AreInside (frame_of own).count changes → (changed_by changes (frame_of own)).count ≡ (frame_of own).count → IsFrame (changed_by changes (frame_of own)) →
+    HasSameGoal (frame_of own) (changed_by changes (frame_of own)) → (changed_by changes (frame_of own)).own ≡ (frame_of own).own → (changed_by changes (frame_of own)).opp ≡ (frame_of own).opp → (changed_by changes (frame_of own)).phase ≢ 0 →
+    IsGoodStore own changes (changed_by changes (frame_of own))
+good-store own changes form safe inside count after goal own_is opp_is known = record {
+  good = inside-stored changes own (frame_of own).count form.places inside;
+  is = frame-stored changes own safe (omega (arith, form.places));
+  formed = formed-stored changes own form safe count after;
+  goal = goal; own_is = own_is; opp_is = opp_is; known = known;
+}
+
+taken-good : (own : List ℕ) (c : Frame) (changes : List Change) (g : Frame) → IsFormed own → AreTaken (frame_of own) c changes g → IsGoodStore own changes g
+taken-good own c changes g form t =
+    let same : changed_by changes (frame_of own) ≡ g = t.is in
+    subst (λ (h : Frame). IsGoodStore own changes h) same
+    (good-store own changes form t.safe t.inside (ap (λ (h : Frame). h.count) same ∙ t.count) (subst IsFrame (sym same) t.form)
+      (subst (λ (h : Frame). HasSameGoal (frame_of own) h) (sym same) t.goal) (ap (λ (h : Frame). h.own) same ∙ t.own_is) (ap (λ (h : Frame). h.opp) same ∙ t.opp_is)
+      (subst (λ (h : Frame). h.phase ≢ 0) (sym same) t.known))
+
+-- the inlet of a frame for a child of it that has returned
+pub inlet-good : (own : List ℕ) (c : Frame) → IsFormed own → IsFrame c → IsChildOf (frame_of own) c → c.phase ≡ 4 → IsGoodStore own (changes_of (frame_of own) c) (frame_after (frame_of own) c)
+inlet-good own c form child kin done =
+    let f : Frame = frame_of own in
+    let phase : (f.phase ≡ 2) ⊎ (f.phase ≡ 3) = in-search f c kin.in_role in
+    let inside : c.number < f.count = omega (arith, kin.inside, status-count own form) in
+    taken-good own c (changes_of f c) (frame_after f c) form
+    (taken-by (int_le f.beta (seen c)) (c.role == 2) (int_le (seen c) (neg_ℤ c.beta)) (int_lt (floor f) (seen c)) f c form.frame phase inside (ranged f form.frame (searching-late f phase)) (ranged c child (omega arith)))
+
+-- and it leaves the frame fitting
+pub inlet-fits : (f c : Frame) (before behind : List Frame) → Fits f (before ++ c ∷ behind) Neither → Fits c [] HasReturned → Fits (frame_after f c) (frames_left (int_le f.beta (seen c)) (before ++ behind)) Neither
+inlet-fits f c before behind fits returned =
+    fits-by (int_le f.beta (seen c)) (c.role == 2) (int_le (seen c) (neg_ℤ c.beta)) (int_lt (floor f) (seen c)) f c before behind refl refl refl refl fits returned

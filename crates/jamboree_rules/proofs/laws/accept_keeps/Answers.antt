@@ -1,0 +1,10 @@
+use Rattle.std.proofs.Common.{refl}
+use Rattle.jamboree_rules.specs.Procedure.{jamboree}
+use Rattle.jamboree_rules.proofs.Answers.{accept-keeps, accept-possible}
+use Rattle.jamboree_rules.proofs.laws.accept_keeps.Goals as goal
+
+pub returns : goal.returns
+returns c = record {
+  keeps = λ grain. accept-keeps (jamboree grain) refl refl refl refl;
+  possible = λ own answer fits. accept-possible own answer fits;
+}

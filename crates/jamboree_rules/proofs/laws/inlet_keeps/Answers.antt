@@ -1,0 +1,10 @@
+use Rattle.std.proofs.Common.{refl}
+use Rattle.jamboree_rules.specs.Procedure.{jamboree}
+use Rattle.jamboree_rules.proofs.Keeping.{inlet-keeps, inlet-possible}
+use Rattle.jamboree_rules.proofs.laws.inlet_keeps.Goals as goal
+
+pub returns : goal.returns
+returns c = record {
+  keeps = λ grain. inlet-keeps (jamboree grain) refl;
+  possible = λ own child before behind fits returned. inlet-possible own child before behind fits returned;
+}

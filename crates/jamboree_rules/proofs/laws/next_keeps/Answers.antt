@@ -1,0 +1,10 @@
+use Rattle.std.proofs.Common.{refl}
+use Rattle.jamboree_rules.specs.Procedure.{jamboree}
+use Rattle.jamboree_rules.proofs.Keeping.{next-keeps, next-possible}
+use Rattle.jamboree_rules.proofs.laws.next_keeps.Goals as goal
+
+pub returns : goal.returns
+returns c = record {
+  keeps = λ grain. next-keeps (jamboree grain) grain refl;
+  possible = λ grain origin own above older younger children fits parent. next-possible grain origin own above older younger children fits parent;
+}

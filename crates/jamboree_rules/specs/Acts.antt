@@ -1,0 +1,118 @@
+-- What a frame of a Jamboree search does next, and what it does about a child that has returned.
+-- (Kuszmaul 1994: the first child is searched, then the others are tested; a test that fails is searched again.)
+use Rattle.std.specs.Prelude.{ℕ, zero, suc, ◌+◌, ◌-◌, ◌==◌, ◌&&◌, ◌||◌, nat_le, nat_lt, Bool, true, false, ℤ, pos, ◌+ℤ◌, neg_ℤ, int_le, int_lt, List, [], ◌∷◌, Option, Some, None, length, slice_index, if◌then◌else◌}
+use Rattle.std.specs.Int.{int_max}
+use Rattle.othello_board.specs.declared.cells.Cell.{Cell}
+use Rattle.othello_board.specs.Words.{cells_of}
+use Rattle.othello_moves.specs.Choices.{choices, after}
+use Rattle.sched_rules.specs.declared.act.Act.{Act}
+use Rattle.sched_rules.specs.declared.act.InletAct.{InletAct}
+use Rattle.sched_rules.specs.declared.act.Then.{Then}
+use Rattle.sched_rules.specs.declared.act.Then.TheVariants.{Grow, Spawn, Wait, Compute, Return}
+use Rattle.jamboree_rules.specs.Frames.{Frame, board, choice_at, code_at, floor, least, own_word, opp_word, may_be_child}
+use Rattle.jamboree_rules.specs.Places.{frame_of, is_formed, is_placed, Change, OwnBits, OppBits, Phase, Best, Chosen, Count, Spawned, Status, pairs_of, given_words, frame_size}
+
+-- to return without a store, which is what words of no frame do
+abbrev pub returns : Act
+returns = record { stores = []; after = Return }
+
+-- to open a child for the choice i, in this role and with this window
+abbrev pub spawns : Frame → ℕ → ℕ → ℤ → ℤ → Then
+spawns f role i alpha beta = Spawn (given_words (f.depth - 1) alpha beta role i) frame_size
+
+-- phase 0: the frame knows its board now. It is computed outside, or it has n choices to search
+abbrev pub opening : Bool → ℕ → ℕ → ℕ → Act
+opening true own opp n = record { stores = pairs_of (OwnBits own ∷ OppBits opp ∷ Phase 1 ∷ []); after = Compute }
+opening false own opp n = record {
+  stores = pairs_of (OwnBits own ∷ OppBits opp ∷ Phase 2 ∷ Best least ∷ Chosen 65 ∷ Count n ∷ Spawned 0 ∷ []);
+  after = Grow n;
+}
+
+-- whether a frame is computed outside: its depth is at most the grain, or the game is over
+abbrev pub is_computed : ℕ → Frame → List Cell → Bool
+is_computed grain f b = nat_le f.depth grain || (length (choices b) == 0)
+
+-- phase 0 of a frame whose board has these two words
+abbrev pub opening_on : ℕ → Frame → ℕ → ℕ → Act
+opening_on grain f own opp = opening (is_computed grain f (cells_of own opp)) own opp (length (choices (cells_of own opp)))
+
+-- phase 0: a root holds its board, and another frame's board is the one after its choice of the parent's board
+abbrev pub opening_under : ℕ → Frame → Option Frame → Act
+opening_under grain f None = opening_on grain f f.own f.opp
+opening_under grain f (Some parent) = let b : List Cell = after (board parent) (choice_at parent f.number) in opening_on grain f (own_word b) (opp_word b)
+
+-- phase 2: the first child is opened with the whole window, and awaited
+abbrev pub first_search : Bool → Frame → Act
+first_search true f = record { stores = pairs_of (Spawned 1 ∷ Status 0 1 ∷ []); after = spawns f 1 0 (neg_ℤ f.beta) (neg_ℤ f.alpha) }
+first_search false f = record { stores = []; after = Wait }
+
+-- the number of the first choice that isn't settled, or how many choices there are
+abbrev pub first_open : List ℕ → ℕ
+first_open [] = 0
+first_open (status ∷ statuses) = if status == 2 then suc (first_open statuses) else 0
+
+-- phase 3: the first choice j that isn't settled has failed its test, and is searched again with the window above the floor; else a
+-- choice is left, and is tested just above the floor; else all are settled, and the frame is done; else it waits
+abbrev pub tests : (failed more all : Bool) → Frame → ℕ → Act
+tests true more all f j = record { stores = pairs_of (Status j 4 ∷ []); after = spawns f 3 j (neg_ℤ f.beta) (neg_ℤ (floor f)) }
+tests false true all f j = record {
+  stores = pairs_of (Spawned (f.spawned + 1) ∷ Status f.spawned 1 ∷ []);
+  after = spawns f 2 f.spawned (neg_ℤ (floor f +ℤ pos 1)) (neg_ℤ (floor f));
+}
+tests false false true f j = record { stores = pairs_of (Phase 4 ∷ []); after = Return }
+tests false false false f j = record { stores = []; after = Wait }
+
+-- the same, from the first choice that isn't settled
+abbrev pub tests_from : Frame → ℕ → Act
+tests_from f j = tests (nat_lt j (length f.statuses) && (slice_index f.statuses j == 3)) (nat_lt f.spawned (length f.statuses)) (nat_le (length f.statuses) j) f j
+
+-- the next act of a frame, by its phase
+abbrev pub act_by : (opens computes first searches : Bool) → ℕ → Frame → Option Frame → Act
+act_by true computes first searches grain f parent = opening_under grain f parent
+act_by false true first searches grain f parent = record { stores = []; after = Compute }
+act_by false false true searches grain f parent = first_search (f.spawned == 0) f
+act_by false false false true grain f parent = tests_from f (first_open f.statuses)
+act_by false false false false grain f parent = returns
+
+-- the next act of a frame under this parent, or under none
+abbrev pub act_of : ℕ → Frame → Option Frame → Act
+act_of grain f parent = act_by (f.phase == 0) (f.phase == 1) (f.phase == 2) (f.phase == 3) grain f parent
+
+-- the parent, one level up
+abbrev pub parent_in : List (List ℕ) → Option Frame
+parent_in [] = None
+parent_in (parent ∷ above) = Some (frame_of parent)
+
+-- the next act of what sees these words
+abbrev pub next_act : ℕ → List (List ℕ) → Act
+next_act grain [] = returns
+next_act grain (own ∷ above) = if is_formed own && is_placed own above then act_of grain (frame_of own) (parent_in above) else returns
+
+-- a child's score, seen from the parent
+abbrev pub seen : Frame → ℤ
+seen c = neg_ℤ c.best
+
+-- what the inlet of frame f stores of child c: its score is at least beta, and ends the frame; a test was low, and settles the
+-- choice; a test failed; a search in full was better than the floor, or it wasn't
+abbrev pub changes_by : (cuts test low higher : Bool) → Frame → Frame → List Change
+changes_by true test low higher f c = Best (seen c) ∷ Chosen (code_at f c.number) ∷ Status c.number 2 ∷ Phase 4 ∷ []
+changes_by false true true higher f c = Best (int_max f.best (seen c)) ∷ Status c.number 2 ∷ []
+changes_by false true false higher f c = Status c.number 3 ∷ []
+changes_by false false low true f c = Best (int_max f.best (seen c)) ∷ Chosen (code_at f c.number) ∷ Status c.number 2 ∷ Phase 3 ∷ []
+changes_by false false low false f c = Best (int_max f.best (seen c)) ∷ Status c.number 2 ∷ Phase 3 ∷ []
+
+-- the same, from the two frames: the lower end of a test's window, seen from the parent, is -beta of the child
+abbrev pub changes_of : Frame → Frame → List Change
+changes_of f c = changes_by (int_le f.beta (seen c)) (c.role == 2) (int_le (seen c) (neg_ℤ c.beta)) (int_lt (floor f) (seen c)) f c
+
+-- to wake the parent and no more, which is the inlet of words of no frame
+abbrev pub wakes : InletAct
+wakes = record { stores = []; abort = false; wake = true }
+
+-- the inlet of frame f for child c: it ends the others exactly where it ends f
+abbrev pub inlet_of : Frame → Frame → InletAct
+inlet_of f c = record { stores = pairs_of (changes_of f c); abort = int_le f.beta (seen c); wake = true }
+
+-- the inlet of a parent's words for a child's
+abbrev pub inlet_act : List ℕ → List ℕ → InletAct
+inlet_act own child = if is_formed own && (is_formed child && may_be_child (frame_of own) (frame_of child)) then inlet_of (frame_of own) (frame_of child) else wakes

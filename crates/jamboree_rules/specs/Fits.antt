@@ -1,0 +1,125 @@
+-- What is kept true of each frame: it fits its children, and they fit it.
+use Rattle.std.specs.Prelude.{◌≡◌, ◌≢◌, ℕ, ◌+◌, ◌-◌, ◌<◌, ◌≤◌, ◌⊎◌, ◌==◌, true, ℤ, pos, neg_ℤ, ◌<ℤ◌, ◌≤ℤ◌, ◌+ℤ◌, List, [], ◌∷◌, map, length, slice_index, count_by}
+use Rattle.othello_moves.specs.Choices.{choices, after}
+use Rattle.othello_eval.specs.Minimax.{best_choice}
+use Rattle.leaf_search.specs.Bounds.{IsBound}
+use Rattle.sched_rules.specs.Trees.{kept_words}
+use Rattle.sched_rules.specs.Laws.{Mark, Neither, Computes, HasReturned}
+use Rattle.jamboree_rules.specs.Frames.{Frame, board, choice_at, code_at, coded, value_at, value, floor, least, greatest}
+use Rattle.jamboree_rules.specs.Places.{frame_of, is_formed}
+
+-- c is the first child of f: it is searched with the whole window
+pub record IsFirst (f c : Frame) : Type 0 where
+  pub role : c.role ≡ 1
+  pub phase : f.phase ≡ 2
+  pub number : c.number ≡ 0
+  pub status : slice_index f.statuses c.number ≡ 1
+  pub low : c.alpha ≡ neg_ℤ f.beta
+  pub high : c.beta ≡ neg_ℤ f.alpha
+
+-- c is a test of a choice of f: its window is just above some t, which was the floor of f when it was opened
+pub record IsTest (f c : Frame) : Type 0 where
+  pub role : c.role ≡ 2
+  pub phase : f.phase ≡ 3
+  pub status : slice_index f.statuses c.number ≡ 1
+  pub low : c.alpha ≡ neg_ℤ (neg_ℤ c.beta +ℤ pos 1)
+  pub least : f.alpha ≤ℤ neg_ℤ c.beta
+  pub most : neg_ℤ c.beta ≤ℤ floor f
+
+-- c searches a choice of f again, above the floor of f; all earlier choices are settled
+pub record IsAgain (f c : Frame) : Type 0 where
+  pub role : c.role ≡ 3
+  pub phase : f.phase ≡ 3
+  pub status : slice_index f.statuses c.number ≡ 4
+  pub low : c.alpha ≡ neg_ℤ f.beta
+  pub high : c.beta ≡ neg_ℤ (floor f)
+  pub earlier : (k : ℕ) → k < c.number → slice_index f.statuses k ≡ 2
+
+pub data IsInRole (f c : Frame) : Type 0 where
+  First : IsFirst f c → IsInRole f c
+  Test : IsTest f c → IsInRole f c
+  Again : IsAgain f c → IsInRole f c
+
+-- c is a child of f: one ply shallower, and once it knows its board, that is the board after its choice
+pub record IsChildOf (f c : Frame) : Type 0 where
+  pub inside : c.number < length f.statuses
+  pub shallower : c.depth ≡ f.depth - 1
+  pub known : c.phase ≢ 0 → board c ≡ after (board f) (choice_at f c.number)
+  pub in_role : IsInRole f c
+
+-- each of these is a child of f
+abbrev pub AreChildren : Frame → List Frame → Type 0
+AreChildren f [] = Unit {0}
+AreChildren f (c ∷ cs) = IsChildOf f c × AreChildren f cs
+
+-- how many of these children are for the choice i
+abbrev pub how_many : ℕ → List Frame → ℕ
+how_many i children = count_by (λ c. c.number == i) children
+
+-- the choice with this code is the first that is worth the best score, and it is settled
+pub record IsFound (v : ℕ → ℤ) (code : ℕ → ℕ) (statuses : List ℕ) (best : ℤ) (choice : ℕ) : Type 0 where
+  pub place : ℕ
+  pub inside : place < length statuses
+  pub settled : slice_index statuses place ≡ 2
+  pub named : choice ≡ code place
+  pub worth : v place ≡ best
+  pub earlier : (k : ℕ) → k < place → v k <ℤ best
+
+-- between two searches, over what the choices are worth, their codes and their statuses: the best score is below beta, no settled
+-- choice is worth more, and where it is above alpha, the first choice that is worth it is named
+pub record IsSearching (v : ℕ → ℤ) (code : ℕ → ℕ) (statuses : List ℕ) (alpha beta best : ℤ) (choice : ℕ) : Type 0 where
+  pub below : best <ℤ beta
+  pub settled : (k : ℕ) → k < length statuses → slice_index statuses k ≡ 2 → v k ≤ℤ best
+  pub found : alpha <ℤ best → IsFound v code statuses best choice
+
+-- phases 2 and 3: a status for each choice, 0 for those that aren't spawned yet
+pub record IsSearchingFrame (f : Frame) : Type 0 where
+  pub places : length f.statuses ≡ length (choices (board f))
+  pub some : 0 < length f.statuses
+  pub deep : 0 < f.depth
+  pub spawned_in : f.spawned ≤ length f.statuses
+  pub unspawned : (k : ℕ) → f.spawned ≤ k → k < length f.statuses → slice_index f.statuses k ≡ 0
+  pub search : IsSearching (value_at f) (code_at f) f.statuses f.alpha f.beta f.best f.choice
+
+-- phase 4: the best score is a bound of the minimax value, and inside the window the choice is the best choice
+pub record IsDoneFrame (f : Frame) : Type 0 where
+  pub bound : IsBound f.alpha f.beta f.best (value f)
+  pub named : f.alpha <ℤ f.best → f.best <ℤ f.beta → f.choice ≡ coded (best_choice f.depth (board f))
+
+-- what the scheduler knows of a frame agrees with its phase
+abbrev pub IsMarked : ℕ → Mark → Type 0
+IsMarked phase Neither = phase ≢ 1
+IsMarked phase Computes = phase ≡ 1
+IsMarked phase HasReturned = phase ≡ 4
+
+-- a frame fits its children and its mark
+pub record Fits (f : Frame) (children : List Frame) (mark : Mark) : Type 0 where
+  pub window : f.alpha <ℤ f.beta
+  pub marked : IsMarked f.phase mark
+  pub idle : f.phase ≢ 2 → f.phase ≢ 3 → children ≡ []
+  pub searching : (f.phase ≡ 2) ⊎ (f.phase ≡ 3) → IsSearchingFrame f
+  pub done : f.phase ≡ 4 → IsDoneFrame f
+  pub kin : AreChildren f children
+  pub once : (i : ℕ) → how_many i children ≤ 1
+
+-- words fit: they have the form of a frame, and the frame in them fits those in its children's words
+pub record AreFitting (words : List ℕ) (children : List (List ℕ)) (mark : Mark) : Type 0 where
+  pub formed : is_formed words ≡ true
+  pub frame : Fits (frame_of words) (map frame_of children) mark
+
+-- the words of a root belong to those that were submitted: the same board and depth, and the full window
+pub record IsRoot (origin own : List ℕ) : Type 0 where
+  pub own_is : (frame_of own).own ≡ (frame_of origin).own
+  pub opp_is : (frame_of own).opp ≡ (frame_of origin).opp
+  pub depth_is : (frame_of own).depth ≡ (frame_of origin).depth
+  pub role_is : (frame_of own).role ≡ 0
+  pub alpha_is : (frame_of own).alpha ≡ least
+  pub beta_is : (frame_of own).beta ≡ greatest
+
+-- what a job keeps of a root that has returned: the first 12 words of words that fit, of a root
+pub record IsKeptRoot (words : List ℕ) : Type 0 where
+  pub origin : List ℕ
+  pub whole : List ℕ
+  pub kept : kept_words whole ≡ words
+  pub fits : AreFitting whole [] HasReturned
+  pub rooted : IsRoot origin whole

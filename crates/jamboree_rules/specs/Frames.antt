@@ -1,0 +1,118 @@
+-- A frame of a Jamboree search in the terms of the game: its board, its goal, its place under its parent, and how far it has come.
+-- (Kuszmaul, Synchronized MIMD Computing, 1994: Jamboree search.)
+use Rattle.std.specs.Prelude.{◌≡◌, ℕ, ◌-◌, ◌%◌, ◌==◌, ◌&&◌, ◌||◌, nat_le, nat_lt, Bool, true, ℤ, pos, negsuc, neg_ℤ, int_le, int_lt, List, map, Option, Some, None, length, slice_index_or, bit_and, if◌then◌else◌, filter}
+use Rattle.std.specs.Int.{int_max}
+use Rattle.std.specs.Ordering.{int_eq}
+use Rattle.othello_board.specs.declared.cells.Cell.{Cell}
+use Rattle.othello_board.specs.Rules.{squares, cell_at, is_own_cell, is_opp_cell}
+use Rattle.othello_board.specs.Words.{cells_of, bits_of}
+use Rattle.othello_moves.specs.declared.choices.Choice.{Choice}
+use Rattle.othello_moves.specs.declared.choices.Choice.TheVariants.{Square, Pass}
+use Rattle.othello_moves.specs.Choices.{choices, after}
+use Rattle.othello_eval.specs.Minimax.{minimax, choice_value}
+
+-- what a frame's words say. The phases are 0 new, 1 computing, 2 first child, 3 tests, 4 done; the roles 0 root, 1 first, 2 test,
+-- 3 again; the statuses of the choices 0 not spawned, 1 first search or test runs, 2 settled, 3 test failed, 4 search again runs
+pub record Frame : Type 0 where
+  -- the two words of the board, seen by the mover
+  pub own : ℕ
+  pub opp : ℕ
+  -- the depth left, and the window
+  pub depth : ℕ
+  pub alpha : ℤ
+  pub beta : ℤ
+  -- what the frame is to its parent, and the number of its choice among the parent's, from 0
+  pub role : ℕ
+  pub number : ℕ
+  pub phase : ℕ
+  -- the best score so far, and the code of the choice that has it
+  pub best : ℤ
+  pub choice : ℕ
+  -- how many choices there are, how many of them were spawned, and the status of each
+  pub count : ℕ
+  pub spawned : ℕ
+  pub statuses : List ℕ
+
+-- the ends of the full window, and the best score of a frame that has none yet (that of the word 0)
+abbrev pub least : ℤ
+least = negsuc 199999
+
+abbrev pub greatest : ℤ
+greatest = pos 200000
+
+abbrev pub unscored : ℤ
+unscored = negsuc 999999
+
+-- the board
+abbrev pub board : Frame → List Cell
+board f = cells_of f.own f.opp
+
+-- the choice with this number
+abbrev pub choice_at : Frame → ℕ → Choice
+choice_at f i = slice_index_or (choices (board f)) i Pass
+
+-- the code of a choice: 0 to 63 a square, 64 a pass
+abbrev pub code_of : Choice → ℕ
+code_of (Square s) = s
+code_of Pass = 64
+
+-- the code of the choice with this number
+abbrev pub code_at : Frame → ℕ → ℕ
+code_at f i = code_of (choice_at f i)
+
+-- the code of a choice, or 65 for none
+abbrev pub coded : Option Choice → ℕ
+coded None = 65
+coded (Some c) = code_of c
+
+-- what the choice with this number is worth to the mover
+abbrev pub value_at : Frame → ℕ → ℤ
+value_at f i = choice_value f.depth (board f) (choice_at f i)
+
+-- the minimax value of a frame's board to its depth
+abbrev pub value : Frame → ℤ
+value f = minimax f.depth (board f)
+
+-- the greater of alpha and the best score
+abbrev pub floor : Frame → ℤ
+floor f = int_max f.alpha f.best
+
+-- the bits of the mover's discs, and of the opponent's
+abbrev pub own_word : List Cell → ℕ
+own_word b = bits_of (filter (λ s. is_own_cell (cell_at b s)) squares)
+
+abbrev pub opp_word : List Cell → ℕ
+opp_word b = bits_of (filter (λ s. is_opp_cell (cell_at b s)) squares)
+
+-- whether these are the numbers of a leaf: no square has two discs, the depth is at most 12, and the window is one
+abbrev pub is_leaf : ℕ → ℕ → ℕ → ℤ → ℤ → Bool
+is_leaf own opp depth alpha beta = (bit_and own opp == 0) && (nat_le depth 12 && (int_le least alpha && (int_lt alpha beta && int_le beta greatest)))
+
+-- whether this is the score of some word: from -INF to INF
+abbrev pub is_score : ℤ → Bool
+is_score s = int_le least s && int_le s greatest
+
+-- whether a frame in this phase searches its choices
+abbrev pub is_searching : ℕ → Bool
+is_searching phase = (phase == 2) || (phase == 3)
+
+-- whether the count of choices is that of the board, at least 1, at a depth of at least 1
+abbrev pub counts_choices : Frame → Bool
+counts_choices f = nat_lt 0 f.depth && (nat_lt 0 f.count && (f.count == length (choices (board f))))
+
+-- whether best score and count are as the phase asks: none before the first search; then a score, and while choices are searched
+-- the count of the board's choices
+abbrev pub is_in_phase : Frame → Bool
+is_in_phase f =
+    if nat_le f.phase 1 then int_eq f.best unscored && (f.count == 0)
+    else is_score f.best && (if is_searching f.phase then counts_choices f else true)
+
+-- whether the numbers of a frame are in their ranges
+abbrev pub is_frame : Frame → Bool
+is_frame f =
+    is_leaf f.own f.opp f.depth f.alpha f.beta
+    && (nat_le f.role 3 && (nat_le f.phase 4 && (nat_le f.choice 65 && (nat_le f.spawned f.count && is_in_phase f))))
+
+-- whether c may be a child of f: it is no root, and its number is that of a choice of f
+abbrev pub may_be_child : Frame → Frame → Bool
+may_be_child f c = nat_lt 0 c.role && (nat_lt c.number f.count && nat_lt c.number (length (choices (board f))))

@@ -1,0 +1,7 @@
+pub mod Frames
+pub mod Leaves
+pub mod Places
+pub mod Acts
+pub mod Fits
+pub mod Sound
+pub mod Procedure

@@ -1,0 +1,98 @@
+-- The words of a frame: which place holds what. No other file knows places.
+--
+-- | Place | Holds |
+-- | 0, 1 | the bits of the mover's discs and of the opponent's (bit s is square s) |
+-- | 2 | the depth left |
+-- | 3, 4 | the words of alpha and beta |
+-- | 5 | role | 6 | number of the choice in the parent's order |
+-- | 7 | phase | 8 | the word of the best score | 9 | the code of the choice, 65 for none |
+-- | 10 | number of choices | 11 | number of choices spawned so far |
+-- | 12 + i | status of choice i |
+use Rattle.std.specs.Prelude.{ℕ, ◌+◌, ◌-◌, ◌%◌, ◌==◌, ◌&&◌, nat_le, Bool, true, ℤ, pos, ◌+ℤ◌, ◌-ℤ◌, nat_abs, List, [], ◌∷◌, map, drop, length, slice_index, slice_set}
+use Rattle.jamboree_rules.specs.Frames.{Frame, is_frame, may_be_child}
+
+-- the score that a word stands for, and the word of a score
+abbrev pub score_of : ℕ → ℤ
+score_of word = pos word -ℤ pos 1000000
+
+abbrev pub word_of : ℤ → ℕ
+word_of score = nat_abs (score +ℤ pos 1000000)
+
+-- the status in an entry: its three low bits
+abbrev pub status_of : ℕ → ℕ
+status_of entry = entry % 8
+
+-- the frame in these words
+abbrev pub frame_of : List ℕ → Frame
+frame_of words = record {
+  own = slice_index words 0; opp = slice_index words 1; depth = slice_index words 2;
+  alpha = score_of (slice_index words 3); beta = score_of (slice_index words 4);
+  role = slice_index words 5; number = slice_index words 6; phase = slice_index words 7;
+  best = score_of (slice_index words 8); choice = slice_index words 9;
+  count = slice_index words 10; spawned = slice_index words 11; statuses = map status_of (drop 12 words);
+}
+
+-- whether each of these entries is a status, 0 to 4
+abbrev pub are_statuses : List ℕ → Bool
+are_statuses [] = true
+are_statuses (entry ∷ entries) = nat_le entry 4 && are_statuses entries
+
+-- whether words have the form of a frame: the places 0 to 11, one place for each choice and no other, and each in its range
+abbrev pub is_formed : List ℕ → Bool
+is_formed words = (length words == 12 + slice_index words 10) && (are_statuses (drop 12 words) && is_frame (frame_of words))
+
+-- whether words are those of a frame at the place where they stand: a root with no level above it, or else a child of the parent,
+-- whose words, too, have the form
+abbrev pub is_placed : List ℕ → List (List ℕ) → Bool
+is_placed words [] = (frame_of words).role == 0
+is_placed words (parent ∷ above) = is_formed parent && may_be_child (frame_of parent) (frame_of words)
+
+-- one store, by what it sets
+pub data Change : Type 0 where
+  OwnBits : (word : ℕ) → Change
+  OppBits : (word : ℕ) → Change
+  Phase : (phase : ℕ) → Change
+  Best : (score : ℤ) → Change
+  Chosen : (code : ℕ) → Change
+  Count : (count : ℕ) → Change
+  Spawned : (count : ℕ) → Change
+  Status : (i status : ℕ) → Change
+
+-- the place and the word of a store
+abbrev pub pair_of : Change → ℕ × ℕ
+pair_of (OwnBits word) = (0, word)
+pair_of (OppBits word) = (1, word)
+pair_of (Phase phase) = (7, phase)
+pair_of (Best score) = (8, word_of score)
+pair_of (Chosen code) = (9, code)
+pair_of (Count count) = (10, count)
+pair_of (Spawned count) = (11, count)
+pair_of (Status i status) = (12 + i, status)
+
+-- stores as places and words
+abbrev pub pairs_of : List Change → List (ℕ × ℕ)
+pairs_of [] = []
+pairs_of (change ∷ changes) = pair_of change ∷ pairs_of changes
+
+-- the frame after a store
+abbrev pub changed : Change → Frame → Frame
+changed (OwnBits word) f = record f { own = word }
+changed (OppBits word) f = record f { opp = word }
+changed (Phase phase) f = record f { phase = phase }
+changed (Best score) f = record f { best = score }
+changed (Chosen code) f = record f { choice = code }
+changed (Count count) f = record f { count = count }
+changed (Spawned count) f = record f { spawned = count }
+changed (Status i status) f = record f { statuses = slice_set f.statuses i (status_of status) }
+
+-- the first words of a new frame: a goal with no board known, in this role, for the choice with this number
+abbrev pub given_words : ℕ → ℤ → ℤ → ℕ → ℕ → List ℕ
+given_words depth alpha beta role number = 0 ∷ 0 ∷ depth ∷ word_of alpha ∷ word_of beta ∷ role ∷ number ∷ 0 ∷ []
+
+-- the first words of a root: a board to a depth, with the full window
+abbrev pub root_words : ℕ → ℕ → ℕ → List ℕ
+root_words own opp depth = own ∷ opp ∷ depth ∷ 800000 ∷ 1200000 ∷ 0 ∷ 0 ∷ 0 ∷ []
+
+-- the size of a new frame
+abbrev pub frame_size : ℕ
+frame_size = 12

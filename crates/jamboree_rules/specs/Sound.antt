@@ -1,0 +1,44 @@
+-- That a frame is sound: what its numbers say of the minimax value of its board, and what its children search.
+use Rattle.std.specs.Prelude.{◌≡◌, ◌≢◌, ℕ, ◌-◌, ◌<◌, ◌≤◌, ◌⊎◌, ℤ, pos, neg_ℤ, ◌<ℤ◌, ◌≤ℤ◌, ◌+ℤ◌, List, [], ◌∷◌, slice_index}
+use Rattle.othello_moves.specs.Choices.{after}
+use Rattle.othello_eval.specs.Minimax.{best_choice}
+use Rattle.leaf_search.specs.Bounds.{IsBound}
+use Rattle.jamboree_rules.specs.Frames.{Frame, board, choice_at, code_at, coded, value_at, value, floor}
+
+-- choice i of the frame is settled
+abbrev pub IsSettled : Frame → ℕ → Type 0
+IsSettled f i = slice_index f.statuses i ≡ 2
+
+-- the stored choice is a settled choice j that is worth the best score, and each earlier choice is worth less
+pub record IsFirstBest (f : Frame) : Type 0 where
+  pub place : ℕ
+  pub stored : f.choice ≡ code_at f place
+  pub settled : IsSettled f place
+  pub worth : value_at f place ≡ f.best
+  pub earlier : (i : ℕ) → i < place → value_at f i <ℤ f.best
+
+-- the window of a child, by its role; where it searches a choice again, every earlier choice is settled
+pub data HasWindow (f c : Frame) : Type 0 where
+  First : c.role ≡ 1 → c.alpha ≡ neg_ℤ f.beta → c.beta ≡ neg_ℤ f.alpha → HasWindow f c
+  Test : c.role ≡ 2 → (t : ℤ) → c.alpha ≡ neg_ℤ (t +ℤ pos 1) → c.beta ≡ neg_ℤ t → f.alpha ≤ℤ t → t ≤ℤ floor f → HasWindow f c
+  Again : c.role ≡ 3 → c.alpha ≡ neg_ℤ f.beta → c.beta ≡ neg_ℤ (floor f) → ((i : ℕ) → i < c.number → IsSettled f i) → HasWindow f c
+
+-- the goal of a child: the board after its choice (which it knows once it isn't new), one ply less, and its window
+pub record HasGoal (f c : Frame) : Type 0 where
+  pub searches : (f.phase ≡ 2) ⊎ (f.phase ≡ 3)
+  pub board : c.phase ≢ 0 → board c ≡ after (board f) (choice_at f c.number)
+  pub depth : c.depth ≡ f.depth - 1
+  pub window : HasWindow f c
+
+abbrev pub HaveGoals : Frame → List Frame → Type 0
+HaveGoals f [] = Unit {0}
+HaveGoals f (c ∷ cs) = HasGoal f c × HaveGoals f cs
+
+-- a frame with these children is sound
+pub record IsSound (f : Frame) (cs : List Frame) : Type 0 where
+  pub below : (f.phase ≡ 2) ⊎ (f.phase ≡ 3) → f.best <ℤ f.beta
+  pub settled : (f.phase ≡ 2) ⊎ (f.phase ≡ 3) → (i : ℕ) → IsSettled f i → value_at f i ≤ℤ f.best
+  pub chosen : (f.phase ≡ 2) ⊎ (f.phase ≡ 3) → f.alpha <ℤ f.best → IsFirstBest f
+  pub bound : f.phase ≡ 4 → IsBound f.alpha f.beta f.best (value f)
+  pub named : f.phase ≡ 4 → f.alpha <ℤ f.best → f.best <ℤ f.beta → f.choice ≡ coded (best_choice f.depth (board f))
+  pub children : HaveGoals f cs

@@ -1,0 +1,61 @@
+//! What holds of every Jamboree search: each contract is a law.
+ghost use Rattle.std.specs.Prelude.{◌≡◌, ℕ, ◌≤◌, List, [], ◌∷◌, ◌++◌, true, false, bit_and, map};
+ghost use Rattle.cactus_stack.specs.Nodes.{padded};
+ghost use Rattle.othello_eval.specs.Minimax.{best_choice};
+ghost use Rattle.sched_rules.specs.Trees.{is_outside};
+ghost use Rattle.sched_rules.specs.Lone.{is_bad_act};
+ghost use Rattle.sched_rules.specs.Laws.{Mark, Neither, Computes, HasReturned, has_one, ParentFits, NextKeeps, InletKeeps, AcceptKeeps};
+ghost use Rattle.jamboree_rules.specs.declared.leaf.Leaf.{Leaf};
+ghost use Rattle.jamboree_rules.specs.declared.leaf.LeafAnswer.{LeafAnswer};
+ghost use Rattle.jamboree_rules.specs.Frames.{board, value, coded};
+ghost use Rattle.jamboree_rules.specs.Places.{frame_of, root_words, frame_size};
+ghost use Rattle.jamboree_rules.specs.Acts.{next_act, inlet_act};
+ghost use Rattle.jamboree_rules.specs.Leaves.{leaf_in, accepts, same_leaf};
+ghost use Rattle.jamboree_rules.specs.Fits.{AreFitting, IsRoot};
+ghost use Rattle.jamboree_rules.specs.Sound.{IsSound};
+ghost use Rattle.jamboree_rules.specs.Procedure.{jamboree};
+
+/// The next act of a frame that fits can be done, and leaves it, its parent and a new child fitting.
+pub fn next_keeps()
+    ensures keeps { (grain : ℕ) → NextKeeps (jamboree grain) AreFitting IsRoot }
+    ensures possible { (grain : ℕ) (origin own : List ℕ) (above older younger children : List (List ℕ)) →
+        AreFitting own children Neither → ParentFits AreFitting IsRoot origin above older own younger →
+        is_bad_act own (has_one children) (next_act grain (own ∷ above)) ≡ false }
+{}
+
+/// The inlet of a frame that fits for a child that has returned can be done, and leaves it and its
+/// parent fitting, also after an abort.
+pub fn inlet_keeps()
+    ensures keeps { (grain : ℕ) → InletKeeps (jamboree grain) AreFitting IsRoot }
+    ensures possible { (own child : List ℕ) (before behind : List (List ℕ)) →
+        AreFitting own (before ++ child ∷ behind) Neither → AreFitting child [] HasReturned → is_outside (inlet_act own child).stores own ≡ false }
+{}
+
+/// What a frame stores of an answer to its leaf can be done, and leaves it and its parent fitting.
+pub fn accept_keeps()
+    ensures keeps { (grain : ℕ) → AcceptKeeps (jamboree grain) AreFitting IsRoot }
+    ensures possible { (own : List ℕ) (answer : LeafAnswer) → AreFitting own [] Computes → is_outside (accepts own answer) own ≡ false }
+{}
+
+/// Leaves that compare as the same are equal.
+pub fn same_leaves_are_equal()
+    ensures { (one other : Leaf) → same_leaf one other ≡ true → one ≡ other }
+{}
+
+/// The root of a board and a depth of at most 12 fits, and belongs to the words that it was submitted with.
+pub fn a_new_root_fits()
+    ensures fits { (own opp depth : ℕ) → bit_and own opp ≡ 0 → depth ≤ 12 → AreFitting (padded (root_words own opp depth) frame_size) [] Neither }
+    ensures rooted { (own opp depth : ℕ) → bit_and own opp ≡ 0 → depth ≤ 12 → IsRoot (root_words own opp depth) (padded (root_words own opp depth) frame_size) }
+{}
+
+/// A returned root holds the minimax value and the best choice of its board to its depth.
+pub fn a_returned_root_holds_value_and_choice()
+    ensures value { (origin words : List ℕ) → AreFitting words [] HasReturned → IsRoot origin words → (frame_of words).best ≡ value (frame_of words) }
+    ensures choice { (origin words : List ℕ) → AreFitting words [] HasReturned → IsRoot origin words →
+        (frame_of words).choice ≡ coded (best_choice (frame_of words).depth (board (frame_of words))) }
+{}
+
+/// A frame that fits is sound.
+pub fn a_fitting_frame_is_sound()
+    ensures { (words : List ℕ) (children : List (List ℕ)) (mark : Mark) → AreFitting words children mark → IsSound (frame_of words) (map frame_of children) }
+{}
