@@ -16,7 +16,8 @@ use Rattle.othello_board.proofs.BitLemmas.{apart}
 use Rattle.othello_board.proofs.CellLemmas.{cell_at-cells_of, map-squares_same, bit_cases}
 use Rattle.othello_moves.specs.declared.choices.Choice.{Choice}
 use Rattle.othello_moves.specs.Choices.{after}
-use Rattle.othello_moves.proofs.BitLemmas.{bit_at-bits_of, is_among-filter, is_square}
+use Rattle.othello_board.proofs.BitLemmas.{bit_at-bits_of}
+use Rattle.othello_moves.proofs.BitLemmas.{is_among-filter, is_square}
 use Rattle.othello_moves.proofs.AllowedLemmas.{length-after}
 use Rattle.jamboree_rules.specs.Frames.{own_word, opp_word}
 
