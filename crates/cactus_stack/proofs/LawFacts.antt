@@ -16,7 +16,7 @@ none-stays (e ∷ nodes) zero (suc m) none = none
 none-stays (e ∷ nodes) (suc n) zero none = none
 none-stays (e ∷ nodes) (suc n) (suc m) none = none-stays nodes n m none
 
-still-none : (nodes : Nodes) (numbers : List ℕ) (m : ℕ) → node_at nodes m ≡ None → node_at (without nodes numbers) m ≡ None
+pub still-none : (nodes : Nodes) (numbers : List ℕ) (m : ℕ) → node_at nodes m ≡ None → node_at (without nodes numbers) m ≡ None
 still-none nodes [] m none = none
 still-none nodes (n ∷ numbers) m none = still-none (set nodes n None) numbers m (none-stays nodes n m none)
 

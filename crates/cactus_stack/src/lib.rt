@@ -7,8 +7,9 @@
 //! **What a `Stack` stands for.** A finite map from the numbers of the open nodes to their parents
 //! and words, and the count of all segments. Contracts see it as a list of that many entries: at
 //! place `n` stands the node of number `n` where it is open, and nothing where it isn't. [`Words`]
-//! stands for a list of words, and [`Sight`] for a list of such lists, nearest first. A node of `n`
-//! words takes `n / 16` segments, rounded up, and a call is refused only where fewer are free.
+//! stands for a list of words, and [`Sight`] for a list of such lists, nearest first; both look into a
+//! stack of any allocator and name none. A node of `n` words takes `n / 16` segments, rounded up, and a
+//! call is refused only where fewer are free.
 //!
 //! **Why it holds.** The words of a node lie in a chain of segments of one region, each linked to the
 //! next, and its number is that of the first. Each chain is as long as its node's words take, no

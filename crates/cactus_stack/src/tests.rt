@@ -211,3 +211,11 @@ fn each_growth_is_refused_in_turn(rt: HostRuntime) -> Result<(), Fail> {
     assert!(rt; made > 0);
     Ok(())
 }
+
+fn may_cross_threads<T: Send + Sync>(_value: &T) {}
+
+#[test]
+fn a_stack_may_cross_threads(rt: HostRuntime) -> Result<(), Fail> {
+    may_cross_threads(&Stack::new(rt.alloc(), 1)?);
+    Ok(())
+}

@@ -145,6 +145,9 @@ pub record HasCut {T : Type 0} (under : ℕ) (old marked new : Slab (Kept T)) (o
   pub kept : left ≡ filter (λ key. not (is_marked (get marked key))) order
   pub swept : (key : ℕ) → get new key ≡ swept_in marked order key
 
+pub has_cut : {T : Type 0} (under : ℕ) (old marked new : Slab (Kept T)) (order left : List ℕ) → Marks under (slots_in old order) order old marked → left ≡ filter (λ key. not (is_marked (get marked key))) order → ((key : ℕ) → get new key ≡ swept_in marked order key) → HasCut under old marked new order left
+has_cut under old marked new order left marks kept swept = record { marks = marks; kept = kept; swept = swept }
+
 pub cut_marks : {T : Type 0} (under : ℕ) (old marked new : Slab (Kept T)) (order left : List ℕ) → HasCut under old marked new order left → (k : ℕ) (x : Kept T) → has_key order k ≡ true → get old k ≡ Some x → get marked k ≡ Some (record x { marked = not (is_kept under (frames_from [] (slots_in old order)) x.slot.serial) })
 cut_marks under old marked new order left c k x has is = c.marks k ∙ (rw (is, has) refl)
 

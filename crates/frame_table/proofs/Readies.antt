@@ -41,29 +41,7 @@ ready_in-length (x ∷ xs) = one x xs (ready_in xs) x.state refl (ready_in-lengt
     one x xs frames Waiting e h = rw e h
     one x xs frames Returned e h = rw e h
 
--- they rise as the slots do
-pub ready_in-rises : {T : Type 0} (xs : List (Slot T)) → Rises xs → RisesBy (λ frame. frame.serial) (ready_in xs)
-ready_in-rises [] r = tt
-ready_in-rises (x ∷ xs) r = one x.serial x.state (ready_in xs) (above x.serial xs r.0) (ready_in-rises xs r.1)
-  where
-    with_above : (n serial : ℕ) (state : State) (frames : List ReadyFrame) → n < serial → AllAboveBy (λ frame. frame.serial) n frames → AllAboveBy (λ frame. frame.serial) n (with_ready serial state frames)
-    with_above n serial (Ready home) frames lt a = (lt, a)
-    with_above n serial (Running worker) frames lt a = a
-    with_above n serial (Computing worker) frames lt a = a
-    with_above n serial Waiting frames lt a = a
-    with_above n serial Returned frames lt a = a
-
-    above : {T : Type 0} (n : ℕ) (xs : List (Slot T)) → AllAbove n xs → AllAboveBy (λ frame. frame.serial) n (ready_in xs)
-    above n [] a = tt
-    above n (x ∷ xs) a = with_above n x.serial x.state (ready_in xs) a.0 (above n xs a.1)
-
-    one : (serial : ℕ) (state : State) (frames : List ReadyFrame) → AllAboveBy (λ frame. frame.serial) serial frames → RisesBy (λ frame. frame.serial) frames → RisesBy (λ frame. frame.serial) (with_ready serial state frames)
-    one serial (Ready home) frames a r = (a, r)
-    one serial (Running worker) frames a r = r
-    one serial (Computing worker) frames a r = r
-    one serial Waiting frames a r = r
-    one serial Returned frames a r = r
-
+-- they are above what the slots are above, and rise as those do
 pub ready_in-above : {T : Type 0} (n : ℕ) (xs : List (Slot T)) → AllAbove n xs → AllAboveBy (λ frame. frame.serial) n (ready_in xs)
 ready_in-above n [] a = tt
 ready_in-above n (x ∷ xs) a = one n x.serial x.state (ready_in xs) a.0 (ready_in-above n xs a.1)
@@ -74,6 +52,17 @@ ready_in-above n (x ∷ xs) a = one n x.serial x.state (ready_in xs) a.0 (ready_
     one n serial (Computing worker) frames lt a = a
     one n serial Waiting frames lt a = a
     one n serial Returned frames lt a = a
+
+pub ready_in-rises : {T : Type 0} (xs : List (Slot T)) → Rises xs → RisesBy (λ frame. frame.serial) (ready_in xs)
+ready_in-rises [] r = tt
+ready_in-rises (x ∷ xs) r = one x.serial x.state (ready_in xs) (ready_in-above x.serial xs r.0) (ready_in-rises xs r.1)
+  where
+    one : (serial : ℕ) (state : State) (frames : List ReadyFrame) → AllAboveBy (λ frame. frame.serial) serial frames → RisesBy (λ frame. frame.serial) frames → RisesBy (λ frame. frame.serial) (with_ready serial state frames)
+    one serial (Ready home) frames a r = (a, r)
+    one serial (Running worker) frames a r = r
+    one serial (Computing worker) frames a r = r
+    one serial Waiting frames a r = r
+    one serial Returned frames a r = r
 
 -- those of more slots
 with_ready-append : (serial : ℕ) (state : State) (xs ys : List ReadyFrame) → with_ready serial state (xs ++ ys) ≡ with_ready serial state xs ++ ys

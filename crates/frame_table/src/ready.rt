@@ -2,7 +2,7 @@
 //!
 //! Seen as a list by rising serial, and a number of places. The last is the newest ready frame. A
 //! frame that becomes ready, or no longer is, is found by a binary search.
-ghost use Rattle.std.specs.Prelude.{◌≡◌, ℕ, ◌+◌, ◌<◌, ◌≤◌, ◌++◌, [], ◌∷◌, length, filter, not, ◌==◌, nat_lt, IfOk};
+ghost use Rattle.std.specs.Prelude.{◌≡◌, ◌+◌, ◌<◌, ◌≤◌, ◌++◌, [], ◌∷◌, length, filter, not, ◌==◌, nat_lt, IfOk};
 ghost use Rattle.frame_table.specs.Places.{RisesBy, IsPlaceFor, inserted};
 ghost use Rattle.frame_table.specs.Readies.{newest_of, without_ready, put_ready};
 

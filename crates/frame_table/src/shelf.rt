@@ -3,6 +3,7 @@
 //! Seen as the list of slots by rising serial, and a number of places. What makes that true: each key
 //! of the index is of a slot of its own, each slot of the slab has its key in the index, a slot
 //! that has a parent keeps the key of the parent's slot, which stands before it, and none is marked.
+//! A slot is found by its serial alone, so one that is used again never answers for an old name.
 ghost use Rattle.std.specs.Prelude.{◌≡◌, ℕ, ◌+◌, ◌<◌, ◌≤◌, ◌++◌, not, filter, vec_len, vec_capacity, [], ◌∷◌, true, false, Some, length, IfOk, IfSome, IfNone, get_or, set, slice_index, take, drop};
 ghost use Rattle.slab.specs.Slab.{get, slab_len, ContainsKey, Updates};
 ghost use Rattle.frame_table.specs.declared.shelf.Kept.{Kept};
@@ -51,10 +52,10 @@ impl<T: Copy, A: Allocator> Shelf<T, A> {
     /// An empty shelf with this many places.
     pub(crate) fn new(alloc: A, places: usize) -> Result<Self, AllocError>
     where
-        A: Copy,
+        A: Clone,
         ensures { IfOk result (λ s. s ≡ record { places = places; slots = [] }) }
     {
-        let slab = Slab::with_capacity(alloc, places)?;
+        let slab = Slab::with_capacity(alloc.clone()?, places)?;
         let order = Vec::with_capacity(alloc, places)?;
         Ok(Shelf {
             places,
@@ -165,7 +166,7 @@ impl<T: Copy, A: Allocator> Shelf<T, A> {
 
     /// Removes the slots under the one with this serial, which stands at a place, and adds their values
     /// to `removed`: one pass by rising serial marks them, and a second removes the marked. Both begin
-    /// behind that slot.
+    /// at that place.
     pub(crate) fn cut(&mut self, at: usize, under: u64, removed: &mut Vec<T, A>)
         requires within { at < length self.old.slots }
         requires named { slice_index (serials_of self.old.slots) at ≡ under }

@@ -48,16 +48,17 @@ impl<T: Copy, A: Allocator> FrameTable<T, A> {
     /// A table with no tenant. Takes memory: `AllocError` only where a growth was refused.
     pub fn new(alloc: A) -> Result<Self, AllocError>
     where
-        A: Copy,
+        A: Clone,
         ensures count { IfOk result (λ table. tenant_count table ≡ 0) }
         ensures frames { IfOk result (λ table. (tenant : ℕ) → frames_of table tenant ≡ []) }
         ensures places { IfOk result (λ table. (tenant : ℕ) → places_of table tenant ≡ 0) }
     {
-        let trees = Vec::with_capacity(alloc, TENANTS)?;
+        let trees = Vec::with_capacity(alloc.clone()?, TENANTS)?;
+        let removed = Vec::new(alloc.clone()?);
         Ok(FrameTable {
             alloc,
             trees,
-            removed: Vec::new(alloc),
+            removed,
             ready: 0,
         })
     }
@@ -217,7 +218,7 @@ impl<T: Copy, A: Allocator> FrameTable<T, A> {
     /// takes memory after `new`: `AllocError` only where a growth was refused.
     pub fn reserve(&mut self, tenant: u64, segments: usize) -> Result<(), AllocError>
     where
-        A: Copy,
+        A: Clone,
         requires fresh { places_of self.old tenant ≡ 0 }
         requires free { tenant_count self.old < TENANTS }
         requires some { 1 ≤ segments }
@@ -228,9 +229,10 @@ impl<T: Copy, A: Allocator> FrameTable<T, A> {
         ensures count { OnOk result (tenant_count self.new ≡ tenant_count self.old + 1) }
         ensures err { OnErr result (self.new ≡ self.old) }
     {
+        let alloc = self.alloc.clone()?;
         self.removed.clear();
         self.removed.reserve(segments)?;
-        let tree = TenantFrames::new(self.alloc, tenant, segments)?;
+        let tree = TenantFrames::new(alloc, tenant, segments)?;
         let at = place_for(self.trees.as_slice(), tenant);
         if self.trees.insert(at, tree).is_err() {
             unreachable!()

@@ -2,8 +2,8 @@
 //!
 //! Seen as a tenant, a number of places and a list of frames by rising serial, each with its path.
 //! What makes that true: slots rise, each names a parent that stands before it and the root above it,
-//! and the counts of children and of ready frames are those of the slots.
-ghost use Rattle.std.specs.Prelude.{◌≡◌, ℕ, ◌+◌, ◌<◌, ◌≤◌, ◌↔◌, ◌++◌, [], ◌∷◌, true, false, length, vec_len, vec_capacity, IsTrue, IfOk, IfSome};
+//! the counts of children are those of the slots, and so are the ready frames that are listed.
+ghost use Rattle.std.specs.Prelude.{◌≡◌, ◌+◌, ◌<◌, ◌≤◌, ◌↔◌, ◌++◌, [], ◌∷◌, true, false, length, vec_len, vec_capacity, IsTrue, IfOk, IfSome};
 ghost use Rattle.frame_table.specs.Frames.{frame_at, has_frame, path_in, root_of, children_of, aborted, frames_under, frames_without, values_of, with_state, ready_frames, AllBelow, entry_of, newest_ready_of, HasValue, has_parent, IsReadyAt, IsTree};
 ghost use Rattle.frame_table.specs.Slots.{frames_from, IsLinked, Rises, has_parent_slot, AllCountsBelow, with_child, root_under, without_child, CountsAtParent};
 ghost use Rattle.frame_table.specs.Shelves.{StandsUnder};
@@ -41,11 +41,11 @@ impl<T: Copy, A: Allocator> TenantFrames<T, A> {
     /// No frames, with places for this many.
     pub(crate) fn new(alloc: A, tenant: u64, places: usize) -> Result<Self, AllocError>
     where
-        A: Copy,
+        A: Clone,
         requires { places ≤ 4096 }
         ensures { IfOk result (λ t. t ≡ record { tenant = tenant; places = places; frames = [] }) }
     {
-        let shelf = Shelf::new(alloc, places)?;
+        let shelf = Shelf::new(alloc.clone()?, places)?;
         let ready = ReadyFrames::new(alloc, places)?;
         Ok(TenantFrames {
             tenant,

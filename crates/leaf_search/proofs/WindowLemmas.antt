@@ -1,5 +1,5 @@
 -- The steps of a window search at one position, over any choices and what each is worth.
-use Rattle.std.proofs.Common.{◌↔◌, append-nil, append_assoc, ◌≡◌, ◌<◌, length, ℤ, pos, negsuc, neg_ℤ, List, [], ◌∷◌, ◌++◌, map, Option, Some, None, refl, sym, ◌∙◌, ap, subst, arith}
+use Rattle.std.proofs.Common.{◌↔◌, append-nil, append_assoc, ◌≡◌, ◌<◌, length, ℤ, pos, negsuc, neg_ℤ, List, [], ◌∷◌, ◌++◌, map, Option, Some, refl, sym, ◌∙◌, ap, subst, arith}
 use Rattle.std.specs.Prelude.{find, ◌≤ℤ◌, ◌<ℤ◌, IsSome, IfSome, All, Contains}
 use Rattle.std.specs.Int.{int_max}
 use Rattle.std.proofs.lemmas.Int.{ints, clamps, by_lt_z}
@@ -129,18 +129,6 @@ pub record IsSearching {X : Type 0} (alpha beta : ℤ) (v : X → ℤ) (all left
   pub real : 0 < length taken → negsuc 127999 ≤ℤ best
   pub greatest : best ≤ℤ pos 128000
   pub chosen : IfSome choice (Contains all)
-
-pub IsSearching-start : {X : Type 0} (alpha beta : ℤ) (v : X → ℤ) (all left : List X) (best : ℤ) (choice : Option X) → left ≡ all → best ≡ negsuc 199999 → choice ≡ None → negsuc 199999 ≤ℤ alpha → alpha <ℤ beta → IsSearching alpha beta v all left best choice
-IsSearching-start alpha beta v all left best choice same start none low window = record {
-  taken = [];
-  split = same;
-  so_far = IsBestOf-none alpha v best choice (omega (arith, ints));
-  below = omega (arith, ints);
-  least = omega (arith, ints);
-  real = λ (some : 0 < 0). absurd (omega arith);
-  greatest = omega (arith, ints);
-  chosen = subst (λ o. IfSome o (Contains all)) (sym none) tt;
-}
 
 -- a choice that is next is among the choices
 next_chosen : {X : Type 0} (all taken left rest : List X) (c : X) → taken ++ left ≡ all → left ≡ c ∷ rest → Contains all c

@@ -23,7 +23,6 @@
 //! ```
 #![tactic(auto)]
 
-mod leaf;
 pub mod rows;
 mod scored;
 mod tree;

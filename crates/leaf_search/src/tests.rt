@@ -1,4 +1,7 @@
 //! Worked rows, the count of positions entered, and the edges of windows over a table of positions.
+mod examples;
+mod kernels;
+
 use super::{INF, Scored, search, search_full};
 use othello_board::Board;
 use othello_eval::{eval, final_value, plain};

@@ -6,12 +6,11 @@ ghost use Rattle.othello_eval.specs.Values.{IsWithin};
 ghost use Rattle.othello_eval.specs.Minimax.{minimax, best_choice};
 ghost use Rattle.leaf_search.specs.Bounds.{IsBound};
 
-use super::leaf::leaf_value;
 use super::scored::Scored;
 use super::window::{INF, Window};
 use othello_board::Board;
-use othello_eval::final_value;
-use othello_moves::{Choices, after};
+use othello_eval::{eval_by_mobility, final_value};
+use othello_moves::{Choices, Mobility, after};
 
 /// Searches a board to a depth of 0 to 12 plies through a window (fail-soft alpha-beta: Fishburn 1983).
 ///
@@ -54,14 +53,14 @@ fn search_below(board: Board, depth: u8, window: Window) -> Scored
     ensures within { IsWithin 128000 result.score }
     ensures chosen { IfSome result.choice (Contains (choices (cells board))) }
 {
-    if depth == 0 {
-        return Scored::entered(leaf_value(board));
-    }
-    let left = Choices::new(board);
-    if left.is_empty() {
+    let mobility = Mobility::of(board);
+    if mobility.is_over() {
         return Scored::entered(final_value(board));
     }
-    best_of(board, left, depth, window)
+    if depth == 0 {
+        return Scored::entered(eval_by_mobility(mobility));
+    }
+    best_of(board, Choices::of(mobility), depth, window)
 }
 
 /// Searches the positions after the choices of a board in order, to a depth of 1 or more, until one has

@@ -9,7 +9,7 @@ use Rattle.line_io.specs.declared.faults.WriteFailed.{WriteFailed}
 use Rattle.line_io.specs.Lines.{LineText, lines_of}
 use Rattle.line_io.specs.Leads.{Answers, IsPrefixOf}
 use Rattle.line_io.specs.Streams.{ReadAnswer, WriteAnswer}
-use Rattle.line_io.specs.Writes.{LinesAnswered, IsAnswered, written_texts, with_end}
+use Rattle.line_io.specs.Writes.{IsAnswered, written_texts, with_end}
 use Rattle.line_io.specs.Runs.{Run, FunctionRun, IsBegun, IsOutput, answers_to, bytes_due, write_result}
 
 -- the texts, where each answer is the function's in the states that this fact holds of, and keeps it
@@ -54,3 +54,32 @@ module _ {S K A : Type 0} (gives : S → ReadAnswer → S → Type 0) (takes : K
         writes = y.writes;
         written = answers-written answer (write_result r) y.pieces y.rest y.texts y.answered (lines_of (bytes_due r (concat x.blocks))) y.taken texts_are y.ends;
       }
+
+-- answers by a relation of lines and texts alone, whatever the states
+Answers-related : {A : Type 0} (answers : A → LineText → List ℕ → A → Type 0) (related : LineText → List ℕ → Type 0) → ((a : A) (l : LineText) (t : List ℕ) (b : A) → answers a l t b → related l t) → (a : A) (ls : List LineText) (ts : List (List ℕ)) (b : A) → Answers answers a ls ts b → Answers (λ (_ : Unit {0}) l t (_ : Unit {0}). related l t) tt ls ts tt
+Answers-related answers related step a [] [] b p = refl
+Answers-related answers related step a [] (t ∷ ts) b p = absurd p
+Answers-related answers related step a (l ∷ ls) [] b p = absurd p
+Answers-related answers related step a (l ∷ ls) (t ∷ ts) b p =
+    (tt, step a l t p.0 p.1, Answers-related answers related step p.0 ls ts b p.2)
+
+-- a run whose answers are
+pub Run-related : {S K A : Type 0} (gives : S → ReadAnswer → S → Type 0) (takes : K → WriteAnswer → K → Type 0) (answers : A → LineText → List ℕ → A → Type 0) (related : LineText → List ℕ → Type 0) → ((a : A) (l : LineText) (t : List ℕ) (b : A) → answers a l t b → related l t) → (s : S) (k : K) (a : A) (s' : S) (k' : K) (a' : A) (r : Result (Unit {0}) LineFault) → Run gives takes answers s k a s' k' a' r → Run gives takes (λ (_ : Unit {0}) l t (_ : Unit {0}). related l t) s k tt s' k' tt r
+Run-related gives takes answers related step s k a s' k' a' r x =
+    let y = x.lines in
+    record {
+      blocks = x.blocks;
+      last = x.last;
+      reads = x.reads;
+      ends = x.ends;
+      lines = record {
+        answered = y.answered;
+        texts = y.texts;
+        pieces = y.pieces;
+        rest = y.rest;
+        answers_lead = Answers-related answers related step a y.answered y.texts a' y.answers_lead;
+        writes = y.writes;
+        taken = y.taken;
+        ends = y.ends;
+      };
+    }

@@ -1,5 +1,5 @@
 -- Lines that are answered up to one that ends the talk.
-use Rattle.std.proofs.Common.{◌≡◌, ◌≢◌, ℕ, ◌+◌, ◌<◌, ◌≤◌, List, [], ◌∷◌, ◌++◌, length, get_or, drop, Bool, true, false, true≢false, not, ◌&&◌, refl, sym, ap, ◌∙◌, append_assoc, arith, Option, Some, Ok, Err}
+use Rattle.std.proofs.Common.{◌≡◌, ◌≢◌, ℕ, ◌+◌, ◌<◌, ◌≤◌, List, [], ◌∷◌, ◌++◌, length, get_or, drop, Bool, true, false, true≢false, not, ◌&&◌, refl, sym, ap, ◌∙◌, append_assoc, Option, Some, Ok, Err}
 use Rattle.std.specs.Prelude.{if◌then◌else◌}
 use Rattle.std.proofs.lemmas.List.{append-nil, drop_all}
 use Rattle.line_io.specs.declared.faults.WriteFailed.{WriteFailed}
@@ -83,7 +83,7 @@ module _ (ends : LineText → Bool) where
         let rest = ended_within (Some []) (drop (i + 1) block) in
         let first = upto-first (ended_line h') rest in
         let due : (lines ++ ended_line h' ∷ []) ++ first.0 ≡ upto ends (ended_within h block) =
-            append_assoc lines (ended_line h' ∷ []) first.0 ∙ sym (ap (upto ends) (next i k' a' h' s l e) ∙ (upto-append lines (ended_line h' ∷ rest) s.none ∙ ap (λ z. lines ++ z) first.1)) in
+        append_assoc lines (ended_line h' ∷ []) first.0 ∙ sym (ap (upto ends) (next i k' a' h' s l e) ∙ (upto-append lines (ended_line h' ∷ rest) s.none ∙ ap (λ z. lines ++ z) first.1)) in
         LinesAnswered-same takes answers k a ((lines ++ ended_line h' ∷ []) ++ first.0) (upto ends (ended_within h block)) k'' a'' (Err d) due
         (LinesAnswered-before takes answers k a (lines ++ ended_line h' ∷ []) first.0 k'' a'' d (LinesAnswered-append takes answers k a lines k' a' tt (ended_line h' ∷ []) k'' a'' (Err d) s.so_far.answered x))
 

@@ -117,7 +117,7 @@ module _ (ends : LineText → Bool) where
         let all = all-lines blocks block h x.so_far.held in
         let stops : none_ends ends (ended ++ more) ≡ false = none-append ends ended more x.none ∙ some in
         let due : ended ++ upto ends more ≡ upto ends (lines_of (concat (blocks ++ block ∷ []))) =
-            sym (upto-append ends ended more x.none) ∙ (sym (upto-before (ended ++ more) last stops) ∙ ap (upto ends) all) in
+        sym (upto-append ends ended more x.none) ∙ (sym (upto-before (ended ++ more) last stops) ∙ ap (upto ends) all) in
         record {
           blocks = blocks ++ block ∷ [];
           last = [];
@@ -135,7 +135,7 @@ module _ (ends : LineText → Bool) where
         let last = option_to_list (last_line (held_after (Some []) (concat (blocks ++ block ∷ [])))) in
         let first = upto-first_of (ended ++ more) last in
         let due : (ended ++ upto ends more) ++ first.0 ≡ upto ends (lines_of (concat (blocks ++ block ∷ []))) =
-            ap (λ z. z ++ first.0) (sym (upto-append ends ended more x.none)) ∙ (first.1 ∙ ap (upto ends) (all-lines blocks block h x.so_far.held)) in
+        ap (λ z. z ++ first.0) (sym (upto-append ends ended more x.none)) ∙ (first.1 ∙ ap (upto ends) (all-lines blocks block h x.so_far.held)) in
         record {
           blocks = blocks ++ block ∷ [];
           last = [];
@@ -158,7 +158,7 @@ module _ (ends : LineText → Bool) where
         let ended = ended_within (Some []) (concat blocks) in
         let last = option_to_list (last_line h) in
         let none : none_ends ends (lines_of (concat blocks)) ≡ none_ends ends last =
-            ap (none_ends ends) (sym (last-lines gives takes answers s k a blocks h x.so_far.held)) ∙ none-append ends ended last x.none in
+        ap (none_ends ends) (sym (last-lines gives takes answers s k a blocks h x.so_far.held)) ∙ none-append ends ended last x.none in
         record {
           blocks = blocks;
           last = Ended ∷ [];

@@ -1,11 +1,11 @@
 -- A whole run: what was read, which lines were answered, and what was written.
-use Rattle.std.specs.Prelude.{◌≡◌, ◌⊎◌, ℕ, ◌<◌, ◌≤◌, ◌^◌, List, [], ◌∷◌, ◌++◌, map, length, Result, Ok, Err, OnOk}
+use Rattle.std.specs.Prelude.{◌≡◌, ◌⊎◌, ℕ, ◌<◌, ◌≤◌, ◌^◌, List, [], ◌∷◌, ◌++◌, map, length, Result, Ok, Err}
 use Rattle.std.specs.List.{concat, flat_map}
 use Rattle.line_io.specs.declared.faults.LineFault.{LineFault}
 use Rattle.line_io.specs.declared.faults.LineFault.TheVariants.{Read, Write, TooMuch}
 use Rattle.line_io.specs.declared.faults.WriteFailed.{WriteFailed}
 use Rattle.line_io.specs.Lines.{LineText, lines_of, up_to_last_end}
-use Rattle.line_io.specs.Leads.{Leads, IsPrefixOf}
+use Rattle.line_io.specs.Leads.{Leads}
 use Rattle.line_io.specs.Streams.{ReadAnswer, Gave, Ended, Failed, WriteAnswer}
 use Rattle.line_io.specs.Writes.{LinesAnswered, with_end, writes_of}
 

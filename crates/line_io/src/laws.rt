@@ -1,5 +1,5 @@
 //! Laws of lines and of runs. A function here does nothing: its contract is the law.
-ghost use Rattle.std.specs.Prelude.{◌≡◌, ℕ, List, [], ◌∷◌, ◌++◌, map, Result, Ok, Some, replicate};
+ghost use Rattle.std.specs.Prelude.{◌≡◌, ℕ, List, [], ◌∷◌, ◌++◌, map, Result, Ok, Some};
 ghost use Rattle.std.specs.List.{concat};
 ghost use Rattle.line_io.specs.declared.faults.WriteFailed.{WriteFailed};
 ghost use Rattle.line_io.specs.declared.input.FromReader.{FromReader};
@@ -8,29 +8,13 @@ ghost use Rattle.line_io.specs.Leads.{Leads};
 ghost use Rattle.line_io.specs.Streams.{Gave, Ended};
 ghost use Rattle.line_io.specs.Writes.{writes_of};
 ghost use Rattle.line_io.specs.declared.faults.LineFault.{LineFault};
-ghost use Rattle.line_io.specs.Lines.{LineText, Whole, TooLong, lines_of, up_to_last_end};
+ghost use Rattle.line_io.specs.Lines.{LineText, lines_of};
 ghost use Rattle.line_io.specs.Runs.{Run, FunctionRun, answers_to};
 
 use crate::answering::Answer;
 use crate::input::{FromReader, Source};
 use crate::output::{FromWriter, Sink};
 use std::io::{Read, Write};
-
-/// Small texts and their lines, worked by hand: `a` is 97, `b` is 98, CR is 13 and LF is 10.
-pub fn lines_of_small_texts()
-    ensures no_byte { lines_of [] ≡ [] }
-    ensures an_empty_line { lines_of (10 ∷ []) ≡ Whole [] ∷ [] }
-    ensures no_end { lines_of (97 ∷ 10 ∷ 98 ∷ []) ≡ Whole (97 ∷ []) ∷ Whole (98 ∷ []) ∷ [] }
-    ensures one_return { lines_of (97 ∷ 13 ∷ 10 ∷ []) ≡ Whole (97 ∷ []) ∷ [] }
-    ensures two_returns { lines_of (13 ∷ 13 ∷ 10 ∷ []) ≡ Whole (13 ∷ []) ∷ [] }
-    ensures inner_return { lines_of (13 ∷ 97 ∷ 10 ∷ []) ≡ Whole (13 ∷ 97 ∷ []) ∷ [] }
-    ensures last_return { lines_of (97 ∷ 13 ∷ []) ≡ Whole (97 ∷ 13 ∷ []) ∷ [] }
-    ensures up_to_the_last { up_to_last_end (10 ∷ 97 ∷ 10 ∷ 98 ∷ []) ≡ 10 ∷ 97 ∷ 10 ∷ [] }
-    ensures no_last { up_to_last_end (97 ∷ 98 ∷ []) ≡ [] }
-    ensures most { lines_of (replicate 128 97 ++ 13 ∷ 10 ∷ []) ≡ Whole (replicate 128 97) ∷ [] }
-    ensures longer { lines_of (replicate 129 97 ++ 10 ∷ 98 ∷ []) ≡ TooLong ∷ Whole (98 ∷ []) ∷ [] }
-    ensures return_and_no_end { lines_of (replicate 128 97 ++ 13 ∷ []) ≡ TooLong ∷ [] }
-{}
 
 /// Where each answer is a function of its line, what a run writes is a function of what it reads: the answers to
 /// the lines of all bytes, at faults 1 and 3 of those up to the last LF, and at fault 2 a beginning of that.

@@ -27,6 +27,7 @@ mod faults;
 mod input;
 mod laws;
 mod output;
+pub mod rows;
 mod talking;
 #[cfg(test)]
 mod tests;
@@ -35,9 +36,6 @@ pub use answering::{Answer, answer_lines};
 pub use cutting::{Line, LineCutter};
 pub use faults::{LineFault, ReadFailed, WriteFailed};
 pub use input::{FromReader, Source};
-pub use laws::{
-    known_bytes_are_read, known_contents_grow, known_runs_are_exact, lines_of_small_texts,
-    run_by_function,
-};
+pub use laws::{known_bytes_are_read, known_contents_grow, known_runs_are_exact, run_by_function};
 pub use output::{FromWriter, Sink, write_text};
 pub use talking::{Ends, TalkEnd, talk_lines};

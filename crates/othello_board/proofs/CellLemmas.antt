@@ -57,6 +57,16 @@ reads_empty own opp s below clear clear_too =
     let is_clear_too : bit_at opp s ≡ 0 = omega (arith, shr_and_one opp s, bit_at-lt opp s) in
     rw (cell_at-cells_of own opp s below, is_clear, is_clear_too) refl
 
+-- what stands on a square, by its bits
+pub empty_here : (own opp t : ℕ) → t < 64 → bit_at own t ≡ 0 → bit_at opp t ≡ 0 → Empty ≡ cell_at (cells_of own opp) t
+empty_here own opp t below own_clear opp_clear = rw (cell_at-cells_of own opp t below, own_clear, opp_clear) refl
+
+pub own_here : (own opp t : ℕ) → t < 64 → bit_at own t ≡ 1 → Own ≡ cell_at (cells_of own opp) t
+own_here own opp t below set = rw (cell_at-cells_of own opp t below, set) refl
+
+pub opp_here : (own opp t : ℕ) → t < 64 → bit_at own t ≡ 0 → bit_at opp t ≡ 1 → Opp ≡ cell_at (cells_of own opp) t
+opp_here own opp t below own_clear set = rw (cell_at-cells_of own opp t below, own_clear, set) refl
+
 -- the cells of the two words exchanged
 pub bit_cases : (n : ℕ) → n < 2 → (n ≡ 0) ⊎ (n ≡ 1)
 bit_cases n h = elim (cases_lt n 1) [ inl low ↦ inl (omega arith) | inr high ↦ inr (omega arith) ]

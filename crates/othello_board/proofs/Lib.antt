@@ -1,8 +1,9 @@
 pub mod BitLemmas
 pub mod CellLemmas
-pub mod RunLemmas
 pub mod PlayLemmas
 pub mod CountLemmas
 pub mod FlipLemmas
 pub mod ShiftLemmas
-pub mod WalkLemmas
+pub mod StepLemmas
+pub mod RayLemmas
+pub mod EndLemmas

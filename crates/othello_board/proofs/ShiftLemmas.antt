@@ -1,11 +1,11 @@
--- A shifted word, bit by bit: what the shift and the mask of a direction do is what a step does.
-use Rattle.std.proofs.Common.{◌≡◌, ℕ, zero, suc, ◌+◌, ◌-◌, ◌*◌, ◌/◌, ◌%◌, ◌^◌, ◌<◌, ◌≤◌, Bool, true, false, ◌&&◌, ◌||◌, eqb, leb, ltb, Option, Some, None, bit_and, ◌⊎◌, inl, inr, refl, sym, ap, ◌∙◌, arith}
+-- A shifted word, bit by bit.
+use Rattle.std.proofs.Common.{◌≡◌, ℕ, zero, suc, ◌+◌, ◌-◌, ◌*◌, ◌/◌, ◌%◌, ◌^◌, ◌<◌, ◌≤◌, Bool, true, false, ◌&&◌, eqb, leb, ltb, Option, Some, None, inl, inr, refl, sym, ap, ◌∙◌, arith}
 use Rattle.std.specs.Int.{bit_at}
 use Rattle.std.proofs.lemmas.Bool.{eqb-true}
 use borrow.Author.Tests.{ltb-true, leb-true}
 use Rattle.std.proofs.lemmas.Nat.{div-add-mod', mod_below, pow_pos}
 use Rattle.std.proofs.lemmas.Bool.Decides.{eqb_tells}
-use Rattle.std.proofs.lemmas.Nat.Bits.{bit_at_and, bit_at-lt, bit_at-zero, bit_at_above, bit_at_ones, bit_at_cat_low, bit_at_cat_high}
+use Rattle.std.proofs.lemmas.Nat.Bits.{bit_at-zero, bit_at_above, bit_at_cat_low, bit_at_cat_high}
 use Rattle.othello_board.specs.Shifts.{bit_there}
 
 -- a test that holds below n
@@ -40,65 +40,34 @@ bit_at-left x k t below =
     sym (ap (λ n. bit_at n t) (omega arith ∙ sym (div-add-mod' y (2 ^ 64)))
     ∙ bit_at_cat_low (y / 2 ^ 64) 64 (y % 2 ^ 64) t below)
 
--- what a shift to the left by k under a mask does at square t, where the square one step back is this one
-abbrev pub left_test : ℕ → ℕ → ℕ → Option ℕ → Bool
-left_test k mask t None = ltb t k || eqb (bit_at mask t) 0
-left_test k mask t (Some s) = leb k t && eqb s (t - k) && eqb (bit_at mask t) 1
+-- what a shift to the left by k does at square t, where the square one step back is this one
+abbrev pub up_test : ℕ → ℕ → Option ℕ → Bool
+up_test k t None = ltb t k
+up_test k t (Some s) = leb k t && eqb s (t - k)
 
-abbrev pub right_test : ℕ → ℕ → ℕ → Option ℕ → Bool
-right_test k mask t None = ltb 63 (t + k) || eqb (bit_at mask t) 0
-right_test k mask t (Some s) = eqb s (t + k) && eqb (bit_at mask t) 1
+abbrev pub down_test : ℕ → ℕ → Option ℕ → Bool
+down_test k t None = ltb 63 (t + k)
+down_test k t (Some s) = eqb s (t + k)
 
-either : (a b : Bool) → (a || b) ≡ true → (a ≡ true) ⊎ (b ≡ true)
-either true b h = inl refl
-either false b h = inr h
+up_by : (x k t : ℕ) (from : Option ℕ) → t < 64 → up_test k t from ≡ true → bit_at (x * 2 ^ k % 2 ^ 64) t ≡ bit_there x from
+up_by x k t None below test =
+    let fell : t < k = ltb-true t k test in
+    omega (arith, bit_at-left x k t below, bit_at_cat_low x k 0 t fell, bit_at-zero t)
+up_by x k t (Some s) below test =
+    let parts = both (leb k t) (eqb s (t - k)) test in
+    let high : k ≤ t = leb-true k t parts.0 in
+    let from : s ≡ t - k = eqb-true s (t - k) parts.1 in
+    bit_at-left x k t below ∙ bit_at_cat_high x k 0 t (pow_pos k) high ∙ ap (bit_at x) (sym from)
 
-left_by : (x k mask t : ℕ) (from : Option ℕ) → t < 64 → left_test k mask t from ≡ true → bit_at (bit_and (x * 2 ^ k % 2 ^ 64) mask) t ≡ bit_there x from
-left_by x k mask t None below test =
-    bit_at_and (x * 2 ^ k % 2 ^ 64) mask t
-    ∙ elim (either (ltb t k) (eqb (bit_at mask t) 0) test) [
-      | inl low ↦
-          let fell : t < k = ltb-true t k low in
-          omega (arith, bit_at-left x k t below, bit_at_cat_low x k 0 t fell, bit_at-zero t)
-      | inr masked ↦ omega (arith, eqb-true (bit_at mask t) 0 masked)
-    ]
-left_by x k mask t (Some s) below test =
-    let first = both (leb k t && eqb s (t - k)) (eqb (bit_at mask t) 1) test in
-    let second = both (leb k t) (eqb s (t - k)) first.0 in
-    let high : k ≤ t = leb-true k t second.0 in
-    let from : s ≡ t - k = eqb-true s (t - k) second.1 in
-    let there : bit_at (x * 2 ^ k % 2 ^ 64) t ≡ bit_at x s = bit_at-left x k t below ∙ bit_at_cat_high x k 0 t (pow_pos k) high ∙ ap (bit_at x) (sym from) in
-    bit_at_and (x * 2 ^ k % 2 ^ 64) mask t ∙ omega (arith, there, eqb-true (bit_at mask t) 1 first.1, bit_at-lt x s)
+down_by : (x k t : ℕ) (from : Option ℕ) → x < 2 ^ 64 → t < 64 → down_test k t from ≡ true → bit_at (x / 2 ^ k) t ≡ bit_there x from
+down_by x k t None fits below test =
+    let over : 63 < t + k = ltb-true 63 (t + k) test in
+    omega (arith, bit_at-right x k t, bit_at_above x 64 (t + k) fits (omega arith))
+down_by x k t (Some s) fits below test = bit_at-right x k t ∙ ap (bit_at x) (sym (eqb-true s (t + k) test))
 
-right_by : (x k mask t : ℕ) (from : Option ℕ) → x < 2 ^ 64 → t < 64 → right_test k mask t from ≡ true → bit_at (bit_and (x / 2 ^ k) mask) t ≡ bit_there x from
-right_by x k mask t None fits below test =
-    bit_at_and (x / 2 ^ k) mask t
-    ∙ elim (either (ltb 63 (t + k)) (eqb (bit_at mask t) 0) test) [
-      | inl high ↦
-          let over : 63 < t + k = ltb-true 63 (t + k) high in
-          omega (arith, bit_at-right x k t, bit_at_above x 64 (t + k) fits (omega arith))
-      | inr masked ↦ omega (arith, eqb-true (bit_at mask t) 0 masked)
-    ]
-right_by x k mask t (Some s) fits below test =
-    let parts = both (eqb s (t + k)) (eqb (bit_at mask t) 1) test in
-    let there : bit_at (x / 2 ^ k) t ≡ bit_at x s = bit_at-right x k t ∙ ap (bit_at x) (sym (eqb-true s (t + k) parts.0)) in
-    bit_at_and (x / 2 ^ k) mask t ∙ omega (arith, there, eqb-true (bit_at mask t) 1 parts.1, bit_at-lt x s)
+-- a shift does what a table of squares says, where it does so at each square
+pub slid_up : (x k : ℕ) (from : ℕ → Option ℕ) → all_below 64 (λ t. up_test k t (from t)) ≡ true → (t : ℕ) → t < 64 → bit_at (x * 2 ^ k % 2 ^ 64) t ≡ bit_there x (from t)
+slid_up x k from all t below = up_by x k t (from t) below (holds_below 64 (λ s. up_test k s (from s)) all t below)
 
--- a shift and a mask do what a table of squares says, where they do so at each square
-pub shifted_left : (x k mask : ℕ) (from : ℕ → Option ℕ) → all_below 64 (λ t. left_test k mask t (from t)) ≡ true → (t : ℕ) → t < 64 → bit_at (bit_and (x * 2 ^ k % 2 ^ 64) mask) t ≡ bit_there x (from t)
-shifted_left x k mask from all t below =
-    left_by x k mask t (from t) below (holds_below 64 (λ s. left_test k mask s (from s)) all t below)
-
-pub shifted_right : (x k mask : ℕ) (from : ℕ → Option ℕ) → all_below 64 (λ t. right_test k mask t (from t)) ≡ true → x < 2 ^ 64 → (t : ℕ) → t < 64 → bit_at (bit_and (x / 2 ^ k) mask) t ≡ bit_there x (from t)
-shifted_right x k mask from all fits t below =
-    right_by x k mask t (from t) fits below (holds_below 64 (λ s. right_test k mask s (from s)) all t below)
-
--- the same without a mask
-unmasked : (y t : ℕ) → t < 64 → bit_at (bit_and y (2 ^ 64 - 1)) t ≡ bit_at y t
-unmasked y t below = bit_at_and y (2 ^ 64 - 1) t ∙ omega (arith, bit_at_ones 64 t below, bit_at-lt y t)
-
-pub shifted_left_whole : (x k : ℕ) (from : ℕ → Option ℕ) → all_below 64 (λ t. left_test k (2 ^ 64 - 1) t (from t)) ≡ true → (t : ℕ) → t < 64 → bit_at (x * 2 ^ k % 2 ^ 64) t ≡ bit_there x (from t)
-shifted_left_whole x k from all t below = sym (unmasked (x * 2 ^ k % 2 ^ 64) t below) ∙ shifted_left x k (2 ^ 64 - 1) from all t below
-
-pub shifted_right_whole : (x k : ℕ) (from : ℕ → Option ℕ) → all_below 64 (λ t. right_test k (2 ^ 64 - 1) t (from t)) ≡ true → x < 2 ^ 64 → (t : ℕ) → t < 64 → bit_at (x / 2 ^ k) t ≡ bit_there x (from t)
-shifted_right_whole x k from all fits t below = sym (unmasked (x / 2 ^ k) t below) ∙ shifted_right x k (2 ^ 64 - 1) from all fits t below
+pub slid_down : (x k : ℕ) (from : ℕ → Option ℕ) → all_below 64 (λ t. down_test k t (from t)) ≡ true → x < 2 ^ 64 → (t : ℕ) → t < 64 → bit_at (x / 2 ^ k) t ≡ bit_there x (from t)
+slid_down x k from all fits t below = down_by x k t (from t) fits below (holds_below 64 (λ s. down_test k s (from s)) all t below)

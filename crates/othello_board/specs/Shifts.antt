@@ -1,5 +1,5 @@
--- A word of squares, moved one step in a direction.
-use Rattle.std.specs.Prelude.{ℕ, Option, Some, None}
+-- Directions as the words of bits see them.
+use Rattle.std.specs.Prelude.{ℕ, ◌+◌, ◌-◌, nat_lt, Bool, true, false, if◌then◌else◌, Option, Some, None}
 use Rattle.std.specs.Int.{bit_at}
 use Rattle.othello_board.specs.declared.directions.Direction.{Direction}
 use Rattle.othello_board.specs.declared.directions.Direction.TheVariants.{North, NorthEast, East, SouthEast, South, SouthWest, West, NorthWest}
@@ -19,3 +19,32 @@ opposite NorthWest = SouthEast
 abbrev pub bit_there : ℕ → Option ℕ → ℕ
 bit_there word None = 0
 bit_there word (Some s) = bit_at word s
+
+-- whether a step in a direction leads to a greater square
+abbrev pub rises : Direction → Bool
+rises North = false
+rises NorthEast = false
+rises East = true
+rises SouthEast = true
+rises South = true
+rises SouthWest = true
+rises West = false
+rises NorthWest = false
+
+-- the number that is k less, and the one that is k more, where it is one of the 64
+abbrev pub less_by : ℕ → ℕ → Option ℕ
+less_by k t = if nat_lt t k then None else Some (t - k)
+
+abbrev pub more_by : ℕ → ℕ → Option ℕ
+more_by k t = if nat_lt (t + k) 64 then Some (t + k) else None
+
+-- where a disc comes from that a word's shift by one step moves to square t: the rows count as one line
+abbrev pub slid_from : Direction → ℕ → Option ℕ
+slid_from North t = more_by 8 t
+slid_from NorthEast t = more_by 7 t
+slid_from East t = less_by 1 t
+slid_from SouthEast t = less_by 9 t
+slid_from South t = less_by 8 t
+slid_from SouthWest t = less_by 7 t
+slid_from West t = more_by 1 t
+slid_from NorthWest t = more_by 9 t

@@ -2,7 +2,7 @@
 ghost use Rattle.std.specs.Prelude.{◌≡◌, ◌≢◌, ◌↔◌, ◌<◌, ◌==◌, IsSome, IfSome, IsTrue, bit_and, count_by};
 
 use super::cells::Cell;
-use super::directions::{DIRECTIONS, Direction};
+use super::directions::Direction;
 
 /// A board, seen by the player to move.
 #[derive(Clone, Copy, Debug, PartialEq, Eq)]
@@ -63,21 +63,23 @@ impl Board {
         (self.own.count_ones(), self.opp.count_ones())
     }
 
-    /// The discs that a disc of the mover on this square outflanks in one direction, as bits.
+    /// The discs that a disc of the mover on this square outflanks in one direction, as bits: those of
+    /// the ray before the first square that isn't opposing, if an own disc stands there. It is the
+    /// lowest such square where the ray rises, else the highest.
+    #[inline(always)]
     fn run(self, square: u8, direction: Direction) -> u64
         requires { square < 64 }
         ensures { result ≡ bits_of (run (cells self) square direction) }
     {
-        let mut at = direction.shift(1 << square);
-        let mut discs = 0;
-        for _ in 0..7_u8 {
-            if at & self.opp == 0 {
-                return if at & self.own == 0 { 0 } else { discs };
-            }
-            discs |= at;
-            at = direction.shift(at);
+        let ray = direction.ray(square);
+        let others = ray & !self.opp;
+        if direction.rises() {
+            let end = others & others.wrapping_neg() & self.own;
+            ray & end.wrapping_sub(u64::from(end != 0))
+        } else {
+            let end = 1 << (others | 1).ilog2() & ray & self.own;
+            ray & end.wrapping_neg() << 1
         }
-        0
     }
 
     /// The discs that a disc of the mover on this square outflanks, as bits; 0 where none.
@@ -85,11 +87,14 @@ impl Board {
         requires { square < 64 }
         ensures { result ≡ bits_of (flips (cells self) square) }
     {
-        let mut discs = 0;
-        for direction in DIRECTIONS {
-            discs |= self.run(square, direction);
-        }
-        discs
+        self.run(square, Direction::North)
+            | self.run(square, Direction::NorthEast)
+            | self.run(square, Direction::East)
+            | self.run(square, Direction::SouthEast)
+            | self.run(square, Direction::South)
+            | self.run(square, Direction::SouthWest)
+            | self.run(square, Direction::West)
+            | self.run(square, Direction::NorthWest)
     }
 
     /// The board after the mover's disc on this square, seen by the opponent.

@@ -2,6 +2,7 @@
 ghost use Rattle.std.specs.Prelude.{◌≡◌, ◌<◌, ℕ, IfSome};
 ghost use Rattle.std.specs.Int.{bit_at};
 
+use super::rays;
 use super::sides::{above, below, left_of, right_of};
 
 /// A direction on the board. North is towards row 1, west towards column a.
@@ -17,27 +18,10 @@ pub enum Direction {
     NorthWest,
 }
 
-/// All directions.
-pub const DIRECTIONS: [Direction; 8] = [
-    Direction::North,
-    Direction::NorthEast,
-    Direction::East,
-    Direction::SouthEast,
-    Direction::South,
-    Direction::SouthWest,
-    Direction::West,
-    Direction::NorthWest,
-];
-
-/// All squares but those of column a.
-const NOT_COLUMN_A: u64 = 0xfefe_fefe_fefe_fefe;
-
-/// All squares but those of column h.
-const NOT_COLUMN_H: u64 = 0x7f7f_7f7f_7f7f_7f7f;
-
 impl Direction {
-    ghost use Rattle.othello_board.specs.Rules.{step};
-    ghost use Rattle.othello_board.specs.Shifts.{opposite, bit_there};
+    ghost use Rattle.othello_board.specs.Rules.{step, ray};
+    ghost use Rattle.othello_board.specs.Words.{bits_of};
+    ghost use Rattle.othello_board.specs.Shifts.{opposite, rises, slid_from, bit_there};
 
     /// The next square in this direction, or none at the edge.
     pub fn step(self, square: u8) -> Option<u8>
@@ -74,21 +58,52 @@ impl Direction {
         }
     }
 
-    /// All squares of a word moved one step in this direction; those at the edge fall off. The bit
-    /// of a square is then that of the square one step back.
+    /// Whether the squares of a ray in this direction rise in number.
     #[inline(always)]
-    pub fn shift(self, squares: u64) -> u64
-        ensures { (t : ℕ) → t < 64 → bit_at result t ≡ bit_there squares (step (opposite self) t) }
+    pub(crate) fn rises(self) -> bool
+        ensures { result ≡ rises self }
+    {
+        match self {
+            Direction::East | Direction::SouthEast | Direction::South | Direction::SouthWest =>
+                true,
+            Direction::North | Direction::NorthEast | Direction::West | Direction::NorthWest =>
+                false,
+        }
+    }
+
+    /// All squares beside a square in this direction up to the edge, as bits.
+    #[inline(always)]
+    pub(crate) fn ray(self, square: u8) -> u64
+        requires { square < 64 }
+        ensures { result ≡ bits_of (ray self square) }
+    {
+        match self {
+            Direction::North => rays::NORTH[square as usize],
+            Direction::NorthEast => rays::NORTH_EAST[square as usize],
+            Direction::East => rays::EAST[square as usize],
+            Direction::SouthEast => rays::SOUTH_EAST[square as usize],
+            Direction::South => rays::SOUTH[square as usize],
+            Direction::SouthWest => rays::SOUTH_WEST[square as usize],
+            Direction::West => rays::WEST[square as usize],
+            Direction::NorthWest => rays::NORTH_WEST[square as usize],
+        }
+    }
+
+    /// A word moved by as many bits as a step in this direction is, as if the rows were one line: what
+    /// stands at a side of the board comes round to the other side.
+    #[inline(always)]
+    pub fn slide(self, squares: u64) -> u64
+        ensures { (t : ℕ) → t < 64 → bit_at result t ≡ bit_there squares (slid_from self t) }
     {
         match self {
             Direction::North => squares >> 8,
-            Direction::NorthEast => squares >> 7 & NOT_COLUMN_A,
-            Direction::East => squares << 1 & NOT_COLUMN_A,
-            Direction::SouthEast => squares << 9 & NOT_COLUMN_A,
+            Direction::NorthEast => squares >> 7,
+            Direction::East => squares << 1,
+            Direction::SouthEast => squares << 9,
             Direction::South => squares << 8,
-            Direction::SouthWest => squares << 7 & NOT_COLUMN_H,
-            Direction::West => squares >> 1 & NOT_COLUMN_H,
-            Direction::NorthWest => squares >> 9 & NOT_COLUMN_H,
+            Direction::SouthWest => squares << 7,
+            Direction::West => squares >> 1,
+            Direction::NorthWest => squares >> 9,
         }
     }
 }

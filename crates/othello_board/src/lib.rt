@@ -11,17 +11,17 @@
 //! let opening = Board::new(0x0000_0008_1000_0000, 0x0000_0010_0800_0000)?;
 //! opening.flips(19) == 1 << 27
 //! ```
+//!
+//! The example stands as a test in `leaf_search`, which has the tests of the crates that it stands on.
 #![tactic(auto)]
 
 mod boards;
 mod cells;
 mod directions;
+mod rays;
 pub mod rows;
 mod sides;
 
 pub use boards::Board;
 pub use cells::Cell;
-pub use directions::{DIRECTIONS, Direction};
-
-#[cfg(test)]
-mod tests;
+pub use directions::Direction;

@@ -1,12 +1,7 @@
 -- The arithmetic of the code, in 32 bits.
-use Rattle.std.proofs.Common.{◌≡◌, ℕ, suc, ◌+◌, ◌*◌, ◌<◌, ◌≤◌, List, length, drop, get_or, ℤ, pos, ◌+ℤ◌, ◌-ℤ◌, ◌*ℤ◌, ◌≤ℤ◌, neg_ℤ, w32, to_z, of_z, FitsSigned, subst, Bool, true, leb, nat_abs, negsuc, refl, sym, ap, ap₂, ◌∙◌, arith}
-use Rattle.std.proofs.lemmas.Int.{ints, to_z-of_z}
-use Rattle.std.proofs.lemmas.List.{drop_more, drop_all}
-use Rattle.std.proofs.lemmas.Bool.{agree_below_at, leb-true}
-use Rattle.othello_board.specs.declared.cells.Cell.{Cell}
-use Rattle.othello_board.specs.declared.cells.Cell.TheVariants.{Empty, Own, Opp}
-use Rattle.othello_board.specs.Rules.{cell_at}
-use Rattle.othello_eval.specs.Values.{weights, disc_value, discs_value, IsWithin}
+use Rattle.std.proofs.Common.{◌≡◌, ℕ, ◌≤◌, ℤ, pos, ◌+ℤ◌, ◌-ℤ◌, ◌*ℤ◌, w32, to_z, of_z, FitsSigned, arith}
+use Rattle.std.proofs.lemmas.Int.{ints}
+use Rattle.othello_eval.specs.Values.{IsWithin}
 
 pub small_fits : (n : ℕ) → n ≤ 64 → FitsSigned w32 (pos n)
 small_fits n l = omega (arith, ints)

@@ -1,13 +1,10 @@
 -- Minimax values and best choices at a board, from what its choices are worth.
-use Rattle.std.proofs.Common.{◌≡◌, ℕ, zero, suc, ◌+◌, ◌-◌, ◌<◌, List, [], ◌∷◌, map, length, None, find, ℤ, neg_ℤ, int_lt, refl, ap, ap₂, ◌∙◌, arith}
+use Rattle.std.proofs.Common.{◌≡◌, ℕ, zero, suc, ◌-◌, ◌<◌, List, [], ◌∷◌, map, length, None, find, ℤ, neg_ℤ, int_lt, refl, ap, ap₂, ◌∙◌, arith}
 use Rattle.std.proofs.lemmas.Int.{ints}
 use Rattle.std.proofs.lemmas.Bool.{cond_both}
-use Rattle.std.specs.Prelude.{if◌then◌else◌}
 use Rattle.othello_board.specs.declared.cells.Cell.{Cell}
-use Rattle.othello_board.specs.Rules.{is_nil, exchanged}
 use Rattle.othello_moves.specs.declared.choices.Choice.{Choice}
-use Rattle.othello_moves.specs.declared.choices.Choice.TheVariants.{Square, Pass}
-use Rattle.othello_moves.specs.Choices.{choices, legal_squares, after}
+use Rattle.othello_moves.specs.Choices.{choices, after}
 use Rattle.othello_moves.proofs.AllowedLemmas.{length-after}
 use Rattle.othello_eval.specs.Values.{eval, final_value, IsWithin}
 use Rattle.othello_eval.specs.Minimax.{greatest, greatest_or, leaf_value, minimax, choice_value, int_equal, best_choice}
@@ -62,26 +59,6 @@ pub minimax-more : (depth : ℕ) (board : List Cell) (c : Choice) (cs : List Cho
     → minimax depth board ≡ greatest (choice_value depth board c) (map (choice_value depth board) cs)
 minimax-more depth board c cs some e =
     minimax-deeper depth board some ∙ ap (λ l. greatest_or (final_value board) (map (choice_value depth board) l)) e
-
--- ---- depth 0, by how many squares each side can move to
-
-over_without_squares : (board : List Cell) (own opp : List ℕ) → length own ≡ 0 → length opp ≡ 0 → leaf_value board (if is_nil own then (if is_nil opp then [] else Pass ∷ []) else map Square own) ≡ final_value board
-over_without_squares board [] [] no_own no_opp = refl
-over_without_squares board [] (s ∷ opp) no_own no_opp = absurd (omega arith)
-over_without_squares board (s ∷ own) opp no_own no_opp = absurd (omega arith)
-
-goes_on_with_squares : (board : List Cell) (own opp : List ℕ) → 0 < length own + length opp → leaf_value board (if is_nil own then (if is_nil opp then [] else Pass ∷ []) else map Square own) ≡ eval board
-goes_on_with_squares board [] [] some = absurd (omega arith)
-goes_on_with_squares board [] (s ∷ opp) some = refl
-goes_on_with_squares board (s ∷ own) opp some = refl
-
-pub minimax-without_squares : (board : List Cell) → length (legal_squares board) ≡ 0 → length (legal_squares (exchanged board)) ≡ 0 → minimax 0 board ≡ final_value board
-minimax-without_squares board no_own no_opp =
-    minimax-leaf board ∙ over_without_squares board (legal_squares board) (legal_squares (exchanged board)) no_own no_opp
-
-pub minimax-with_squares : (board : List Cell) → 0 < length (legal_squares board) + length (legal_squares (exchanged board)) → minimax 0 board ≡ eval board
-minimax-with_squares board some =
-    minimax-leaf board ∙ goes_on_with_squares board (legal_squares board) (legal_squares (exchanged board)) some
 
 -- ---- bounds
 

@@ -13,6 +13,8 @@
 //! // the opening, with Black to move, one ply deep: d3 is the first of four equal moves
 //! plain(opening, 1) == Valued { value: -3, choice: Some(Choice::Square(19)) }
 //! ```
+//!
+//! The example stands as a test in `leaf_search`, which has the tests of the crates that it stands on.
 #![tactic(auto)]
 
 pub mod laws;
@@ -21,7 +23,4 @@ pub mod rows;
 mod values;
 
 pub use recursion::{Valued, plain};
-pub use values::{eval, eval_by_moves, final_value};
-
-#[cfg(test)]
-mod tests;
+pub use values::{eval, eval_by_mobility, final_value};

@@ -1,13 +1,11 @@
 //! The two values of a board, seen by the player to move.
-ghost use Rattle.std.specs.Prelude.{◌≡◌, ◌*ℤ◌, length};
-ghost use Rattle.othello_board.specs.Rules.{exchanged};
+ghost use Rattle.std.specs.Prelude.{◌≡◌, ◌*ℤ◌};
 ghost use Rattle.othello_board.specs.Words.{cells};
 ghost use Rattle.othello_eval.specs.Values.{weights, discs_value, eval, final_value, IsWithin};
-ghost use Rattle.othello_moves.specs.Choices.{legal_squares};
 ghost use Rattle.othello_eval.specs.Masks.{disc_difference};
 
 use othello_board::Board;
-use othello_moves::move_count;
+use othello_moves::Mobility;
 
 /// What a disc is worth, and on which squares, as bits: each square stands in just one of these words.
 const WEIGHTS: [(i32, u64); 7] = [
@@ -54,18 +52,17 @@ pub fn eval(board: Board) -> i32
     ensures value { result ≡ eval (cells board) }
     ensures within { IsWithin 1184 result }
 {
-    eval_by_moves(board, move_count(board), move_count(board.swap()))
+    eval_by_mobility(Mobility::of(board))
 }
 
-/// The evaluation of a board, where it is known how many legal squares each side has.
-pub fn eval_by_moves(board: Board, own_moves: u32, opp_moves: u32) -> i32
-    requires own { own_moves ≡ length (legal_squares (cells board)) }
-    requires opp { opp_moves ≡ length (legal_squares (exchanged (cells board))) }
-    ensures value { result ≡ eval (cells board) }
+/// The evaluation of a board whose legal squares are known.
+#[inline(always)]
+pub fn eval_by_mobility(mobility: Mobility) -> i32
+    ensures value { result ≡ eval (cells mobility.board) }
     ensures within { IsWithin 1184 result }
 {
-    let mobility = own_moves as i32 - opp_moves as i32;
-    discs_value(board) + 4 * mobility
+    let difference = mobility.own.count_ones() as i32 - mobility.opp.count_ones() as i32;
+    discs_value(mobility.board) + 4 * difference
 }
 
 /// The value of a finished game, from -128,000 to 128,000: 2000 for each disc that the mover has more

@@ -1,28 +1,24 @@
 -- The spread of a word from the mover's discs over opposing ones, bit by bit and round by round.
-use Rattle.std.proofs.Common.{◌≡◌, ℕ, zero, suc, ◌+◌, ◌-◌, ◌^◌, ◌<◌, ◌≤◌, Bool, true, false, not, ◌&&◌, ◌||◌, cond, eqb, List, [], ◌∷◌, ◌++◌, length, take, get_or, filter, Option, Some, None, unwrap_or, bit_and, bit_or, min, max, inl, inr, refl, sym, ap, ap₂, ◌∙◌, arith, add-one}
+use Rattle.std.proofs.Common.{◌≡◌, ℕ, zero, suc, ◌+◌, ◌-◌, ◌^◌, ◌<◌, ◌≤◌, Bool, true, false, not, ◌&&◌, ◌||◌, cond, eqb, ltb, List, [], ◌∷◌, ◌++◌, filter, Option, Some, None, unwrap_or, bit_and, bit_or, min, max, ◌⊎◌, inl, inr, refl, sym, ap, ap₂, ◌∙◌, arith, w64}
 use Rattle.std.specs.Prelude.{is_some}
-use Rattle.std.specs.List.{flat_map}
+use Rattle.std.specs.List.{flat_map, range_with_len}
 use Rattle.std.specs.Int.{bit_at}
-use Rattle.std.proofs.Common.{w64}
-use Rattle.std.specs.List.{range_with_len}
-use Rattle.std.proofs.lemmas.Bool.{cases_lt, ne_eqb}
+use Rattle.std.proofs.lemmas.Bool.{cases_lt, ne_eqb, eqb-true, ltb-true}
 use Rattle.std.proofs.lemmas.Nat.{or_lt}
-use Rattle.std.proofs.lemmas.List.{append-nil, take_more}
-use Rattle.std.proofs.lemmas.List.Concat.{flat_map-append}
-use Rattle.std.proofs.lemmas.Nat.Bits.{bit_at_and, bit_at_or, bit_at_not, bit_at_above, bit_at-lt, same_from_bits}
+use Rattle.std.proofs.lemmas.Nat.Bits.{bit_at_and, bit_at_or, bit_at_not, bit_at_above, bit_at_ones, bit_at-lt, same_from_bits}
 use Rattle.othello_board.specs.declared.cells.Cell.{Cell}
 use Rattle.othello_board.specs.declared.cells.Cell.TheVariants.{Empty, Own, Opp}
 use Rattle.othello_board.specs.declared.directions.Direction.{Direction}
-use Rattle.othello_board.specs.Rules.{step, squares_beside, outflanked, led_by, cell_at, run, flips, is_legal, squares, is_among, is_own_cell, is_opp_cell, is_empty_cell, is_nil}
+use Rattle.othello_board.specs.declared.directions.Direction.TheVariants.{North, NorthEast, East, SouthEast, South, SouthWest, West, NorthWest}
+use Rattle.othello_board.specs.Rules.{step, squares_beside, outflanked, led_by, cell_at, run, flips, directions, is_legal, squares, is_among, is_own_cell, is_opp_cell, is_empty_cell, is_nil}
 use Rattle.othello_board.specs.Words.{cells_of, bits_of}
-use Rattle.othello_board.specs.Shifts.{opposite, bit_there}
-use Rattle.othello_board.proofs.BitLemmas.{apart}
+use Rattle.othello_board.specs.Shifts.{opposite, slid_from, bit_there}
+use Rattle.othello_board.proofs.BitLemmas.{apart, bit_at-bits_of}
 use Rattle.othello_board.proofs.CellLemmas.{cell_at-cells_of, bit_cases}
-use Rattle.othello_board.proofs.RunLemmas.{beside_edge, beside_next}
-use Rattle.othello_board.proofs.WalkLemmas.{step_back, opposite_twice}
+use Rattle.othello_board.proofs.ShiftLemmas.{all_below, holds_below, both}
+use Rattle.othello_board.proofs.StepLemmas.{step_back, beside_edge, beside_next}
 use Rattle.othello_moves.proofs.BitLemmas.{is_among-filter, is_square}
-use Rattle.othello_board.proofs.BitLemmas.{bit_at-bits_of}
-use Rattle.othello_moves.specs.Leading.{bit_of, goes_on, leads}
+use Rattle.othello_moves.specs.Leading.{bit_of, goes_on, leads, has_both_sides, is_inner}
 
 -- ---- the bits of a square
 
@@ -111,23 +107,197 @@ keeps_on (suc n) board d t e =
     goes_on-next (suc n) board d t (step d t) refl
     ∙ keeps_ahead n board d (step d t) (λ u. keeps_on n board d u) (sym (goes_on-next n board d t (step d t) refl) ∙ e)
 
--- ---- the word of the discs that lead on
+-- ---- a word slid back, bit by bit
 
--- what a word shifted back says at a square
+-- whether the next square, where there is one, passes a test
 abbrev there_is : (ℕ → Bool) → Option ℕ → Bool
 there_is test None = false
 there_is test (Some u) = test u
 
+abbrev same_square : Option ℕ → Option ℕ → Bool
+same_square None None = true
+same_square None (Some u) = false
+same_square (Some s) None = false
+same_square (Some s) (Some u) = eqb s u
+
+same_square-true : (o p : Option ℕ) → same_square o p ≡ true → o ≡ p
+same_square-true None None e = refl
+same_square-true None (Some u) e = cc
+same_square-true (Some s) None e = cc
+same_square-true (Some s) (Some u) e = ap (λ n. Some n) (eqb-true s u e)
+
+either_of : (a b : Bool) → (a || b) ≡ true → (a ≡ true) ⊎ (b ≡ true)
+either_of true b e = inl refl
+either_of false b e = inr e
+
+-- on an inner square the slide is a step
+abbrev inner_test : Direction → ℕ → Bool
+inner_test d t = not (is_inner d t) || same_square (slid_from (opposite d) t) (step d t)
+
+inner_everywhere : (d : Direction) → all_below 64 (inner_test d) ≡ true
+inner_everywhere North = refl
+inner_everywhere NorthEast = refl
+inner_everywhere East = refl
+inner_everywhere SouthEast = refl
+inner_everywhere South = refl
+inner_everywhere SouthWest = refl
+inner_everywhere West = refl
+inner_everywhere NorthWest = refl
+
+not_both : (a : Bool) → a ≡ true → not a ≡ true → ⊥
+not_both true e n = cc
+not_both false e n = cc
+
+inner_step : (d : Direction) (t : ℕ) → t < 64 → is_inner d t ≡ true → slid_from (opposite d) t ≡ step d t
+inner_step d t below inner =
+    elim (either_of (not (is_inner d t)) (same_square (slid_from (opposite d) t) (step d t)) (holds_below 64 (inner_test d) (inner_everywhere d) t below)) [
+      | inl outer ↦ absurd (not_both (is_inner d t) inner outer)
+      | inr same ↦ same_square-true (slid_from (opposite d) t) (step d t) same
+    ]
+
+-- on any square it is, or there is no step, and what comes there stood at a side
+abbrev at_side : Direction → Option ℕ → Option ℕ → Bool
+at_side d (Some s) None = ltb s 64 && not (is_inner d s)
+at_side d (Some s) (Some u) = false
+at_side d None next = false
+
+abbrev slide_test : Direction → ℕ → Bool
+slide_test d t = same_square (slid_from (opposite d) t) (step d t) || at_side d (slid_from (opposite d) t) (step d t)
+
+slide_everywhere : (d : Direction) → all_below 64 (slide_test d) ≡ true
+slide_everywhere North = refl
+slide_everywhere NorthEast = refl
+slide_everywhere East = refl
+slide_everywhere SouthEast = refl
+slide_everywhere South = refl
+slide_everywhere SouthWest = refl
+slide_everywhere West = refl
+slide_everywhere NorthWest = refl
+
+-- a square with one before it and one after it is an inner one
+abbrev between_by : Direction → ℕ → Option ℕ → Bool
+between_by d u None = true
+between_by d u (Some v) = is_inner d u
+
+abbrev between_test : Direction → Option ℕ → Bool
+between_test d None = true
+between_test d (Some u) = between_by d u (step d u)
+
+between_everywhere : (d : Direction) → all_below 64 (λ t. between_test d (step d t)) ≡ true
+between_everywhere North = refl
+between_everywhere NorthEast = refl
+between_everywhere East = refl
+between_everywhere SouthEast = refl
+between_everywhere South = refl
+between_everywhere SouthWest = refl
+between_everywhere West = refl
+between_everywhere NorthWest = refl
+
+between : (d : Direction) (t u : ℕ) → t < 64 → step d t ≡ Some u → between_by d u (step d u) ≡ true
+between d t u below next = sym (ap (between_test d) next) ∙ holds_below 64 (λ s. between_test d (step d s)) (between_everywhere d) t below
+
+-- under a word of inner squares: the squares of it whose next square is in the word that was slid
 bit_there-test : (word : ℕ) (test : ℕ → Bool) (d : Direction) (t : ℕ) (next : Option ℕ) → t < 64 → step d t ≡ next → ((u : ℕ) → u < 64 → bit_at word u ≡ bit_of (test u)) → bit_there word next ≡ bit_of (there_is test next)
 bit_there-test word test d t None below e bits = refl
 bit_there-test word test d t (Some u) below e bits = bits u (step_back d t u below e).0
 
--- a word shifted in the opposite direction
-pub shifted_back : (word back : ℕ) (test : ℕ → Bool) (d : Direction) (t : ℕ) → t < 64
-    → ((s : ℕ) → s < 64 → bit_at back s ≡ bit_there word (step (opposite (opposite d)) s)) → ((u : ℕ) → u < 64 → bit_at word u ≡ bit_of (test u))
-    → bit_at back t ≡ bit_of (there_is test (step d t))
-shifted_back word back test d t below shifts bits =
-    shifts t below ∙ ap (λ e. bit_there word (step e t)) (opposite_twice d) ∙ bit_there-test word test d t (step d t) below refl bits
+and_inner : (w b y : Bool) (n : ℕ) → (w ≡ true → b ≡ true) → (b ≡ true → n ≡ bit_of y) → n < 2 → min (bit_of w) n ≡ bit_of (w && y)
+and_inner true b y n within here few =
+    let is : n ≡ bit_of y = here (within refl) in
+    omega (arith, is)
+and_inner false b y n within here few = omega arith
+
+pub slid_under : (under from slid : ℕ) (w test : ℕ → Bool) (d : Direction) → ((t : ℕ) → t < 64 → bit_at under t ≡ bit_of (w t)) → ((t : ℕ) → w t ≡ true → is_inner d t ≡ true)
+    → ((t : ℕ) → t < 64 → bit_at slid t ≡ bit_there from (slid_from (opposite d) t)) → ((u : ℕ) → u < 64 → bit_at from u ≡ bit_of (test u))
+    → (t : ℕ) → t < 64 → bit_at (bit_and under slid) t ≡ bit_of (w t && there_is test (step d t))
+slid_under under from slid w test d under_bits within slides bits t below =
+    bit_at_and under slid t
+    ∙ ap (λ n. min n (bit_at slid t)) (under_bits t below)
+    ∙ and_inner (w t) (is_inner d t) (there_is test (step d t)) (bit_at slid t) (within t)
+    (λ inner. slides t below ∙ ap (bit_there from) (inner_step d t below inner) ∙ bit_there-test from test d t (step d t) below refl bits)
+    (bit_at-lt slid t)
+
+-- ---- the word of the inner discs that lead on
+
+abbrev pub led : ℕ → List Cell → Direction → ℕ → Bool
+led n board d t = is_inner d t && leads n board d t
+
+-- a disc that leads on, and isn't the first, is an inner one
+nothing_ahead : (n : ℕ) (board : List Cell) (d : Direction) (u : ℕ) → step d u ≡ None → leads n board d u ≡ false
+nothing_ahead n board d u edge = ap (λ g. is_opp_cell (cell_at board u) && g) (goes_on-next n board d u None edge) ∙ and_none (is_opp_cell (cell_at board u))
+  where
+    and_none : (b : Bool) → (b && false) ≡ false
+    and_none true = refl
+    and_none false = refl
+
+and_false : (b : Bool) → (b && false) ≡ false
+and_false true = refl
+and_false false = refl
+
+led_by_next : (n : ℕ) (board : List Cell) (d : Direction) (u : ℕ) (next : Option ℕ) → step d u ≡ next → between_by d u next ≡ true → led n board d u ≡ leads n board d u
+led_by_next n board d u None edge inner =
+    let none = nothing_ahead n board d u edge in
+    ap (λ g. is_inner d u && g) none ∙ and_false (is_inner d u) ∙ sym none
+led_by_next n board d u (Some v) edge inner = ap (λ b. b && leads n board d u) inner
+
+led_there : (n : ℕ) (board : List Cell) (d : Direction) (t : ℕ) (next : Option ℕ) → t < 64 → step d t ≡ next → there_is (led n board d) next ≡ there_is (leads n board d) next
+led_there n board d t None below e = refl
+led_there n board d t (Some u) below e = led_by_next n board d u (step d u) refl (between d t u below e)
+
+-- the word of these discs, slid back whole
+side_bit : (found n : ℕ) (board : List Cell) (d : Direction) (from next : Option ℕ) → ((u : ℕ) → u < 64 → bit_at found u ≡ bit_of (led n board d u)) → at_side d from next ≡ true
+    → bit_there found from ≡ bit_of (there_is (leads n board d) next)
+side_bit found n board d None next bits side = cc
+side_bit found n board d (Some s) (Some u) bits side = cc
+side_bit found n board d (Some s) None bits side =
+    let parts = both (ltb s 64) (not (is_inner d s)) side in
+    bits s (ltb-true s 64 parts.0) ∙ ap (λ b. bit_of (b && leads n board d s)) (not_inner (is_inner d s) parts.1)
+  where
+    not_inner : (b : Bool) → not b ≡ true → b ≡ false
+    not_inner true e = cc
+    not_inner false e = refl
+
+pub slid_led : (found slid n : ℕ) (board : List Cell) (d : Direction) → ((t : ℕ) → t < 64 → bit_at slid t ≡ bit_there found (slid_from (opposite d) t))
+    → ((u : ℕ) → u < 64 → bit_at found u ≡ bit_of (led n board d u)) → (t : ℕ) → t < 64 → bit_at slid t ≡ bit_of (there_is (leads n board d) (step d t))
+slid_led found slid n board d slides bits t below =
+    slides t below
+    ∙ elim (either_of (same_square (slid_from (opposite d) t) (step d t)) (at_side d (slid_from (opposite d) t) (step d t)) (holds_below 64 (slide_test d) (slide_everywhere d) t below)) [
+      | inl same ↦
+          ap (bit_there found) (same_square-true (slid_from (opposite d) t) (step d t) same)
+          ∙ bit_there-test found (led n board d) d t (step d t) below refl bits
+          ∙ ap bit_of (led_there n board d t (step d t) below refl)
+      | inr side ↦ side_bit found n board d (slid_from (opposite d) t) (step d t) bits side
+    ]
+
+-- the masks of inner squares
+pub inner_all : (d : Direction) → (d ≡ North) ⊎ (d ≡ South) → (t : ℕ) → t < 64 → bit_at 18446744073709551615 t ≡ bit_of (is_inner d t)
+inner_all d (inl north) t below = bit_at_ones 64 t below ∙ ap (λ e. bit_of (is_inner e t)) (sym north)
+inner_all d (inr south) t below = bit_at_ones 64 t below ∙ ap (λ e. bit_of (is_inner e t)) (sym south)
+
+middle_bit : (t : ℕ) → t < 64 → bit_at 0x7e7e_7e7e_7e7e_7e7e t ≡ bit_of (has_both_sides t)
+middle_bit t below = eqb-true (bit_at 0x7e7e_7e7e_7e7e_7e7e t) (bit_of (has_both_sides t)) (holds_below 64 (λ s. eqb (bit_at 0x7e7e_7e7e_7e7e_7e7e s) (bit_of (has_both_sides s))) refl t below)
+
+pub inner_middle : (d : Direction) → (d ≡ North → ⊥) → (d ≡ South → ⊥) → (t : ℕ) → t < 64 → bit_at 0x7e7e_7e7e_7e7e_7e7e t ≡ bit_of (is_inner d t)
+inner_middle North no_north no_south t below = absurd (no_north refl)
+inner_middle NorthEast no_north no_south t below = middle_bit t below
+inner_middle East no_north no_south t below = middle_bit t below
+inner_middle SouthEast no_north no_south t below = middle_bit t below
+inner_middle South no_north no_south t below = absurd (no_south refl)
+inner_middle SouthWest no_north no_south t below = middle_bit t below
+inner_middle West no_north no_south t below = middle_bit t below
+inner_middle NorthWest no_north no_south t below = middle_bit t below
+
+-- the opposing discs that may stand inside a run
+abbrev pub inside : List Cell → Direction → ℕ → Bool
+inside board d t = is_opp_cell (cell_at board t) && is_inner d t
+
+pub inside_inner : (board : List Cell) (d : Direction) (t : ℕ) → inside board d t ≡ true → is_inner d t ≡ true
+inside_inner board d t e = (both (is_opp_cell (cell_at board t)) (is_inner d t) e).1
+
+pub inside_bit : (own opp mask : ℕ) (d : Direction) → bit_and own opp ≡ 0 → ((t : ℕ) → t < 64 → bit_at mask t ≡ bit_of (is_inner d t))
+    → (t : ℕ) → t < 64 → bit_at (bit_and opp mask) t ≡ bit_of (inside (cells_of own opp) d t)
+inside_bit own opp mask d disjoint bits t below =
+    bit_at_and opp mask t ∙ ap₂ min (opp_bit own opp t disjoint below) (bits t below) ∙ min_of_tests (is_opp_cell (cell_at (cells_of own opp) t)) (is_inner d t)
 
 -- before the first round: opposing discs beside one of the mover
 first_by : (board : List Cell) (d : Direction) (o : Bool) (next : Option ℕ) → (there_is (λ u. is_own_cell (cell_at board u)) next && o) ≡ (o && ahead 0 board d next)
@@ -143,17 +313,27 @@ first_by board d o (Some u) = rw (nothing_beside board d u) (shuffle (is_own_cel
     shuffle false true false = refl
     shuffle false false false = refl
 
-pub leads_first : (own opp back : ℕ) (d : Direction) → bit_and own opp ≡ 0
-    → ((s : ℕ) → s < 64 → bit_at back s ≡ bit_there own (step (opposite (opposite d)) s))
-    → (t : ℕ) → t < 64 → bit_at (bit_and back opp) t ≡ bit_of (leads 0 (cells_of own opp) d t)
-leads_first own opp back d disjoint shifts t below =
+turned : (o b x : Bool) → ((o && b) && x) ≡ (b && (x && o))
+turned true true true = refl
+turned true true false = refl
+turned true false true = refl
+turned true false false = refl
+turned false true true = refl
+turned false true false = refl
+turned false false true = refl
+turned false false false = refl
+
+-- runs of one disc
+pub led_one : (own opp over slid : ℕ) (d : Direction) → ((t : ℕ) → t < 64 → bit_at over t ≡ bit_of (inside (cells_of own opp) d t))
+    → ((t : ℕ) → t < 64 → bit_at slid t ≡ bit_there own (slid_from (opposite d) t))
+    → (t : ℕ) → t < 64 → bit_at (bit_and over slid) t ≡ bit_of (led 0 (cells_of own opp) d t)
+led_one own opp over slid d over_bits slides t below =
     let board = cells_of own opp in
-    let next = step d t in
     let o = is_opp_cell (cell_at board t) in
-    bit_at_and back opp t
-    ∙ ap₂ min (shifted_back own back (λ u. is_own_cell (cell_at board u)) d t below shifts (λ u u_below. own_bit own opp u u_below)) (opp_bit own opp t disjoint below)
-    ∙ min_of_tests (there_is (λ u. is_own_cell (cell_at board u)) next) o
-    ∙ ap bit_of (first_by board d o next ∙ ap (λ g. o && g) (sym (goes_on-next 0 board d t next refl)))
+    slid_under over own slid (inside board d) (λ u. is_own_cell (cell_at board u)) d over_bits (inside_inner board d) slides (λ u u_below. own_bit own opp u u_below) t below
+    ∙ ap bit_of
+    (turned o (is_inner d t) (there_is (λ u. is_own_cell (cell_at board u)) (step d t))
+    ∙ ap (λ g. is_inner d t && g) (first_by board d o (step d t) ∙ ap (λ g. o && g) (sym (goes_on-next 0 board d t (step d t) refl))))
 
 both_true : (w p q : Bool) → ((q && (w || (p && true))) || ((p && true) && q)) ≡ (q && (w || (p && true)))
 both_true true true true = refl
@@ -191,22 +371,108 @@ round_by board d n o (Some u) =
     shuffle w p q true false keeps = let bad : false ≡ true = keeps refl in cc
     shuffle w p q false h keeps = only_later w p q h
 
-pub leads_more : (own opp found back : ℕ) (d : Direction) (n : ℕ) → bit_and own opp ≡ 0
-    → ((s : ℕ) → s < 64 → bit_at back s ≡ bit_there found (step (opposite (opposite d)) s))
-    → ((u : ℕ) → u < 64 → bit_at found u ≡ bit_of (leads n (cells_of own opp) d u))
-    → (t : ℕ) → t < 64 → bit_at (bit_or found (bit_and back opp)) t ≡ bit_of (leads (n + 1) (cells_of own opp) d t)
-leads_more own opp found back d n disjoint shifts bits t below =
+spread : (b x o y : Bool) → ((b && x) || ((o && b) && y)) ≡ (b && (x || (y && o)))
+spread true x true true = refl
+spread true x true false = refl
+spread true x false true = refl
+spread true x false false = refl
+spread false x true true = refl
+spread false x true false = refl
+spread false x false true = refl
+spread false x false false = refl
+
+-- one disc more
+pub led_more : (own opp over found slid n : ℕ) (d : Direction) → ((t : ℕ) → t < 64 → bit_at over t ≡ bit_of (inside (cells_of own opp) d t))
+    → ((t : ℕ) → t < 64 → bit_at slid t ≡ bit_there found (slid_from (opposite d) t)) → ((u : ℕ) → u < 64 → bit_at found u ≡ bit_of (led n (cells_of own opp) d u))
+    → (t : ℕ) → t < 64 → bit_at (bit_or found (bit_and over slid)) t ≡ bit_of (led (suc n) (cells_of own opp) d t)
+led_more own opp over found slid n d over_bits slides bits t below =
     let board = cells_of own opp in
-    let next = step d t in
     let o = is_opp_cell (cell_at board t) in
-    bit_at_or found (bit_and back opp) t
-    ∙ ap₂ max (bits t below) (bit_at_and back opp t ∙ ap₂ min (shifted_back found back (leads n board d) d t below shifts bits) (opp_bit own opp t disjoint below) ∙ min_of_tests (there_is (leads n board d) next) o)
-    ∙ max_of_tests (leads n board d t) (there_is (leads n board d) next && o)
+    let next = step d t in
+    bit_at_or found (bit_and over slid) t
+    ∙ ap₂ max (bits t below) (slid_under over found slid (inside board d) (led n board d) d over_bits (inside_inner board d) slides bits t below)
+    ∙ max_of_tests (led n board d t) (inside board d t && there_is (led n board d) next)
     ∙ ap bit_of
+    (ap (λ g. led n board d t || (inside board d t && g)) (led_there n board d t next below refl)
+    ∙ spread (is_inner d t) (leads n board d t) o (there_is (leads n board d) next)
+    ∙ ap (λ g. is_inner d t && g)
     (ap (λ g. (o && g) || (there_is (leads n board d) next && o)) (goes_on-next n board d t next refl)
     ∙ round_by board d n o next
-    ∙ ap (λ g. o && g) (sym (goes_on-next (suc n) board d t next refl))
-    ∙ ap (λ m. leads m board d t) (sym (add-one n)))
+    ∙ ap (λ g. o && g) (sym (goes_on-next (suc n) board d t next refl))))
+
+-- pairs of such discs
+abbrev pub paired : List Cell → Direction → ℕ → Bool
+paired board d t = inside board d t && there_is (inside board d) (step d t)
+
+pub paired_inner : (board : List Cell) (d : Direction) (t : ℕ) → paired board d t ≡ true → is_inner d t ≡ true
+paired_inner board d t e = inside_inner board d t (both (inside board d t) (there_is (inside board d) (step d t)) e).0
+
+pub paired_bit : (over slid : ℕ) (board : List Cell) (d : Direction) → ((t : ℕ) → t < 64 → bit_at over t ≡ bit_of (inside board d t))
+    → ((t : ℕ) → t < 64 → bit_at slid t ≡ bit_there over (slid_from (opposite d) t))
+    → (t : ℕ) → t < 64 → bit_at (bit_and over slid) t ≡ bit_of (paired board d t)
+paired_bit over slid board d bits slides t below = slid_under over over slid (inside board d) (inside board d) d bits (inside_inner board d) slides bits t below
+
+-- two discs more
+or_false : (x : Bool) → (x || false) ≡ x
+or_false true = refl
+or_false false = refl
+
+nothing_more : (x y : Bool) → (x || (y && false)) ≡ x
+nothing_more x y = ap (λ z. x || z) (and_false y) ∙ or_false x
+
+joins : (b o w p w2 p2 g h : Bool) → (g ≡ true → h ≡ true)
+    → ((b && (o && (w || (p && (w2 || (p2 && g)))))) || (((o && b) && (p && true)) && (p2 && h))) ≡ (b && (o && (w || (p && (w2 || (p2 && h))))))
+joins false true w p w2 p2 g h keeps = refl
+joins false false w p w2 p2 g h keeps = refl
+joins true false w p w2 p2 g h keeps = refl
+joins true true true p w2 p2 g h keeps = refl
+joins true true false false w2 p2 g h keeps = refl
+joins true true false true true p2 g h keeps = refl
+joins true true false true false false g h keeps = refl
+joins true true false true false true true h keeps = sym (keeps refl)
+joins true true false true false true false h keeps = refl
+
+-- the second square
+two_by : (board : List Cell) (d : Direction) (m : ℕ) (b o : Bool) (u : ℕ) (next : Option ℕ) → between_by d u next ≡ true
+    → ((b && (o && (is_own_cell (cell_at board u) || (is_opp_cell (cell_at board u) && ahead m board d next)))) || (((o && b) && inside board d u) && there_is (leads (suc m) board d) next))
+    ≡ (b && (o && (is_own_cell (cell_at board u) || (is_opp_cell (cell_at board u) && ahead (suc (suc m)) board d next))))
+two_by board d m b o u None inner = nothing_more (b && (o && (is_own_cell (cell_at board u) || (is_opp_cell (cell_at board u) && false)))) ((o && b) && inside board d u)
+two_by board d m b o u (Some v) inner =
+    let w = is_own_cell (cell_at board u) in
+    let p = is_opp_cell (cell_at board u) in
+    let w2 = is_own_cell (cell_at board v) in
+    let p2 = is_opp_cell (cell_at board v) in
+    ap (λ i. (b && (o && (w || (p && ahead m board d (Some v))))) || (((o && b) && (p && i)) && (p2 && goes_on (suc (suc m)) board d v))) inner
+    ∙ joins b o w p w2 p2 (goes_on m board d v) (goes_on (suc (suc m)) board d v) (λ e. keeps_on (suc m) board d v (keeps_on m board d v e))
+
+-- the first square
+pair_by : (board : List Cell) (d : Direction) (m : ℕ) (b o : Bool) (t : ℕ) (next : Option ℕ) → t < 64 → step d t ≡ next
+    → ((b && (o && ahead (suc m) board d next)) || (((o && b) && there_is (inside board d) next) && there_is (λ u. there_is (leads (suc m) board d) (step d u)) next))
+    ≡ (b && (o && ahead (suc (suc (suc m))) board d next))
+pair_by board d m b o t None below e = nothing_more (b && (o && false)) ((o && b) && false)
+pair_by board d m b o t (Some u) below e =
+    let w = is_own_cell (cell_at board u) in
+    let p = is_opp_cell (cell_at board u) in
+    ap (λ g. (b && (o && (w || (p && g)))) || (((o && b) && inside board d u) && there_is (leads (suc m) board d) (step d u))) (goes_on-next m board d u (step d u) refl)
+    ∙ two_by board d m b o u (step d u) (between d t u below e)
+    ∙ ap (λ g. b && (o && (w || (p && g)))) (sym (goes_on-next (suc (suc m)) board d u (step d u) refl))
+
+pub led_two_more : (found pairs slid twice m : ℕ) (board : List Cell) (d : Direction) → ((t : ℕ) → t < 64 → bit_at pairs t ≡ bit_of (paired board d t))
+    → ((t : ℕ) → t < 64 → bit_at slid t ≡ bit_there found (slid_from (opposite d) t)) → ((t : ℕ) → t < 64 → bit_at twice t ≡ bit_there slid (slid_from (opposite d) t))
+    → ((u : ℕ) → u < 64 → bit_at found u ≡ bit_of (led (suc m) board d u))
+    → (t : ℕ) → t < 64 → bit_at (bit_or found (bit_and pairs twice)) t ≡ bit_of (led (suc (suc (suc m))) board d t)
+led_two_more found pairs slid twice m board d pair_bits slides slides_again bits t below =
+    let o = is_opp_cell (cell_at board t) in
+    let b = is_inner d t in
+    let next = step d t in
+    let beyond = λ (u : ℕ). there_is (leads (suc m) board d) (step d u) in
+    bit_at_or found (bit_and pairs twice) t
+    ∙ ap₂ max (bits t below) (slid_under pairs slid twice (paired board d) beyond d pair_bits (paired_inner board d) slides_again (slid_led found slid (suc m) board d slides bits) t below)
+    ∙ max_of_tests (led (suc m) board d t) (paired board d t && there_is beyond next)
+    ∙ ap bit_of
+    (ap (λ g. (b && (o && g)) || (((o && b) && there_is (inside board d) next) && there_is beyond next)) (goes_on-next (suc m) board d t next refl)
+    ∙ pair_by board d m b o t next below refl
+    ∙ ap (λ g. b && (o && g)) (sym (goes_on-next (suc (suc (suc m))) board d t next refl)))
 
 -- ---- from the discs that lead on to the runs
 
@@ -224,13 +490,9 @@ run_by board d t (Some u) e =
     ∙ nil-led_by (cell_at board u) u (outflanked board (squares_beside 6 d u)))
 
 -- the squares from which a run begins
-pub reached_bit : (own opp lead back : ℕ) (d : Direction) (t : ℕ) → t < 64
-    → ((s : ℕ) → s < 64 → bit_at back s ≡ bit_there lead (step (opposite (opposite d)) s))
-    → ((u : ℕ) → u < 64 → bit_at lead u ≡ bit_of (leads 5 (cells_of own opp) d u))
-    → bit_at back t ≡ bit_of (not (is_nil (run (cells_of own opp) t d)))
-reached_bit own opp lead back d t below shifts bits =
-    let board = cells_of own opp in
-    shifted_back lead back (leads 5 board d) d t below shifts bits ∙ ap bit_of (run_by board d t (step d t) refl)
+pub start_bit : (found slid : ℕ) (board : List Cell) (d : Direction) → ((t : ℕ) → t < 64 → bit_at slid t ≡ bit_there found (slid_from (opposite d) t))
+    → ((u : ℕ) → u < 64 → bit_at found u ≡ bit_of (led 5 board d u)) → (t : ℕ) → t < 64 → bit_at slid t ≡ bit_of (not (is_nil (run board t d)))
+start_bit found slid board d slides bits t below = slid_led found slid 5 board d slides bits t below ∙ ap bit_of (run_by board d t (step d t) refl)
 
 -- ---- all directions
 
@@ -238,18 +500,45 @@ not_nil-append : (xs ys : List ℕ) → not (is_nil (xs ++ ys)) ≡ (not (is_nil
 not_nil-append [] ys = refl
 not_nil-append (x ∷ xs) ys = refl
 
--- the word of the squares from which a run begins, with one direction more
-pub reached_more : (f : Direction → List ℕ) (ds : List Direction) (i word back t : ℕ) (d : Direction) → i < length ds
-    → bit_at word t ≡ bit_of (not (is_nil (flat_map f (take i ds)))) → bit_at back t ≡ bit_of (not (is_nil (f (get_or ds i d))))
-    → bit_at (bit_or word back) t ≡ bit_of (not (is_nil (flat_map f (take (i + 1) ds))))
-reached_more f ds i word back t d within so_far here =
-    bit_at_or word back t
-    ∙ ap₂ max so_far here
-    ∙ max_of_tests (not (is_nil (flat_map f (take i ds)))) (not (is_nil (f (get_or ds i d))))
+abbrev starts_in : (Direction → List ℕ) → Direction → Bool
+starts_in f d = not (is_nil (f d))
+
+-- the directions in order, and the four lines that they make
+in_order : (f : Direction → List ℕ) → not (is_nil (flat_map f directions))
+    ≡ (starts_in f North || (starts_in f NorthEast || (starts_in f East || (starts_in f SouthEast || (starts_in f South || (starts_in f SouthWest || (starts_in f West || (starts_in f NorthWest || false))))))))
+in_order f = simp not_nil-append
+
+by_lines : (a b c d e f g h : Bool) → (((a || e) || (b || f)) || ((c || g) || (d || h))) ≡ (a || (b || (c || (d || (e || (f || (g || (h || false))))))))
+by_lines true b c d e f g h = refl
+by_lines false true c d true f g h = refl
+by_lines false true c d false f g h = refl
+by_lines false false true d true f g h = refl
+by_lines false false true d false true g h = refl
+by_lines false false true d false false g h = refl
+by_lines false false false true true f g h = refl
+by_lines false false false true false true g h = refl
+by_lines false false false true false false true h = refl
+by_lines false false false true false false false h = refl
+by_lines false false false false true f g h = refl
+by_lines false false false false false true g h = refl
+by_lines false false false false false false true h = refl
+by_lines false false false false false false false true = refl
+by_lines false false false false false false false false = refl
+
+either_bit : (x y t : ℕ) (a b : Bool) → bit_at x t ≡ bit_of a → bit_at y t ≡ bit_of b → bit_at (bit_or x y) t ≡ bit_of (a || b)
+either_bit x y t a b first second = bit_at_or x y t ∙ ap₂ max first second ∙ max_of_tests a b
+
+pub starts_bit : (f : Direction → List ℕ) (n ne e se s sw w nw t : ℕ)
+    → bit_at n t ≡ bit_of (starts_in f North) → bit_at ne t ≡ bit_of (starts_in f NorthEast) → bit_at e t ≡ bit_of (starts_in f East) → bit_at se t ≡ bit_of (starts_in f SouthEast)
+    → bit_at s t ≡ bit_of (starts_in f South) → bit_at sw t ≡ bit_of (starts_in f SouthWest) → bit_at w t ≡ bit_of (starts_in f West) → bit_at nw t ≡ bit_of (starts_in f NorthWest)
+    → bit_at (bit_or (bit_or (bit_or n s) (bit_or ne sw)) (bit_or (bit_or e w) (bit_or se nw))) t ≡ bit_of (not (is_nil (flat_map f directions)))
+starts_bit f n ne e se s sw w nw t is_n is_ne is_e is_se is_s is_sw is_w is_nw =
+    either_bit _ _ t _ _
+    (either_bit _ _ t _ _ (either_bit n s t _ _ is_n is_s) (either_bit ne sw t _ _ is_ne is_sw))
+    (either_bit _ _ t _ _ (either_bit e w t _ _ is_e is_w) (either_bit se nw t _ _ is_se is_nw))
     ∙ ap bit_of
-    (ap (λ xs. not (is_nil (flat_map f (take i ds))) || not (is_nil xs)) (sym (append-nil (f (get_or ds i d))))
-    ∙ sym (not_nil-append (flat_map f (take i ds)) (f (get_or ds i d) ++ []))
-    ∙ ap (λ xs. not (is_nil xs)) (sym (ap (flat_map f) (take_more ds i d within) ∙ flat_map-append f (take i ds) (get_or ds i d ∷ []))))
+    (by_lines (starts_in f North) (starts_in f NorthEast) (starts_in f East) (starts_in f SouthEast) (starts_in f South) (starts_in f SouthWest) (starts_in f West) (starts_in f NorthWest)
+    ∙ sym (in_order f))
 
 -- the empty ones of these squares are the legal ones
 pub legal_bit : (own opp reached t : ℕ) → own < 2 ^ 64 → opp < 2 ^ 64 → t < 64

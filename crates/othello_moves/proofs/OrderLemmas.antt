@@ -1,8 +1,8 @@
 -- Legal squares in order, and choices, by words of bits.
-use Rattle.std.proofs.Common.{◌≡◌, ℕ, suc, ◌-◌, ◌^◌, ◌<◌, min, Bool, true, false, cond, not, ◌&&◌, eqb, List, [], ◌∷◌, ◌++◌, map, length, filter, count_ones, bit_and, refl, sym, ap, ap₂, ◌∙◌, ⊎_elim, w64, lit<, arith}
+use Rattle.std.proofs.Common.{◌↔◌, bit_or, ◌≡◌, ℕ, suc, ◌-◌, ◌^◌, ◌<◌, min, Bool, true, false, cond, not, ◌&&◌, eqb, List, [], ◌∷◌, ◌++◌, map, length, filter, count_ones, bit_and, refl, sym, ap, ap₂, ◌∙◌, ⊎_elim, w64, lit<, arith}
 use Rattle.std.specs.Int.{bit_at, bit_not}
-use Rattle.std.proofs.lemmas.Bool.{cases_eq, eq-eqb, ne_eqb, cond-true, cond-false}
-use Rattle.std.proofs.lemmas.Nat.{zero_from_ones}
+use Rattle.std.proofs.lemmas.Bool.{cases_eq, eq-eqb, eqb-true, ne_eqb, cond-true, cond-false}
+use Rattle.std.proofs.lemmas.Nat.{zero_from_ones, le_or_l, le_or_r}
 use Rattle.std.proofs.lemmas.Nat.Bits.{bit_at_and, bit_at_not}
 use Rattle.std.proofs.lemmas.List.{length-append, append-nil}
 use Rattle.std.proofs.lemmas.List.Elements.{filter-append}
@@ -137,3 +137,26 @@ choices-pass board w v e fits none f fits' =
     ∙ pass-cond (eqb v 0)
     ∙ sym (zero-sequence (not (eqb v 0)))
     ∙ ap (λ n. sequence (bit_and n 0x8100_0000_0000_0081) (bit_and n (bit_not w64 0x8100_0000_0000_0081)) (not (eqb v 0))) (sym none)
+
+-- there is no choice exactly where both words are 0
+by_squares : (own opp : List ℕ) → cond (is_nil own) (cond (is_nil opp) [] (Pass ∷ [])) (map Square own) ≡ [] → (is_nil own ≡ true) × (is_nil opp ≡ true)
+by_squares [] [] none = (refl, refl)
+by_squares [] (s ∷ opp) none = cc
+by_squares (s ∷ own) opp none = cc
+
+zero_words : (a b : ℕ) → bit_or a b ≡ 0 → (a ≡ 0) × (b ≡ 0)
+zero_words a b none = (omega (arith, le_or_l a b), omega (arith, le_or_r a b))
+
+pub over_exactly : (board : List Cell) (w v : ℕ) → w ≡ bits_of (filter (is_legal board) squares) → w < 2 ^ 64 → v ≡ bits_of (filter (is_legal (exchanged board)) squares) → v < 2 ^ 64
+    → (bit_or w v ≡ 0) ↔ (choices board ≡ [])
+over_exactly board w v e fits f fits' = (
+  (λ none.
+      let words = zero_words w v none in
+      ap₂ (λ a b. cond a (cond b [] (Pass ∷ [])) (map Square (legal_squares board)))
+      (is_nil-in_order (is_legal board) w e fits ∙ eq-eqb w 0 words.0) (is_nil-in_order (is_legal (exchanged board)) v f fits' ∙ eq-eqb v 0 words.1)),
+  (λ none.
+      let nils = by_squares (legal_squares board) (legal_squares (exchanged board)) none in
+      let w_zero : w ≡ 0 = eqb-true w 0 (sym (is_nil-in_order (is_legal board) w e fits) ∙ nils.0) in
+      let v_zero : v ≡ 0 = eqb-true v 0 (sym (is_nil-in_order (is_legal (exchanged board)) v f fits') ∙ nils.1) in
+      ap₂ bit_or w_zero v_zero),
+)

@@ -4,6 +4,7 @@ ghost use Rattle.othello_board.specs.Words.{cells};
 ghost use Rattle.othello_moves.specs.Choices.{choices, after};
 
 use super::choices::Choice;
+use super::mobility::Mobility;
 use super::sequence::Choices;
 use othello_board::Board;
 
@@ -11,7 +12,7 @@ use othello_board::Board;
 pub fn over(board: Board) -> bool
     ensures { IsTrue result ↔ (choices (cells board) ≡ []) }
 {
-    Choices::new(board).is_empty()
+    Mobility::of(board).is_over()
 }
 
 /// How many choices the player to move has; a pass is one.

@@ -1,35 +1,54 @@
 //! The legal squares of a board as one word.
-ghost use Rattle.std.specs.Prelude.{◌≡◌, ◌<◌, ℕ, length, filter};
+ghost use Rattle.std.specs.Prelude.{◌≡◌, ◌<◌, ℕ, not, length, filter};
 ghost use Rattle.std.specs.Int.{bit_at};
-ghost use Rattle.othello_board.specs.Rules.{squares, is_legal};
+ghost use Rattle.othello_board.specs.Rules.{squares, run, is_nil, is_legal};
 ghost use Rattle.othello_board.specs.Words.{cells, bits_of};
 ghost use Rattle.othello_moves.specs.Choices.{legal_squares};
-ghost use Rattle.othello_moves.specs.Leading.{bit_of, leads};
+ghost use Rattle.othello_moves.specs.Leading.{bit_of, is_inner};
 
-use othello_board::{Board, DIRECTIONS, Direction};
+use othello_board::{Board, Direction};
 
-/// The opposing discs from which a run goes on to a disc of the mover in a direction, as bits.
+/// The squares of columns b to g.
+const INNER_COLUMNS: u64 = 0x7e7e_7e7e_7e7e_7e7e;
+
+/// The squares that opposing discs may stand on inside a run in a direction or the other way: all, or
+/// where a step changes the column, those that have a square on each side.
 #[inline(always)]
-fn leading(board: Board, direction: Direction) -> u64
-    ensures { (t : ℕ) → t < 64 → bit_at result t ≡ bit_of (leads 5 (cells board) direction t) }
+fn inner(direction: Direction) -> u64
+    ensures { (t : ℕ) → t < 64 → bit_at result t ≡ bit_of (is_inner direction t) }
+{
+    match direction {
+        Direction::North | Direction::South => u64::MAX,
+        _ => INNER_COLUMNS,
+    }
+}
+
+/// The squares from which a run begins in a direction: those beside which so many opposing discs lead on
+/// to a disc of the mover. The discs that lead on are found by runs of 1, of 2, of 4 and of 6.
+#[inline(always)]
+fn starts(board: Board, direction: Direction) -> u64
+    ensures { (t : ℕ) → t < 64 → bit_at result t ≡ bit_of (not (is_nil (run (cells board) t direction))) }
 {
     let back = direction.opposite();
-    let mut found = back.shift(board.own) & board.opp;
-    for _ in 0..5_u8 {
-        found |= back.shift(found) & board.opp;
-    }
-    found
+    let over = board.opp & inner(direction);
+    let pairs = over & back.slide(over);
+    let one = over & back.slide(board.own);
+    let two = one | over & back.slide(one);
+    let four = two | pairs & back.slide(back.slide(two));
+    let six = four | pairs & back.slide(back.slide(four));
+    back.slide(six)
 }
 
 /// The word in which the bits of exactly the legal squares are set.
+#[inline(always)]
 pub fn moves(board: Board) -> u64
     ensures { result ≡ bits_of (filter (is_legal (cells board)) squares) }
 {
-    let mut reached = 0;
-    for direction in DIRECTIONS {
-        reached |= direction.opposite().shift(leading(board, direction));
-    }
-    reached & !(board.own | board.opp)
+    let columns = starts(board, Direction::North) | starts(board, Direction::South);
+    let rows = starts(board, Direction::East) | starts(board, Direction::West);
+    let rising = starts(board, Direction::NorthEast) | starts(board, Direction::SouthWest);
+    let falling = starts(board, Direction::SouthEast) | starts(board, Direction::NorthWest);
+    (columns | rising | (rows | falling)) & !(board.own | board.opp)
 }
 
 /// How many legal squares there are; a pass isn't counted.

@@ -3,7 +3,8 @@
 //! The choices of a board are a list (`choices` of `specs/Choices.antt`): the legal squares, corners
 //! first (a1, h1, a8, h8), then the others by rising index; a pass alone where there is no legal
 //! square but the opponent has one; nothing where the game is over. The code finds them in one word,
-//! in which the bits of exactly the legal squares are set ([`moves`]). [`Choices`] stands for the
+//! in which the bits of exactly the legal squares are set ([`moves`]), for both players at once where both are
+//! asked for ([`Mobility`]). [`Choices`] stands for the
 //! choices that are left of such a list, and takes them from two words in order.
 //!
 //! ```text
@@ -12,19 +13,20 @@
 //! choice_count(opening) == 4
 //! choice(opening, 0) == Choice::Square(19)
 //! ```
+//!
+//! The example stands as a test in `leaf_search`, which has the tests of the crates that it stands on.
 #![tactic(auto)]
 
 mod choices;
 mod game;
 pub mod laws;
 mod legal;
+mod mobility;
 pub mod rows;
 mod sequence;
 
 pub use choices::Choice;
 pub use game::{after, choice, choice_count, over};
 pub use legal::{move_count, moves};
+pub use mobility::Mobility;
 pub use sequence::Choices;
-
-#[cfg(test)]
-mod tests;

@@ -2,7 +2,7 @@
 ghost use Rattle.std.specs.Prelude.{◌≡◌, ◌↔◌, ◌∷◌, [], IsTrue, MatchOption, drop, length, slice_get};
 
 use super::choices::Choice;
-use super::legal::moves;
+use super::mobility::Mobility;
 use othello_board::Board;
 use std::marker::Model;
 
@@ -36,11 +36,18 @@ impl Choices {
     pub fn new(board: Board) -> Choices
         ensures { result ≡ choices (cells board) }
     {
-        let word = moves(board);
+        Choices::of(Mobility::of(board))
+    }
+
+    /// All choices of a board whose legal squares are known.
+    #[inline(always)]
+    pub fn of(mobility: Mobility) -> Choices
+        ensures { result ≡ choices (cells mobility.board) }
+    {
         Choices {
-            corners: word & CORNERS,
-            others: word & !CORNERS,
-            passes: word == 0 && moves(board.swap()) != 0,
+            corners: mobility.own & CORNERS,
+            others: mobility.own & !CORNERS,
+            passes: mobility.own == 0 && mobility.opp != 0,
         }
     }
 

@@ -12,6 +12,7 @@
 #![tactic(auto)]
 
 mod options;
+pub mod rows;
 mod running;
 
 use line_io::{FromReader, FromWriter};

@@ -1,4 +1,11 @@
 //! What the program does, over any streams: from the words of the command line to the exit status.
+ghost use Rattle.std.specs.Prelude.{◌≡◌, map, Ok, Result};
+ghost use Rattle.line_io.specs.declared.faults.LineFault.{LineFault};
+ghost use Rattle.othello_server.specs.declared.options.Options.{Options};
+ghost use Rattle.othello_server.specs.declared.options.WordsFault.{WordsFault};
+ghost use Rattle.othello_server.specs.Statuses.{status_of};
+ghost use Rattle.othello_server.specs.Running.{IsAnsweredRun, IsFollowed, IsReadOf, status_of_run};
+
 use crate::options::{Options, WordsFault};
 use line_io::{FromReader, FromWriter, LineFault, Sink, Source, write_text};
 use solve_engine::{solve, solve_visited};
@@ -49,7 +56,10 @@ pub fn run<T: AsStr, S: Input, K: Output, E: Sink>(
     source: &mut S,
     sink: &mut K,
     errors: &mut E,
-) -> u8 {
+) -> u8
+    ensures { (asked : Result Options WordsFault) × IsReadOf (map T.text words.now) asked
+        × IsFollowed S.gives K.takes source.old sink.old source.new sink.new asked result }
+{
     match Options::read(alloc, words) {
         Ok(Options::Solve { visited }) => answer(visited, source, sink, errors),
         Err(fault) => refuse(&fault, sink, errors),
@@ -62,7 +72,9 @@ fn answer<S: Input, K: Output, E: Sink>(
     source: &mut S,
     sink: &mut K,
     errors: &mut E,
-) -> u8 {
+) -> u8
+    ensures { (r : Result (Unit {0}) LineFault) × IsAnsweredRun S.gives K.takes source.old sink.old source.new sink.new visited r × (result ≡ status_of_run r) }
+{
     if source.is_typed() {
         say(errors, HINT);
     }
@@ -82,7 +94,9 @@ fn answer<S: Input, K: Output, E: Sink>(
 }
 
 /// Says why the words are not followed, or what they ask to be told.
-fn refuse<K: Sink, E: Sink>(fault: &WordsFault, sink: &mut K, errors: &mut E) -> u8 {
+fn refuse<K: Sink, E: Sink>(fault: &WordsFault, sink: &mut K, errors: &mut E) -> u8
+    ensures { result ≡ status_of fault.now }
+{
     match fault {
         WordsFault::OutOfMemory => say(errors, "no memory to read the command line"),
         WordsFault::Refused(error) if error.use_stderr() => put(errors, error),

@@ -73,8 +73,18 @@ fn each_text_has_its_place_and_status(rt: HostRuntime) -> Result<(), Fail> {
         (["othello", "solve", "--"].as_slice(), 0, "-4 d3\n", ""),
         (&["othello", "solve", "--visited"], 0, "-4 d3 15\n", ""),
         (&["othello", "--version"], 0, "othello 0.1.0\n", ""),
-        (&["othello", "--help"], 0, "Othello analysis: the minimax value", ""),
-        (&["othello", "solve", "-h"], 0, "answers lines `depth position`", ""),
+        (
+            &["othello", "--help"],
+            0,
+            "Othello analysis: the minimax value",
+            "",
+        ),
+        (
+            &["othello", "solve", "-h"],
+            0,
+            "answers lines `depth position`",
+            "",
+        ),
         (&["othello"], 2, "", "error: "),
         (&["othello", "--visited"], 2, "", "error: "),
         (&["othello", "solved"], 2, "", "error: "),
@@ -99,9 +109,30 @@ fn streams_that_fail(rt: HostRuntime) -> Result<(), Fail> {
     let alloc = rt.alloc();
     for (words, closed, fails, typed, status, error) in [
         (["othello", "solve"].as_slice(), true, false, false, 1, ""),
-        (&["othello", "solve"], false, false, false, 1, "othello: the output could not be written\n"),
-        (&["othello", "solve"], false, true, false, 1, "othello: the input could not be read\n"),
-        (&["othello", "solve"], true, false, true, 1, "othello: reading lines `depth position`"),
+        (
+            &["othello", "solve"],
+            false,
+            false,
+            false,
+            1,
+            "othello: the output could not be written\n",
+        ),
+        (
+            &["othello", "solve"],
+            false,
+            true,
+            false,
+            1,
+            "othello: the input could not be read\n",
+        ),
+        (
+            &["othello", "solve"],
+            true,
+            false,
+            true,
+            1,
+            "othello: reading lines `depth position`",
+        ),
         (&["othello", "--help"], false, false, false, 0, ""),
     ] {
         let mut sink = Full { closed };
@@ -113,13 +144,22 @@ fn streams_that_fail(rt: HostRuntime) -> Result<(), Fail> {
         };
         let found = run(alloc, words, &mut source, &mut sink, &mut errors);
         assert_eq!(rt; found, status, "{words:?}");
-        assert!(rt; errors.writer.as_slice().starts_with(error.as_bytes()), "{words:?}");
+        assert!(rt;
+            errors.writer.as_slice().starts_with(error.as_bytes()),
+            "{words:?}"
+        );
         assert_eq!(rt; errors.writer.is_empty(), error.is_empty(), "{words:?}");
     }
     let words = ["othello", "solved"];
     let mut full = Full { closed: false };
     let mut errors = Full { closed: false };
-    let found = run(alloc, words.as_slice(), &mut Given::new(LINE), &mut full, &mut errors);
+    let found = run(
+        alloc,
+        words.as_slice(),
+        &mut Given::new(LINE),
+        &mut full,
+        &mut errors,
+    );
     assert_eq!(rt; found, 2, "refused words that can't be explained");
     Ok(())
 }

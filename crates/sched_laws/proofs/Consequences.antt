@@ -1,20 +1,17 @@
 -- What the shape of a tenant gives.
-use Rattle.std.proofs.Common.{◌≡◌, ◌≢◌, ℕ, suc, ◌+◌, ◌-◌, ◌*◌, ◌<◌, ◌≤◌, inl, inr, Bool, true, false, eqb, List, [], ◌∷◌, Option, Some, None, length, refl, ap, sym, ◌∙◌, subst, arith}
-use Rattle.std.specs.Prelude.{if◌then◌else◌}
-use Rattle.std.specs.List.{filter}
-use Rattle.std.proofs.lemmas.Bool.{cases_Bool, false≢true, true≢false, eqb-true, eq-eqb, ne_eqb}
+use Rattle.std.proofs.Common.{◌≡◌, ℕ, suc, ◌+◌, ◌-◌, ◌≤◌, inl, inr, true, eqb, List, [], ◌∷◌, Option, Some, length, refl, ap, sym, ◌∙◌, subst, arith}
+use Rattle.std.proofs.lemmas.Bool.{cases_Bool, false≢true, eqb-true, ne_eqb}
 use Rattle.std.proofs.lemmas.List.Sums.{sum_by-cons}
 use Rattle.cactus_stack.specs.Nodes.{charge}
 use Rattle.tenant_quota.specs.Quota.{IsWithinLimits}
 use Rattle.tenant_quota.specs.Accounts.{IsWithinReserve}
-use Rattle.frame_table.specs.declared.names.State.{State}
 use Rattle.frame_table.specs.declared.names.State.TheVariants.{Computing, Returned}
 use Rattle.frame_table.specs.Frames.{Frame, frame_at, path_in, root_of, children_of}
 use Rattle.frame_table.proofs.TreeValues.{root-there}
 use Rattle.sched_rules.specs.declared.job.Job.{Job}
 use Rattle.sched_rules.specs.declared.job.Job.TheVariants.{Live, Done, Spent, Cancelled}
 use Rattle.sched_rules.specs.Trees.{Tree, Tenant, account_in, charged_for, is_root, job_at, is_live_at, number_from, job_under}
-use Rattle.sched_rules.specs.Laws.{Neither, mark_of}
+use Rattle.sched_rules.specs.Laws.{mark_of}
 use Rattle.sched_laws.specs.Shapes.{IsShaped, live_count, AreRootsLive, IsRootThere, AreLiveRootsThere, HaveWords}
 use Rattle.sched_laws.proofs.Shaped.{returned-childless}
 
@@ -74,7 +71,7 @@ job-found root (job ∷ jobs) some = elim (cases_Bool (is_live_at root job)) [
         let n = number_from 1 root jobs in
         ap (job_at (job ∷ jobs)) shift ∙ (rw (ne_eqb (n + 1) 1 (λ e. omega (arith, e, above))) (ap (job_at jobs) (minus n) ∙ found))
 
-root-counted : (jobs : List Job) (xs : Tree) (s : ℕ) (f : Frame (List ℕ)) → AreRootsLive jobs xs → frame_at xs s ≡ Some f → is_root f.path ≡ true → live_count s jobs ≡ 1
+pub root-counted : (jobs : List Job) (xs : Tree) (s : ℕ) (f : Frame (List ℕ)) → AreRootsLive jobs xs → frame_at xs s ≡ Some f → is_root f.path ≡ true → live_count s jobs ≡ 1
 root-counted jobs [] s f roots at root = absurd cc
 root-counted jobs (x ∷ xs) s f roots at root = elim (cases_Bool (eqb x.serial s)) [
   | inl same ↦ (let both : ◌≡◌ {A = Option (Frame (List ℕ))} (Some x) (Some f) = rw same at at in let own : x ≡ f = cc in

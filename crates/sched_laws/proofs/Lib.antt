@@ -4,3 +4,14 @@ pub mod Moves
 pub mod Shaped
 pub mod Answers
 pub mod Consequences
+pub mod Holds
+pub mod Levels
+pub mod Fits
+pub mod FitSteps
+pub mod FitEnds
+pub mod FitRuns
+pub mod FitAnswers
+pub mod Spending
+pub mod Sums
+pub mod Latest
+pub mod Orders

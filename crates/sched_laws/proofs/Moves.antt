@@ -1,25 +1,24 @@
 -- What a step does to a tenant, move by move: each move keeps the shape.
-use Rattle.std.proofs.Common.{◌≡◌, ◌≢◌, ℕ, ◌+◌, ◌-◌, ◌*◌, ◌/◌, ◌<◌, ◌≤◌, ◌⊎◌, inl, inr, Bool, true, false, not, eqb, List, [], ◌∷◌, ◌++◌, Option, Some, None, length, replicate, refl, ap, sym, ◌∙◌, subst, arith, length-append}
+use Rattle.std.proofs.Common.{◌≡◌, ◌≢◌, ℕ, ◌+◌, ◌-◌, ◌*◌, ◌<◌, ◌≤◌, ◌⊎◌, inl, inr, Bool, true, false, not, eqb, List, [], ◌∷◌, ◌++◌, Option, Some, None, length, replicate, refl, ap, sym, ◌∙◌, arith, length-append}
 use Rattle.std.specs.List.{filter}
 use Rattle.std.proofs.lemmas.List.{length-replicate}
-use Rattle.std.proofs.lemmas.Bool.{cases_Bool, cases_eq, false≢true, true≢false, eq-eqb, ne_eqb, eqb-true, eqb-false, not_from_false, not_from_true}
+use Rattle.std.proofs.lemmas.Bool.{cases_Bool, false≢true, eq-eqb, ne_eqb, not_from_false}
 use Rattle.cactus_stack.specs.Nodes.{charge, padded}
 use Rattle.frame_table.specs.declared.names.State.{State}
-use Rattle.frame_table.specs.declared.names.State.TheVariants.{Ready}
-use Rattle.frame_table.specs.Frames.{Frame, frame_at, has_frame, has_parent, path_in, AllBelow, parent_of, path_under, goes_under, aborted, frames_without, with_state, children_of, IsTree}
+use Rattle.frame_table.specs.Frames.{Frame, frame_at, has_frame, path_in, AllBelow, parent_of, goes_under, aborted, frames_without, with_state, children_of, IsTree}
 use Rattle.frame_table.specs.Tables.{new_frame}
 use Rattle.frame_table.proofs.Forest.{EndsIn, AllBelow-append, has_frame-above, path_in-left, path_in-right}
-use Rattle.frame_table.proofs.TreeLaws.{found-there, found-serial, found-path, found-ends, below-found, tree-rising, not-under-itself}
-use Rattle.frame_table.proofs.TreeChanges.{AllBelow-filter, tree-aborted, tree-without, tree-without_job, aborted-leaf}
+use Rattle.frame_table.proofs.TreeLaws.{found-there, found-path, found-ends, tree-rising}
+use Rattle.frame_table.proofs.TreeChanges.{AllBelow-filter, tree-aborted, tree-without, tree-without_job}
 use Rattle.frame_table.proofs.TreeValues.{tree-new_frame, new-frame-next, parent_of-path_under, AllBelow-alike, path_in-alike, with_state-alike, tree-with_state, values_of-with_state}
 use Rattle.sched_rules.specs.declared.job.Job.{Job}
-use Rattle.sched_rules.specs.declared.job.Job.TheVariants.{Live, Done, Spent, Cancelled}
-use Rattle.sched_rules.specs.Trees.{Tree, Tenant, has_child, charged_for, is_root, with_words, with_ended, without_job}
+use Rattle.sched_rules.specs.declared.job.Job.TheVariants.{Live}
+use Rattle.sched_rules.specs.Trees.{Tree, Tenant, has_child, charged_for, is_root, with_words}
 use Rattle.sched_rules.specs.Laws.{Neither, mark_of}
 use Rattle.sched_rules.specs.Lone.{counted, in_state, holding, opened, ended}
-use Rattle.sched_laws.specs.Shapes.{IsShaped, AreRootsLive, HaveWords, live_count}
+use Rattle.sched_laws.specs.Shapes.{IsShaped, HaveWords, live_count}
 use Rattle.sched_laws.proofs.Words.{with_words-alike, tree-with_words, charged-one, charged-with_words, charged-append, charged-filter, charged-values}
-use Rattle.sched_laws.proofs.Parts.{childless-with_state, childless-with_words, childless-push, childless-filter, no-child, path-there, roots-alike, roots-append, roots-filter, roots-more, live_count-append, one-live, no-live, IsEnd, length-with_ended, roots-with_ended, live-kept, live-append, live-with_ended, roots-stay, words-values, words-append, words-filter, words-with_words}
+use Rattle.sched_laws.proofs.Parts.{childless-with_state, childless-with_words, childless-push, childless-filter, path-there, roots-alike, roots-append, roots-filter, roots-more, live_count-append, one-live, no-live, IsEnd, length-with_ended, roots-with_ended, live-kept, live-append, live-with_ended, roots-stay, words-values, words-append, words-filter, words-with_words}
 
 -- one more step is counted, where one was left
 pub shaped-counted : (tenant : Tenant) → tenant.steps < 16 * tenant.reserve.nodes → IsShaped tenant → IsShaped (counted tenant)

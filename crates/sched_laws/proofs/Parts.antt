@@ -1,24 +1,20 @@
 -- Each part of a tenant's shape, under each change of the tree and of the jobs.
-use Rattle.std.proofs.Common.{◌≡◌, ◌≢◌, ℕ, zero, suc, ◌+◌, ◌<◌, ◌≤◌, ◌⊎◌, inl, inr, Bool, true, false, not, eqb, ltb, List, [], ◌∷◌, ◌++◌, Option, Some, None, length, refl, ap, sym, ◌∙◌, subst, arith, length-append}
-use Rattle.std.specs.Prelude.{if◌then◌else◌}
+use Rattle.std.proofs.Common.{◌≡◌, ◌≢◌, ℕ, suc, ◌+◌, ◌≤◌, ◌⊎◌, inl, inr, Bool, true, false, eqb, ltb, List, [], ◌∷◌, ◌++◌, Option, Some, None, length, refl, ap, sym, ◌∙◌, subst, arith, length-append}
 use Rattle.std.specs.List.{filter}
 use Rattle.std.proofs.lemmas.List.Elements.{filter-append}
-use Rattle.std.proofs.lemmas.Bool.{cases_Bool, cases_eq, false≢true, true≢false, eq-eqb, ne_eqb, eqb-true, eqb-false, ltb-false, lt-ltb, not_from_false, not_from_true}
+use Rattle.std.proofs.lemmas.Bool.{cases_Bool, cases_eq, false≢true, true≢false, eq-eqb, ne_eqb, eqb-true, eqb-false, ltb-false}
 use Rattle.frame_table.specs.declared.names.State.{State}
-use Rattle.frame_table.specs.declared.names.State.TheVariants.{Ready}
-use Rattle.frame_table.specs.Frames.{Frame, frame_at, has_frame, path_in, AllBelow, parent_of, path_under, goes_under, aborted, frames_without, with_state, children_of, values_of, IsNextFrame, IsTree}
-use Rattle.frame_table.specs.Tables.{new_frame}
-use Rattle.frame_table.specs.TreeLaws.{is_that, is_child_of, AreRising, Each, AreAlike}
-use Rattle.frame_table.proofs.Forest.{path_in-left, path_in-right, has_frame-above}
-use Rattle.frame_table.proofs.TreeLaws.{found-there, there-found, found-serial, found-path, missing, frame_at-push, frame_at_other-push, below-found, tree-rising, each-found, found-each, children-by-paths}
-use Rattle.frame_table.proofs.TreeChanges.{rising-filter, filter-found, frame_at-stays}
-use Rattle.frame_table.proofs.TreeValues.{tree-push, children_of-push, path_in-alike, with_state-alike, tree-with_state, frame_at-with_state, frame_at_other-with_state, children_of-with_state}
+use Rattle.frame_table.specs.Frames.{Frame, frame_at, has_frame, path_in, AllBelow, parent_of, with_state, children_of, values_of, IsNextFrame, IsTree}
+use Rattle.frame_table.specs.TreeLaws.{is_that, is_child_of, Each, AreAlike}
+use Rattle.frame_table.proofs.TreeLaws.{there-found, found-serial, found-path, missing, frame_at-push, frame_at_other-push, tree-rising, each-found, found-each, children-by-paths}
+use Rattle.frame_table.proofs.TreeChanges.{filter-found, frame_at-stays}
+use Rattle.frame_table.proofs.TreeValues.{tree-push, children_of-push, tree-with_state, frame_at-with_state, frame_at_other-with_state, children_of-with_state}
 use Rattle.sched_rules.specs.declared.job.Job.{Job}
 use Rattle.sched_rules.specs.declared.job.Job.TheVariants.{Live, Done, Spent, Cancelled}
-use Rattle.sched_rules.specs.Trees.{Tree, has_child, is_root, is_live_at, with_words, with_ended, without_job}
-use Rattle.sched_rules.specs.Laws.{Mark, Neither, Computes, HasReturned, mark_of}
+use Rattle.sched_rules.specs.Trees.{Tree, has_child, is_root, is_live_at, with_words, with_ended}
+use Rattle.sched_rules.specs.Laws.{Neither, mark_of}
 use Rattle.sched_laws.specs.Shapes.{AreMarkedChildless, live_count, AreRootsLive, IsRootThere, AreLiveRootsThere, HaveWords}
-use Rattle.sched_laws.proofs.Words.{with_words-alike, tree-with_words, frame_at-with_words, frame_at_other-with_words, children_of-with_words, length-with_words}
+use Rattle.sched_laws.proofs.Words.{children_of-with_words, length-with_words}
 
 -- a frame that computes or has returned has no child in this tree
 abbrev pub IsMarkedChildless : Tree → Frame (List ℕ) → Type 0

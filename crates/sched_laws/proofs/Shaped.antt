@@ -1,15 +1,14 @@
 -- Every step keeps the shape of its tenant, and so every answer that of all tenants.
-use Rattle.std.proofs.Common.{◌≡◌, ◌≢◌, ℕ, ◌+◌, ◌-◌, ◌*◌, ◌<◌, ◌≤◌, ◌⊎◌, inl, inr, Bool, true, false, not, ◌||◌, ◌&&◌, eqb, ltb, leb, List, [], ◌∷◌, ◌++◌, Option, Some, None, Result, Ok, Err, length, replicate, refl, ap, sym, ◌∙◌, subst, arith, length-append}
-use Rattle.std.specs.Prelude.{if◌then◌else◌}
+use Rattle.std.proofs.Common.{◌≡◌, ◌≢◌, ℕ, ◌+◌, ◌-◌, ◌*◌, ◌<◌, ◌≤◌, inl, inr, Bool, true, false, not, ◌||◌, ◌&&◌, eqb, ltb, leb, List, [], ◌∷◌, ◌++◌, Option, Some, None, Result, Ok, Err, length, replicate, refl, ap, sym, ◌∙◌, subst, arith, length-append}
 use Rattle.std.proofs.lemmas.List.{length-replicate}
-use Rattle.std.proofs.lemmas.Bool.{cases_Bool, false≢true, true≢false, eqb-false, ltb-false, leb-true, leb-false, not-false, or_parts, and_parts, not_from_true}
+use Rattle.std.proofs.lemmas.Bool.{cases_Bool, false≢true, eqb-false, ltb-false, leb-true, leb-false, not-false, or_parts, and_parts}
 use Rattle.cactus_stack.specs.Nodes.{charge, growth_charge}
 use Rattle.tenant_quota.specs.Quota.{Quota}
 use Rattle.frame_table.specs.declared.names.State.{State}
 use Rattle.frame_table.specs.declared.names.State.TheVariants.{Ready, Running, Computing, Waiting, Returned}
 use Rattle.frame_table.specs.declared.names.FrameId.{FrameId}
-use Rattle.frame_table.specs.Frames.{Frame, frame_at, has_frame, parent_of, root_of, children_of, aborted, frames_without}
-use Rattle.frame_table.proofs.TreeLaws.{found-there, there-found, found-serial, tree-rising, under-there, under-below}
+use Rattle.frame_table.specs.Frames.{Frame, frame_at, parent_of, root_of, children_of}
+use Rattle.frame_table.proofs.TreeLaws.{there-found, found-serial, tree-rising, under-there, under-below}
 use Rattle.frame_table.proofs.TreeChanges.{aborted-itself, frame_at_other-without}
 use Rattle.sched_rules.specs.declared.act.Act.{Act}
 use Rattle.sched_rules.specs.declared.act.InletAct.{InletAct}
@@ -18,19 +17,18 @@ use Rattle.sched_rules.specs.declared.act.Then.TheVariants.{Grow, Spawn, Go, Wai
 use Rattle.sched_rules.specs.declared.job.Job.{Job}
 use Rattle.sched_rules.specs.declared.job.Job.TheVariants.{Live, Done, Spent as SpentJob, Cancelled as CancelledJob}
 use Rattle.sched_rules.specs.declared.refusal.Refusal.{Refusal}
-use Rattle.sched_rules.specs.declared.refusal.Refusal.TheVariants.{NotReady, NotHere, NotRunning, NotComputing, Mismatch, NotReturned, NoSegments, NoNodes, NoSteps, NoJobsLeft, BadAct, NotSpent, Busy, NoJob, OldTenant, NoTenant}
+use Rattle.sched_rules.specs.declared.refusal.Refusal.TheVariants.{Mismatch, NotReturned, NoSegments, NoNodes, NoJobsLeft, BadAct, NotSpent, NoJob, OldTenant}
 use Rattle.sched_rules.specs.declared.step.StepOf.{StepOf}
 use Rattle.sched_rules.specs.declared.step.StepOf.TheVariants.{Admit, Submit, Take, Steal, Advance, Answer, Inlet, Finish, Spend, Cancel, Leave}
-use Rattle.sched_rules.specs.declared.step.DidOf.{DidOf}
 use Rattle.sched_rules.specs.declared.step.DidOf.TheVariants.{Cancelled, Left}
 use Rattle.sched_rules.specs.Functions.{Functions}
-use Rattle.sched_rules.specs.Trees.{Tree, Tenant, admitted_with, words_of, words_in, charged_for, left, is_root, with_words, stored, is_outside, has_child, job_at, kept_words}
+use Rattle.sched_rules.specs.Trees.{Tree, Tenant, admitted_with, words_of, words_in, charged_for, left, is_root, stored, is_outside, has_child, job_at, kept_words}
 use Rattle.sched_rules.specs.Laws.{Neither, mark_of}
-use Rattle.sched_rules.specs.Lone.{Outcome, unless, applies, lone, lone_step, first_step, no_step, not_free, counted, in_state, holding, opened, ended, is_frame_size, submit_tests, submitted, take_tests, steal_tests, taken_by, is_run_by, is_computed_by, is_returned, act_of, is_bad_then, is_bad_act, is_spawn, segments_for, act_tests, advance_tests, then_done, advanced, answer_tests, answered, inlet_tests, does_wait, staying, taken_in, inlet_under, finish_tests, finished, is_spendable, spent, cancelled, at_frame}
-use Rattle.sched_laws.specs.Shapes.{IsShaped, AreShaped}
+use Rattle.sched_rules.specs.Lone.{Outcome, unless, applies, lone_step, no_step, not_free, counted, in_state, holding, ended, is_frame_size, submit_tests, submitted, take_tests, steal_tests, taken_by, is_run_by, is_computed_by, is_returned, act_of, is_bad_then, is_bad_act, is_spawn, segments_for, act_tests, advance_tests, then_done, advanced, answer_tests, answered, inlet_tests, does_wait, staying, taken_in, inlet_under, finish_tests, finished, is_spendable, spent, cancelled, at_frame}
+use Rattle.sched_laws.specs.Shapes.{IsShaped}
 use Rattle.sched_laws.proofs.Words.{length-stored, frame_at-with_words, charged-with_words}
-use Rattle.sched_laws.proofs.Parts.{childless-at, no-child, has_child-with_words, words-at, IsEnd}
-use Rattle.sched_laws.proofs.Moves.{shaped-counted, shaped-in_state, shaped-holding, shaped-aborted, shaped-without, shaped-ended, HasRoomFor, shaped-child, shaped-root}
+use Rattle.sched_laws.proofs.Parts.{childless-at, no-child, has_child-with_words, words-at}
+use Rattle.sched_laws.proofs.Moves.{shaped-counted, shaped-in_state, shaped-holding, shaped-aborted, shaped-without, shaped-ended, shaped-child, shaped-root}
 
 -- what a step leaves, if it leaves a tenant, has its shape
 abbrev pub LeftShaped : Option Tenant → Type 0
@@ -89,14 +87,14 @@ taken-shaped I tenant worker f some s =
     shaped-counted (in_state f.serial (Running worker) tenant) (step-left tenant some) (shaped-in_state f.serial (Running worker) tenant (inl refl) s)
 
 -- a frame that a worker runs or computes, and one that has returned
-run-free : (worker : ℕ) (state : State) → is_run_by worker state ≡ true → mark_of state ≡ Neither
+pub run-free : (worker : ℕ) (state : State) → is_run_by worker state ≡ true → mark_of state ≡ Neither
 run-free worker (Ready home) is = refl
 run-free worker (Running holder) is = refl
 run-free worker (Computing holder) is = absurd (false≢true is)
 run-free worker Waiting is = refl
 run-free worker Returned is = absurd (false≢true is)
 
-returned-marked : (state : State) → is_returned state ≡ true → mark_of state ≢ Neither
+pub returned-marked : (state : State) → is_returned state ≡ true → mark_of state ≢ Neither
 returned-marked (Ready home) is = absurd (false≢true is)
 returned-marked (Running holder) is = absurd (false≢true is)
 returned-marked (Computing holder) is = absurd (false≢true is)
@@ -229,20 +227,27 @@ staying-parent tenant n parent f g false at named at_g s =
     let below = under-below tenant.frames n parent f s.tree at named in
     frame_at_other-without n tenant.frames parent (λ e. omega (arith, e, below)) ∙ at_g
 
-inlet-shaped : (I : Type 0) (tenant : Tenant) (worker : ℕ) (name : FrameId) (f : Frame (List ℕ)) (parent : ℕ) (act : InletAct) → frame_at tenant.frames name.serial ≡ Some f → parent_of f.path ≡ Some parent →
-    applies (inlet_tests tenant worker f parent act) ≡ false → IsShaped tenant → LeftShaped (taken_in {I = I} tenant worker name parent act).0
-inlet-shaped I tenant worker name f parent act at named passed s =
+pub inlet-stored-shaped : (tenant : Tenant) (worker n : ℕ) (f : Frame (List ℕ)) (parent : ℕ) (act : InletAct) → frame_at tenant.frames n ≡ Some f → parent_of f.path ≡ Some parent →
+    applies (inlet_tests tenant worker f parent act) ≡ false → IsShaped tenant →
+    IsShaped (counted (holding parent (stored act.stores (words_in (staying tenant.frames n parent act.abort) parent)) (record tenant { frames = staying tenant.frames n parent act.abort })))
+inlet-stored-shaped tenant worker n f parent act at named passed s =
     let outside = is_outside act.stores (words_in tenant.frames parent) in
     let p = or_parts (not (is_returned f.state)) (applies (no_step tenant ∷ (outside, BadAct) ∷ not_free tenant worker ∷ [])) passed in
     let q = or_parts (eqb (left tenant).steps 0) (applies ((outside, BadAct) ∷ not_free tenant worker ∷ [])) p.1 in
-    let leaf = returned-childless tenant name.serial f s at (returned-marked f.state (not-false (is_returned f.state) p.0)) in
-    let g = there-found tenant.frames parent (under-there tenant.frames name.serial parent f s.tree at named) in
-    let frames = staying tenant.frames name.serial parent act.abort in
-    let at_g : frame_at frames parent ≡ Some g.0 = staying-parent tenant name.serial parent f g.0 act.abort at named g.1 s in
+    let leaf = returned-childless tenant n f s at (returned-marked f.state (not-false (is_returned f.state) p.0)) in
+    let g = there-found tenant.frames parent (under-there tenant.frames n parent f s.tree at named) in
+    let frames = staying tenant.frames n parent act.abort in
+    let at_g : frame_at frames parent ≡ Some g.0 = staying-parent tenant n parent f g.0 act.abort at named g.1 s in
     let words = stored act.stores (words_in frames parent) in
     let long : length words ≡ length g.0.value = length-stored act.stores (words_in frames parent) ∙ ap (λ o. length (words_of o)) at_g in
-    let after = counted (holding parent words (record tenant { frames = frames })) in
-    let sa = shaped-counted (holding parent words (record tenant { frames = frames })) (step-left tenant q.0) (shaped-stored parent words (record tenant { frames = frames }) g.0 at_g long (staying-shaped tenant name.serial parent f act.abort at named leaf s)) in
+    shaped-counted (holding parent words (record tenant { frames = frames })) (step-left tenant q.0) (shaped-stored parent words (record tenant { frames = frames }) g.0 at_g long (staying-shaped tenant n parent f act.abort at named leaf s))
+
+inlet-shaped : (I : Type 0) (tenant : Tenant) (worker : ℕ) (name : FrameId) (f : Frame (List ℕ)) (parent : ℕ) (act : InletAct) → frame_at tenant.frames name.serial ≡ Some f → parent_of f.path ≡ Some parent →
+    applies (inlet_tests tenant worker f parent act) ≡ false → IsShaped tenant → LeftShaped (taken_in {I = I} tenant worker name parent act).0
+inlet-shaped I tenant worker name f parent act at named passed s =
+    let frames = staying tenant.frames name.serial parent act.abort in
+    let after = counted (holding parent (stored act.stores (words_in frames parent)) (record tenant { frames = frames })) in
+    let sa = inlet-stored-shaped tenant worker name.serial f parent act at named passed s in
     elim (cases_Bool (does_wait (frame_at frames parent) && (act.abort || act.wake || not (has_child frames parent)))) [
       | inl woken ↦ rw woken (shaped-in_state parent (Ready worker) after (inl refl) sa)
       | inr sleeps ↦ rw sleeps sa

@@ -1,1 +1,4 @@
 pub mod Shapes
+pub mod Fitted
+pub mod Spends
+pub mod Newest

@@ -1,6 +1,6 @@
 //! What every step keeps.
 ghost use Rattle.std.specs.Prelude.{◌≡◌, ℕ, ◌≤◌, List, [], ◌∷◌, Some, Result, length, true};
-ghost use Rattle.tenant_quota.specs.Quota.{IsWithinLimits};
+ghost use Rattle.tenant_quota.specs.Quota.{Quota, IsWithinLimits};
 ghost use Rattle.tenant_quota.specs.Accounts.{IsWithinReserve};
 ghost use Rattle.frame_table.specs.declared.names.State.TheVariants.{Computing, Returned};
 ghost use Rattle.frame_table.specs.Frames.{Frame, frame_at, path_in, root_of, children_of};
@@ -9,9 +9,11 @@ ghost use Rattle.sched_rules.specs.declared.refusal.Refusal.{Refusal};
 ghost use Rattle.sched_rules.specs.declared.step.StepOf.{StepOf};
 ghost use Rattle.sched_rules.specs.declared.step.DidOf.{DidOf};
 ghost use Rattle.sched_rules.specs.Trees.{Tenant, account_in, is_root, job_at, job_under};
-ghost use Rattle.sched_rules.specs.Cores.{Shared};
-ghost use Rattle.sched_rules.specs.Headline.{after_answer, after_answers};
+ghost use Rattle.sched_rules.specs.Runs.{only};
+ghost use Rattle.sched_rules.specs.Cores.{Shared, shared_by_nobody, tenant_in};
+ghost use Rattle.sched_rules.specs.Headline.{AreAnswersTo, IsKnown, after_answer, after_answers, taken};
 ghost use Rattle.sched_laws.specs.Shapes.{IsShaped, AreShaped};
+ghost use Rattle.sched_laws.specs.Fitted.{TenantFits, CoreFits, RootsFit, StaysFitting, origins_of};
 
 use sched_rules::Procedure;
 
@@ -34,4 +36,26 @@ pub fn what_the_shape_gives()
     ensures above { (tenant : Tenant) (s : ℕ) (frame : Frame (List ℕ)) → IsShaped tenant → frame_at tenant.frames s ≡ Some frame → path_in tenant.frames (root_of frame.path) ≡ root_of frame.path ∷ [] }
     ensures within { (tenant : Tenant) → IsWithinLimits tenant.reserve → IsShaped tenant → IsWithinReserve (account_in tenant) }
     ensures few { (tenant : Tenant) → IsShaped tenant → length tenant.frames ≤ tenant.reserve.segments }
+{}
+
+/// Where the new root of each taken Submit fits, and belongs to the words that were submitted, a core
+/// whose frames fit and whose jobs hold what they were asked is such a core before and after each step
+/// of a list. A core of nobody is one.
+pub fn every_frame_fits<P: Procedure>()
+    ensures each_step { (procedure : P) (origins : ℕ → List (List ℕ)) (before : Shared) (steps : List (StepOf P.Answer)) (answers : List (Result (DidOf P.Input) Refusal)) →
+        IsKnown before → AreShaped before.tenants → CoreFits (P.fits procedure) (P.rooted procedure) origins before → AreAnswersTo (P.functions procedure) before steps answers →
+        StaysFitting (P.functions procedure) (P.fits procedure) (P.rooted procedure) origins before steps answers }
+    ensures nobody { (procedure : P) (totals : Quota) → CoreFits (P.fits procedure) (P.rooted procedure) (λ number. []) (shared_by_nobody totals) }
+{}
+
+/// After any list of steps from nobody, whose taken Submits submit roots that fit: every frame of a
+/// tenant fits, and its jobs are one to one with its taken Submits, in order. A live job's root still
+/// belongs to the words of its Submit, and a done one kept the words of a root that had returned, had
+/// no child, fitted, and belonged to them.
+pub fn each_job_holds_what_it_was_asked<P: Procedure>()
+    ensures { (procedure : P) (totals : Quota) (steps : List (StepOf P.Answer)) (answers : List (Result (DidOf P.Input) Refusal)) (number : ℕ) (tenant : Tenant) →
+        AreAnswersTo (P.functions procedure) (shared_by_nobody totals) steps answers →
+        RootsFit (P.fits procedure) (P.rooted procedure) (taken steps answers) →
+        tenant_in (after_answers (P.functions procedure) (shared_by_nobody totals) steps answers).tenants number ≡ Some tenant →
+        TenantFits (P.fits procedure) (P.rooted procedure) (origins_of (only number (taken steps answers))) tenant }
 {}

@@ -3,3 +3,6 @@
 #![tactic(auto)]
 
 pub mod laws;
+pub mod runs;
+pub mod spends;
+pub mod totals;

@@ -38,7 +38,7 @@ did-Ok did other e = cc
 abbrev Found : {I : Type 0} → Bool → Result (Outcome I) Refusal → DidOf I → Type 0
 Found {I = I} busy alone did = (outcome : Outcome I) × (unless_busy busy alone ≡ Ok outcome) × (alone ≡ Ok outcome) × (outcome.1 ≡ did)
 
-found : {I : Type 0} (busy : Bool) (alone : Result (Outcome I) Refusal) (did : DidOf I) →
+pub found : {I : Type 0} (busy : Bool) (alone : Result (Outcome I) Refusal) (did : DidOf I) →
     ((refusal : Refusal) → refusal_in alone ≡ Some refusal → ◌≡◌ {A = Result (DidOf I) Refusal} (Ok did) (Err refusal)) →
     (refusal_in alone ≡ None → busy ≡ true → ◌≡◌ {A = Result (DidOf I) Refusal} (Ok did) (Err Busy)) →
     (refusal_in alone ≡ None → busy ≡ false → ◌≡◌ {A = Result (DidOf I) Refusal} (Ok did) (answer_of alone)) →
@@ -50,7 +50,7 @@ found {I = I} true (Ok outcome) did own_state busy_worker else_taken =
 found false (Ok outcome) did own_state busy_worker else_taken = (outcome, refl, refl, did-Ok did outcome.1 (else_taken refl refl))
 
 -- from nothing only an admission is taken
-there : {I A : Type 0} (functions : Functions I A) (own : Option Tenant) (step : StepOf A) (outcome : Outcome I) → is_admission step ≡ false → lone functions own step ≡ Ok outcome → own ≢ None
+pub there : {I A : Type 0} (functions : Functions I A) (own : Option Tenant) (step : StepOf A) (outcome : Outcome I) → is_admission step ≡ false → lone functions own step ≡ Ok outcome → own ≢ None
 there functions (Some tenant) step outcome no_admission taken = λ e. cc
 there functions None (Admit number quota) outcome no_admission taken = absurd cc
 there functions None (Submit number words size) outcome no_admission taken = absurd cc
@@ -65,7 +65,7 @@ there functions None (Cancel number job) outcome no_admission taken = absurd cc
 there functions None (Leave number) outcome no_admission taken = absurd cc
 
 -- a step that is no admission leaves the greatest number as it was
-newest-stays : {A : Type 0} (newest : ℕ) (step : StepOf A) → is_admission step ≡ false → newest_after newest step ≡ newest
+pub newest-stays : {A : Type 0} (newest : ℕ) (step : StepOf A) → is_admission step ≡ false → newest_after newest step ≡ newest
 newest-stays newest (Admit number quota) no_admission = absurd cc
 newest-stays newest (Submit number words size) no_admission = refl
 newest-stays newest (Take worker name) no_admission = refl
@@ -79,7 +79,7 @@ newest-stays newest (Cancel number job) no_admission = refl
 newest-stays newest (Leave number) no_admission = refl
 
 -- and is judged by its own tenant's state and the busy workers
-judged-step : {I A : Type 0} (functions : Functions I A) (before : Shared) (step : StepOf A) → is_admission step ≡ false → judged functions before step ≡ step_among functions before step
+pub judged-step : {I A : Type 0} (functions : Functions I A) (before : Shared) (step : StepOf A) → is_admission step ≡ false → judged functions before step ≡ step_among functions before step
 judged-step functions before (Admit number quota) no_admission = absurd cc
 judged-step functions before (Submit number words size) no_admission = refl
 judged-step functions before (Take worker name) no_admission = refl
@@ -121,7 +121,7 @@ unless-passed true full effect is_new has_room = absurd cc
 unless-passed false true effect is_new has_room = absurd cc
 
 -- its number is above the greatest so far
-above : (number newest : ℕ) → ((number == 0) || nat_le number newest || nat_lt (2 ^ 62) number) ≡ false → newest < number
+pub above : (number newest : ℕ) → ((number == 0) || nat_le number newest || nat_lt (2 ^ 62) number) ≡ false → newest < number
 above number newest is_new = grind (arith, nat_tests)
 
 -- what it did
@@ -149,7 +149,7 @@ admitted {I = I} functions before number quota did known right =
     }
 
 -- a taken step, whichever it is
-step-taken : {I A : Type 0} (functions : Functions I A) (before : Shared) (step : StepOf A) (did : DidOf I) → IsKnown before →
+pub step-taken : {I A : Type 0} (functions : Functions I A) (before : Shared) (step : StepOf A) (did : DidOf I) → IsKnown before →
     IsAnswerTo functions before step (Ok did) → IsTaken functions before step did
 step-taken functions before (Admit number quota) did known right = admitted functions before number quota did known (right.0 refl)
 step-taken functions before (Submit number words size) did known right = step-found functions before (Submit number words size) did refl known (right.1 refl)
@@ -164,7 +164,7 @@ step-taken functions before (Cancel number job) did known right = step-found fun
 step-taken functions before (Leave number) did known right = step-found functions before (Leave number) did refl known (right.1 refl)
 
 -- the core after a taken step
-shared-after-taken : {I A : Type 0} (functions : Functions I A) (before : Shared) (step : StepOf A) (did : DidOf I) (t : IsTaken functions before step did) →
+pub shared-after-taken : {I A : Type 0} (functions : Functions I A) (before : Shared) (step : StepOf A) (did : DidOf I) (t : IsTaken functions before step did) →
     after_answer functions before step (Ok did) ≡ shared_with before step t.outcome.0
 shared-after-taken functions before step did t = rw t.among refl
 

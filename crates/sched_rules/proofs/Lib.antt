@@ -1,2 +1,2 @@
-mod Tenants
-mod Isolation
+pub mod Tenants
+pub mod Isolation

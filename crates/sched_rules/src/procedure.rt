@@ -8,7 +8,7 @@ use std::cmp::Eq;
 /// A procedure that the core runs: each call's answer is a function of the words shown and of the
 /// values passed, and nothing else.
 pub trait Procedure {
-    ghost use Rattle.std.specs.Prelude.{◌≡◌};
+    ghost use Rattle.std.specs.Prelude.{◌≡◌, true};
     ghost use Rattle.sched_rules.specs.Functions.{Functions};
     ghost use Rattle.sched_rules.specs.Laws.{Fitting, Rooting, NextKeeps, InletKeeps, AcceptKeeps};
 
@@ -48,6 +48,9 @@ pub trait Procedure {
 
     // Two inputs are the same where `==` says so: an Answer compares them.
     ghost compares: { (p : Self) → (functions p).same ≡ Self.Input.PartialEq.eq };
+
+    // And then they are one: an answer to an input of another value is never taken.
+    ghost same_is_equal: { (p : Self) → (one other : Self.Input) → (functions p).same one other ≡ true → one ≡ other };
 
     // An Advance leaves frames fitting.
     ghost next_keeps: { (p : Self) → NextKeeps (functions p) (fits p) (rooted p) };

@@ -1,5 +1,6 @@
 -- The laws of a procedure whose frames always fit.
-use Rattle.std.specs.Prelude.{ℕ, List, [], ◌∷◌}
+use Rattle.std.specs.Prelude.{◌≡◌, ℕ, true, ◌==◌, List, [], ◌∷◌}
+use Rattle.std.proofs.lemmas.Bool.{eqb-true}
 use Rattle.sched_rules.specs.declared.act.Then.{Then}
 use Rattle.sched_rules.specs.declared.act.Then.TheVariants.{Grow, Spawn, Go, Wait, Compute, Return}
 use Rattle.sched_rules.specs.Functions.{Functions}
@@ -35,3 +36,7 @@ inlet-keeps functions origin own child above older younger before behind fits pa
 
 pub accept-keeps : {I A : Type 0} (functions : Functions I A) → AcceptKeeps functions AlwaysFits AlwaysRooted
 accept-keeps functions origin own above older younger answer fits parent same done = (tt, parent-fits origin _ _ _ _)
+
+-- two numbers that compare as the same are one
+pub same-number : (one other : ℕ) → (one == other) ≡ true → one ≡ other
+same-number one other same = eqb-true one other same

@@ -3,7 +3,7 @@ use Rattle.std.specs.Prelude.{ℕ, ◌+◌, ◌-◌, ◌%◌, ◌^◌, true, fal
 use Rattle.sched_rules.specs.declared.act.Act.{Act}
 use Rattle.sched_rules.specs.declared.act.InletAct.{InletAct}
 use Rattle.sched_rules.specs.declared.act.Then.{Then}
-use Rattle.sched_rules.specs.declared.act.Then.TheVariants.{Spawn, Wait, Compute, Return}
+use Rattle.sched_rules.specs.declared.act.Then.TheVariants.{Spawn, Go, Wait, Compute, Return}
 use Rattle.sched_toys.specs.declared.fan.FanAnswer.{FanAnswer}
 use Rattle.sched_rules.specs.Functions.{Functions}
 
@@ -83,3 +83,15 @@ chain_inlet own child = record { stores = (2, word_at child 0) ∷ []; abort = f
 -- Chain, whose answers ask for themselves and store nothing
 abbrev pub chain : Functions ℕ ℕ
 chain = record { next = chain_next; inlet = chain_inlet; input = λ own. word_at own 0; asked = λ answer. answer; accept = λ own answer. []; same = λ one other. one == other }
+
+-- Spin: a frame of one word goes on for ever, without a store; answers ask for themselves and store nothing
+abbrev pub spin : Functions ℕ ℕ
+spin =
+    record {
+      next = λ sight. record { stores = []; after = Go };
+      inlet = λ own child. record { stores = []; abort = false; wake = false };
+      input = λ own. word_at own 0;
+      asked = λ answer. answer;
+      accept = λ own answer. [];
+      same = λ one other. one == other;
+    }

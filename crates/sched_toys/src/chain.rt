@@ -10,7 +10,7 @@ pub struct Chain;
 impl Procedure for Chain {
     ghost use Rattle.std.specs.Prelude.{refl};
     ghost use Rattle.sched_toys.specs.Toys.{chain};
-    ghost use Rattle.sched_toys.specs.ToyLaws.{AlwaysFits, AlwaysRooted, next-keeps as chain_next_keeps, inlet-keeps as chain_inlet_keeps, accept-keeps as chain_accept_keeps};
+    ghost use Rattle.sched_toys.specs.ToyLaws.{AlwaysFits, AlwaysRooted, same-number, next-keeps as chain_next_keeps, inlet-keeps as chain_inlet_keeps, accept-keeps as chain_accept_keeps};
 
     type Input = u64;
 
@@ -72,6 +72,8 @@ impl Procedure for Chain {
     }
 
     ghost compares = { λ procedure. refl };
+
+    ghost same_is_equal = { λ procedure one other same. same-number one other same };
 
     ghost next_keeps = { λ procedure. chain_next_keeps chain };
 

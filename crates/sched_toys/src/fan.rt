@@ -23,7 +23,7 @@ pub struct Fan;
 impl Procedure for Fan {
     ghost use Rattle.std.specs.Prelude.{refl};
     ghost use Rattle.sched_toys.specs.Toys.{fan};
-    ghost use Rattle.sched_toys.specs.ToyLaws.{AlwaysFits, AlwaysRooted, next-keeps as fan_next_keeps, inlet-keeps as fan_inlet_keeps, accept-keeps as fan_accept_keeps};
+    ghost use Rattle.sched_toys.specs.ToyLaws.{AlwaysFits, AlwaysRooted, same-number, next-keeps as fan_next_keeps, inlet-keeps as fan_inlet_keeps, accept-keeps as fan_accept_keeps};
 
     type Input = u64;
 
@@ -73,6 +73,8 @@ impl Procedure for Fan {
     }
 
     ghost compares = { λ procedure. refl };
+
+    ghost same_is_equal = { λ procedure one other same. same-number one other same };
 
     ghost next_keeps = { λ procedure. fan_next_keeps fan };
 

@@ -1,10 +1,11 @@
-//! Two toy procedures whose every step can be followed by hand, and the definitions of scheduling tried on them.
+//! Three toy procedures whose every step can be followed by hand, and the definitions of scheduling tried on them.
 //!
 //! [`Fan`] opens children of two kinds, takes the first result and aborts the others; [`Chain`] opens
-//! one child with a count of one less and waits for it. Each is a table (`specs/Toys.antt`), and all
-//! frames of both always fit (`specs/ToyLaws.antt`). [`rows`], [`effect_rows`] and [`refusal_rows`]
-//! are worked examples of the definitions in `sched_rules`: each contract there is computed from the
-//! definitions alone, so that a wrong definition can't pass.
+//! one child with a count of one less and waits for it; [`Spin`] goes on for ever. Each is a table
+//! (`specs/Toys.antt`), and all frames of all three always fit (`specs/ToyLaws.antt`). [`rows`],
+//! [`effect_rows`], [`refusal_rows`] and [`law_rows`] are worked examples of the definitions in
+//! `sched_rules` and `sched_laws`: each contract there is computed from the definitions alone, so that
+//! a wrong definition can't pass.
 //!
 //! ```text
 //! // a root of Fan that has opened three children waits next
@@ -18,12 +19,15 @@
 mod chain;
 pub mod effect_rows;
 mod fan;
+pub mod law_rows;
 pub mod refusal_rows;
 pub mod rows;
+mod spin;
 mod view;
 
 pub use chain::Chain;
 pub use fan::{Fan, FanAnswer};
+pub use spin::Spin;
 
 #[cfg(test)]
 mod tests;

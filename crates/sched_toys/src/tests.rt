@@ -180,6 +180,27 @@ fn chain_takes_in_and_accepts(rt: HostRuntime) -> Result<(), Fail> {
     Ok(())
 }
 
+/// Spin goes on, whatever its word; it stores, aborts and wakes nothing.
+#[test]
+fn spin_goes_on(rt: HostRuntime) -> Result<(), Fail> {
+    for seed in [0, 1, u64::MAX] {
+        let mut stack = Stack::new(rt.alloc(), 2)?;
+        let mut other = Stack::new(rt.alloc(), 2)?;
+        let own = root(&rt, &mut stack, &[seed]);
+        let child = root(&rt, &mut other, &[7]);
+        let act = Spin.next(&stack.sight(own));
+        assert_eq!(rt; act.stores.as_slice().len(), 0, "word {seed}");
+        assert_eq!(rt; what_comes(&act.after), Seen::Goes, "word {seed}");
+        let taken_in = Spin.inlet(&stack.own(own), &other.own(child));
+        assert_eq!(rt; taken_in.stores.as_slice().len(), 0);
+        assert_eq!(rt; taken_in.abort || taken_in.wake, false);
+        assert_eq!(rt; Spin.input(&stack.own(own)), seed);
+        assert_eq!(rt; Spin.asked(&9), 9);
+        assert_eq!(rt; Spin.accept(&stack.own(own), &9).as_slice().len(), 0);
+    }
+    Ok(())
+}
+
 /// What a generic caller sees of a procedure, through its bound.
 fn input_of<P: Procedure<Input = u64>>(procedure: &P, stack: &Stack, node: NodeNo) -> u64
     requires { IsOpen stack.now node }
@@ -193,5 +214,6 @@ fn through_the_bound(rt: HostRuntime) -> Result<(), Fail> {
     let node = root(&rt, &mut stack, &[2, 1]);
     assert_eq!(rt; input_of(&Fan, &stack, node), 2);
     assert_eq!(rt; input_of(&Chain, &stack, node), 2);
+    assert_eq!(rt; input_of(&Spin, &stack, node), 2);
     Ok(())
 }

@@ -9,11 +9,14 @@
 //! `n` stands the segment of number `n` where it is taken, and nothing where it is free. They name
 //! nothing of what the region is made of.
 //!
-//! **Why it holds.** A region keeps a slot and sixteen words for each number, and a stack of the free
-//! numbers: each of these is the number of a free slot, none stands there twice, and they are as many
-//! as the slots that aren't taken. So the number on top is always free, and none is ever lost.
+//! **Why it holds.** A region is one allocation of as many blocks, each of sixteen words and one link
+//! word. The link word says whether the block is taken, and what follows it: in its owner's chain
+//! where it is taken, in the list of the free blocks where it is free. From the first free block on
+//! the links lead through as many free blocks as are not taken, and end. So none of them comes twice,
+//! the first is always free, and no block is ever lost.
 //!
-//! Only [`Region::new`] takes memory; every other call takes constant time.
+//! Only [`Region::new`] takes memory, once; every other call takes constant time. Five short functions
+//! hold pointers: those of the module `cells`.
 //!
 //! ```text
 //! let mut region = Region::new(alloc, 4)?;
@@ -24,6 +27,8 @@
 //! ```
 #![tactic(auto)]
 
+mod block;
+mod cells;
 pub mod laws;
 mod region;
 mod slot;

@@ -1,20 +1,25 @@
 //! The region: what may be taken, given back, read and written.
-ghost use Rattle.std.specs.Prelude.{◌≡◌, ◌+◌, ◌<◌, ◌≤◌, ◌↔◌, List, ℕ, length, replicate, slice_index, None, Some, IfOk, IfSome, IfNone, IsNone};
+ghost use Rattle.std.specs.Prelude.{◌≡◌, ◌+◌, ◌<◌, ◌≤◌, ◌↔◌, ℕ, length, replicate, None, Some, IfOk, IfSome, IfNone, IsNone};
 ghost use Rattle.std.specs.Borrow.{sem};
 ghost use Rattle.segment_region.specs.Segments.{Segments, Segment, IsTaken, IsFree, words_at, link_at, with_entry, with_link, blank, taken_count, segment_count};
 ghost use Rattle.segment_region.specs.Lending.{LendsWords};
+ghost use Rattle.segment_region.specs.Blocks.{entries_of, IsWhole};
 
-use crate::slot::{SegNo, Slot};
+use crate::block::{Link, WordBlock, zeros};
+use crate::cells::{Base, Cells, Deed, allocate, deallocate};
+use crate::slot::SegNo;
 use crate::view::RegionView;
 use std::alloc::{AllocError, Allocator, Global};
 use std::marker::Model;
 
 /// Segments of sixteen words, of which some are taken.
-#[derive(Drop)]
 pub struct Region<A: Allocator = Global> {
-    words: Vec<[u64; 16], A>,
-    slots: Vec<Slot, A>,
-    free: Vec<SegNo, A>,
+    base: Base<WordBlock>,
+    count: usize,
+    cells: Cells<WordBlock>,
+    deed: Deed<WordBlock, A>,
+    alloc: A,
+    free_head: Option<SegNo>,
     free_len: usize,
 }
 
@@ -23,29 +28,45 @@ impl<A: Allocator> Model for Region<A> {
 
     ghost Value = { Segments };
 
-    ghost use Rattle.segment_region.specs.Slots.{entries_of, IsWhole};
+    ghost use Rattle.segment_region.specs.Blocks.{entries_of, IsWhole, IsOneAllocation};
 
-    ghost view = { λ region. entries_of region.slots.items region.words.items };
+    ghost view = { λ region. entries_of region.cells.slots };
 
-    ghost invariant = { λ region. IsWhole region.slots.items region.words.items region.free.items region.free_len };
+    ghost invariant = { λ region. IsOneAllocation region.base region.cells region.deed region.count region.alloc × IsWhole region.cells.slots region.count region.free_head region.free_len };
+}
+
+// The allocation goes, with the blocks in it.
+impl<A: Allocator> Drop for Region<A> {
+    fn drop(self) {
+        let Region {
+            base,
+            count,
+            cells,
+            deed,
+            alloc,
+            free_head: _,
+            free_len: _,
+        } = self;
+        deallocate(&alloc, base, count, cells, deed);
+    }
 }
 
 impl<A: Allocator> Region<A> {
     /// A region of `count` segments, 1 to 65,536, all free. It fails only for want of memory.
     pub fn new(alloc: A, count: usize) -> Result<Region<A>, AllocError>
-    where
-        A: Clone,
         requires some { 1 ≤ count }
         requires in_limits { count ≤ 65536 }
         ensures { IfOk result (λ region. region ≡ replicate count None) }
     {
-        let words = zeros(alloc.clone()?, count)?;
-        let slots = free_slots(alloc.clone()?, count)?;
-        let free = first_numbers(alloc, count)?;
+        let (base, mut cells, deed) = allocate(&alloc, count)?;
+        let free_head = fill(&mut cells, base, count);
         Ok(Region {
-            words,
-            slots,
-            free,
+            base,
+            count,
+            cells,
+            deed,
+            alloc,
+            free_head,
             free_len: count,
         })
     }
@@ -58,15 +79,17 @@ impl<A: Allocator> Region<A> {
         ensures none_free { IsNone result ↔ (taken_count self.old ≡ segment_count self.old) }
         ensures unchanged { IfNone result (self.new ≡ self.old) }
     {
-        if self.free_len == 0 {
-            return None;
+        match self.free_head {
+            None => None,
+            Some(segment) => {
+                let at = segment.index();
+                self.free_head = self.cells.get(self.base, at).link.next();
+                self.free_len -= 1;
+                let link = Link::taken(None);
+                *self.cells.get_mut(self.base, at) = zeros(link);
+                Some(segment)
+            }
         }
-        self.free_len -= 1;
-        let segment = self.free[self.free_len];
-        let at = segment.index();
-        self.slots[at] = Slot::Taken(None);
-        self.words[at] = [0; 16];
-        Some(segment)
     }
 
     /// Gives a taken segment back.
@@ -75,8 +98,9 @@ impl<A: Allocator> Region<A> {
         ensures { self.new ≡ with_entry self.old segment None }
     {
         let at = segment.index();
-        self.slots[at] = Slot::Free;
-        self.free[self.free_len] = segment;
+        let link = Link::free(self.free_head);
+        self.cells.get_mut(self.base, at).link = link;
+        self.free_head = Some(segment);
         self.free_len += 1;
     }
 
@@ -84,7 +108,7 @@ impl<A: Allocator> Region<A> {
     pub fn view(&self) -> RegionView<'_>
         ensures { result ≡ self.now }
     {
-        RegionView::of(&self.words, &self.slots)
+        RegionView::of(self.base, &self.cells)
     }
 
     /// The sixteen words of a taken segment.
@@ -103,7 +127,8 @@ impl<A: Allocator> Region<A> {
         ensures value { result.now ≡ words_at self.old segment }
     {
         let at = segment.index();
-        &mut self.words[at]
+        let base = self.base;
+        self.cells.get_mut(base, at).words_mut()
     }
 
     /// The segment that a taken one is chained to, if there is one.
@@ -120,7 +145,7 @@ impl<A: Allocator> Region<A> {
         ensures { self.new ≡ with_link self.old segment link }
     {
         let at = segment.index();
-        self.slots[at] = Slot::Taken(link);
+        self.cells.get_mut(self.base, at).link = Link::taken(link);
     }
 
     /// How many segments are free: all but the taken ones.
@@ -132,35 +157,20 @@ impl<A: Allocator> Region<A> {
     }
 }
 
-// Sixteen zeros for each number below the count.
-fn zeros<A: Allocator>(alloc: A, count: usize) -> Result<Vec<[u64; 16], A>, AllocError>
-    ensures { IfOk result (λ words. length words.items ≡ count) }
+// Writes a free block to each place, each chained to the one below it, and returns the last number.
+fn fill(cells: &mut Cells<WordBlock>, base: Base<WordBlock>, count: usize) -> Option<SegNo>
+    requires block { base.ptr ≡ cells.old.at }
+    requires empty { cells.old.slots ≡ replicate count None }
+    requires in_limits { count ≤ 65536 }
+    ensures block { cells.new.at ≡ cells.old.at }
+    ensures whole { IsWhole cells.new.slots count result count }
+    ensures none_taken { entries_of cells.new.slots ≡ replicate count None }
 {
-    vec![in alloc; [0; 16]; count]
-}
-
-// A free slot for each number below the count.
-fn free_slots<A: Allocator>(alloc: A, count: usize) -> Result<Vec<Slot, A>, AllocError>
-    ensures { IfOk result (λ slots. slots.items ≡ replicate count Slot.Free) }
-{
-    // The check finds the type of a slot's link by this line.
-    let _no_link: Option<SegNo> = None;
-    let mut slots = Vec::with_capacity(alloc, count)?;
-    for _made in 0..count {
-        slots.push(Slot::Free)?;
-    }
-    Ok(slots)
-}
-
-// The numbers below the count.
-fn first_numbers<A: Allocator>(alloc: A, count: usize) -> Result<Vec<SegNo, A>, AllocError>
-    requires { count ≤ 65536 }
-    ensures len { IfOk result (λ numbers. length numbers.items ≡ count) }
-    ensures each { IfOk result (λ numbers. (i : ℕ) → i < count → slice_index numbers.items i ≡ i) }
-{
-    let mut numbers = Vec::with_capacity(alloc, count)?;
+    let mut head = None;
     for number in 0..count {
-        numbers.push(SegNo::from_number(number as u32))?;
+        let link = Link::free(head);
+        cells.write(base, number, zeros(link));
+        head = Some(SegNo::from_number(number as u32));
     }
-    Ok(numbers)
+    head
 }

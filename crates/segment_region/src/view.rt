@@ -1,38 +1,39 @@
 //! A region that is read: what may be seen through a `&` to it, whatever allocator it has.
 ghost use Rattle.std.specs.Prelude.{◌≡◌, length};
 ghost use Rattle.segment_region.specs.Segments.{IsTaken, words_at, link_at};
-ghost use Rattle.segment_region.specs.Slots.{entries_of};
+ghost use Rattle.segment_region.specs.Blocks.{entries_of, IsReadable};
 
-use crate::slot::{SegNo, Slot};
+use crate::block::WordBlock;
+use crate::cells::{Base, Cells};
+use crate::slot::SegNo;
 use std::marker::Model;
 
 /// A region as its readers see it. Contracts see the same as of the region itself.
 #[derive(Drop)]
 pub struct RegionView<'a> {
-    words: &'a [[u64; 16]],
-    slots: &'a [Slot],
+    base: Base<WordBlock>,
+    cells: &'a Cells<WordBlock>,
 }
 
 impl<'a> Model for RegionView<'a> {
-    ghost use Rattle.std.specs.Prelude.{◌≡◌, length};
     ghost use Rattle.segment_region.specs.Segments.{Segments};
 
     ghost Value = { Segments };
 
-    ghost use Rattle.segment_region.specs.Slots.{entries_of};
+    ghost use Rattle.segment_region.specs.Blocks.{entries_of, IsReadable};
 
-    ghost view = { λ region. entries_of region.slots.now region.words.now };
+    ghost view = { λ region. entries_of region.cells.now.slots };
 
-    ghost invariant = { λ region. length region.words.now ≡ length region.slots.now };
+    ghost invariant = { λ region. IsReadable region.base region.cells.now };
 }
 
 impl<'a> RegionView<'a> {
-    /// The region of these slots, each with its words.
-    pub(crate) fn of(words: &'a [[u64; 16]], slots: &'a [Slot]) -> RegionView<'a>
-        requires { length words.now ≡ length slots.now }
-        ensures { result ≡ entries_of slots.now words.now }
+    /// The region of these blocks.
+    pub(crate) fn of(base: Base<WordBlock>, cells: &'a Cells<WordBlock>) -> RegionView<'a>
+        requires { IsReadable base cells.now }
+        ensures { result ≡ entries_of cells.now.slots }
     {
-        RegionView { words, slots }
+        RegionView { base, cells }
     }
 
     /// The same region, for one more reader.
@@ -40,8 +41,8 @@ impl<'a> RegionView<'a> {
         ensures { result ≡ self.now }
     {
         RegionView {
-            words: self.words,
-            slots: self.slots,
+            base: self.base,
+            cells: self.cells,
         }
     }
 
@@ -52,8 +53,8 @@ impl<'a> RegionView<'a> {
         ensures sixteen { length result.now ≡ 16 }
     {
         let at = segment.index();
-        let words: &'a [[u64; 16]] = self.words;
-        &words[at]
+        let cells: &'a Cells<WordBlock> = self.cells;
+        &cells.get(self.base, at).words
     }
 
     /// The segment that a taken one is chained to, if there is one.
@@ -62,9 +63,6 @@ impl<'a> RegionView<'a> {
         ensures { result ≡ link_at self.now segment }
     {
         let at = segment.index();
-        match self.slots[at] {
-            Slot::Free => None,
-            Slot::Taken(link) => link,
-        }
+        self.cells.get(self.base, at).link.next()
     }
 }

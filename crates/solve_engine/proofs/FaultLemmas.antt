@@ -1,5 +1,5 @@
 -- The answer to a position's text, by what reading it gives.
-use Rattle.std.proofs.Common.{◌≡◌, ◌≢◌, ◌↔◌, ℕ, ◌+◌, Bool, true, false, ℤ, List, length, Option, Result, Ok, Err, refl, sym, ap, ap₂, ◌∙◌}
+use Rattle.std.proofs.Common.{◌≡◌, ◌≢◌, ◌↔◌, ℕ, ◌+◌, Bool, true, false, ℤ, List, length, Option, Result, Err, refl, sym, ap, ap₂, ◌∙◌}
 use Rattle.othello_board.specs.declared.cells.Cell.{Cell}
 use Rattle.othello_board.specs.Words.{cells}
 use Rattle.othello_moves.specs.declared.choices.Choice.{Choice}

@@ -1,41 +1,16 @@
 -- What `solve` answers to a line, and to a whole input.
-use Rattle.std.specs.Prelude.{ℕ, ◌≡◌, ◌==◌, Bool, true, false, if◌then◌else◌, nat_le, List, [], ◌∷◌, ◌++◌, map, length, slice_index, Option, Some, None, flat_map}
-use Rattle.std.specs.Option.{option_map}
+use Rattle.std.specs.Prelude.{ℕ, ◌≡◌, ◌==◌, Bool, true, false, if◌then◌else◌, nat_le, List, map, length, Option, Some, None, Result}
 use Rattle.othello_board.specs.declared.cells.Cell.{Cell}
-use Rattle.othello_board.specs.declared.cells.Cell.TheVariants.{Empty, Own, Opp}
-use Rattle.othello_board.specs.Rules.{squares}
 use Rattle.othello_eval.specs.Minimax.{minimax, best_choice}
 use Rattle.position_text.specs.declared.positions.Side.{Side}
-use Rattle.position_text.specs.declared.positions.Side.TheVariants.{Black, White}
 use Rattle.position_text.specs.declared.marks.Mark.{Mark}
-use Rattle.position_text.specs.declared.marks.Mark.TheVariants.{Disc, Blank}
-use Rattle.position_text.specs.Spelling.{spelled, side_spelled}
+use Rattle.position_text.specs.Readings.{marks_of, mover_of, seen_by}
 use Rattle.line_io.specs.Lines.{LineText, Whole, TooLong, lines_of}
-use Rattle.line_io.specs.Runs.{answers_to}
+use Rattle.line_io.specs.declared.faults.LineFault.{LineFault}
+use Rattle.line_io.specs.Streams.{ReadAnswer, WriteAnswer}
+use Rattle.line_io.specs.Runs.{Run, answers_to}
 use Rattle.line_words.specs.Words.{split_at_space, number_of}
 use Rattle.line_words.specs.Texts.{value_text, visited_text, error_text}
-
--- the values of all these, if each has one
-abbrev pub all_of : {X : Type 0} → List (Option X) → Option (List X)
-all_of [] = Some []
-all_of (None ∷ more) = None
-all_of (Some x ∷ more) = option_map (λ xs. x ∷ xs) (all_of more)
-
--- what the first 64 bytes of a text spell, if each spells a cell
-abbrev pub marks_of : List ℕ → Option (List Mark)
-marks_of text = all_of (map (λ s. spelled (slice_index text s)) squares)
-
--- the side to move, which stands after the cells and a space
-abbrev pub mover_of : List ℕ → Option Side
-mover_of text = if slice_index text 64 == 32 then side_spelled (slice_index text 65) else None
-
--- a cell, seen by a side
-abbrev pub seen_by : Side → Mark → Cell
-seen_by side Blank = Empty
-seen_by Black (Disc Black) = Own
-seen_by Black (Disc White) = Opp
-seen_by White (Disc Black) = Opp
-seen_by White (Disc White) = Own
 
 -- 26 where no side is spelled, and else what is replied to the board
 abbrev pub mover_answer : (ℕ → List Cell → List ℕ) → ℕ → List Mark → Option Side → List ℕ
@@ -95,3 +70,8 @@ solve_out bytes = answers_to solve_line (lines_of bytes)
 -- with `--visited` each answer has a third word, a number of positions
 abbrev pub IsVisitedLine : LineText → List ℕ → Type 0
 IsVisitedLine line text = (count : ℕ) × (text ≡ answer_to (solved_with_count count) line)
+
+-- what `solve --visited` does with an input: each line due is answered by a value, a move and a number of positions
+abbrev pub VisitedRun : {S K : Type 0} → (S → ReadAnswer → S → Type 0) → (K → WriteAnswer → K → Type 0) → S → K → S → K → Result (Unit {0}) LineFault → Type 0
+VisitedRun gives takes source sink source' sink' r =
+    Run gives takes (λ (_ : Unit {0}) line text (_ : Unit {0}). IsVisitedLine line text) source sink tt source' sink' tt r

@@ -10,9 +10,8 @@ pub fn opening_at_depth_2()
 
 /// A fault and an answer, each with LF (10). A CR (13) before an LF is dropped, and the last line needs no LF.
 pub fn a_fault_and_an_answer()
-    ensures {
-        solve_out (codes "opening" ++ 13 ∷ 10 ∷ codes "1 XO-------------------------------------------------------------- O")
-            ≡ codes "ERR 21" ++ 10 ∷ codes "-124 pass" ++ 10 ∷ [] }
+    ensures { solve_out (codes "opening" ++ 13 ∷ 10 ∷ codes "1 XO-------------------------------------------------------------- O")
+        ≡ codes "ERR 21" ++ 10 ∷ codes "-124 pass" ++ 10 ∷ [] }
 {}
 
 /// Each line's first fault: the depth before the position, its length before a cell, the cells before the side.

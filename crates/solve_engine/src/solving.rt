@@ -1,9 +1,8 @@
 //! Answering the lines of an input, each by the minimax value of its position.
 ghost use Rattle.std.specs.Prelude.{◌≡◌, ◌≤◌, ◌++◌, ℕ, List, length, Some, OnOk};
 ghost use Rattle.line_io.specs.Views.{text_of};
-ghost use Rattle.line_io.specs.Runs.{Run, FunctionRun};
-ghost use Rattle.solve_engine.specs.declared.solving.VisitedSolver.{VisitedSolver};
-ghost use Rattle.solve_engine.specs.Solving.{answer_to, position_answer, reply_of, solve_line, solve_out, IsVisitedLine};
+ghost use Rattle.line_io.specs.Runs.{FunctionRun};
+ghost use Rattle.solve_engine.specs.Solving.{answer_to, position_answer, reply_of, solve_line, solve_out, IsVisitedLine, VisitedRun};
 
 use crate::answers::{Text, error_text, value_text, visited_text};
 use crate::requests::read_request;
@@ -131,8 +130,7 @@ pub fn solve_bytes<R: Read, W: Write>(
 
 /// The same by lines `value move visited`.
 pub fn solve_visited<S: Source, K: Sink>(source: &mut S, sink: &mut K) -> Result<(), LineFault>
-    ensures { (from : VisitedSolver) × (to : VisitedSolver)
-        × Run S.gives K.takes (λ _ line text _. IsVisitedLine line text) source.old sink.old from source.new sink.new to result }
+    ensures { VisitedRun S.gives K.takes source.old sink.old source.new sink.new result }
 {
     let mut solver = VisitedSolver { text: Text::new() };
     answer_lines(source, sink, &mut solver)

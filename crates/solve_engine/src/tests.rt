@@ -85,7 +85,10 @@ fn visited_counts_the_positions_entered(rt: HostRuntime) -> Result<(), Fail> {
     };
     let mut sink = FromWriter::new(Vec::new(rt.alloc()));
     solve_visited(&mut source, &mut sink)?;
-    assert_eq!(rt; sink.writer.as_slice(), b"-4 d3 15\n-124 pass 2\n".as_slice());
+    assert_eq!(rt;
+        sink.writer.as_slice(),
+        b"-4 d3 15\n-124 pass 2\n".as_slice()
+    );
     Ok(())
 }
 
@@ -155,6 +158,10 @@ fn readers_and_writers_fail_at_each_call(rt: HostRuntime) {
             calls: writes,
         };
         assert_eq!(rt; solve(&mut source, &mut sink), result);
-        assert_eq!(rt; sink.bytes.as_slice(), answers, "{reads} reads and {writes} writes");
+        assert_eq!(rt;
+            sink.bytes.as_slice(),
+            answers,
+            "{reads} reads and {writes} writes"
+        );
     }
 }

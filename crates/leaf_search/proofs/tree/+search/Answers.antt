@@ -1,9 +1,11 @@
-use Rattle.std.proofs.Common.{◌≡◌, ◌<◌, ℕ, neg_ℤ, length, ◌-◌, [], find, refl, sym, ◌∙◌, ap, subst, arith}
+use Rattle.std.proofs.Common.{rules, ◌≡◌, ◌↔◌, ◌<◌, ℕ, Bool, IsTrue, true, false, List, ◌∷◌, neg_ℤ, length, ◌-◌, [], find, refl, sym, ◌∙◌, ap, subst, arith}
 use Rattle.std.proofs.lemmas.Int.{ints}
+use Rattle.othello_board.specs.declared.boards.Board.{Board}
 use Rattle.othello_board.specs.Words.{cells}
 use Rattle.othello_moves.specs.Choices.{choices}
-use Rattle.othello_eval.specs.Values.{final_value}
-use Rattle.othello_eval.specs.Minimax.{minimax, best_choice, choice_value, int_equal}
+use Rattle.othello_eval.specs.Values.{eval, final_value}
+use Rattle.othello_eval.specs.Minimax.{minimax, choice_value, int_equal}
+use Rattle.othello_eval.proofs.BestLemmas.{minimax_leaf_there}
 use Rattle.leaf_search.specs.Bounds.{IsBound}
 use Rattle.leaf_search.specs.declared.scored.Scored.{Scored}
 use Rattle.othello_eval.proofs.MinimaxLemmas.{minimax-deeper, best_choice-deeper, best_choice-leaf, minimax-over, best_choice-over}
@@ -57,22 +59,45 @@ pub best_of-returns-clause-within : goal.best_of-returns-clause-within
 best_of-returns-clause-within t c =
     (IsSearching-real _ _ _ _ _ _ _ c.loop-choice.invariant c.in_default.ensures.cases (subst (λ cs. 0 < length cs) c.requires.choices c.requires.some), c.loop-choice.invariant.greatest)
 
-pub search_below-returns-then-depth-eq0-clause-choice : goal.search_below-returns-then-depth-eq0-clause-choice
-search_below-returns-then-depth-eq0-clause-choice t c higher lower =
-    rw (c.entered.ensures, c.if-depth-eq0.true) (sym (best_choice-leaf (cells c.args.board)))
+-- where the game is over
+no_choice : (t : ℕ) (c : goal.search_below-After-entered t) → choices (cells c.args.board) ≡ []
+no_choice t c = ap (λ b. choices (cells b)) (sym c.of-mobility.ensures) ∙ c.is_over.ensures.0 c.if-is_over.true
 
-no_choice : (t : ℕ) (c : goal.search_below-After-entered-then-is_empty t) → choices (cells c.args.board) ≡ []
-no_choice t c = sym c.new-left.ensures ∙ c.is_empty.ensures.0 c.if-is_empty.true
-
-pub search_below-returns-then-is_empty-clause-bound : goal.search_below-returns-then-is_empty-clause-bound
-search_below-returns-then-is_empty-clause-bound t c =
-    let score_is : final_value (cells c.args.board) ≡ c.entered-then-is_empty.result.score =
-    omega (arith, ints, ap (λ (s : Scored). s.score) c.entered-then-is_empty.ensures, c.final_value.ensures.value) in
+pub search_below-returns-then-is_over-clause-bound : goal.search_below-returns-then-is_over-clause-bound
+search_below-returns-then-is_over-clause-bound t c =
+    let score_is : final_value (cells c.args.board) ≡ c.entered.result.score =
+    omega (arith, ints, ap (λ (s : Scored). s.score) c.entered.ensures, c.final_value.ensures.value) in
     exact_bound _ _ _ _ (minimax-over c.args.depth (cells c.args.board) (no_choice t c) ∙ score_is)
 
-pub search_below-returns-then-is_empty-clause-choice : goal.search_below-returns-then-is_empty-clause-choice
-search_below-returns-then-is_empty-clause-choice t c higher lower =
-    ap (λ (s : Scored). s.choice) c.entered-then-is_empty.ensures ∙ sym (best_choice-over c.args.depth (cells c.args.board) (no_choice t c))
+pub search_below-returns-then-is_over-clause-choice : goal.search_below-returns-then-is_over-clause-choice
+search_below-returns-then-is_over-clause-choice t c higher lower =
+    ap (λ (s : Scored). s.choice) c.entered.ensures ∙ sym (best_choice-over c.args.depth (cells c.args.board) (no_choice t c))
+
+-- where it goes on
+goes_on : (board b : Board) (over : Bool) → b ≡ board → IsTrue over ↔ (choices (cells b) ≡ []) → over ≡ false → choices (cells board) ≡ [] → ⊥
+goes_on board b over same exactly denied none =
+    let told : over ≡ true = exactly.1 (ap (λ x. choices (cells x)) same ∙ none) in
+    cc
+
+some_length : {X : Type 0} (xs : List X) → (xs ≡ [] → ⊥) → 0 < length xs
+some_length [] some = absurd (some refl)
+some_length (x ∷ xs) some = omega arith
+
+pub search_below-returns-then-depth-eq0-clause-bound : goal.search_below-returns-then-depth-eq0-clause-bound
+search_below-returns-then-depth-eq0-clause-bound t c =
+    let value : c.eval_by_mobility.result ≡ eval (cells c.args.board) = c.eval_by_mobility.ensures.value ∙ ap (λ b. eval (cells b)) c.of-mobility.ensures in
+    let score_is : eval (cells c.args.board) ≡ c.entered-then-depth-eq0.result.score = omega (arith, ints, ap (λ (s : Scored). s.score) c.entered-then-depth-eq0.ensures, value) in
+    exact_bound _ _ _ _ (ap (λ d. minimax d (cells c.args.board)) c.if-depth-eq0.true ∙ minimax_leaf_there (cells c.args.board) (goes_on c.args.board c.of-mobility.result.board c.is_over.result c.of-mobility.ensures c.is_over.ensures c.if-is_over.false) ∙ score_is)
+
+pub search_below-returns-then-depth-eq0-clause-choice : goal.search_below-returns-then-depth-eq0-clause-choice
+search_below-returns-then-depth-eq0-clause-choice t c higher lower =
+    rw (c.entered-then-depth-eq0.ensures, c.if-depth-eq0.true) (sym (best_choice-leaf (cells c.args.board)))
+
+pub search_below-best_of-requires : goal.search_below-best_of-requires
+search_below-best_of-requires t c =
+    let all : c.of.result ≡ choices (cells c.args.board) = c.of.ensures ∙ ap (λ b. choices (cells b)) c.of-mobility.ensures in
+    let some = goes_on c.args.board c.of-mobility.result.board c.is_over.result c.of-mobility.ensures c.is_over.ensures c.if-is_over.false in
+    (search rules, (all, (some_length c.of.result (λ none. some (sym all ∙ none)), omega arith)))
 
 pub best_of-returns-then-best-window-clause-chosen : goal.best_of-returns-then-best-window-clause-chosen
 best_of-returns-then-best-window-clause-chosen t c =

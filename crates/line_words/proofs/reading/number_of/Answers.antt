@@ -1,4 +1,4 @@
-use Rattle.std.proofs.Common.{◌≤◌, ◌<◌, arith}
+use Rattle.std.proofs.Common.{arith}
 use Rattle.line_words.proofs.WordLemmas.{seven_digits_fit}
 use Rattle.line_words.proofs.reading.number_of.Goals as goal
 

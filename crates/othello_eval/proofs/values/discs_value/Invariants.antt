@@ -1,5 +1,5 @@
 use Rattle.std.proofs.Common.{◌≡◌, ◌*◌, ◌≤ℤ◌, ◌+ℤ◌, pos, neg_ℤ, drop}
-use Rattle.othello_eval.specs.Masks.{weighed_sum, weight_table}
+use Rattle.othello_eval.proofs.MaskLemmas.{weighed_sum, weight_table}
 use Rattle.othello_eval.proofs.values.discs_value.Given as goal
 
 abbrev pub invariant-loop-weight : goal.invariant-loop-weight

@@ -1,5 +1,5 @@
-use Rattle.std.proofs.Common.{◌+◌, ap, ◌∙◌, arith, rules, w32}
-use Rattle.std.proofs.lemmas.Int.{to_z-of_z, ints}
+use Rattle.std.proofs.Common.{◌+◌, ap, ◌∙◌, rules, w32}
+use Rattle.std.proofs.lemmas.Int.{to_z-of_z}
 use mir.Val.{SFits}
 use Rattle.line_words.specs.Texts.{value_text, visited_text, error_text}
 use Rattle.solve_engine.specs.Solving.{reply_of}

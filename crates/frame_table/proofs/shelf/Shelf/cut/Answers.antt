@@ -1,7 +1,7 @@
 use Rattle.std.proofs.Common.{[], refl, ◌∙◌, arith}
 use Rattle.frame_table.specs.Shelves.{slots_in}
 use Rattle.frame_table.proofs.Shelves.{slots_in-length}
-use Rattle.frame_table.proofs.Cutting.{HasCut, all_there, marked_there, cut_shelf, cut_slots, cut_values}
+use Rattle.frame_table.proofs.Cutting.{has_cut, all_there, marked_there, cut_shelf, cut_slots, cut_values}
 use Rattle.frame_table.proofs.Early.{marks_early, none_marked_early}
 use Rattle.frame_table.proofs.shelf.Shelf.cut.Goals as goal
 
@@ -49,29 +49,23 @@ pub invariant_of-self : goal.invariant_of-self
 invariant_of-self g c =
     let slab = c.self.inside.slab in
     let order = c.self.inside.order.items in
-    let left = c.sweep.new.order.items in
     let marks = rw c.as_slice.ensures.value at c.mark_under.ensures.marked in
+    let cut = has_cut c.args.under slab c.mark_under.new.slab c.sweep.new.slab order c.sweep.new.order.items marks c.sweep.ensures.kept c.sweep.ensures.slots in
     let linked = rw (← c.self.view_is) at c.requires.linked in
-    let cut : HasCut c.args.under slab c.mark_under.new.slab c.sweep.new.slab order left = record { marks = marks; kept = c.sweep.ensures.kept; swept = c.sweep.ensures.slots } in
-    let shelf = cut_shelf c.args.under slab c.mark_under.new.slab c.sweep.new.slab order left _ _ cut c.self.invariant linked (omega (arith, c.sweep.ensures.len, c.mark_under.ensures.len)) (c.sweep.ensures.capacity ∙ c.mark_under.ensures.capacity) in
-    rw c.sweep.ensures.order_room shelf
+    rw c.sweep.ensures.order_room (cut_shelf _ _ _ _ _ _ _ _ cut c.self.invariant linked (omega (arith, c.sweep.ensures.len, c.mark_under.ensures.len)) (c.sweep.ensures.capacity ∙ c.mark_under.ensures.capacity))
 
 pub returns-clause-kept : goal.returns-clause-kept
 returns-clause-kept g c =
     let slab = c.self.inside.slab in
     let order = c.self.inside.order.items in
-    let left = c.sweep.new.order.items in
     let marks = rw c.as_slice.ensures.value at c.mark_under.ensures.marked in
-    let cut : HasCut c.args.under slab c.mark_under.new.slab c.sweep.new.slab order left = record { marks = marks; kept = c.sweep.ensures.kept; swept = c.sweep.ensures.slots } in
-    let slots = cut_slots c.args.under slab c.mark_under.new.slab c.sweep.new.slab order left cut c.self.invariant.here in
-    rw (← c.self.view_is, slots) refl
+    let cut = has_cut c.args.under slab c.mark_under.new.slab c.sweep.new.slab order c.sweep.new.order.items marks c.sweep.ensures.kept c.sweep.ensures.slots in
+    rw (← c.self.view_is, cut_slots _ _ _ _ _ _ cut c.self.invariant.here) refl
 
 pub returns-clause-values : goal.returns-clause-values
 returns-clause-values g c =
     let slab = c.self.inside.slab in
     let order = c.self.inside.order.items in
-    let left = c.sweep.new.order.items in
     let marks = rw c.as_slice.ensures.value at c.mark_under.ensures.marked in
-    let cut : HasCut c.args.under slab c.mark_under.new.slab c.sweep.new.slab order left = record { marks = marks; kept = c.sweep.ensures.kept; swept = c.sweep.ensures.slots } in
-    let values = cut_values c.args.under slab c.mark_under.new.slab c.sweep.new.slab order left cut c.self.invariant.here in
-    rw (← c.self.view_is, ← values) c.sweep.ensures.values
+    let cut = has_cut c.args.under slab c.mark_under.new.slab c.sweep.new.slab order c.sweep.new.order.items marks c.sweep.ensures.kept c.sweep.ensures.slots in
+    rw (← c.self.view_is, ← cut_values _ _ _ _ _ _ cut c.self.invariant.here) c.sweep.ensures.values

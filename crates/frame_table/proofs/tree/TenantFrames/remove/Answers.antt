@@ -1,7 +1,7 @@
-use Rattle.std.proofs.Common.{length, [], ap, refl, sym, ◌∙◌, arith}
+use Rattle.std.proofs.Common.{[], refl, sym, ◌∙◌, arith}
+use Rattle.std.specs.List.{remove}
 use Rattle.std.proofs.lemmas.List.Edits.{length-remove}
 use Rattle.frame_table.proofs.Shelves.{length-without_child}
-use Rattle.frame_table.specs.Shelves.{Shelved}
 use Rattle.frame_table.proofs.Forest.{linked_rises, has_frame-frames_from}
 use Rattle.frame_table.proofs.Finds.{found}
 use Rattle.frame_table.proofs.Changes.{lost_counted}
@@ -25,29 +25,11 @@ take-slot-requires-clause-leaf g c =
     let leaf = rw (← c.self.view_is) at c.requires.leaf in
     rw c.known_place-at.ensures.found (leaf_slots c.self.inside.shelf.slots c.args.serial c.self.invariant.sound.linked leaf)
 
-pub forget-requires-clause-rise : goal.forget-requires-clause-rise
-forget-requires-clause-rise g c =
-    let within = c.known_place-at.ensures.within in
-    let at = c.known_place-at.ensures.found in
+pub forget-requires : goal.forget-requires
+forget-requires g c =
     let leaf = rw (← c.self.view_is) at c.requires.leaf in
-    let h = lost c.self.inside.shelf.slots (length c.self.inside.ready.frames) c.known_place-at.result c.args.serial c.take-slot.result c.self.invariant.sound within at c.take-slot.ensures.value leaf in
-    rw c.take-slot.ensures.left (linked_rises [] _ h.linked)
-
-pub forget-requires-clause-there : goal.forget-requires-clause-there
-forget-requires-clause-there g c =
-    let within = c.known_place-at.ensures.within in
-    let at = c.known_place-at.ensures.found in
-    let leaf = rw (← c.self.view_is) at c.requires.leaf in
-    let h = lost c.self.inside.shelf.slots (length c.self.inside.ready.frames) c.known_place-at.result c.args.serial c.take-slot.result c.self.invariant.sound within at c.take-slot.ensures.value leaf in
-    rw c.take-slot.ensures.left h.parent
-
-pub forget-requires-clause-counted : goal.forget-requires-clause-counted
-forget-requires-clause-counted g c =
-    let within = c.known_place-at.ensures.within in
-    let at = c.known_place-at.ensures.found in
-    let leaf = rw (← c.self.view_is) at c.requires.leaf in
-    let h = lost c.self.inside.shelf.slots (length c.self.inside.ready.frames) c.known_place-at.result c.args.serial c.take-slot.result c.self.invariant.sound within at c.take-slot.ensures.value leaf in
-    rw c.take-slot.ensures.left (lost_counted _ _ c.take-slot.result h)
+    let h = lost c.self.inside.shelf.slots _ c.known_place-at.result c.args.serial c.take-slot.result c.self.invariant.sound c.known_place-at.ensures.within c.known_place-at.ensures.found c.take-slot.ensures.value leaf in
+    rw c.take-slot.ensures.left (record { rise = linked_rises [] _ h.linked; there = h.parent; counted = lost_counted _ _ c.take-slot.result h })
 
 pub leave-requires : goal.leave-requires
 leave-requires g c = tenant_rises _ _ _ c.self.invariant
@@ -58,28 +40,19 @@ invariant_of-self g c =
     let within = c.known_place-at.ensures.within in
     let at = c.known_place-at.ensures.found in
     let leaf = rw (← c.self.view_is) at c.requires.leaf in
-    let left = ap (λ (s : Shelved g.row.T.Denot). s.slots) c.take-slot.ensures.left in
-    let fewer = ap (λ (s : Shelved g.row.T.Denot). s.slots) c.forget.ensures in
-    let places = ap (λ (s : Shelved g.row.T.Denot). s.places) c.forget.ensures ∙ ap (λ (s : Shelved g.row.T.Denot). s.places) c.take-slot.ensures.left in
     let gone = ready_in-remove slots c.known_place-at.result c.args.serial c.take-slot.result (linked_rises [] slots c.self.invariant.sound.linked) within at c.take-slot.ensures.value in
-    rw c.leave.ensures (is_tenant _ _ _ _
-    (lost_sound slots c.take-slot.new.self.slots c.forget.new.shelf.slots (length c.self.inside.ready.frames) c.known_place-at.result c.args.serial c.take-slot.result c.self.invariant.sound within at c.take-slot.ensures.value leaf left fewer)
-    (rw (fewer, ready_in-without_child c.take-slot.result.parent c.take-slot.new.self.slots, left, c.self.invariant.ready_frames) gone)
-    (omega (arith, c.self.invariant.within, ap length left, ap length fewer, places, length-remove slots c.known_place-at.result within, length-without_child c.take-slot.result.parent c.take-slot.new.self.slots))
-    (omega (arith, places, c.self.invariant.few))
-    (omega (arith, places, c.self.invariant.ready_places)))
+    rw (c.forget.ensures, c.take-slot.ensures.left, c.leave.ensures) (is_tenant _ _ _ _
+    (lost_sound slots _ _ _ c.known_place-at.result c.args.serial c.take-slot.result c.self.invariant.sound within at c.take-slot.ensures.value leaf refl refl)
+    (rw (ready_in-without_child c.take-slot.result.parent (remove slots c.known_place-at.result), c.self.invariant.ready_frames) gone)
+    (omega (arith, c.self.invariant.within, length-remove slots c.known_place-at.result within, length-without_child c.take-slot.result.parent (remove slots c.known_place-at.result)))
+    c.self.invariant.few
+    c.self.invariant.ready_places)
 
 pub returns-clause-left : goal.returns-clause-left
 returns-clause-left g c =
-    let slots = c.self.inside.shelf.slots in
-    let within = c.known_place-at.ensures.within in
-    let at = c.known_place-at.ensures.found in
     let leaf = rw (← c.self.view_is) at c.requires.leaf in
-    let left = ap (λ (s : Shelved g.row.T.Denot). s.slots) c.take-slot.ensures.left in
-    let fewer = ap (λ (s : Shelved g.row.T.Denot). s.slots) c.forget.ensures in
-    let places = ap (λ (s : Shelved g.row.T.Denot). s.places) c.forget.ensures ∙ ap (λ (s : Shelved g.row.T.Denot). s.places) c.take-slot.ensures.left in
-    let frames = lost_frames slots c.take-slot.new.self.slots c.forget.new.shelf.slots (length c.self.inside.ready.frames) c.known_place-at.result c.args.serial c.take-slot.result c.self.invariant.sound within at c.take-slot.ensures.value leaf left fewer in
-    rw (← c.self.view_is, frames, places) refl
+    let frames = lost_frames c.self.inside.shelf.slots _ _ _ c.known_place-at.result c.args.serial c.take-slot.result c.self.invariant.sound c.known_place-at.ensures.within c.known_place-at.ensures.found c.take-slot.ensures.value leaf refl refl in
+    rw (← c.self.view_is, c.forget.ensures, c.take-slot.ensures.left, frames) refl
 
 pub returns-clause-value : goal.returns-clause-value
 returns-clause-value g c =

@@ -1,5 +1,4 @@
-use Rattle.std.proofs.Common.{length, length-set, [], ap, refl, sym, ◌∙◌, arith, append-nil}
-use Rattle.frame_table.specs.Shelves.{Shelved}
+use Rattle.std.proofs.Common.{length, length-set, [], refl, sym, ◌∙◌, arith, append-nil}
 use Rattle.frame_table.proofs.Forest.{linked_rises, has_frame-frames_from}
 use Rattle.frame_table.proofs.Finds.{frames_from-length}
 use Rattle.frame_table.proofs.Changes.{childless}
@@ -47,43 +46,28 @@ cut-requires-clause-named g c =
 pub forget_from-requires : goal.forget_from-requires
 forget_from-requires g c = tenant_rises _ _ _ c.self.invariant
 
-pub add_ready-requires-clause-within : goal.add_ready-requires-clause-within
-add_ready-requires-clause-within g c =
-    let whole = rw c.put.ensures at c.cut.ensures.kept in
-    let cuts = cut_ready c.self.inside.shelf.slots _ c.known_place-at.result c.args.serial c.self.inside.shelf.places c.at-slot.result c.cut.new.self.slots c.self.inside.ready.frames c.self.invariant.sound c.known_place-at.ensures.within c.known_place-at.ensures.found c.at-slot.ensures (ap (λ (s : Shelved g.row.T.Denot). s.slots) whole) c.self.invariant.ready_frames c.self.invariant.within in
-    cuts.within
-
-pub add_ready-requires-clause-room : goal.add_ready-requires-clause-room
-add_ready-requires-clause-room g c =
-    let whole = rw c.put.ensures at c.cut.ensures.kept in
-    let cuts = cut_ready c.self.inside.shelf.slots _ c.known_place-at.result c.args.serial c.self.inside.shelf.places c.at-slot.result c.cut.new.self.slots c.self.inside.ready.frames c.self.invariant.sound c.known_place-at.ensures.within c.known_place-at.ensures.found c.at-slot.ensures (ap (λ (s : Shelved g.row.T.Denot). s.slots) whole) c.self.invariant.ready_frames c.self.invariant.within in
-    rw (c.forget_from.ensures, c.self.invariant.ready_places) cuts.room
+pub add_ready-requires : goal.add_ready-requires
+add_ready-requires g c =
+    let cuts = cut_ready c.self.inside.shelf.slots _ c.known_place-at.result c.args.serial c.self.inside.shelf.places c.at-slot.result _ c.self.inside.ready.frames c.self.invariant.sound c.known_place-at.ensures.within c.known_place-at.ensures.found c.at-slot.ensures refl c.self.invariant.ready_frames c.self.invariant.within in
+    rw (c.forget_from.ensures, c.cut.ensures.kept, c.put.ensures, c.self.invariant.ready_places) (record { within = cuts.within; room = cuts.room })
 
 pub invariant_of-self : goal.invariant_of-self
 invariant_of-self g c =
     let slots = c.self.inside.shelf.slots in
     let within = c.known_place-at.ensures.within in
     let at = c.known_place-at.ensures.found in
-    let whole = rw c.put.ensures at c.cut.ensures.kept in
-    let left = ap (λ (s : Shelved g.row.T.Denot). s.slots) whole in
-    let places = ap (λ (s : Shelved g.row.T.Denot). s.places) whole in
-    let shorter = cut_length c.args.serial slots c.known_place-at.result c.at-slot.result c.cut.new.self.slots left in
-    let cuts = cut_ready slots _ c.known_place-at.result c.args.serial c.self.inside.shelf.places c.at-slot.result c.cut.new.self.slots c.self.inside.ready.frames c.self.invariant.sound within at c.at-slot.ensures left c.self.invariant.ready_frames c.self.invariant.within in
-    rw (c.add_ready.ensures, c.forget_from.ensures) (is_tenant _ _ _ _
-    (cut_sound slots (length c.self.inside.ready.frames) _ c.known_place-at.result c.args.serial c.at-slot.result c.cut.new.self.slots c.self.invariant.sound within at c.at-slot.ensures left refl)
+    let cuts = cut_ready slots _ c.known_place-at.result c.args.serial c.self.inside.shelf.places c.at-slot.result _ c.self.inside.ready.frames c.self.invariant.sound within at c.at-slot.ensures refl c.self.invariant.ready_frames c.self.invariant.within in
+    rw (c.add_ready.ensures, c.forget_from.ensures, c.cut.ensures.kept, c.put.ensures) (is_tenant _ _ _ _
+    (cut_sound slots _ _ c.known_place-at.result c.args.serial c.at-slot.result _ c.self.invariant.sound within at c.at-slot.ensures refl refl)
     cuts.ready
-    (omega (arith, shorter, places, c.self.invariant.within))
-    (omega (arith, places, c.self.invariant.few))
-    (c.self.invariant.ready_places ∙ sym places))
+    (omega (arith, cut_length c.args.serial slots c.known_place-at.result c.at-slot.result _ refl, c.self.invariant.within))
+    c.self.invariant.few
+    c.self.invariant.ready_places)
 
 pub returns-clause-left : goal.returns-clause-left
 returns-clause-left g c =
-    let slots = c.self.inside.shelf.slots in
-    let whole = rw c.put.ensures at c.cut.ensures.kept in
-    let left = ap (λ (s : Shelved g.row.T.Denot). s.slots) whole in
-    let places = ap (λ (s : Shelved g.row.T.Denot). s.places) whole in
-    let frames = cut_frames slots (length c.self.inside.ready.frames) c.known_place-at.result c.args.serial c.at-slot.result c.cut.new.self.slots c.self.invariant.sound c.known_place-at.ensures.within c.known_place-at.ensures.found c.at-slot.ensures left in
-    rw (← c.self.view_is, frames, places) refl
+    let frames = cut_frames c.self.inside.shelf.slots _ c.known_place-at.result c.args.serial c.at-slot.result _ c.self.invariant.sound c.known_place-at.ensures.within c.known_place-at.ensures.found c.at-slot.ensures refl in
+    rw (← c.self.view_is, c.cut.ensures.kept, c.put.ensures, frames) refl
 
 pub returns-clause-values : goal.returns-clause-values
 returns-clause-values g c =

@@ -1,35 +1,35 @@
-use Rattle.std.proofs.Common.{◌≡◌, length, None, refl, arith}
-use Rattle.segment_region.specs.Segments.{taken_count}
-use Rattle.segment_region.specs.Slots.{entries_of}
-use Rattle.segment_region.specs.declared.slot.Slot.TheVariants.{Taken}
-use Rattle.segment_region.proofs.Entries.{length-entries_of, get_or-entries_of, entries_of-set_both, taken_count-entries_of}
-use Rattle.segment_region.proofs.Whole.{whole-take, top_is_free}
+use Rattle.std.proofs.Common.{refl, sym, ap, ◌∙◌, None}
+use Rattle.segment_region.specs.Blocks.{place_link, next_of}
+use Rattle.segment_region.proofs.Whole.{whole-take, head_block, head_is_free, entries-write, none_free, some_free}
 use Rattle.segment_region.proofs.region.Region.take.Goals as goal
 
-pub returns-then-self-eq0-clause-none_free : goal.returns-then-self-eq0-clause-none_free
-returns-then-self-eq0-clause-none_free g c =
-    let whole = c.self.invariant in
-    let count = taken_count-entries_of c.self.inside.slots.items c.self.inside.words.items whole.all_words in
-    let len = length-entries_of c.self.inside.slots.items c.self.inside.words.items whole.all_words in
-    ((λ _. rw (← c.self.view_is, count, len) (omega (arith, whole.counted))), (λ _. refl))
+pub get-requires : goal.get-requires
+get-requires g c =
+    let whole = rw c.in-Some.is at c.self.invariant.1 in
+    let t = head_block c.self.inside.cells.slots c.in-Some.segment c.self.inside.free_len whole.chain in
+    (sym c.self.invariant.0.0, rw c.index-at.ensures (t.block, t.is))
 
 pub invariant_of-self : goal.invariant_of-self
 invariant_of-self g c =
-    rw c.index-at.ensures (whole-take c.self.inside.slots.items c.self.inside.words.items c.self.inside.free.items c.self.inside.free_len c.index-segment.result.now _ c.self.invariant (omega (arith, c.if-self-eq0.false)) c.index-segment.ensures)
+    let r = c.self.inside in
+    let whole = rw c.in-Some.is at c.self.invariant.1 in
+    let is = rw c.index-at.ensures at c.get.ensures in
+    (c.self.invariant.0, rw (c.index-at.ensures, c.zeros.ensures) (whole-take r.cells.slots r.count c.in-Some.segment r.free_len _ c.next-self-inside.result whole c.taken-link.ensures (c.next-self-inside.ensures ∙ ap (λ p. next_of (place_link p)) (sym is))))
 
-pub returns-clause-fresh : goal.returns-clause-fresh
-returns-clause-fresh g c =
-    let whole = c.self.invariant in
-    let top = top_is_free c.self.inside.slots.items c.self.inside.words.items c.self.inside.free.items c.self.inside.free_len c.index-segment.result.now whole (omega (arith, c.if-self-eq0.false)) c.index-segment.ensures in
-    rw (← c.self.view_is, get_or-entries_of _ _ _ whole.all_words, length-entries_of _ _ whole.all_words, top.1) (top.0, refl)
+pub returns-in-None-clause-none_free : goal.returns-in-None-clause-none_free
+returns-in-None-clause-none_free g c =
+    let whole = rw c.in-None.is at c.self.invariant.1 in
+    ((λ _. rw (← c.self.view_is) (none_free c.self.inside.cells.slots c.self.inside.count c.self.inside.free_len whole)), (λ _. refl))
 
-pub returns-clause-taken : goal.returns-clause-taken
-returns-clause-taken g c =
-    rw (c.index-at.ensures, ← c.self.view_is) (entries_of-set_both c.self.inside.slots.items c.self.inside.words.items c.index-segment.result.now (Taken None) _ c.self.invariant.all_words)
+pub returns-in-Some-clause-fresh : goal.returns-in-Some-clause-fresh
+returns-in-Some-clause-fresh g c =
+    let whole = rw c.in-Some.is at c.self.invariant.1 in
+    rw (← c.self.view_is) (head_is_free c.self.inside.cells.slots c.in-Some.segment (head_block c.self.inside.cells.slots c.in-Some.segment c.self.inside.free_len whole.chain))
 
-pub returns-clause-none_free : goal.returns-clause-none_free
-returns-clause-none_free g c =
-    let whole = c.self.invariant in
-    let count = taken_count-entries_of c.self.inside.slots.items c.self.inside.words.items whole.all_words in
-    let len = length-entries_of c.self.inside.slots.items c.self.inside.words.items whole.all_words in
-    ((λ h. absurd (cc h)), (λ h. let same : taken_count (entries_of c.self.inside.slots.items c.self.inside.words.items) ≡ length (entries_of c.self.inside.slots.items c.self.inside.words.items) = rw c.self.view_is h in absurd (omega (arith, whole.counted, same, count, len))))
+pub returns-in-Some-clause-taken : goal.returns-in-Some-clause-taken
+returns-in-Some-clause-taken g c = rw (c.index-at.ensures, c.zeros.ensures, ← c.self.view_is) (entries-write c.self.inside.cells.slots c.in-Some.segment _ None c.taken-link.ensures)
+
+pub returns-in-Some-clause-none_free : goal.returns-in-Some-clause-none_free
+returns-in-Some-clause-none_free g c =
+    let whole = rw c.in-Some.is at c.self.invariant.1 in
+    ((λ h. absurd (cc h)), (λ h. absurd (some_free c.self.inside.cells.slots c.self.inside.count c.in-Some.segment c.self.inside.free_len whole (rw (← c.self.view_is) at h))))

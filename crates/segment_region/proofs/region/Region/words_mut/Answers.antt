@@ -1,22 +1,27 @@
-use Rattle.std.proofs.Common.{[], refl, ◌∙◌, arith, rules}
-use Rattle.segment_region.proofs.Entries.{get_or-entries_of, entries_of-set_words, taken_slot, lt-of-taken}
-use Rattle.std.proofs.lemmas.List.{get_or_default}
+use Rattle.std.proofs.Common.{refl, sym, ◌∙◌}
+use Rattle.segment_region.specs.Words.{with_block_words}
+use Rattle.segment_region.specs.Blocks.{next_of}
+use Rattle.segment_region.proofs.Entries.{filled_at, taken_is, words_is}
+use Rattle.segment_region.proofs.Whole.{whole-write, entries-words}
 use Rattle.segment_region.proofs.region.Region.words_mut.Goals as goal
 
-pub index_mut-requires : goal.index_mut-requires
-index_mut-requires g c =
-    let taken = taken_slot c.self.inside.slots.items c.self.inside.words.items c.args.segment c.self.invariant.all_words (rw c.self.view_is c.requires) in
-    let below = lt-of-taken c.self.inside.slots.items c.args.segment taken.0 taken.1 in
-    rw c.index-at.ensures (search (rules, c.self.invariant.all_words))
+pub get_mut-requires : goal.get_mut-requires
+get_mut-requires g c = (sym c.self.invariant.0.0, rw c.index-at.ensures (filled_at c.self.inside.cells.slots c.args.segment (rw c.self.view_is c.requires)))
+
+pub invariant_of-self-lent : goal.invariant_of-self-lent
+invariant_of-self-lent g c = λ w.
+    let r = c.self.inside in
+    let taken = rw (← c.self.view_is) at c.requires in
+    let is = rw c.index-at.ensures at c.get_mut.ensures.value in
+    let block = c.get_mut.result.now in
+    (c.self.invariant.0, rw c.index-at.ensures (whole-write r.cells.slots r.count c.args.segment r.free_head r.free_len (with_block_words block w) (next_of block.link) c.self.invariant.1 taken (taken_is r.cells.slots c.args.segment block taken is)))
 
 pub returns : goal.returns
 returns g c =
-    let taken = taken_slot c.self.inside.slots.items c.self.inside.words.items c.args.segment c.self.invariant.all_words (rw c.self.view_is c.requires) in
-    let below = lt-of-taken c.self.inside.slots.items c.args.segment taken.0 taken.1 in (
-      (
-        refl,
-        λ w. rw (c.index-at.ensures, ← c.self.view_is, get_or-entries_of _ _ _ c.self.invariant.all_words, taken.1)
-            (rw taken.1 at (entries_of-set_words c.self.inside.slots.items c.self.inside.words.items c.args.segment w c.self.invariant.all_words)),
-      ),
-      record { lends = tt; value = rw (← c.self.view_is, get_or-entries_of _ _ _ c.self.invariant.all_words, taken.1) (rw c.index-at.ensures at c.index_mut.ensures.value ∙ get_or_default c.self.inside.words.items c.args.segment c.index_mut.result.now [] (omega (arith, below, c.self.invariant.all_words))) },
+    let r = c.self.inside in
+    let taken = rw (← c.self.view_is) at c.requires in
+    let is = rw c.index-at.ensures at c.get_mut.ensures.value in
+    let block = c.get_mut.result.now in (
+      (refl, λ w. rw (c.index-at.ensures, ← c.self.view_is) (entries-words r.cells.slots c.args.segment block w taken is)),
+      record { lends = tt; value = rw (← c.self.view_is) (c.words_mut.ensures.value ∙ sym (words_is r.cells.slots c.args.segment block taken is)) },
     )

@@ -1,0 +1,494 @@
+-- The end of a run: the first square of a ray that isn't opposing, found in a list and in a word.
+use Rattle.std.proofs.Common.{◌≡◌, ◌≢◌, ℕ, zero, suc, ◌+◌, ◌-◌, ◌*◌, ◌/◌, ◌%◌, ◌^◌, ◌<◌, ◌≤◌, Bool, true, false, cond, not, ◌&&◌, ◌||◌, eqb, ltb, nat_eq, List, [], ◌∷◌, ◌++◌, Some, None, unwrap_or, bit_and, bit_or, min, max, ◌⊎◌, inl, inr, refl, sym, ap, ap₂, subst, ◌∙◌, arith, w64, add-one}
+use Rattle.std.specs.Int.{bit_at}
+use Rattle.std.specs.List.{list_all}
+use Rattle.std.specs.Option.{option_map}
+use mir.Val.{bool_byte}
+use Rattle.std.proofs.lemmas.Bool.{eqb-true, ltb-true, eq-eqb, ne_eqb, and_from, cases_lt}
+use Rattle.std.proofs.lemmas.Bool.Decides.{eqb_tells}
+use Rattle.std.proofs.lemmas.Nat.{and_comm, and_le_l, le_or_l, div-add-mod', mod_below, one_shl, pow_pos, pow_below}
+use Rattle.std.proofs.lemmas.Nat.Bits.{and_pow, bit_at_and, bit_at_or, bit_at_not, bit_at-lt, bit_at-zero, bit_at-pow_same, bit_at-pow_other, bit_at_above, bit_at_ones, bit_at_ones_above, bit_at_cat_low, bit_at_cat_high, bit_at_mask_inside, bit_at_mask_below, same_from_bits_below}
+use Rattle.std.proofs.Math.Nat.{pow-suc, mul_comm}
+use Rattle.std.proofs.Math.Pow.{pow_mono}
+use Rattle.othello_board.specs.declared.cells.Cell.TheVariants.{Opp}
+use Rattle.othello_board.specs.Rules.{cell_at, led_by, outflanked, is_among}
+use Rattle.othello_board.specs.Words.{cells_of, bits_of}
+use Rattle.othello_board.proofs.BitLemmas.{apart, bit_at-bits_of, bits_of-append}
+use Rattle.othello_board.proofs.CellLemmas.{bit_cases, own_here, opp_here, empty_here}
+use Rattle.othello_board.proofs.ShiftLemmas.{both}
+use Rattle.othello_board.proofs.RayLemmas.{comes, ordered}
+
+-- ---- in a list
+
+abbrev set_in : ℕ → ℕ → Bool
+set_in word s = eqb (bit_at word s) 1
+
+-- a ray has a square that isn't opposing: those before the first one are
+pub record Stops (opp : ℕ) (ray : List ℕ) : Type 0 where
+  pub before : List ℕ
+  pub stop : ℕ
+  pub after : List ℕ
+  pub split : ray ≡ before ++ stop ∷ after
+  pub opposing : list_all (set_in opp) before ≡ true
+  pub other : bit_at opp stop ≡ 0
+
+stops_more : (opp s : ℕ) (more : List ℕ) → bit_at opp s ≡ 1 → (list_all (set_in opp) more ≡ true) ⊎ Stops opp more → (list_all (set_in opp) (s ∷ more) ≡ true) ⊎ Stops opp (s ∷ more)
+stops_more opp s more set (inl all) = inl (and_from (set_in opp s) (list_all (set_in opp) more) (eq-eqb (bit_at opp s) 1 set) all)
+stops_more opp s more set (inr st) = inr (record {
+  before = s ∷ st.before;
+  stop = st.stop;
+  after = st.after;
+  split = ap (λ l. s ∷ l) st.split;
+  opposing = and_from (set_in opp s) (list_all (set_in opp) st.before) (eq-eqb (bit_at opp s) 1 set) st.opposing;
+  other = st.other;
+})
+
+pub stops : (opp : ℕ) (ray : List ℕ) → (list_all (set_in opp) ray ≡ true) ⊎ Stops opp ray
+stops opp [] = inl refl
+stops opp (s ∷ more) =
+    elim (bit_cases (bit_at opp s) (bit_at-lt opp s)) [
+      | inl clear ↦ inr (record { before = []; stop = s; after = more; split = refl; opposing = refl; other = clear })
+      | inr set ↦ stops_more opp s more set (stops opp more)
+    ]
+
+opposing_cell : (own opp s : ℕ) → bit_and own opp ≡ 0 → ltb s 64 ≡ true → set_in opp s ≡ true → Opp ≡ cell_at (cells_of own opp) s
+opposing_cell own opp s disjoint below set =
+    let is_set : bit_at opp s ≡ 1 = eqb-true (bit_at opp s) 1 set in
+    opp_here own opp s (ltb-true s 64 below) (omega (arith, apart own opp s disjoint, bit_at-lt own s)) is_set
+
+-- what an order says of its first square
+pub record Leads (up : Bool) (s : ℕ) (more : List ℕ) : Type 0 where
+  pub below : ltb s 64 ≡ true
+  pub first : list_all (comes up s) more ≡ true
+  pub rest : ordered up more ≡ true
+
+leads : (up : Bool) (s : ℕ) (more : List ℕ) → ordered up (s ∷ more) ≡ true → Leads up s more
+leads up s more order =
+    let first = both (ltb s 64) (list_all (comes up s) more && ordered up more) order in
+    let second = both (list_all (comes up s) more) (ordered up more) first.1 in
+    record { below = first.0; first = second.0; rest = second.1 }
+
+-- a ray of opposing discs alone outflanks nothing
+pub outflanked_all : (up : Bool) (own opp : ℕ) (ray : List ℕ) → bit_and own opp ≡ 0 → ordered up ray ≡ true → list_all (set_in opp) ray ≡ true → outflanked (cells_of own opp) ray ≡ None
+outflanked_all up own opp [] disjoint order all = refl
+outflanked_all up own opp (s ∷ more) disjoint order all =
+    let h = leads up s more order in
+    let parts = both (set_in opp s) (list_all (set_in opp) more) all in
+    ap₂ (λ c o. led_by c s o) (sym (opposing_cell own opp s disjoint h.below parts.0)) (outflanked_all up own opp more disjoint h.rest parts.1)
+
+-- else the squares before the stop are outflanked, where an own disc stands there
+longer : (s : ℕ) (before : List ℕ) (t : Bool) → option_map (λ run. s ∷ run) (cond t (Some before) None) ≡ cond t (Some (s ∷ before)) None
+longer s before true = refl
+longer s before false = refl
+
+pub outflanked_stop : (up : Bool) (own opp : ℕ) (before : List ℕ) (stop : ℕ) (after : List ℕ) → bit_and own opp ≡ 0 → ordered up (before ++ stop ∷ after) ≡ true
+    → list_all (set_in opp) before ≡ true → bit_at opp stop ≡ 0 → outflanked (cells_of own opp) (before ++ stop ∷ after) ≡ cond (set_in own stop) (Some before) None
+outflanked_stop up own opp [] stop after disjoint order all other =
+    let below = ltb-true stop 64 (leads up stop after order).below in
+    let beyond = outflanked (cells_of own opp) after in
+    elim (bit_cases (bit_at own stop) (bit_at-lt own stop)) [
+      | inl clear ↦
+          ap (λ c. led_by c stop beyond) (sym (empty_here own opp stop below clear other))
+          ∙ ap (λ b. cond (eqb b 1) (Some []) None) (sym clear)
+      | inr set ↦
+          ap (λ c. led_by c stop beyond) (sym (own_here own opp stop below set))
+          ∙ ap (λ b. cond (eqb b 1) (Some []) None) (sym set)
+    ]
+outflanked_stop up own opp (s ∷ before) stop after disjoint order all other =
+    let h = leads up s (before ++ stop ∷ after) order in
+    let parts = both (set_in opp s) (list_all (set_in opp) before) all in
+    ap₂ (λ c o. led_by c s o) (sym (opposing_cell own opp s disjoint h.below parts.0)) (outflanked_stop up own opp before stop after disjoint h.rest parts.1 other)
+    ∙ longer s before (set_in own stop)
+
+-- ---- from a list to its word
+
+among_all : (p : ℕ → Bool) (xs : List ℕ) (i : ℕ) → list_all p xs ≡ true → is_among i xs ≡ true → p i ≡ true
+among_all p [] i all among = cc
+among_all p (x ∷ xs) i all among =
+    let parts = both (p x) (list_all p xs) all in
+    elim (eqb_tells x i) [
+      | inl same ↦ ap p (sym same.1) ∙ parts.0
+      | inr other ↦ among_all p xs i parts.1 (sym (ap (λ b. b || is_among i xs) other.0) ∙ among)
+    ]
+
+one_cond : (b : Bool) (n : ℕ) → n ≡ cond b 1 0 → n ≡ 1 → b ≡ true
+one_cond true n e h = refl
+one_cond false n e h = absurd (omega arith)
+
+-- a set bit is that of a square of the list
+pub bits_all : (p : ℕ → Bool) (xs : List ℕ) (i : ℕ) → list_all p xs ≡ true → bit_at (bits_of xs) i ≡ 1 → p i ≡ true
+bits_all p xs i all set = among_all p xs i all (one_cond (is_among i xs) (bit_at (bits_of xs) i) (bit_at-bits_of xs i) set)
+
+all_middle : (p : ℕ → Bool) (xs : List ℕ) (x : ℕ) (ys : List ℕ) → list_all p (xs ++ x ∷ ys) ≡ true → p x ≡ true
+all_middle p [] x ys all = (both (p x) (list_all p ys) all).0
+all_middle p (y ∷ xs) x ys all = all_middle p xs x ys (both (p y) (list_all p (xs ++ x ∷ ys)) all).1
+
+-- around the stop
+pub record Around (up : Bool) (before : List ℕ) (stop : ℕ) (after : List ℕ) : Type 0 where
+  pub below : stop < 64
+  pub earlier : list_all (λ s. comes up s stop) before ≡ true
+  pub later : list_all (comes up stop) after ≡ true
+
+pub around : (up : Bool) (before : List ℕ) (stop : ℕ) (after : List ℕ) → ordered up (before ++ stop ∷ after) ≡ true → Around up before stop after
+around up [] stop after order =
+    let h = leads up stop after order in
+    record { below = ltb-true stop 64 h.below; earlier = refl; later = h.first }
+around up (s ∷ before) stop after order =
+    let h = leads up s (before ++ stop ∷ after) order in
+    let more = around up before stop after h.rest in
+    record {
+      below = more.below;
+      earlier = and_from (comes up s stop) (list_all (λ t. comes up t stop) before) (all_middle (comes up s) before stop after h.first) more.earlier;
+      later = more.later;
+    }
+
+-- ---- in a word
+
+pow_twice : (k : ℕ) → 2 ^ (k + 1) ≡ 2 * 2 ^ k
+pow_twice k = ap (λ m. 2 ^ m) (add-one k) ∙ pow-suc 2 k ∙ mul_comm (2 ^ k) 2
+
+-- a number and its negation share just the lowest bit
+and_negated-by : (x k neg : ℕ) → x < 2 ^ 64 → k < 64 → bit_at x k ≡ 1 → ((i : ℕ) → i < k → bit_at x i ≡ 0) → neg ≡ (2 ^ 64 - 1 - x) + 1 → (i : ℕ) → i < 64 → bit_at (bit_and x neg) i ≡ bit_at (2 ^ k) i
+and_negated-by x k neg fits k_below set lower is i below =
+    let nx = 2 ^ 64 - 1 - x in
+    let b = nx / 2 ^ (k + 1) in
+    let inverse : (j : ℕ) → j < 64 → bit_at nx j ≡ 1 - bit_at x j = λ j j_below. bit_at_not w64 x j fits j_below in
+    let whole : nx ≡ b * 2 ^ (k + 1) + nx % 2 ^ (k + 1) = sym (div-add-mod' nx (2 ^ (k + 1))) in
+    let mod_fits : nx % 2 ^ (k + 1) < 2 ^ (k + 1) = mod_below nx (2 ^ (k + 1)) (pow_pos (k + 1)) in
+    let ones_fit : 2 ^ k - 1 < 2 ^ (k + 1) = omega (arith, pow_pos k, pow_twice k) in
+    let pow_fits : 2 ^ k < 2 ^ (k + 1) = omega (arith, pow_pos k, pow_twice k) in
+    let low : nx % 2 ^ (k + 1) ≡ 2 ^ k - 1 =
+    same_from_bits_below (k + 1) (nx % 2 ^ (k + 1)) (2 ^ k - 1) mod_fits ones_fit (λ j j_below.
+    sym (ap (λ n. bit_at n j) whole ∙ bit_at_cat_low b (k + 1) (nx % 2 ^ (k + 1)) j j_below)
+    ∙ inverse j (omega arith)
+    ∙ low_bit j j_below) in
+    let neg_is : neg ≡ b * 2 ^ (k + 1) + 2 ^ k = omega (arith, is, whole, low, pow_pos k) in
+    let nx_is : nx ≡ b * 2 ^ (k + 1) + (2 ^ k - 1) = whole ∙ ap (λ m. b * 2 ^ (k + 1) + m) low in
+    bit_at_and x neg i
+    ∙ elim (order i k) [
+      | inl lower_bit ↦ omega (arith, lower i lower_bit, bit_at-pow_other k i (λ e. omega arith))
+      | inr rest ↦ elim rest [
+        | inl same ↦
+            let here : bit_at neg i ≡ 1 = ap₂ bit_at neg_is same ∙ bit_at_cat_low b (k + 1) (2 ^ k) k (omega arith) ∙ bit_at-pow_same k in
+            let there : bit_at x i ≡ 1 = ap (bit_at x) same ∙ set in
+            omega (arith, here, there, ap (bit_at (2 ^ k)) same ∙ bit_at-pow_same k)
+        | inr above ↦
+            let here : bit_at neg i ≡ bit_at nx i =
+            ap (λ n. bit_at n i) neg_is ∙ bit_at_cat_high b (k + 1) (2 ^ k) i pow_fits (omega arith)
+            ∙ sym (ap (λ n. bit_at n i) nx_is ∙ bit_at_cat_high b (k + 1) (2 ^ k - 1) i ones_fit (omega arith)) in
+            omega (arith, here, inverse i below, bit_at-lt x i, bit_at-pow_other k i (λ e. omega arith))
+      ]
+    ]
+  where
+    order : (i k : ℕ) → (i < k) ⊎ ((i ≡ k) ⊎ (k < i))
+    order i k = grind arith
+
+    low_bit : (j : ℕ) → j < k + 1 → 1 - bit_at x j ≡ bit_at (2 ^ k - 1) j
+    low_bit j below =
+        elim (eqb_tells j k) [
+          | inl same ↦
+              let is_set : bit_at x j ≡ 1 = ap (bit_at x) same.1 ∙ set in
+              let above : bit_at (2 ^ k - 1) j ≡ 0 = bit_at_ones_above k j (omega (arith, same.1)) in
+              omega (arith, is_set, above)
+          | inr other ↦
+              let under : j < k = omega (arith, other.1) in
+              omega (arith, lower j under, bit_at_ones k j under)
+        ]
+
+pub and_negated : (x k neg : ℕ) → x < 2 ^ 64 → k < 64 → bit_at x k ≡ 1 → ((i : ℕ) → i < k → bit_at x i ≡ 0) → neg < 2 ^ 64 → (neg + x) % 2 ^ 64 ≡ 0 → bit_and x neg ≡ 2 ^ k
+and_negated x k neg fits k_below set lower neg_fits is =
+    let some : 0 < x = positive x set in
+    same_from_bits_below 64 (bit_and x neg) (2 ^ k) (omega (arith, and_le_l x neg)) (pow_below k 64 k_below)
+    (and_negated-by x k neg fits k_below set lower (omega arith))
+  where
+    positive : (x : ℕ) → bit_at x k ≡ 1 → 0 < x
+    positive zero e = absurd (omega (arith, e, bit_at-zero k))
+    positive (suc x) e = omega arith
+
+-- the highest bit of a number between two powers
+pub highest : (y k : ℕ) → 2 ^ k ≤ y → y < 2 * 2 ^ k → bit_at y k ≡ 1
+highest y k low high =
+    let split : y ≡ 1 * 2 ^ k + (y - 2 ^ k) = omega arith in
+    let none : k - k ≡ 0 = omega arith in
+    ap (λ n. bit_at n k) split ∙ bit_at_cat_high 1 k (y - 2 ^ k) k (omega arith) (omega arith) ∙ ap (bit_at 1) none
+
+pub highest_is : (y k stop : ℕ) → 2 ^ k ≤ y → y < 2 * 2 ^ k → bit_at y stop ≡ 1 → ((i : ℕ) → stop < i → bit_at y i ≡ 0) → k ≡ stop
+highest_is y k stop low high set above =
+    elim (eqb_tells k stop) [
+      | inl same ↦ same.1
+      | inr other ↦ absurd (elim (order k stop other.1) [
+        | inl under ↦ omega (arith, set, bit_at_above y (k + 1) stop (omega (arith, pow_twice k)) (omega arith))
+        | inr over ↦ omega (arith, highest y k low high, above k over)
+      ])
+    ]
+  where
+    order : (a b : ℕ) → (a ≡ b → ⊥) → (a < b) ⊎ (b < a)
+    order a b ne = grind arith
+
+-- ---- the run of a ray with a stop: the words of the squares before it and after it, bit by bit
+
+abbrev joined : ℕ → ℕ → ℕ → ℕ
+joined before stop after = bit_or before (bit_or (2 ^ stop) after)
+
+joined_bit : (before stop after i : ℕ) → bit_at (joined before stop after) i ≡ max (bit_at before i) (max (bit_at (2 ^ stop) i) (bit_at after i))
+joined_bit before stop after i = bit_at_or before (bit_or (2 ^ stop) after) i ∙ ap (max (bit_at before i)) (bit_at_or (2 ^ stop) after i)
+
+clear_bit : (n i : ℕ) → (bit_at n i ≡ 1 → ⊥) → bit_at n i ≡ 0
+clear_bit n i denied = elim (bit_cases (bit_at n i) (bit_at-lt n i)) [ inl clear ↦ clear | inr set ↦ absurd (denied set) ]
+
+-- those that aren't opposing
+other_bit : (ray opp i : ℕ) → opp < 2 ^ 64 → i < 64 → bit_at (bit_and ray (2 ^ 64 - 1 - opp)) i ≡ min (bit_at ray i) (1 - bit_at opp i)
+other_bit ray opp i fits below = bit_at_and ray (2 ^ 64 - 1 - opp) i ∙ ap (min (bit_at ray i)) (bit_at_not w64 opp i fits below)
+
+stop_bit : (before stop after opp : ℕ) → opp < 2 ^ 64 → stop < 64 → bit_at opp stop ≡ 0 → bit_at (bit_and (joined before stop after) (2 ^ 64 - 1 - opp)) stop ≡ 1
+stop_bit before stop after opp fits below other =
+    let here = joined_bit before stop after stop in
+    let whole = other_bit (joined before stop after) opp stop fits below in
+    omega (arith, here, whole, bit_at-pow_same stop, bit_at-lt before stop, bit_at-lt after stop)
+
+before_bit : (before stop after opp i : ℕ) → opp < 2 ^ 64 → i < 64 → (bit_at before i ≡ 1 → bit_at opp i ≡ 1) → bit_at after i ≡ 0 → i ≢ stop → bit_at (bit_and (joined before stop after) (2 ^ 64 - 1 - opp)) i ≡ 0
+before_bit before stop after opp i fits below opposing no_after other =
+    let here = joined_bit before stop after i in
+    let whole = other_bit (joined before stop after) opp i fits below in
+    let apart = bit_at-pow_other stop i other in
+    elim (bit_cases (bit_at before i) (bit_at-lt before i)) [
+      | inl clear ↦ omega (arith, here, whole, apart)
+      | inr set ↦ omega (arith, here, whole, apart, opposing set)
+    ]
+
+own_end : (own stop : ℕ) → bit_and (2 ^ stop) own ≡ bit_at own stop * 2 ^ stop
+own_end own stop = and_comm (2 ^ stop) own ∙ and_pow own stop
+
+and_none : (n m : ℕ) → m ≡ 0 → bit_and n m ≡ 0
+and_none n m none = ap (bit_and n) none ∙ and_comm n 0
+
+-- rising: the bits below the end
+rising_kept : (before stop after : ℕ) → joined before stop after < 2 ^ 64 → stop < 64 → ((i : ℕ) → bit_at before i ≡ 1 → i < stop) → ((i : ℕ) → bit_at after i ≡ 1 → stop < i)
+    → bit_and (joined before stop after) (2 ^ stop - 1) ≡ before
+rising_kept before stop after fits stop_below under over =
+    same_from_bits_below 64 _ _ (omega (arith, and_le_l (joined before stop after) (2 ^ stop - 1))) (omega (arith, le_or_l before (bit_or (2 ^ stop) after))) (λ i below.
+    let here = joined_bit before stop after i in
+    bit_at_and (joined before stop after) (2 ^ stop - 1) i
+    ∙ elim (cases_lt i stop) [
+      | inl low ↦
+          let no_after = clear_bit after i (λ set. omega (arith, over i set)) in
+          let no_stop = bit_at-pow_other stop i (λ e. omega arith) in
+          omega (arith, here, no_after, no_stop, bit_at_ones stop i low, bit_at-lt before i)
+      | inr high ↦
+          let no_before = clear_bit before i (λ set. omega (arith, under i set)) in
+          omega (arith, no_before, bit_at_ones_above stop i high)
+    ])
+
+rising_end : (ray before stop own_bit end from : ℕ) → stop < 64 → own_bit < 2 → end ≡ own_bit * 2 ^ stop → from ≡ bool_byte (not (nat_eq end 0)) → bit_and ray (2 ^ stop - 1) ≡ before
+    → bit_and ray ((end + (2 ^ 64 - from)) % 2 ^ 64) ≡ cond (eqb own_bit 1) before 0
+rising_end ray before stop zero end from below few is test kept =
+    let none : end ≡ 0 = omega (arith, is) in
+    let step : from ≡ 0 = test ∙ ap (λ n. bool_byte (not (nat_eq n 0))) none in
+    and_none ray ((end + (2 ^ 64 - from)) % 2 ^ 64) (omega (arith, none, step))
+rising_end ray before stop (suc zero) end from below few is test kept =
+    let one : end ≡ 2 ^ stop = omega (arith, is) in
+    let some : end ≢ 0 = λ none. omega (arith, one, pow_pos stop) in
+    let step : from ≡ 1 = test ∙ ap (λ b. bool_byte (not b)) (ne_eqb end 0 some) in
+    ap (bit_and ray) (omega (arith, one, step, pow_pos stop, pow_below stop 64 below)) ∙ kept
+rising_end ray before stop (suc (suc n)) end from below few is test kept = absurd (omega arith)
+
+pub rising_run : (own opp before stop after neg from : ℕ) → joined before stop after < 2 ^ 64 → opp < 2 ^ 64 → stop < 64 → bit_at opp stop ≡ 0
+    → ((i : ℕ) → bit_at before i ≡ 1 → bit_at opp i ≡ 1) → ((i : ℕ) → bit_at before i ≡ 1 → i < stop) → ((i : ℕ) → bit_at after i ≡ 1 → stop < i)
+    → neg < 2 ^ 64 → (neg + bit_and (joined before stop after) (2 ^ 64 - 1 - opp)) % 2 ^ 64 ≡ 0
+    → from ≡ bool_byte (not (nat_eq (bit_and (bit_and (bit_and (joined before stop after) (2 ^ 64 - 1 - opp)) neg) own) 0))
+    → bit_and (joined before stop after) ((bit_and (bit_and (bit_and (joined before stop after) (2 ^ 64 - 1 - opp)) neg) own + (2 ^ 64 - from)) % 2 ^ 64) ≡ cond (set_in own stop) before 0
+rising_run own opp before stop after neg from fits opp_fits below other opposing under over neg_fits negated test =
+    let ray = joined before stop after in
+    let others = bit_and ray (2 ^ 64 - 1 - opp) in
+    let lowest : bit_and others neg ≡ 2 ^ stop =
+    and_negated others stop neg (omega (arith, and_le_l ray (2 ^ 64 - 1 - opp))) below (stop_bit before stop after opp opp_fits below other)
+    (λ i low. before_bit before stop after opp i opp_fits (omega arith) (opposing i) (clear_bit after i (λ set. omega (arith, over i set))) (λ e. omega arith))
+    neg_fits negated in
+    rising_end ray before stop (bit_at own stop) (bit_and (bit_and others neg) own) from below (bit_at-lt own stop)
+    (ap (λ n. bit_and n own) lowest ∙ own_end own stop) test (rising_kept before stop after fits below under over)
+
+-- falling: the bits above the end
+falling_kept : (before stop after : ℕ) → joined before stop after < 2 ^ 64 → stop < 64 → ((i : ℕ) → bit_at before i ≡ 1 → stop < i) → ((i : ℕ) → bit_at after i ≡ 1 → i < stop)
+    → bit_and (joined before stop after) (2 ^ 64 - 2 ^ (stop + 1)) ≡ before
+falling_kept before stop after fits stop_below over under =
+    same_from_bits_below 64 _ _ (omega (arith, and_le_l (joined before stop after) (2 ^ 64 - 2 ^ (stop + 1)))) (omega (arith, le_or_l before (bit_or (2 ^ stop) after))) (λ i below.
+    let here = joined_bit before stop after i in
+    bit_at_and (joined before stop after) (2 ^ 64 - 2 ^ (stop + 1)) i
+    ∙ elim (cases_lt stop i) [
+      | inl high ↦
+          let no_after = clear_bit after i (λ set. omega (arith, under i set)) in
+          let no_stop = bit_at-pow_other stop i (λ e. omega arith) in
+          omega (arith, here, no_after, no_stop, bit_at_mask_inside (stop + 1) 64 i (omega arith) below, bit_at-lt before i)
+      | inr low ↦
+          let no_before = clear_bit before i (λ set. omega (arith, over i set)) in
+          omega (arith, no_before, bit_at_mask_below (stop + 1) 64 i (omega arith))
+    ])
+
+pow_most : (stop : ℕ) → stop < 64 → 2 ^ (stop + 1) ≤ 2 ^ 64
+pow_most stop below = omega (arith, pow_twice stop, pow_half stop below)
+  where
+    pow_half : (k : ℕ) → k < 64 → 2 ^ k ≤ 2 ^ 63
+    pow_half k below = let most : k ≤ 63 = omega arith in pow_mono most
+
+falling_end : (ray before stop own_bit end neg : ℕ) → stop < 64 → own_bit < 2 → end ≡ own_bit * 2 ^ stop → neg < 2 ^ 64 → (neg + end) % 2 ^ 64 ≡ 0 → bit_and ray (2 ^ 64 - 2 ^ (stop + 1)) ≡ before
+    → bit_and ray (neg * 2 % 2 ^ 64) ≡ cond (eqb own_bit 1) before 0
+falling_end ray before stop zero end neg below few is fits negated kept =
+    let none : neg ≡ 0 = omega (arith, is, negated) in
+    and_none ray (neg * 2 % 2 ^ 64) (omega (arith, none))
+falling_end ray before stop (suc zero) end neg below few is fits negated kept =
+    let one : end ≡ 2 ^ stop = omega (arith, is) in
+    let rest : neg ≡ 2 ^ 64 - 2 ^ stop = omega (arith, one, negated, pow_pos stop, pow_below stop 64 below) in
+    ap (bit_and ray) (omega (arith, rest, pow_twice stop, pow_pos stop, pow_most stop below)) ∙ kept
+falling_end ray before stop (suc (suc n)) end neg below few is fits negated kept = absurd (omega arith)
+
+pub falling_run : (own opp before stop after k neg : ℕ) → joined before stop after < 2 ^ 64 → opp < 2 ^ 64 → stop < 64 → bit_at opp stop ≡ 0
+    → ((i : ℕ) → bit_at before i ≡ 1 → bit_at opp i ≡ 1) → ((i : ℕ) → bit_at before i ≡ 1 → stop < i) → ((i : ℕ) → bit_at after i ≡ 1 → i < stop)
+    → 2 ^ k ≤ bit_or (bit_and (joined before stop after) (2 ^ 64 - 1 - opp)) 1 → bit_or (bit_and (joined before stop after) (2 ^ 64 - 1 - opp)) 1 < 2 * 2 ^ k
+    → neg < 2 ^ 64 → (neg + bit_and (bit_and (1 * 2 ^ k % 2 ^ 64) (joined before stop after)) own) % 2 ^ 64 ≡ 0
+    → bit_and (joined before stop after) (neg * 2 % 2 ^ 64) ≡ cond (set_in own stop) before 0
+falling_run own opp before stop after k neg fits opp_fits below other opposing over under low high neg_fits negated =
+    let ray = joined before stop after in
+    let others = bit_and ray (2 ^ 64 - 1 - opp) in
+    let set = stop_bit before stop after opp opp_fits below other in
+    let k_is : k ≡ stop =
+    highest_is (bit_or others 1) k stop low high
+    (bit_at_or others 1 stop ∙ omega (arith, set, bit_at-lt 1 stop))
+    (λ i above.
+    let none : bit_at others i ≡ 0 = elim (cases_lt i 64) [
+      | inl i_below ↦ before_bit before stop after opp i opp_fits i_below (opposing i) (clear_bit after i (λ there. omega (arith, under i there))) (λ e. omega arith)
+      | inr beyond ↦ bit_at_above others 64 i (omega (arith, and_le_l ray (2 ^ 64 - 1 - opp))) beyond
+    ] in
+    bit_at_or others 1 i ∙ omega (arith, none, bit_at_above 1 1 i (omega arith) (omega arith))) in
+    let there : bit_at ray stop ≡ 1 = joined_bit before stop after stop ∙ omega (arith, bit_at-pow_same stop, bit_at-lt before stop, bit_at-lt after stop) in
+    let one : bit_and (1 * 2 ^ k % 2 ^ 64) ray ≡ 2 ^ stop =
+    ap (λ n. bit_and n ray) (one_shl k 64 (omega (arith, k_is)) ∙ ap (λ n. 2 ^ n) k_is) ∙ own_end ray stop ∙ omega (arith, ap (λ b. b * 2 ^ stop) there) in
+    falling_end ray before stop (bit_at own stop) (bit_and (bit_and (1 * 2 ^ k % 2 ^ 64) ray) own) neg below (bit_at-lt own stop)
+    (ap (λ n. bit_and n own) one ∙ own_end own stop) neg_fits negated (falling_kept before stop after fits below over under)
+
+-- ---- a ray of opposing discs alone
+
+nothing_other : (ray opp : ℕ) → ray < 2 ^ 64 → opp < 2 ^ 64 → ((i : ℕ) → bit_at ray i ≡ 1 → bit_at opp i ≡ 1) → bit_and ray (2 ^ 64 - 1 - opp) ≡ 0
+nothing_other ray opp fits opp_fits all =
+    same_from_bits_below 64 _ _ (omega (arith, and_le_l ray (2 ^ 64 - 1 - opp))) (pow_pos 64) (λ i below.
+    other_bit ray opp i opp_fits below
+    ∙ elim (bit_cases (bit_at ray i) (bit_at-lt ray i)) [
+      | inl clear ↦ omega (arith, clear, bit_at-zero i)
+      | inr set ↦ omega (arith, all i set, bit_at-zero i)
+    ])
+
+pub rising_none : (own opp ray neg from : ℕ) → ray < 2 ^ 64 → opp < 2 ^ 64 → ((i : ℕ) → bit_at ray i ≡ 1 → bit_at opp i ≡ 1)
+    → from ≡ bool_byte (not (nat_eq (bit_and (bit_and (bit_and ray (2 ^ 64 - 1 - opp)) neg) own) 0))
+    → bit_and ray ((bit_and (bit_and (bit_and ray (2 ^ 64 - 1 - opp)) neg) own + (2 ^ 64 - from)) % 2 ^ 64) ≡ 0
+rising_none own opp ray neg from fits opp_fits all test =
+    let none : bit_and (bit_and (bit_and ray (2 ^ 64 - 1 - opp)) neg) own ≡ 0 = ap (λ n. bit_and (bit_and n neg) own) (nothing_other ray opp fits opp_fits all) in
+    let step : from ≡ 0 = test ∙ ap (λ n. bool_byte (not (nat_eq n 0))) none in
+    and_none ray _ (omega (arith, none, step))
+
+pub falling_none : (own opp ray k neg : ℕ) → ray < 2 ^ 64 → opp < 2 ^ 64 → bit_and own opp ≡ 0 → ((i : ℕ) → bit_at ray i ≡ 1 → bit_at opp i ≡ 1)
+    → 2 ^ k ≤ bit_or (bit_and ray (2 ^ 64 - 1 - opp)) 1 → bit_or (bit_and ray (2 ^ 64 - 1 - opp)) 1 < 2 * 2 ^ k
+    → neg < 2 ^ 64 → (neg + bit_and (bit_and (1 * 2 ^ k % 2 ^ 64) ray) own) % 2 ^ 64 ≡ 0
+    → bit_and ray (neg * 2 % 2 ^ 64) ≡ 0
+falling_none own opp ray k neg fits opp_fits disjoint all low high neg_fits negated =
+    let one : bit_or (bit_and ray (2 ^ 64 - 1 - opp)) 1 ≡ 1 = ap (λ n. bit_or n 1) (nothing_other ray opp fits opp_fits all) in
+    let k_is : k ≡ 0 = highest_is (bit_or (bit_and ray (2 ^ 64 - 1 - opp)) 1) k 0 low high (ap (λ n. bit_at n 0) one) (λ i above. ap (λ n. bit_at n i) one ∙ bit_at_above 1 1 i (omega arith) (omega arith)) in
+    let end : bit_and (bit_and (1 * 2 ^ k % 2 ^ 64) ray) own ≡ 0 = ap (λ n. bit_and (bit_and (1 * 2 ^ n % 2 ^ 64) ray) own) k_is ∙ ap (λ n. bit_and n own) (own_end ray 0) ∙ by_bit (bit_cases (bit_at ray 0) (bit_at-lt ray 0)) in
+    let none : neg ≡ 0 = omega (arith, end, negated) in
+    and_none ray _ (omega (arith, none))
+  where
+    by_bit : (bit_at ray 0 ≡ 0) ⊎ (bit_at ray 0 ≡ 1) → bit_and (bit_at ray 0 * 2 ^ 0) own ≡ 0
+    by_bit (inl clear) = ap (λ b. bit_and (b * 2 ^ 0) own) clear
+    by_bit (inr set) = ap (λ b. bit_and (b * 2 ^ 0) own) set ∙ own_end own 0 ∙ omega (arith, apart own opp 0 disjoint, all 0 set, bit_at-lt own 0)
+
+-- ---- a run, by its ray
+
+at_least : (own : ℕ) (before : List ℕ) (t : Bool) → bits_of (unwrap_or (cond t (Some before) None) []) ≡ cond t (bits_of before) 0
+at_least own before true = refl
+at_least own before false = refl
+
+-- what the words of a ray's parts say
+pub record Parts (opp : ℕ) (up : Bool) (ray : List ℕ) : Type 0 where
+  pub before : List ℕ
+  pub stop : ℕ
+  pub after : List ℕ
+  pub word : bits_of ray ≡ joined (bits_of before) stop (bits_of after)
+  pub below : stop < 64
+  pub other : bit_at opp stop ≡ 0
+  pub opposing : (i : ℕ) → bit_at (bits_of before) i ≡ 1 → bit_at opp i ≡ 1
+  pub earlier : (i : ℕ) → bit_at (bits_of before) i ≡ 1 → comes up i stop ≡ true
+  pub later : (i : ℕ) → bit_at (bits_of after) i ≡ 1 → comes up stop i ≡ true
+  pub run : (own : ℕ) → bit_and own opp ≡ 0 → bits_of (unwrap_or (outflanked (cells_of own opp) ray) []) ≡ cond (set_in own stop) (bits_of before) 0
+
+parts_of : (opp : ℕ) (up : Bool) (ray : List ℕ) → ordered up ray ≡ true → Stops opp ray → Parts opp up ray
+parts_of opp up ray order st =
+    let here : ordered up (st.before ++ st.stop ∷ st.after) ≡ true = ap (ordered up) (sym st.split) ∙ order in
+    let h = around up st.before st.stop st.after here in
+    record {
+      before = st.before;
+      stop = st.stop;
+      after = st.after;
+      word = ap bits_of st.split ∙ bits_of-append st.before (st.stop ∷ st.after);
+      below = h.below;
+      other = st.other;
+      opposing = λ i set. eqb-true (bit_at opp i) 1 (bits_all (set_in opp) st.before i st.opposing set);
+      earlier = λ i set. bits_all (λ s. comes up s st.stop) st.before i h.earlier set;
+      later = λ i set. bits_all (comes up st.stop) st.after i h.later set;
+      run = λ own disjoint.
+          ap (λ l. bits_of (unwrap_or (outflanked (cells_of own opp) l) [])) st.split
+          ∙ ap (λ o. bits_of (unwrap_or o [])) (outflanked_stop up own opp st.before st.stop st.after disjoint here st.opposing st.other)
+          ∙ at_least own st.before (set_in own st.stop);
+    }
+
+-- a ray of opposing discs alone, or one with a stop
+pub record Whole (opp : ℕ) (ray : List ℕ) : Type 0 where
+  pub opposing : (i : ℕ) → bit_at (bits_of ray) i ≡ 1 → bit_at opp i ≡ 1
+  pub run : (own : ℕ) → bit_and own opp ≡ 0 → bits_of (unwrap_or (outflanked (cells_of own opp) ray) []) ≡ 0
+
+pub whole_or_parts : (opp : ℕ) (up : Bool) (ray : List ℕ) → ordered up ray ≡ true → Whole opp ray ⊎ Parts opp up ray
+whole_or_parts opp up ray order =
+    elim (stops opp ray) [
+      | inl all ↦ inl (record {
+        opposing = λ i set. eqb-true (bit_at opp i) 1 (bits_all (set_in opp) ray i all set);
+        run = λ own disjoint. ap (λ o. bits_of (unwrap_or o [])) (outflanked_all up own opp ray disjoint order all);
+      })
+      | inr st ↦ inr (parts_of opp up ray order st)
+    ]
+
+-- what the code computes where a ray rises, and where it falls
+abbrev pub rising_word : ℕ → ℕ → ℕ → ℕ → ℕ → ℕ
+rising_word own opp ray neg from = bit_and ray ((bit_and (bit_and (bit_and ray (2 ^ 64 - 1 - opp)) neg) own + (2 ^ 64 - from)) % 2 ^ 64)
+
+pub rising : (own opp ray neg from : ℕ) (squares : List ℕ) → ray ≡ bits_of squares → ordered true squares ≡ true → ray < 2 ^ 64 → opp < 2 ^ 64 → bit_and own opp ≡ 0
+    → neg < 2 ^ 64 → (neg + bit_and ray (2 ^ 64 - 1 - opp)) % 2 ^ 64 ≡ 0
+    → from ≡ bool_byte (not (nat_eq (bit_and (bit_and (bit_and ray (2 ^ 64 - 1 - opp)) neg) own) 0))
+    → rising_word own opp ray neg from ≡ bits_of (unwrap_or (outflanked (cells_of own opp) squares) [])
+rising own opp ray neg from squares is order fits opp_fits disjoint neg_fits negated test =
+    elim (whole_or_parts opp true squares order) [
+      | inl w ↦ rising_none own opp ray neg from fits opp_fits (λ i set. w.opposing i (ap (λ n. bit_at n i) (sym is) ∙ set)) test ∙ sym (w.run own disjoint)
+      | inr p ↦
+          let word : ray ≡ joined (bits_of p.before) p.stop (bits_of p.after) = is ∙ p.word in
+          let word_fits : joined (bits_of p.before) p.stop (bits_of p.after) < 2 ^ 64 = omega (arith, word) in
+          ap (λ r. rising_word own opp r neg from) word
+          ∙ rising_run own opp (bits_of p.before) p.stop (bits_of p.after) neg from word_fits opp_fits p.below p.other p.opposing
+          (λ i set. ltb-true i p.stop (p.earlier i set)) (λ i set. ltb-true p.stop i (p.later i set)) neg_fits
+          (ap (λ r. (neg + bit_and r (2 ^ 64 - 1 - opp)) % 2 ^ 64) (sym word) ∙ negated)
+          (test ∙ ap (λ r. bool_byte (not (nat_eq (bit_and (bit_and (bit_and r (2 ^ 64 - 1 - opp)) neg) own) 0))) word)
+          ∙ sym (p.run own disjoint)
+    ]
+
+pub falling : (own opp ray k neg : ℕ) (squares : List ℕ) → ray ≡ bits_of squares → ordered false squares ≡ true → ray < 2 ^ 64 → opp < 2 ^ 64 → bit_and own opp ≡ 0
+    → 2 ^ k ≤ bit_or (bit_and ray (2 ^ 64 - 1 - opp)) 1 → bit_or (bit_and ray (2 ^ 64 - 1 - opp)) 1 < 2 * 2 ^ k
+    → neg < 2 ^ 64 → (neg + bit_and (bit_and (1 * 2 ^ k % 2 ^ 64) ray) own) % 2 ^ 64 ≡ 0
+    → bit_and ray (neg * 2 % 2 ^ 64) ≡ bits_of (unwrap_or (outflanked (cells_of own opp) squares) [])
+falling own opp ray k neg squares is order fits opp_fits disjoint low high neg_fits negated =
+    elim (whole_or_parts opp false squares order) [
+      | inl w ↦ falling_none own opp ray k neg fits opp_fits disjoint (λ i set. w.opposing i (ap (λ n. bit_at n i) (sym is) ∙ set)) low high neg_fits negated ∙ sym (w.run own disjoint)
+      | inr p ↦
+          let word : ray ≡ joined (bits_of p.before) p.stop (bits_of p.after) = is ∙ p.word in
+          let word_fits : joined (bits_of p.before) p.stop (bits_of p.after) < 2 ^ 64 = omega (arith, word) in
+          let others : bit_or (bit_and ray (2 ^ 64 - 1 - opp)) 1 ≡ bit_or (bit_and (joined (bits_of p.before) p.stop (bits_of p.after)) (2 ^ 64 - 1 - opp)) 1 = ap (λ r. bit_or (bit_and r (2 ^ 64 - 1 - opp)) 1) word in
+          ap (λ r. bit_and r (neg * 2 % 2 ^ 64)) word
+          ∙ falling_run own opp (bits_of p.before) p.stop (bits_of p.after) k neg word_fits opp_fits p.below p.other p.opposing
+          (λ i set. ltb-true p.stop i (p.earlier i set)) (λ i set. ltb-true i p.stop (p.later i set)) (subst (λ n. 2 ^ k ≤ n) others low) (subst (λ n. n < 2 * 2 ^ k) others high) neg_fits
+          (ap (λ r. (neg + bit_and (bit_and (1 * 2 ^ k % 2 ^ 64) r) own) % 2 ^ 64) (sym word) ∙ negated)
+          ∙ sym (p.run own disjoint)
+    ]

@@ -1,0 +1,11 @@
+use Rattle.std.proofs.Common.{bit_or, arith}
+use Rattle.std.proofs.lemmas.Bool.{eqb-true, eq-eqb}
+use Rattle.othello_board.specs.Words.{cells}
+use Rattle.othello_moves.proofs.OrderLemmas.{over_exactly}
+use Rattle.othello_moves.proofs.mobility.Mobility.is_over.Goals as goal
+
+pub returns : goal.returns
+returns c =
+    let m = c.args.self in
+    let exactly = over_exactly (cells m.board) m.own m.opp m.own_legal (omega arith) m.opp_legal (omega arith) in
+    ((λ none. exactly.0 (eqb-true (bit_or m.own m.opp) 0 none)), (λ none. eq-eqb (bit_or m.own m.opp) 0 (exactly.1 none)))

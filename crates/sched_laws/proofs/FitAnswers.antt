@@ -1,0 +1,262 @@
+-- Every answer leaves a core fitting, and so does every list of them.
+use Rattle.std.proofs.Common.{◌≡◌, ◌≢◌, ℕ, ◌<◌, ◌≤◌, inl, inr, Bool, true, false, not, ◌||◌, eqb, List, [], ◌∷◌, ◌++◌, Option, Some, None, Result, Ok, Err, refl, ap, sym, ◌∙◌, subst, arith, append_assoc, append-nil}
+use Rattle.std.specs.Prelude.{is_ok}
+use Rattle.std.proofs.lemmas.Bool.{cases_Bool, cases_eq, false≢true, eq-eqb, ne_eqb, or_parts}
+use Rattle.tenant_quota.specs.Quota.{Quota}
+use Rattle.frame_table.specs.Frames.{frame_at, parent_of, root_of}
+use Rattle.sched_rules.specs.declared.job.Job.TheVariants.{Spent as SpentJob}
+use Rattle.sched_rules.specs.declared.refusal.Refusal.{Refusal}
+use Rattle.sched_rules.specs.declared.refusal.Refusal.TheVariants.{NotReturned, NotSpent, OldTenant}
+use Rattle.sched_rules.specs.declared.step.StepOf.{StepOf}
+use Rattle.sched_rules.specs.declared.step.StepOf.TheVariants.{Admit, Submit, Take, Steal, Advance, Answer, Inlet, Finish, Spend, Cancel, Leave}
+use Rattle.sched_rules.specs.declared.step.DidOf.{DidOf}
+use Rattle.sched_rules.specs.declared.step.DidOf.TheVariants.{Admitted, Left}
+use Rattle.sched_rules.specs.Functions.{Functions}
+use Rattle.sched_rules.specs.Trees.{Tenant, admitted_with, words_in}
+use Rattle.sched_rules.specs.Laws.{Fitting, Rooting}
+use Rattle.sched_rules.specs.Lone.{Outcome, unless, lone, lone_step, submit_tests, submitted, take_tests, steal_tests, taken_by, act_of, advance_tests, advanced, answer_tests, answered, inlet_tests, taken_in, inlet_under, finish_tests, finished, is_spendable, spent}
+use Rattle.frame_table.specs.Frames.{is_ready}
+use Rattle.sched_rules.specs.Runs.{tenant_of, only}
+use Rattle.sched_rules.specs.Cores.{Shared, shared_by_nobody, tenant_in, with_outcome, meets_busy, admit_tests, judged, newest_after, shared_with}
+use Rattle.sched_rules.specs.Headline.{is_admission, IsAnswerTo, AreAnswersTo, after_answer, after_answers, taken, IsKnown}
+use Rattle.sched_rules.proofs.Tenants.{tenant_in-with_outcome, tenant_in_other-with_outcome, known-number}
+use Rattle.sched_rules.proofs.Isolation.{step-taken, there, above, newest-stays, judged-step, shared-after-taken}
+use Rattle.sched_laws.specs.Shapes.{IsShaped, AreShaped}
+use Rattle.sched_laws.specs.Fitted.{TenantFits, CoreFits, submits, origins_of, RootFits, RootsFit, origins_after, StaysFitting}
+use Rattle.sched_laws.proofs.Shaped.{unless-passed, frame-found}
+use Rattle.sched_laws.proofs.Consequences.{root-above}
+use Rattle.sched_laws.proofs.Answers.{shaped-in, not-busy, shaped-answer}
+use Rattle.sched_laws.proofs.Holds.{Lists, F}
+use Rattle.sched_laws.proofs.Levels.{IsLawful}
+use Rattle.sched_laws.proofs.Fits.{LeftFits}
+use Rattle.sched_laws.proofs.FitEnds.{ended-fits, submit-fits}
+use Rattle.sched_laws.proofs.FitRuns.{taken-fits, advanced-fits, answered-fits, inlet-fits, finished-fits, cancel-fits}
+
+-- a step that submits nothing adds no origin
+same-origins : (fits : Fitting) (rooted : Rooting) (origins : Lists) (o : Option Tenant) → LeftFits fits rooted origins o → LeftFits fits rooted (origins ++ []) o
+same-origins fits rooted origins o left = let P : Lists → Type 0 = λ os. LeftFits fits rooted os o in subst P (sym (append-nil origins)) left
+
+-- an effect that came out
+fits-came : {I : Type 0} (fits : Fitting) (rooted : Rooting) (origins : Lists) (effect outcome : Outcome I) → effect ≡ outcome → LeftFits fits rooted origins effect.0 → LeftFits fits rooted origins outcome.0
+fits-came {I} fits rooted origins effect outcome is left = let P : Outcome I → Type 0 = λ o. LeftFits fits rooted origins o.0 in subst P is left
+
+refused-fits : {I : Type 0} (fits : Fitting) (rooted : Rooting) (origins : Lists) (refusal : Refusal) (outcome : Outcome I) → ◌≡◌ {A = Result (Outcome I) Refusal} (Err refusal) (Ok outcome) → LeftFits fits rooted origins outcome.0
+refused-fits fits rooted origins refusal outcome e = absurd cc
+
+first-passed : (a b : Bool) → (a || b) ≡ false → a ≡ false
+first-passed a b e = (or_parts a b e).0
+
+-- every step but Submit
+own-fits : {I A : Type 0} (functions : Functions I A) (fits : Fitting) (rooted : Rooting) (origins : Lists) (tenant : Tenant) (step : StepOf A) (outcome : Outcome I) → IsLawful functions fits rooted → IsShaped tenant → TenantFits fits rooted origins tenant →
+    submits step ≡ [] → lone_step functions tenant step ≡ Ok outcome → LeftFits fits rooted origins outcome.0
+own-fits functions fits rooted origins tenant (Admit number quota) outcome lawful shape fitting none is = refused-fits fits rooted origins OldTenant outcome is
+own-fits functions fits rooted origins tenant (Submit number words size) outcome lawful shape fitting none is = absurd cc
+own-fits {I} functions fits rooted origins tenant (Take worker name) outcome lawful shape fitting none is =
+    let f = frame-found tenant.frames name.serial (λ frame. unless (take_tests tenant worker frame) (taken_by tenant worker frame)) outcome is in
+    let p = unless-passed (take_tests tenant worker f.0) (taken_by {I = I} tenant worker f.0) outcome f.2 in
+    fits-came fits rooted origins (taken_by tenant worker f.0) outcome p.1 (taken-fits I fits rooted origins tenant worker name.serial f.0 shape fitting f.1 (first-passed (not (is_ready f.0.state)) _ p.0))
+own-fits {I} functions fits rooted origins tenant (Steal worker from name) outcome lawful shape fitting none is =
+    let f = frame-found tenant.frames name.serial (λ frame. unless (steal_tests tenant worker from frame) (taken_by tenant worker frame)) outcome is in
+    let p = unless-passed (steal_tests tenant worker from f.0) (taken_by {I = I} tenant worker f.0) outcome f.2 in
+    fits-came fits rooted origins (taken_by tenant worker f.0) outcome p.1 (taken-fits I fits rooted origins tenant worker name.serial f.0 shape fitting f.1 (first-passed (not (is_ready f.0.state)) _ p.0))
+own-fits functions fits rooted origins tenant (Advance worker name) outcome lawful shape fitting none is =
+    let f = frame-found tenant.frames name.serial (λ frame. unless (advance_tests tenant worker frame (act_of functions tenant frame)) (advanced functions tenant worker name frame (act_of functions tenant frame))) outcome is in
+    let act = act_of functions tenant f.0 in
+    let p = unless-passed (advance_tests tenant worker f.0 act) (advanced functions tenant worker name f.0 act) outcome f.2 in
+    fits-came fits rooted origins (advanced functions tenant worker name f.0 act) outcome p.1 (advanced-fits functions fits rooted origins tenant worker name f.0 lawful shape fitting f.1 p.0)
+own-fits functions fits rooted origins tenant (Answer worker name answer) outcome lawful shape fitting none is =
+    let f = frame-found tenant.frames name.serial (λ frame. unless (answer_tests functions tenant worker frame answer) (answered functions tenant worker frame answer)) outcome is in
+    let p = unless-passed (answer_tests functions tenant worker f.0 answer) (answered functions tenant worker f.0 answer) outcome f.2 in
+    fits-came fits rooted origins (answered functions tenant worker f.0 answer) outcome p.1 (answered-fits functions fits rooted origins tenant worker name.serial f.0 answer lawful shape fitting f.1 p.0)
+own-fits {I} functions fits rooted origins tenant (Inlet worker name) outcome lawful shape fitting none is =
+    let f = frame-found tenant.frames name.serial (λ frame. inlet_under functions tenant worker name frame (parent_of frame.path)) outcome is in
+    by f.0 f.1 (parent_of f.0.path) refl f.2
+  where
+    by : (f : F) → frame_at tenant.frames name.serial ≡ Some f → (parent : Option ℕ) → parent_of f.path ≡ parent → inlet_under functions tenant worker name f parent ≡ Ok outcome → LeftFits fits rooted origins outcome.0
+    by f at None named e = refused-fits fits rooted origins NotReturned outcome e
+    by f at (Some parent) named e =
+        let act = functions.inlet (words_in tenant.frames parent) f.value in
+        let p = unless-passed (inlet_tests tenant worker f parent act) (taken_in {I = I} tenant worker name parent act) outcome e in
+        fits-came fits rooted origins (taken_in tenant worker name parent act) outcome p.1 (inlet-fits functions fits rooted origins tenant worker name f parent lawful shape fitting at named p.0)
+own-fits {I} functions fits rooted origins tenant (Finish worker name) outcome lawful shape fitting none is =
+    let f = frame-found tenant.frames name.serial (λ frame. unless (finish_tests tenant worker frame) (finished tenant frame)) outcome is in
+    let p = unless-passed (finish_tests tenant worker f.0) (finished {I = I} tenant f.0) outcome f.2 in
+    fits-came fits rooted origins (finished tenant f.0) outcome p.1 (finished-fits I fits rooted origins tenant worker name.serial f.0 shape fitting f.1 p.0)
+own-fits {I} functions fits rooted origins tenant (Spend name) outcome lawful shape fitting none is =
+    let f = frame-found tenant.frames name.serial (λ frame. unless ((not (is_spendable functions tenant frame), NotSpent) ∷ []) (spent tenant frame)) outcome is in
+    let p = unless-passed ((not (is_spendable functions tenant f.0), NotSpent) ∷ []) (spent {I = I} tenant f.0) outcome f.2 in
+    fits-came fits rooted origins (spent tenant f.0) outcome p.1 (ended-fits fits rooted origins tenant (root_of f.0.path) SpentJob shape fitting (root-above tenant name.serial f.0 shape f.1) (λ origin was. tt))
+own-fits functions fits rooted origins tenant (Cancel number job) outcome lawful shape fitting none is = cancel-fits fits rooted origins tenant job outcome shape fitting is
+own-fits {I} functions fits rooted origins tenant (Leave number) outcome lawful shape fitting none is =
+    let e : ◌≡◌ {A = Result (Outcome I) Refusal} (Ok (None, Left)) (Ok outcome) = is in
+    let own : ◌≡◌ {A = Outcome I} (None, Left) outcome = cc in fits-came fits rooted origins (None, Left) outcome own tt
+
+-- every step
+others-fit : {I A : Type 0} (functions : Functions I A) (fits : Fitting) (rooted : Rooting) (origins : Lists) (tenant : Tenant) (step : StepOf A) (outcome : Outcome I) → IsLawful functions fits rooted → IsShaped tenant → TenantFits fits rooted origins tenant →
+    submits step ≡ [] → lone_step functions tenant step ≡ Ok outcome → LeftFits fits rooted (origins ++ submits step) outcome.0
+others-fit functions fits rooted origins tenant step outcome lawful shape fitting none is =
+    let P : Lists → Type 0 = λ os. LeftFits fits rooted (origins ++ os) outcome.0 in
+    subst P (sym none) (same-origins fits rooted origins outcome.0 (own-fits functions fits rooted origins tenant step outcome lawful shape fitting none is))
+
+pub step-fits : {I A : Type 0} (functions : Functions I A) (fits : Fitting) (rooted : Rooting) (origins : Lists) (tenant : Tenant) (step : StepOf A) (outcome : Outcome I) → IsLawful functions fits rooted → IsShaped tenant → TenantFits fits rooted origins tenant →
+    RootFits fits rooted step → lone_step functions tenant step ≡ Ok outcome → LeftFits fits rooted (origins ++ submits step) outcome.0
+step-fits {I} functions fits rooted origins tenant (Submit number words size) outcome lawful shape fitting root is =
+    let p = unless-passed (submit_tests tenant words size) (submitted {I = I} tenant number words size) outcome is in
+    fits-came fits rooted (origins ++ words ∷ []) (submitted tenant number words size) outcome p.1 (submit-fits fits rooted origins tenant words size shape fitting root.0 root.1)
+step-fits functions fits rooted origins tenant (Admit number quota) outcome lawful shape fitting root is = others-fit functions fits rooted origins tenant (Admit number quota) outcome lawful shape fitting refl is
+step-fits functions fits rooted origins tenant (Take worker name) outcome lawful shape fitting root is = others-fit functions fits rooted origins tenant (Take worker name) outcome lawful shape fitting refl is
+step-fits functions fits rooted origins tenant (Steal worker from name) outcome lawful shape fitting root is = others-fit functions fits rooted origins tenant (Steal worker from name) outcome lawful shape fitting refl is
+step-fits functions fits rooted origins tenant (Advance worker name) outcome lawful shape fitting root is = others-fit functions fits rooted origins tenant (Advance worker name) outcome lawful shape fitting refl is
+step-fits functions fits rooted origins tenant (Answer worker name answer) outcome lawful shape fitting root is = others-fit functions fits rooted origins tenant (Answer worker name answer) outcome lawful shape fitting refl is
+step-fits functions fits rooted origins tenant (Inlet worker name) outcome lawful shape fitting root is = others-fit functions fits rooted origins tenant (Inlet worker name) outcome lawful shape fitting refl is
+step-fits functions fits rooted origins tenant (Finish worker name) outcome lawful shape fitting root is = others-fit functions fits rooted origins tenant (Finish worker name) outcome lawful shape fitting refl is
+step-fits functions fits rooted origins tenant (Spend name) outcome lawful shape fitting root is = others-fit functions fits rooted origins tenant (Spend name) outcome lawful shape fitting refl is
+step-fits functions fits rooted origins tenant (Cancel number job) outcome lawful shape fitting root is = others-fit functions fits rooted origins tenant (Cancel number job) outcome lawful shape fitting refl is
+step-fits functions fits rooted origins tenant (Leave number) outcome lawful shape fitting root is = others-fit functions fits rooted origins tenant (Leave number) outcome lawful shape fitting refl is
+
+-- among several tenants: a step that is no admission
+among-fits : {I A : Type 0} (functions : Functions I A) (fits : Fitting) (rooted : Rooting) (origins : ℕ → Lists) (before : Shared) (step : StepOf A) (outcome : Outcome I) → IsLawful functions fits rooted → AreShaped before.tenants → CoreFits fits rooted origins before →
+    RootFits fits rooted step → is_admission step ≡ false → lone functions (tenant_in before.tenants (tenant_of step)) step ≡ Ok outcome → LeftFits fits rooted (origins (tenant_of step) ++ submits step) outcome.0
+among-fits functions fits rooted origins before step outcome lawful shaped core root no_admission is = by (tenant_in before.tenants (tenant_of step)) refl
+  where
+    by : (own : Option Tenant) → tenant_in before.tenants (tenant_of step) ≡ own → LeftFits fits rooted (origins (tenant_of step) ++ submits step) outcome.0
+    by None e = absurd (there functions None step outcome no_admission (ap (λ o. lone functions o step) (sym e) ∙ is) refl)
+    by (Some tenant) e =
+        step-fits functions fits rooted (origins (tenant_of step)) tenant step outcome lawful (shaped-in (tenant_of step) before.tenants tenant shaped e) (core.tenants (tenant_of step) tenant e) root
+        (ap (λ o. lone functions o step) (sym e) ∙ is)
+
+-- the number of an admission that was taken is above all
+admitted-above : {I A : Type 0} (functions : Functions I A) (before : Shared) (number : ℕ) (quota : Quota) (outcome : Outcome I) → judged {A = A} functions before (Admit number quota) ≡ Ok outcome → (before.newest < number) × ((Some (admitted_with quota), Admitted) ≡ outcome)
+admitted-above {I} functions before number quota outcome is =
+    let effect : Outcome I = (Some (admitted_with quota), Admitted) in
+    let p = unless-passed (admit_tests before number quota) effect outcome is in
+    (above number before.newest (first-passed _ _ p.0), p.1)
+
+-- a taken step that is no admission is taken alone
+pub taken-alone : {I A : Type 0} (functions : Functions I A) (before : Shared) (step : StepOf A) (outcome : Outcome I) → is_admission step ≡ false → judged functions before step ≡ Ok outcome → lone functions (tenant_in before.tenants (tenant_of step)) step ≡ Ok outcome
+taken-alone functions before step outcome no_admission is =
+    not-busy (meets_busy step before.tenants) (lone functions (tenant_in before.tenants (tenant_of step)) step) outcome (sym (judged-step functions before step no_admission) ∙ is)
+
+-- an admission is one
+abbrev pub IsAdmit : {A : Type 0} → StepOf A → Type 0
+IsAdmit step = (number : ℕ) × (quota : Quota) × (step ≡ Admit number quota)
+
+pub admission : {A : Type 0} (step : StepOf A) → is_admission step ≡ true → IsAdmit step
+admission (Admit number quota) is = (number, quota, refl)
+admission (Submit number words size) is = absurd (false≢true is)
+admission (Take worker name) is = absurd (false≢true is)
+admission (Steal worker from name) is = absurd (false≢true is)
+admission (Advance worker name) is = absurd (false≢true is)
+admission (Answer worker name answer) is = absurd (false≢true is)
+admission (Inlet worker name) is = absurd (false≢true is)
+admission (Finish worker name) is = absurd (false≢true is)
+admission (Spend name) is = absurd (false≢true is)
+admission (Cancel number job) is = absurd (false≢true is)
+admission (Leave number) is = absurd (false≢true is)
+
+-- a taken step: what its tenant comes to
+admit-left : {I A : Type 0} (functions : Functions I A) (fits : Fitting) (rooted : Rooting) (origins : ℕ → Lists) (before : Shared) (number : ℕ) (quota : Quota) (outcome : Outcome I) → CoreFits fits rooted origins before →
+    judged {A = A} functions before (Admit number quota) ≡ Ok outcome → LeftFits fits rooted (origins number ++ []) outcome.0
+admit-left functions fits rooted origins before number quota outcome core is =
+    let p = admitted-above functions before number quota outcome is in
+    let none : origins number ++ [] ≡ [] = append-nil (origins number) ∙ core.unused number p.0 in
+    let P : Lists → Type 0 = λ os. LeftFits fits rooted os (Some (admitted_with quota)) in
+    fits-came fits rooted (origins number ++ []) (Some (admitted_with quota), Admitted) outcome p.1 (subst P (sym none) (record { frames = tt; jobs = tt }))
+
+taken-left : {I A : Type 0} (functions : Functions I A) (fits : Fitting) (rooted : Rooting) (origins : ℕ → Lists) (before : Shared) (step : StepOf A) (outcome : Outcome I) → IsLawful functions fits rooted → AreShaped before.tenants → CoreFits fits rooted origins before →
+    RootFits fits rooted step → judged functions before step ≡ Ok outcome → LeftFits fits rooted (origins (tenant_of step) ++ submits step) outcome.0
+taken-left {A = A} functions fits rooted origins before step outcome lawful shaped core root is = elim (cases_Bool (is_admission step)) [
+  | inr no_admission ↦ among-fits functions fits rooted origins before step outcome lawful shaped core root no_admission (taken-alone functions before step outcome no_admission is)
+  | inl admits ↦ (let a = admission step admits in
+      let P : StepOf A → Type 0 = λ st. LeftFits fits rooted (origins (tenant_of st) ++ submits st) outcome.0 in
+      subst P (sym a.2) (admit-left functions fits rooted origins before a.0 a.1 outcome core (ap (judged functions before) (sym a.2) ∙ is)))
+]
+
+-- the greatest number after a taken step: the step's tenant has one that is no greater, and it is no less than before
+numbers-after : {I A : Type 0} (functions : Functions I A) (before : Shared) (step : StepOf A) (outcome : Outcome I) → IsKnown before → judged functions before step ≡ Ok outcome → (tenant_of step ≤ newest_after before.newest step) × (before.newest ≤ newest_after before.newest step)
+numbers-after {A = A} functions before step outcome known is = elim (cases_Bool (is_admission step)) [
+  | inr no_admission ↦ (let le = known-number before.newest (tenant_of step) before.tenants known (there functions _ step outcome no_admission (taken-alone functions before step outcome no_admission is)) in
+      let same = newest-stays before.newest step no_admission in (omega (arith, le, same), omega (arith, same)))
+  | inl admits ↦ (let a = admission step admits in
+      let p = admitted-above functions before a.0 a.1 outcome (ap (judged functions before) (sym a.2) ∙ is) in
+      let own : tenant_of step ≡ a.0 = ap tenant_of a.2 in
+      let newest : newest_after before.newest step ≡ a.0 = ap (newest_after before.newest) a.2 in (omega (arith, own, newest), omega (arith, newest, p.0)))
+]
+
+-- a core after a taken step
+core-after : {I A : Type 0} (functions : Functions I A) (fits : Fitting) (rooted : Rooting) (origins : ℕ → Lists) (before : Shared) (step : StepOf A) (did : DidOf I) (outcome : Outcome I) → IsLawful functions fits rooted → IsKnown before → AreShaped before.tenants → CoreFits fits rooted origins before →
+    RootFits fits rooted step → judged functions before step ≡ Ok outcome → CoreFits fits rooted (origins_after origins step (Ok did)) (shared_with before step outcome.0)
+core-after functions fits rooted origins before step did outcome lawful known shaped core root is = record {
+  tenants = λ number tenant at. tenants number tenant at;
+  unused = λ number low. unused number low;
+}
+  where
+    other : (number : ℕ) → tenant_of step ≢ number → origins_after origins step (Ok did) number ≡ origins number
+    other number ne = rw (ne_eqb (tenant_of step) number ne) refl
+
+    tenants : (number : ℕ) (tenant : Tenant) → tenant_in (with_outcome (tenant_of step) outcome.0 before.tenants) number ≡ Some tenant → TenantFits fits rooted (origins_after origins step (Ok did) number) tenant
+    tenants number tenant at = elim (cases_eq (tenant_of step) number) [
+      | inl same ↦ (let own : outcome.0 ≡ Some tenant = sym (tenant_in-with_outcome (tenant_of step) outcome.0 before.tenants) ∙ ap (tenant_in (with_outcome (tenant_of step) outcome.0 before.tenants)) same ∙ at in
+          let left = taken-left functions fits rooted origins before step outcome lawful shaped core root is in
+          let P : Option Tenant → Type 0 = λ o. LeftFits fits rooted (origins (tenant_of step) ++ submits step) o in
+          let Q : ℕ → Type 0 = λ n. TenantFits fits rooted (origins n ++ submits step) tenant in
+          rw (eq-eqb (tenant_of step) number same) (subst Q same (subst P own left)))
+      | inr ne ↦ (let P : Lists → Type 0 = λ os. TenantFits fits rooted os tenant in
+          subst P (sym (other number ne)) (core.tenants number tenant (sym (tenant_in_other-with_outcome number (tenant_of step) outcome.0 before.tenants ne) ∙ at)))
+    ]
+
+    unused : (number : ℕ) → newest_after before.newest step < number → origins_after origins step (Ok did) number ≡ []
+    unused number low =
+        let numbers = numbers-after functions before step outcome known is in
+        other number (λ e. omega (arith, e, low, numbers.0)) ∙ core.unused number (omega (arith, low, numbers.1))
+
+-- whatever a step is answered
+pub answer-keeps : {I A : Type 0} (functions : Functions I A) (fits : Fitting) (rooted : Rooting) (origins : ℕ → Lists) (before : Shared) (step : StepOf A) (answer : Result (DidOf I) Refusal) → IsLawful functions fits rooted → IsKnown before → AreShaped before.tenants → CoreFits fits rooted origins before →
+    (is_ok answer ≡ true → RootFits fits rooted step) → IsAnswerTo functions before step answer → IsKnown (after_answer functions before step answer) × CoreFits fits rooted (origins_after origins step answer) (after_answer functions before step answer)
+answer-keeps functions fits rooted origins before step (Err refusal) lawful known shaped core root right = (known, core)
+answer-keeps functions fits rooted origins before step (Ok did) lawful known shaped core root right =
+    let t = step-taken functions before step did known right in
+    let is = shared-after-taken functions before step did t in
+    let P : Shared → Type 0 = λ after. CoreFits fits rooted (origins_after origins step (Ok did)) after in
+    let K : Shared → Type 0 = λ after. IsKnown after in
+    (subst K (sym is) t.known, subst P (sym is) (core-after functions fits rooted origins before step did t.outcome lawful known shaped core (root refl) t.among))
+
+pub stays-fitting : {I A : Type 0} (functions : Functions I A) (fits : Fitting) (rooted : Rooting) (origins : ℕ → Lists) (before : Shared) (steps : List (StepOf A)) (answers : List (Result (DidOf I) Refusal)) → IsLawful functions fits rooted → IsKnown before → AreShaped before.tenants → CoreFits fits rooted origins before →
+    AreAnswersTo functions before steps answers → StaysFitting functions fits rooted origins before steps answers
+stays-fitting functions fits rooted origins before [] answers lawful known shaped core right = core
+stays-fitting functions fits rooted origins before (step ∷ steps) [] lawful known shaped core right = core
+stays-fitting functions fits rooted origins before (step ∷ steps) (answer ∷ answers) lawful known shaped core right = (
+  core,
+  λ root. let next = answer-keeps functions fits rooted origins before step answer lawful known shaped core root right.0 in
+      stays-fitting functions fits rooted (origins_after origins step answer) (after_answer functions before step answer) steps answers lawful next.0 (shaped-answer functions before step answer shaped) next.1 right.1,
+)
+
+-- the origins after a list of steps
+same-core : (fits : Fitting) (rooted : Rooting) (a b : ℕ → Lists) (shared : Shared) → ((number : ℕ) → a number ≡ b number) → CoreFits fits rooted a shared → CoreFits fits rooted b shared
+same-core fits rooted a b shared same core = record {
+  tenants = λ number tenant at. let P : Lists → Type 0 = λ os. TenantFits fits rooted os tenant in subst P (same number) (core.tenants number tenant at);
+  unused = λ number low. sym (same number) ∙ core.unused number low;
+}
+
+origins-on : {I A : Type 0} (origins : ℕ → Lists) (step : StepOf A) (did : DidOf I) (rest : List (StepOf A)) (number : ℕ) →
+    origins_after origins step (Ok did) number ++ origins_of (only number rest) ≡ origins number ++ origins_of (only number (step ∷ rest))
+origins-on origins step did rest number = elim (cases_Bool (eqb (tenant_of step) number)) [
+  | inl same ↦ rw same (append_assoc (origins number) (submits step) (origins_of (only number rest)))
+  | inr other ↦ rw other refl
+]
+
+pub run-fits : {I A : Type 0} (functions : Functions I A) (fits : Fitting) (rooted : Rooting) (origins : ℕ → Lists) (before : Shared) (steps : List (StepOf A)) (answers : List (Result (DidOf I) Refusal)) → IsLawful functions fits rooted → IsKnown before → AreShaped before.tenants → CoreFits fits rooted origins before →
+    AreAnswersTo functions before steps answers → RootsFit fits rooted (taken steps answers) → CoreFits fits rooted (λ number. origins number ++ origins_of (only number (taken steps answers))) (after_answers functions before steps answers)
+run-fits functions fits rooted origins before [] answers lawful known shaped core right roots = same-core fits rooted origins _ before (λ number. sym (append-nil (origins number))) core
+run-fits functions fits rooted origins before (step ∷ steps) [] lawful known shaped core right roots = absurd right
+run-fits functions fits rooted origins before (step ∷ steps) (Err refusal ∷ answers) lawful known shaped core right roots =
+    run-fits functions fits rooted origins before steps answers lawful known shaped core right.1 roots
+run-fits {I} {A} functions fits rooted origins before (step ∷ steps) (Ok did ∷ answers) lawful known shaped core right roots =
+    let answer : Result (DidOf I) Refusal = Ok did in
+    let next = answer-keeps functions fits rooted origins before step answer lawful known shaped core (λ is. roots.0) right.0 in
+    same-core fits rooted _ _ (after_answers functions (after_answer functions before step answer) steps answers) (λ number. origins-on origins step did (taken steps answers) number)
+    (run-fits functions fits rooted (origins_after origins step answer) (after_answer functions before step answer) steps answers lawful next.0 (shaped-answer functions before step answer shaped) next.1 right.1 roots.1)
+
+-- from nobody
+pub nobody-fits : (fits : Fitting) (rooted : Rooting) (totals : Quota) → CoreFits fits rooted (λ number. []) (shared_by_nobody totals)
+nobody-fits fits rooted totals = record { tenants = λ number tenant at. absurd cc; unused = λ number low. refl }

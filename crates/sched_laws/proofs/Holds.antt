@@ -1,0 +1,324 @@
+-- What holds of each frame of a tree, with its words, the words of its children and its mark: before a change, so that it holds after it.
+use Rattle.std.proofs.Common.{◌≡◌, ◌≢◌, ℕ, inl, inr, Bool, true, false, not, eqb, List, [], ◌∷◌, ◌++◌, Option, Some, None, refl, ap, sym, ◌∙◌, subst, arith, append-nil}
+use Rattle.std.specs.List.{filter}
+use Rattle.std.proofs.lemmas.Bool.{cases_Bool, cases_eq, false≢true, ne_eqb, eqb-true, not-true, not_from_false}
+use Rattle.frame_table.specs.declared.names.State.{State}
+use Rattle.frame_table.specs.Frames.{Frame, frame_at, has_frame, parent_of, goes_under, children_of, aborted, frames_without, with_state, values_of, IsNextFrame, IsTree}
+use Rattle.frame_table.specs.TreeLaws.{is_that, is_child_of, AreRising, Each, if_kept}
+use Rattle.frame_table.proofs.TreeLaws.{there-found, found-serial, missing, frame_at-push, frame_at_other-push, above-missing, tree-rising, placed, under-through, found-each, each-found, children-by-paths}
+use Rattle.frame_table.proofs.TreeChanges.{aborted-itself, rising-filter, frame_at-filter, frame_at-stays, filter-found, tree-aborted, tree-without, frame_at-without, frame_at_other-without, aborted-leaf}
+use Rattle.frame_table.proofs.TreeValues.{children_of-push, frame_at-with_state, frame_at_other-with_state, children_of-with_state, values_of-with_state}
+use Rattle.sched_rules.specs.Trees.{Tree, with_words}
+use Rattle.sched_rules.specs.Laws.{Fitting, Mark, mark_of, EachFits, EveryFrameFits}
+use Rattle.sched_laws.proofs.Words.{frame_at-with_words, frame_at_other-with_words, children_of-with_words, with_words-missing}
+
+abbrev pub Lists : Type 0
+Lists = List (List ℕ)
+
+abbrev pub F : Type 0
+F = Frame (List ℕ)
+
+-- a fact of a serial, words, words of children, and a mark
+abbrev pub Fact : Type 1
+Fact = ℕ → List ℕ → Lists → Mark → Type 0
+
+-- the words of the children of a frame
+abbrev pub kids : Tree → ℕ → Lists
+kids tree s = values_of (children_of tree s)
+
+-- the fact holds of each frame
+abbrev pub Holds : Fact → Tree → Type 0
+Holds Q tree = (s : ℕ) (f : F) → frame_at tree s ≡ Some f → Q s f.value (kids tree s) (mark_of f.state)
+
+-- fitting is such a fact
+each-fits : (fits : Fitting) (tree frames : Tree) → EachFits fits tree frames → Each (λ f. fits f.value (kids tree f.serial) (mark_of f.state)) frames
+each-fits fits tree [] all = tt
+each-fits fits tree (x ∷ xs) all = (all.0, each-fits fits tree xs all.1)
+
+fits-each : (fits : Fitting) (tree frames : Tree) → Each (λ f. fits f.value (kids tree f.serial) (mark_of f.state)) frames → EachFits fits tree frames
+fits-each fits tree [] all = tt
+fits-each fits tree (x ∷ xs) all = (all.0, fits-each fits tree xs all.1)
+
+pub fits-holds : (fits : Fitting) (tree : Tree) → EveryFrameFits fits tree → Holds (λ s w k m. fits w k m) tree
+fits-holds fits tree all s f at =
+    let P : ℕ → Type 0 = λ n. fits f.value (kids tree n) (mark_of f.state) in
+    subst P (found-serial tree s f at) (each-found (λ f. fits f.value (kids tree f.serial) (mark_of f.state)) tree s f (each-fits fits tree tree all) at)
+
+pub holds-fits : (fits : Fitting) (tree : Tree) → IsTree tree → Holds (λ s w k m. fits w k m) tree → EveryFrameFits fits tree
+holds-fits fits tree t all =
+    fits-each fits tree tree (found-each (λ f. fits f.value (kids tree f.serial) (mark_of f.state)) tree (tree-rising tree t)
+    (λ s f at. let P : ℕ → Type 0 = λ n. fits f.value (kids tree n) (mark_of f.state) in subst P (sym (found-serial tree s f at)) (all s f at)))
+
+-- the same frame
+pub found-same : (tree : Tree) (s n : ℕ) (f g : F) → s ≡ n → frame_at tree s ≡ Some f → frame_at tree n ≡ Some g → f ≡ g
+found-same tree s n f g e at_s at_n = let both : ◌≡◌ {A = Option F} (Some f) (Some g) = sym at_s ∙ ap (frame_at tree) e ∙ at_n in cc
+
+-- another state
+abbrev pub BeforeState : Fact → ℕ → State → Fact
+BeforeState Q n state s w k m = (s ≡ n → Q s w k (mark_of state)) × (s ≢ n → Q s w k m)
+
+pub holds-with_state : (Q : Fact) (n : ℕ) (state : State) (tree : Tree) → IsTree tree → Holds (BeforeState Q n state) tree → Holds Q (with_state n state tree)
+holds-with_state Q n state tree t all s f at = elim (cases_eq s n) [
+  | inr other ↦ (let old : frame_at tree s ≡ Some f = sym (frame_at_other-with_state n state tree s (λ e. other (sym e))) ∙ at in
+      let P : Lists → Type 0 = λ k. Q s f.value k (mark_of f.state) in
+      subst P (sym same) ((all s f old).1 other))
+  | inl is ↦ here is (has_frame tree n) refl
+]
+  where
+    same : kids (with_state n state tree) s ≡ kids tree s
+    same = ap values_of (children_of-with_state n state tree s t) ∙ values_of-with_state n state (children_of tree s)
+
+    lacking : (xs : Tree) → has_frame xs n ≡ false → has_frame (with_state n state xs) n ≡ false
+    lacking [] lacks = refl
+    lacking (x ∷ xs) lacks = elim (cases_Bool (eqb x.serial n)) [
+      | inl same ↦ absurd (false≢true (sym lacks ∙ (rw same refl)))
+      | inr other ↦ rw (other, other) (lacking xs (rw other at lacks))
+    ]
+
+    here : s ≡ n → (there : Bool) → has_frame tree n ≡ there → Q s f.value (kids (with_state n state tree) s) (mark_of f.state)
+    here is true there =
+        let g = there-found tree n there in
+        let e : record g.0 { state = state } ≡ f = found-same (with_state n state tree) n s (record g.0 { state = state }) f (sym is) (frame_at-with_state n state tree g.0 g.1) at in
+        let own = (all s g.0 (ap (frame_at tree) is ∙ g.1)).0 is in
+        let P : F → Type 0 = λ h. Q s h.value (kids (with_state n state tree) s) (mark_of h.state) in
+        let R : Lists → Type 0 = λ k. Q s g.0.value k (mark_of state) in
+        subst P e (subst R (sym same) own)
+    here is false lacks =
+        let none : frame_at (with_state n state tree) n ≡ None = missing (with_state n state tree) n (lacking tree lacks) in
+        let both : ◌≡◌ {A = Option F} None (Some f) = sym none ∙ ap (frame_at (with_state n state tree)) (sym is) ∙ at in absurd cc
+
+-- a frame among others: those before it and those behind it
+pub record IsAmong (xs : Tree) (n : ℕ) (f : F) : Type 0 where
+  pub older : Tree
+  pub younger : Tree
+  pub all : xs ≡ older ++ f ∷ younger
+  pub stored : (words : List ℕ) → with_words n words xs ≡ older ++ record f { value = words } ∷ younger
+  pub removed : frames_without n xs ≡ older ++ younger
+
+pub without-missing : (n : ℕ) (xs : Tree) → has_frame xs n ≡ false → frames_without n xs ≡ xs
+without-missing n [] lacks = refl
+without-missing n (x ∷ xs) lacks = elim (cases_Bool (eqb x.serial n)) [
+  | inl same ↦ absurd (false≢true (sym lacks ∙ (rw same refl)))
+  | inr other ↦ rw other (ap (λ (ys : Tree). x ∷ ys) (without-missing n xs (rw other at lacks)))
+]
+
+pub among : (xs : Tree) (n : ℕ) (f : F) → AreRising xs → frame_at xs n ≡ Some f → IsAmong xs n f
+among [] n f rising at = absurd cc
+among (x ∷ xs) n f rising at = elim (cases_Bool (eqb x.serial n)) [
+  | inl same ↦ (let both : ◌≡◌ {A = Option F} (Some x) (Some f) = rw same at at in
+      let e : x ≡ f = cc in
+      let serial = eqb-true x.serial n same in
+      let lacks = above-missing xs x.serial n (omega (arith, serial)) rising.0 in
+      record {
+        older = [];
+        younger = xs;
+        all = ap (λ (y : F). y ∷ xs) e;
+        stored = λ words. rw same (ap (λ (ys : Tree). record x { value = words } ∷ ys) (with_words-missing n words xs lacks) ∙ ap (λ (y : F). record y { value = words } ∷ xs) e);
+        removed = rw same (without-missing n xs lacks);
+      })
+  | inr other ↦ (let rest = among xs n f rising.1 (rw other at at) in
+      record {
+        older = x ∷ rest.older;
+        younger = rest.younger;
+        all = ap (λ (ys : Tree). x ∷ ys) rest.all;
+        stored = λ words. rw other (ap (λ (ys : Tree). x ∷ ys) (rest.stored words));
+        removed = rw other (ap (λ (ys : Tree). x ∷ ys) rest.removed);
+      })
+]
+
+pub values-append : (xs ys : Tree) → values_of (xs ++ ys) ≡ values_of xs ++ values_of ys
+values-append [] ys = refl
+values-append (x ∷ xs) ys = ap (λ (vs : Lists). x.value ∷ vs) (values-append xs ys)
+
+-- the children of the parent of a frame, and of any other
+abbrev pub IsChildOf : ℕ → F → Type 0
+IsChildOf s f = is_child_of s f.path ≡ true
+
+pub record IsAmongKids (tree : Tree) (s n : ℕ) (f : F) : Type 0 where
+  pub older : Lists
+  pub younger : Lists
+  pub all : kids tree s ≡ older ++ f.value ∷ younger
+  pub stored : (words : List ℕ) → kids (with_words n words tree) s ≡ older ++ words ∷ younger
+  pub frames : (words : List ℕ) → children_of (with_words n words tree) s ≡ with_words n words (children_of tree s)
+  pub removed : values_of (frames_without n (children_of tree s)) ≡ older ++ younger
+
+pub among-kids : (tree : Tree) (s n : ℕ) (f : F) → IsTree tree → frame_at tree n ≡ Some f → IsChildOf s f → IsAmongKids tree s n f
+among-kids tree s n f t at child =
+    let rising = tree-rising tree t in
+    let list = filter (λ x. is_child_of s x.path) tree in
+    let is = children-by-paths tree s t in
+    let a = among list n f (rising-filter (λ x. is_child_of s x.path) tree rising) (frame_at-stays (λ x. is_child_of s x.path) tree n f rising at child) in
+    record {
+      older = values_of a.older;
+      younger = values_of a.younger;
+      all = ap values_of (is ∙ a.all) ∙ values-append a.older (f ∷ a.younger);
+      stored = λ words. ap values_of (children_of-with_words n words tree s t ∙ ap (with_words n words) is ∙ a.stored words) ∙ values-append a.older (record f { value = words } ∷ a.younger);
+      frames = λ words. children_of-with_words n words tree s t;
+      removed = ap (λ (ys : Tree). values_of (frames_without n ys)) is ∙ ap values_of a.removed ∙ values-append a.older a.younger;
+    }
+
+pub no-frame : (xs : Tree) (n : ℕ) → frame_at xs n ≡ None → has_frame xs n ≡ false
+no-frame xs n none = elim (cases_Bool (has_frame xs n)) [
+  | inl there ↦ (let f = there-found xs n there in let both : ◌≡◌ {A = Option F} None (Some f.0) = sym none ∙ f.1 in absurd cc)
+  | inr lacks ↦ lacks
+]
+
+pub not-among : (tree : Tree) (s n : ℕ) (f : F) → IsTree tree → frame_at tree n ≡ Some f → is_child_of s f.path ≡ false → has_frame (children_of tree s) n ≡ false
+not-among tree s n f t at child =
+    no-frame (children_of tree s) n (ap (λ (ys : Tree). frame_at ys n) (children-by-paths tree s t) ∙ frame_at-filter (λ x. is_child_of s x.path) tree n (tree-rising tree t) ∙ ap (if_kept (λ x. is_child_of s x.path)) at ∙ (rw child refl))
+
+-- other words
+abbrev pub BeforeWords : Fact → ℕ → F → List ℕ → Fact
+BeforeWords Q n f words s w k m =
+    (s ≡ n → Q s words k m)
+    × (s ≢ n → is_child_of s f.path ≡ true → (older younger : Lists) → k ≡ older ++ f.value ∷ younger → Q s w (older ++ words ∷ younger) m)
+    × (s ≢ n → is_child_of s f.path ≡ false → Q s w k m)
+
+pub holds-with_words : (Q : Fact) (n : ℕ) (f : F) (words : List ℕ) (tree : Tree) → IsTree tree → frame_at tree n ≡ Some f → is_child_of n f.path ≡ false → Holds (BeforeWords Q n f words) tree → Holds Q (with_words n words tree)
+holds-with_words Q n f words tree t at_n apart all s h at = elim (cases_eq s n) [
+  | inl is ↦ (let e : record f { value = words } ≡ h = found-same (with_words n words tree) n s (record f { value = words }) h (sym is) (frame_at-with_words n words tree f at_n) at in
+      let own = (all s f (ap (frame_at tree) is ∙ at_n)).0 is in
+      let P : F → Type 0 = λ y. Q s y.value (kids (with_words n words tree) s) (mark_of y.state) in
+      let R : Lists → Type 0 = λ k. Q s words k (mark_of f.state) in
+      subst P e (subst R (sym (same (ap (λ (i : ℕ). is_child_of i f.path) is ∙ apart))) own))
+  | inr other ↦ (let old : frame_at tree s ≡ Some h = sym (frame_at_other-with_words n words tree s (λ e. other (sym e))) ∙ at in
+      let P : Lists → Type 0 = λ k. Q s h.value k (mark_of h.state) in
+      elim (cases_Bool (is_child_of s f.path)) [
+        | inl child ↦ (let a = among-kids tree s n f t at_n child in subst P (sym (a.stored words)) ((all s h old).1 other child a.older a.younger a.all))
+        | inr none ↦ subst P (sym (same none)) ((all s h old).2 other none)
+      ])
+]
+  where
+    same : is_child_of s f.path ≡ false → kids (with_words n words tree) s ≡ kids tree s
+    same none = ap values_of (children_of-with_words n words tree s t ∙ with_words-missing n words (children_of tree s) (not-among tree s n f t at_n none))
+
+-- no frame is its own child
+pub not-own-child : (tree : Tree) (n : ℕ) (f : F) → IsTree tree → frame_at tree n ≡ Some f → is_child_of n f.path ≡ false
+not-own-child tree n f t at = elim (placed tree n f t at) [
+  | inl top ↦ ap (is_that n) top.0
+  | inr u ↦ (let below = u.below in let e = found-serial tree n f at in ap (is_that n) u.named ∙ ne_eqb u.parent n (λ is. omega (arith, below, e, is)))
+]
+
+-- a frame more
+abbrev pub BeforePush : Fact → F → Fact
+BeforePush Q y s w k m = (is_child_of s y.path ≡ true → Q s w (k ++ y.value ∷ []) m) × (is_child_of s y.path ≡ false → Q s w k m)
+
+pub holds-push : (Q : Fact) (tree : Tree) (y : F) → IsTree tree → IsNextFrame tree y → is_child_of y.serial y.path ≡ false → children_of tree y.serial ≡ [] → Q y.serial y.value [] (mark_of y.state) →
+    Holds (BeforePush Q y) tree → Holds Q (tree ++ y ∷ [])
+holds-push Q tree y t next apart leaf new all s f at = elim (cases_eq y.serial s) [
+  | inl is ↦ (let e : y ≡ f = found-same (tree ++ y ∷ []) y.serial s y f is (frame_at-push tree y next.above) at in
+      let P : F → Type 0 = λ h. Q s h.value (kids (tree ++ y ∷ []) s) (mark_of h.state) in
+      let R : Lists → Type 0 = λ k. Q s y.value k (mark_of y.state) in
+      let S : ℕ → Type 0 = λ n. Q n y.value [] (mark_of y.state) in
+      subst P e (subst R (sym (none is)) (subst S is new)))
+  | inr other ↦ (let old : frame_at tree s ≡ Some f = sym (frame_at_other-push tree y s other) ∙ at in
+      let P : Lists → Type 0 = λ k. Q s f.value k (mark_of f.state) in
+      elim (cases_Bool (is_child_of s y.path)) [
+        | inl child ↦ subst P (sym (more child)) ((all s f old).0 child)
+        | inr no_child ↦ subst P (sym (same no_child)) ((all s f old).1 no_child)
+      ])
+]
+  where
+    grown : kids (tree ++ y ∷ []) s ≡ values_of (children_of tree s ++ filter (λ x. is_child_of s x.path) (y ∷ []))
+    grown = ap values_of (children_of-push tree y s t next)
+
+    more : is_child_of s y.path ≡ true → kids (tree ++ y ∷ []) s ≡ kids tree s ++ y.value ∷ []
+    more child = grown ∙ (rw child (values-append (children_of tree s) (y ∷ [])))
+
+    same : is_child_of s y.path ≡ false → kids (tree ++ y ∷ []) s ≡ kids tree s
+    same no_child = grown ∙ (rw no_child (values-append (children_of tree s) [] ∙ append-nil (kids tree s)))
+
+    none : y.serial ≡ s → kids (tree ++ y ∷ []) s ≡ []
+    none is = same (ap (λ (n : ℕ). is_child_of n y.path) (sym is) ∙ apart) ∙ ap (kids tree) (sym is) ∙ ap values_of leaf
+
+-- a leaf removed
+abbrev pub BeforeWithout : Fact → ℕ → F → Fact
+BeforeWithout Q n f s w k m =
+    s ≢ n → (is_child_of s f.path ≡ true → (older younger : Lists) → k ≡ older ++ f.value ∷ younger → Q s w (older ++ younger) m)
+    × (is_child_of s f.path ≡ false → Q s w k m)
+
+children-filter : (keep : F → Bool) (tree : Tree) (s : ℕ) → IsTree tree → IsTree (filter keep tree) → children_of (filter keep tree) s ≡ filter keep (children_of tree s)
+children-filter keep tree s t left =
+    children-by-paths (filter keep tree) s left ∙ swap keep (λ x. is_child_of s x.path) tree ∙ sym (ap (filter keep) (children-by-paths tree s t))
+  where
+    swap : (p q : F → Bool) (xs : Tree) → filter q (filter p xs) ≡ filter p (filter q xs)
+    swap p q [] = refl
+    swap p q (x ∷ xs) = elim (cases_Bool (p x)) [
+      | inl kept ↦ elim (cases_Bool (q x)) [
+        | inl is ↦ rw (kept, is, kept) (ap (λ (ys : Tree). x ∷ ys) (swap p q xs))
+        | inr not_so ↦ rw (kept, not_so) (swap p q xs)
+      ]
+      | inr gone ↦ elim (cases_Bool (q x)) [
+        | inl is ↦ rw (gone, is, gone) (swap p q xs)
+        | inr not_so ↦ rw (gone, not_so) (swap p q xs)
+      ]
+    ]
+
+pub holds-without : (Q : Fact) (n : ℕ) (f : F) (tree : Tree) → IsTree tree → frame_at tree n ≡ Some f → children_of tree n ≡ [] → Holds (BeforeWithout Q n f) tree → Holds Q (frames_without n tree)
+holds-without Q n f tree t at_n leaf all s h at =
+    let left = tree-without n tree t leaf in
+    let apart : s ≢ n = λ e. (let both : ◌≡◌ {A = Option F} None (Some h) = sym (frame_at-without n tree) ∙ ap (frame_at (frames_without n tree)) (sym e) ∙ at in absurd cc) in
+    let old : frame_at tree s ≡ Some h = sym (frame_at_other-without n tree s (λ e. apart (sym e))) ∙ at in
+    let kept : kids (frames_without n tree) s ≡ values_of (frames_without n (children_of tree s)) = ap values_of (children-filter (λ x. not (eqb x.serial n)) tree s t left) in
+    let P : Lists → Type 0 = λ k. Q s h.value k (mark_of h.state) in
+    elim (cases_Bool (is_child_of s f.path)) [
+      | inl child ↦ (let a = among-kids tree s n f t at_n child in subst P (sym (kept ∙ a.removed)) ((all s h old apart).0 child a.older a.younger a.all))
+      | inr none ↦ subst P (sym (kept ∙ ap values_of (without-missing n (children_of tree s) (not-among tree s n f t at_n none)))) ((all s h old apart).1 none)
+    ]
+
+-- an abort
+abbrev pub BeforeAbort : Fact → ℕ → Fact
+BeforeAbort Q p s w k m = (s ≡ p → Q s w [] m) × (s ≢ p → Q s w k m)
+
+filter-all : (keep : F → Bool) (xs : Tree) → Each (λ x. keep x ≡ true) xs → filter keep xs ≡ xs
+filter-all keep [] all = refl
+filter-all keep (x ∷ xs) all = rw all.0 (ap (λ (ys : Tree). x ∷ ys) (filter-all keep xs all.1))
+
+children-stay : (p s : ℕ) (h : F) (tree : Tree) → IsTree tree → frame_at tree s ≡ Some h → goes_under p h.path ≡ false → s ≢ p → filter (λ x. not (goes_under p x.path)) (children_of tree s) ≡ children_of tree s
+children-stay p s h tree t at stays other =
+    let is = children-by-paths tree s t in
+    let list = filter (λ x. is_child_of s x.path) tree in
+    let P : F → Type 0 = λ x. not (goes_under p x.path) ≡ true in
+    let rising = rising-filter (λ x. is_child_of s x.path) tree (tree-rising tree t) in
+    ap (filter (λ x. not (goes_under p x.path))) is ∙ filter-all (λ x. not (goes_under p x.path)) list (found-each P list rising (λ c x at_c. one c x (filter-found (λ x. is_child_of s x.path) tree c x (tree-rising tree t) at_c))) ∙ sym is
+  where
+    one : (c : ℕ) (x : F) → (frame_at tree c ≡ Some x) × (is_child_of s x.path ≡ true) → not (goes_under p x.path) ≡ true
+    one c x found = elim (placed tree c x t found.0) [
+      | inl top ↦ absurd (false≢true (sym (ap (is_that s) top.0) ∙ found.1))
+      | inr u ↦ (let parent : u.parent ≡ s = eqb-true u.parent s (sym (ap (is_that s) u.named) ∙ found.1) in
+          let e : h ≡ u.above = found-same tree s u.parent h u.above (sym parent) at u.there in
+          not_from_false (goes_under p x.path) (under-through tree x p t u ∙ (rw (parent, ne_eqb s p other) (ap (λ (y : F). goes_under p y.path) (sym e) ∙ stays))))
+    ]
+
+pub holds-aborted : (Q : Fact) (p : ℕ) (tree : Tree) → IsTree tree → Holds (BeforeAbort Q p) tree → Holds Q (aborted p tree)
+holds-aborted Q p tree t all s h at =
+    let found = filter-found (λ x. not (goes_under p x.path)) tree s h (tree-rising tree t) at in
+    let stays = not-true (goes_under p h.path) found.1 in
+    let P : Lists → Type 0 = λ k. Q s h.value k (mark_of h.state) in
+    elim (cases_eq s p) [
+      | inl is ↦ subst P (sym (ap (kids (aborted p tree)) is ∙ ap values_of (aborted-leaf p tree t))) ((all s h found.0).0 is)
+      | inr other ↦ subst P (sym (ap values_of (children-filter (λ x. not (goes_under p x.path)) tree s t (tree-aborted p tree t) ∙ children-stay p s h tree t found.0 stays other))) ((all s h found.0).1 other)
+    ]
+
+-- a root and all that is below it removed
+pub holds-without_job : (Q : Fact) (p : ℕ) (tree : Tree) → IsTree tree → Holds (λ s w k m. s ≢ p → Q s w k m) tree → (parent_of_root : (f : F) → frame_at tree p ≡ Some f → parent_of f.path ≡ None) → Holds Q (frames_without p (aborted p tree))
+holds-without_job Q p tree t all top = by (has_frame tree p) refl
+  where
+    cut : Tree
+    cut = aborted p tree
+
+    kept : Holds (λ s w k m. s ≢ p → Q s w k m) (aborted p tree)
+    kept = holds-aborted (λ s w k m. s ≢ p → Q s w k m) p tree t (λ s f at. ((λ is other. absurd (other is)), λ other. all s f at))
+
+    by : (there : Bool) → has_frame tree p ≡ there → Holds Q (frames_without p (aborted p tree))
+    by true there =
+        let f = there-found tree p there in
+        let none : (s : ℕ) → is_child_of s f.0.path ≡ false = λ s. ap (is_that s) (top f.0 f.1) in
+        holds-without Q p f.0 (aborted p tree) (tree-aborted p tree t) (aborted-itself p tree f.0 t f.1) (aborted-leaf p tree t)
+        (λ s h at other. ((λ child older younger e. absurd (false≢true (sym (none s) ∙ child))), λ no_child. kept s h at other))
+    by false lacks = λ s h at.
+        let apart : s ≢ p = λ e. (let both : ◌≡◌ {A = Option F} None (Some h) = sym (frame_at-without p (aborted p tree)) ∙ ap (frame_at (frames_without p (aborted p tree))) (sym e) ∙ at in absurd cc) in
+        let cut_lacks : has_frame (aborted p tree) p ≡ false = no-frame (aborted p tree) p (frame_at-filter (λ x. not (goes_under p x.path)) tree p (tree-rising tree t) ∙ ap (if_kept (λ x. not (goes_under p x.path))) (missing tree p lacks)) in
+        let same = without-missing p (aborted p tree) cut_lacks in
+        let P : Tree → Type 0 = λ ys. Q s h.value (kids ys s) (mark_of h.state) in
+        subst P (sym same) (kept s h (ap (λ (ys : Tree). frame_at ys s) (sym same) ∙ at) apart)

@@ -1,0 +1,104 @@
+-- Which ready frame `newest_ready_of` finds.
+use Rattle.std.proofs.Common.{◌≡◌, ◌≢◌, ℕ, ◌<◌, inl, inr, true, false, eqb, List, [], ◌∷◌, Option, Some, None, refl, ap, sym, ◌∙◌, subst, arith}
+use Rattle.std.proofs.lemmas.Bool.{cases_Bool, cases_eq, false≢true, true≢false, eq-eqb, ne_eqb, eqb-true}
+use Rattle.frame_table.specs.declared.names.State.{State}
+use Rattle.frame_table.specs.declared.names.State.TheVariants.{Ready, Running, Computing, Waiting, Returned}
+use Rattle.frame_table.specs.declared.names.FrameId.{FrameId}
+use Rattle.frame_table.specs.Frames.{Frame, frame_at, has_frame, is_ready, ready_name, first_of_two, newest_ready_of, IsReadyAt}
+use Rattle.frame_table.specs.TreeLaws.{AllAboveSerial, AreRising}
+use Rattle.frame_table.proofs.TreeLaws.{missing}
+use Rattle.sched_rules.specs.Trees.{Tree}
+use Rattle.sched_laws.specs.Newest.{IsNewestReady}
+
+abbrev F : Type 0
+F = Frame (List ℕ)
+
+-- no frame is ready
+abbrev NoneReady : Tree → Type 0
+NoneReady frames = (s : ℕ) (f : F) → frame_at frames s ≡ Some f → is_ready f.state ≡ false
+
+-- what a search answers
+abbrev Answers : ℕ → Tree → Option (FrameId × ℕ) → Type 0
+Answers tenant frames None = NoneReady frames
+Answers tenant frames (Some found) = IsNewestReady tenant frames found.0 found.1
+
+-- a frame behind the first is found as in the rest
+behind : (x : F) (xs : Tree) (s : ℕ) → x.serial ≢ s → frame_at (x ∷ xs) s ≡ frame_at xs s
+behind x xs s other = rw (ne_eqb x.serial s other) refl
+
+at-first : (x : F) (xs : Tree) (s : ℕ) (f : F) → x.serial ≡ s → frame_at (x ∷ xs) s ≡ Some f → x ≡ f
+at-first x xs s f same at = let both : ◌≡◌ {A = Option F} (Some x) (Some f) = rw (eq-eqb x.serial s same) at at in cc
+
+above-found : (low : ℕ) (xs : Tree) (s : ℕ) → AllAboveSerial low xs → has_frame xs s ≡ true → low < s
+above-found low [] s above there = absurd (false≢true there)
+above-found low (x ∷ xs) s above there = elim (cases_Bool (eqb x.serial s)) [
+  | inl same ↦ (let e = eqb-true x.serial s same in omega (arith, e, above.0))
+  | inr other ↦ above-found low xs s above.1 (rw other at there)
+]
+
+ready-there : (o : Option F) (home : ℕ) → IsReadyAt o home → o ≢ None
+ready-there None home is = λ e. is
+ready-there (Some f) home is = λ e. cc
+
+-- the first frame is not ready
+not-first : (tenant : ℕ) (x : F) (xs : Tree) → is_ready x.state ≡ false → ready_name tenant x.serial x.state ≡ None → NoneReady xs → Answers tenant (x ∷ xs) (ready_name tenant x.serial x.state)
+not-first tenant x xs idle none rest =
+    let P : Option (FrameId × ℕ) → Type 0 = λ o. Answers tenant (x ∷ xs) o in
+    subst P (sym none) (λ s f at. elim (cases_eq x.serial s) [
+      | inl same ↦ ap (λ (y : F). is_ready y.state) (sym (at-first x xs s f same at)) ∙ idle
+      | inr other ↦ rest s f (sym (behind x xs s other) ∙ at)
+    ])
+
+-- the last that is ready
+by-first : (tenant : ℕ) (x : F) (xs : Tree) → NoneReady xs → (state : State) → x.state ≡ state → Answers tenant (x ∷ xs) (ready_name tenant x.serial x.state)
+by-first tenant x xs rest (Ready home) is =
+    let P : Option (FrameId × ℕ) → Type 0 = λ o. Answers tenant (x ∷ xs) o in
+    let found : IsReadyAt (frame_at (x ∷ xs) x.serial) home = rw (eq-eqb x.serial x.serial refl) is in
+    subst P (sym (ap (ready_name tenant x.serial) is)) (record {
+      own = refl;
+      ready = found;
+      greatest = λ s f at ready. elim (cases_eq x.serial s) [
+        | inl same ↦ omega (arith, same)
+        | inr other ↦ absurd (true≢false (sym ready ∙ rest s f (sym (behind x xs s other) ∙ at)))
+      ];
+    })
+by-first tenant x xs rest (Running worker) is = not-first tenant x xs (ap is_ready is) (ap (ready_name tenant x.serial) is) rest
+by-first tenant x xs rest (Computing worker) is = not-first tenant x xs (ap is_ready is) (ap (ready_name tenant x.serial) is) rest
+by-first tenant x xs rest Waiting is = not-first tenant x xs (ap is_ready is) (ap (ready_name tenant x.serial) is) rest
+by-first tenant x xs rest Returned is = not-first tenant x xs (ap is_ready is) (ap (ready_name tenant x.serial) is) rest
+
+pub newest-answers : (tenant : ℕ) (frames : Tree) → AreRising frames → Answers tenant frames (newest_ready_of tenant frames)
+newest-answers tenant [] rising = λ s f at. absurd cc
+newest-answers tenant (x ∷ xs) rising = by (newest_ready_of tenant xs) refl (newest-answers tenant xs rising.1)
+  where
+    by : (o : Option (FrameId × ℕ)) → newest_ready_of tenant xs ≡ o → Answers tenant xs (newest_ready_of tenant xs) → Answers tenant (x ∷ xs) (newest_ready_of tenant (x ∷ xs))
+    by None e rest =
+        let P : Option (FrameId × ℕ) → Type 0 = λ p. Answers tenant xs p in
+        let Q : Option (FrameId × ℕ) → Type 0 = λ p. Answers tenant (x ∷ xs) (first_of_two p (ready_name tenant x.serial x.state)) in
+        subst Q (sym e) (by-first tenant x xs (subst P e rest) x.state refl)
+    by (Some found) e rest =
+        let P : Option (FrameId × ℕ) → Type 0 = λ p. Answers tenant xs p in
+        let Q : Option (FrameId × ℕ) → Type 0 = λ p. Answers tenant (x ∷ xs) (first_of_two p (ready_name tenant x.serial x.state)) in
+        let n = subst P e rest in
+        subst Q (sym e) (further found n)
+      where
+        further : (found : FrameId × ℕ) → IsNewestReady tenant xs found.0 found.1 → IsNewestReady tenant (x ∷ xs) found.0 found.1
+        further found n =
+            let serial = found.0.serial in
+            let there : has_frame xs serial ≡ true = elim (cases_Bool (has_frame xs serial)) [ inl is ↦ is | inr lacks ↦ absurd (ready-there (frame_at xs serial) found.1 n.ready (missing xs serial lacks)) ] in
+            let low = above-found x.serial xs serial rising.0 there in
+            let R : Option F → Type 0 = λ o. IsReadyAt o found.1 in
+            record {
+              own = n.own;
+              ready = subst R (sym (behind x xs serial (λ e. omega (arith, e, low)))) n.ready;
+              greatest = λ s f at ready. elim (cases_eq x.serial s) [
+                | inl same ↦ omega (arith, same, low)
+                | inr other ↦ n.greatest s f (sym (behind x xs s other) ∙ at) ready
+              ];
+            }
+
+pub newest-found : (tenant : ℕ) (frames : Tree) (name : FrameId) (home : ℕ) → AreRising frames → newest_ready_of tenant frames ≡ Some (name, home) → IsNewestReady tenant frames name home
+newest-found tenant frames name home rising is = let P : Option (FrameId × ℕ) → Type 0 = λ o. Answers tenant frames o in subst P is (newest-answers tenant frames rising)
+
+pub newest-none : (tenant : ℕ) (frames : Tree) → AreRising frames → newest_ready_of tenant frames ≡ None → NoneReady frames
+newest-none tenant frames rising is = let P : Option (FrameId × ℕ) → Type 0 = λ o. Answers tenant frames o in subst P is (newest-answers tenant frames rising)

@@ -1,0 +1,152 @@
+-- A frame is spendable exactly where no step is left, its Advance would be refused by what the act can't do, or its Inlet by a bad store.
+use Rattle.std.proofs.Common.{◌≡◌, ℕ, ◌⊎◌, inl, inr, Bool, true, false, not, ◌||◌, ◌&&◌, eqb, ltb, List, [], ◌∷◌, Option, Some, None, refl, ap, sym, ◌∙◌}
+use Rattle.std.specs.Prelude.{◌↔◌}
+use Rattle.std.proofs.lemmas.Bool.{cases_Bool, false≢true, eq-eqb, eqb-true, not-false, or_cases, or_left, or_right, and_parts, and_from}
+use Rattle.frame_table.specs.declared.names.State.{State}
+use Rattle.frame_table.specs.declared.names.State.TheVariants.{Ready, Running, Computing, Waiting, Returned}
+use Rattle.frame_table.specs.declared.names.FrameId.{FrameId}
+use Rattle.frame_table.specs.Frames.{Frame, frame_at, parent_of}
+use Rattle.sched_rules.specs.declared.refusal.Refusal.{Refusal}
+use Rattle.sched_rules.specs.declared.refusal.Refusal.TheVariants.{NotRunning, NoSteps, BadAct, NoNodes, NoSegments, NotReturned, Busy}
+use Rattle.sched_rules.specs.declared.step.StepOf.TheVariants.{Advance, Inlet}
+use Rattle.sched_rules.specs.Functions.{Functions}
+use Rattle.sched_rules.specs.Trees.{Tenant, words_in, left, is_outside, has_child, is_busy_in}
+use Rattle.sched_rules.specs.Lone.{unless, applies, refusal_in, lone_refusal, at_frame, is_run, is_run_by, is_returned, act_of, is_bad_act, is_spawn, segments_for, act_tests, advance_tests, advanced, inlet_tests, taken_in, inlet_under, is_bad_inlet, IsSpendable}
+use Rattle.sched_laws.specs.Spends.{IsActRefusal, IsStuck, IsBadInlet, MayBeSpent}
+
+-- the tests of an Advance, as tests
+abbrev Tests : Bool → Bool → Bool → Bool → Bool → List (Bool × Refusal)
+Tests run steps bad nodes segments = (run, NotRunning) ∷ (steps, NoSteps) ∷ (bad, BadAct) ∷ (nodes, NoNodes) ∷ (segments, NoSegments) ∷ []
+
+stuck : {X : Type 0} (bad nodes segments : Bool) (effect : X) → (bad || (nodes || (segments || false))) ≡ true → (refusal : Refusal) × IsActRefusal refusal × (refusal_in (unless (Tests false false bad nodes segments) effect) ≡ Some refusal)
+stuck true nodes segments effect is = (BadAct, inl refl, refl)
+stuck false true segments effect is = (NoNodes, inr (inl refl), refl)
+stuck false false true effect is = (NoSegments, inr (inr refl), refl)
+stuck false false false effect is = absurd (false≢true is)
+
+other-refusal : (a b : Refusal) → IsActRefusal b → (a ≡ NotRunning) ⊎ (a ≡ NoSteps) → Some a ≡ Some b → ⊥
+other-refusal a b (inl is) (inl e) same = cc
+other-refusal a b (inl is) (inr e) same = cc
+other-refusal a b (inr (inl is)) (inl e) same = cc
+other-refusal a b (inr (inl is)) (inr e) same = cc
+other-refusal a b (inr (inr is)) (inl e) same = cc
+other-refusal a b (inr (inr is)) (inr e) same = cc
+
+unstuck : {X : Type 0} (run steps bad nodes segments : Bool) (effect : X) (refusal : Refusal) → IsActRefusal refusal → refusal_in (unless (Tests run steps bad nodes segments) effect) ≡ Some refusal →
+    (run ≡ false) × ((bad || (nodes || (segments || false))) ≡ true)
+unstuck true steps bad nodes segments effect refusal act is = absurd (other-refusal NotRunning refusal act (inl refl) is)
+unstuck false true bad nodes segments effect refusal act is = absurd (other-refusal NoSteps refusal act (inr refl) is)
+unstuck false false true nodes segments effect refusal act is = (refl, refl)
+unstuck false false false true segments effect refusal act is = (refl, refl)
+unstuck false false false false true effect refusal act is = (refl, refl)
+unstuck false false false false false effect refusal act is = absurd cc
+
+-- who runs a frame
+runner : (state : State) → is_run state ≡ true → (worker : ℕ) × (is_run_by worker state ≡ true)
+runner (Ready home) is = absurd (false≢true is)
+runner (Running holder) is = (holder, eq-eqb holder holder refl)
+runner (Computing holder) is = absurd (false≢true is)
+runner Waiting is = absurd (false≢true is)
+runner Returned is = absurd (false≢true is)
+
+run-by : (worker : ℕ) (state : State) → is_run_by worker state ≡ true → is_run state ≡ true
+run-by worker (Ready home) is = absurd (false≢true is)
+run-by worker (Running holder) is = refl
+run-by worker (Computing holder) is = absurd (false≢true is)
+run-by worker Waiting is = absurd (false≢true is)
+run-by worker Returned is = absurd (false≢true is)
+
+-- what an Advance of a frame that is there would be refused by
+advance-refusal : {I A : Type 0} (functions : Functions I A) (tenant : Tenant) (worker : ℕ) (name : FrameId) (frame : Frame (List ℕ)) → frame_at tenant.frames name.serial ≡ Some frame →
+    lone_refusal {A = A} functions (Some tenant) (Advance worker name) ≡ refusal_in (unless (advance_tests tenant worker frame (act_of functions tenant frame)) (advanced functions tenant worker name frame (act_of functions tenant frame)))
+advance-refusal functions tenant worker name frame at =
+    ap (λ o. refusal_in (at_frame o (λ f. unless (advance_tests tenant worker f (act_of functions tenant f)) (advanced functions tenant worker name f (act_of functions tenant f))))) at
+
+inlet-refusal : {I A : Type 0} (functions : Functions I A) (tenant : Tenant) (worker : ℕ) (name : FrameId) (frame : Frame (List ℕ)) → frame_at tenant.frames name.serial ≡ Some frame →
+    lone_refusal {A = A} functions (Some tenant) (Inlet worker name) ≡ refusal_in (inlet_under functions tenant worker name frame (parent_of frame.path))
+inlet-refusal functions tenant worker name frame at =
+    ap (λ o. refusal_in (at_frame o (λ f. inlet_under functions tenant worker name f (parent_of f.path)))) at
+
+-- the tests of an Inlet, as tests
+abbrev InletTests : Bool → Bool → Bool → Bool → List (Bool × Refusal)
+InletTests returned steps outside busy = (returned, NotReturned) ∷ (steps, NoSteps) ∷ (outside, BadAct) ∷ (busy, Busy) ∷ []
+
+bad-inlet : {X : Type 0} (returned outside busy : Bool) (effect : X) → returned ≡ true → outside ≡ true → refusal_in (unless (InletTests (not returned) false outside busy) effect) ≡ Some BadAct
+bad-inlet true true busy effect is bad = refl
+bad-inlet false outside busy effect is bad = absurd (false≢true is)
+bad-inlet true false busy effect is bad = absurd (false≢true bad)
+
+good-inlet : {X : Type 0} (returned steps outside busy : Bool) (effect : X) → refusal_in (unless (InletTests (not returned) steps outside busy) effect) ≡ Some BadAct → (returned ≡ true) × (outside ≡ true)
+good-inlet true false true busy effect is = (refl, refl)
+good-inlet false steps outside busy effect is = absurd cc
+good-inlet true true outside busy effect is = absurd cc
+good-inlet true false false true effect is = absurd cc
+good-inlet true false false false effect is = absurd cc
+
+may-forth : {I A : Type 0} (functions : Functions I A) (tenant : Tenant) (name : FrameId) (frame : Frame (List ℕ)) → frame_at tenant.frames name.serial ≡ Some frame → IsSpendable functions tenant frame → MayBeSpent functions tenant name
+may-forth {I} {A} functions tenant name frame at is =
+    elim (cases_Bool (eqb (left tenant).steps 0)) [
+      | inl none ↦ inl (eqb-true (left tenant).steps 0 none)
+      | inr some ↦ elim (or_cases (is_run frame.state && applies acts) (is_returned frame.state && is_bad_inlet functions tenant frame (parent_of frame.path)) (rw some at is)) [
+        | inl stuck_run ↦ inr (inl (run some (and_parts (is_run frame.state) (applies acts) stuck_run)))
+        | inr bad ↦ inr (inr (inlet some (parent_of frame.path) refl (and_parts (is_returned frame.state) (is_bad_inlet functions tenant frame (parent_of frame.path)) bad)))
+      ]
+    ]
+  where
+    acts : List (Bool × Refusal)
+    acts = act_tests tenant frame (act_of functions tenant frame)
+
+    run : eqb (left tenant).steps 0 ≡ false → (is_run frame.state ≡ true) × (applies acts ≡ true) → IsStuck functions tenant name
+    run some both =
+        let w = runner frame.state both.0 in
+        let act = act_of functions tenant frame in
+        let effect = advanced functions tenant w.0 name frame act in
+        let bad = is_bad_act frame.value (has_child tenant.frames frame.serial) act in
+        let nodes = is_spawn act.after && eqb (left tenant).nodes 0 in
+        let segments = ltb (left tenant).segments (segments_for frame act.after) in
+        let s = stuck bad nodes segments effect both.1 in
+        let tests : unless (advance_tests tenant w.0 frame act) effect ≡ unless (Tests false false bad nodes segments) effect = rw (w.1, some) refl in
+        (w.0, s.0, s.1, advance-refusal functions tenant w.0 name frame at ∙ ap refusal_in tests ∙ s.2)
+
+    inlet : eqb (left tenant).steps 0 ≡ false → (parent : Option ℕ) → parent_of frame.path ≡ parent → (is_returned frame.state ≡ true) × (is_bad_inlet functions tenant frame (parent_of frame.path) ≡ true) → IsBadInlet functions tenant name
+    inlet some None named both = absurd (false≢true (sym (ap (is_bad_inlet functions tenant frame) named) ∙ both.1))
+    inlet some (Some parent) named both = λ worker.
+        let act = functions.inlet (words_in tenant.frames parent) frame.value in
+        let effect = taken_in {I = I} tenant worker name parent act in
+        let outside = is_outside act.stores (words_in tenant.frames parent) in
+        let busy = is_busy_in worker tenant.frames in
+        let bad : outside ≡ true = sym (ap (is_bad_inlet functions tenant frame) named) ∙ both.1 in
+        let tests : unless (inlet_tests tenant worker frame parent act) effect ≡ unless (InletTests (not (is_returned frame.state)) false outside busy) effect = rw some refl in
+        inlet-refusal functions tenant worker name frame at ∙ ap (λ o. refusal_in (inlet_under functions tenant worker name frame o)) named ∙ ap refusal_in tests ∙ bad-inlet (is_returned frame.state) outside busy effect both.0 bad
+
+may-back : {I A : Type 0} (functions : Functions I A) (tenant : Tenant) (name : FrameId) (frame : Frame (List ℕ)) → frame_at tenant.frames name.serial ≡ Some frame → MayBeSpent functions tenant name → IsSpendable functions tenant frame
+may-back functions tenant name frame at (inl none) = rw (eq-eqb (left tenant).steps 0 none) refl
+may-back functions tenant name frame at (inr (inl s)) =
+    let act = act_of functions tenant frame in
+    let effect = advanced functions tenant s.0 name frame act in
+    let bad = is_bad_act frame.value (has_child tenant.frames frame.serial) act in
+    let nodes = is_spawn act.after && eqb (left tenant).nodes 0 in
+    let segments = ltb (left tenant).segments (segments_for frame act.after) in
+    let u = unstuck (not (is_run_by s.0 frame.state)) (eqb (left tenant).steps 0) bad nodes segments effect s.1 s.2 (sym (advance-refusal functions tenant s.0 name frame at) ∙ s.3) in
+    let run = run-by s.0 frame.state (not-false (is_run_by s.0 frame.state) u.0) in
+    let runs = is_run frame.state && applies (act_tests tenant frame act) in
+    or_left (eqb (left tenant).steps 0 || runs) (is_returned frame.state && is_bad_inlet functions tenant frame (parent_of frame.path))
+    (or_right (eqb (left tenant).steps 0) runs (and_from (is_run frame.state) (applies (act_tests tenant frame act)) run u.1))
+may-back {I} functions tenant name frame at (inr (inr b)) = by (parent_of frame.path) refl
+  where
+    refused : refusal_in (inlet_under functions tenant 1 name frame (parent_of frame.path)) ≡ Some BadAct
+    refused = sym (inlet-refusal functions tenant 1 name frame at) ∙ b 1
+
+    by : (parent : Option ℕ) → parent_of frame.path ≡ parent → IsSpendable functions tenant frame
+    by None named = (let e : Some NotReturned ≡ Some BadAct = sym (ap (λ o. refusal_in (inlet_under functions tenant 1 name frame o)) named) ∙ refused in absurd cc)
+    by (Some parent) named =
+        let act = functions.inlet (words_in tenant.frames parent) frame.value in
+        let effect = taken_in {I = I} tenant 1 name parent act in
+        let outside = is_outside act.stores (words_in tenant.frames parent) in
+        let g = good-inlet (is_returned frame.state) (eqb (left tenant).steps 0) outside (is_busy_in 1 tenant.frames) effect (sym (ap (λ o. refusal_in (inlet_under functions tenant 1 name frame o)) named) ∙ refused) in
+        let bad : is_bad_inlet functions tenant frame (parent_of frame.path) ≡ true = ap (is_bad_inlet functions tenant frame) named ∙ g.1 in
+        or_right (eqb (left tenant).steps 0 || (is_run frame.state && applies (act_tests tenant frame (act_of functions tenant frame)))) (is_returned frame.state && is_bad_inlet functions tenant frame (parent_of frame.path))
+        (and_from (is_returned frame.state) (is_bad_inlet functions tenant frame (parent_of frame.path)) g.0 bad)
+
+pub may-be-spent : {I A : Type 0} (functions : Functions I A) (tenant : Tenant) (name : FrameId) (frame : Frame (List ℕ)) → frame_at tenant.frames name.serial ≡ Some frame → IsSpendable functions tenant frame ↔ MayBeSpent functions tenant name
+may-be-spent functions tenant name frame at = (may-forth functions tenant name frame at, may-back functions tenant name frame at)

@@ -1,0 +1,230 @@
+-- What all tenants have reserved and are charged, under each answer.
+use Rattle.std.proofs.Common.{◌≡◌, ℕ, ◌+◌, ◌*◌, ◌≤◌, inl, inr, Bool, false, not, ◌||◌, ◌&&◌, eqb, ltb, leb, List, [], ◌∷◌, Option, Some, None, Result, Ok, Err, length, refl, ap, sym, ◌∙◌, subst, arith}
+use Rattle.std.proofs.lemmas.List.Sums.{sum_by-cons}
+use Rattle.std.proofs.lemmas.Bool.{cases_Bool, ltb-false, or_parts}
+use Rattle.tenant_quota.specs.Quota.{Quota}
+use Rattle.tenant_quota.specs.Accounts.{reserved_segments, reserved_nodes}
+use Rattle.tenant_quota.specs.declared.account.Account.{Account}
+use Rattle.frame_table.specs.declared.names.FrameId.{FrameId}
+use Rattle.frame_table.specs.Frames.{Frame, frame_at, parent_of}
+use Rattle.sched_rules.specs.declared.act.InletAct.{InletAct}
+use Rattle.sched_rules.specs.declared.act.Then.{Then}
+use Rattle.sched_rules.specs.declared.act.Then.TheVariants.{Grow, Spawn, Go, Wait, Compute, Return}
+use Rattle.sched_rules.specs.declared.job.Job.{Job}
+use Rattle.sched_rules.specs.declared.job.Job.TheVariants.{Live, Done, Spent as SpentJob, Cancelled as CancelledJob}
+use Rattle.sched_rules.specs.declared.refusal.Refusal.{Refusal}
+use Rattle.sched_rules.specs.declared.refusal.Refusal.TheVariants.{NotSpent, OldTenant, NotReturned, NoJob}
+use Rattle.sched_rules.specs.declared.step.StepOf.{StepOf}
+use Rattle.sched_rules.specs.declared.step.StepOf.TheVariants.{Admit, Submit, Take, Steal, Advance, Answer, Inlet, Finish, Spend, Cancel, Leave}
+use Rattle.sched_rules.specs.declared.step.DidOf.{DidOf}
+use Rattle.sched_rules.specs.declared.step.DidOf.TheVariants.{Admitted, Cancelled, Left}
+use Rattle.sched_rules.specs.Functions.{Functions}
+use Rattle.sched_rules.specs.Trees.{Tenant, admitted_with, account_in, charged_for, words_in, left, has_child, job_at}
+use Rattle.sched_rules.specs.Lone.{Outcome, unless, lone, lone_step, counted, holding, submit_tests, submitted, take_tests, steal_tests, taken_by, act_of, advance_tests, then_done, advanced, answer_tests, answered, inlet_tests, does_wait, staying, taken_in, inlet_under, finish_tests, finished, is_spendable, spent, cancelled, ended}
+use Rattle.sched_rules.specs.Runs.{tenant_of}
+use Rattle.sched_rules.specs.Views.{free_in}
+use Rattle.sched_rules.specs.Cores.{Shared, tenant_in, with_tenant, without_tenant, with_outcome, accounts_in, reservations_in, is_full, admit_tests, judged, shared_after, charged_in}
+use Rattle.sched_rules.specs.Headline.{is_admission, after_answer, after_answers}
+use Rattle.sched_rules.proofs.Isolation.{there}
+use Rattle.sched_laws.specs.Shapes.{IsShaped, AreShaped, IsReservedWithin, IsCovered}
+use Rattle.sched_laws.proofs.Shaped.{unless-passed, frame-found}
+use Rattle.sched_laws.proofs.FitAnswers.{taken-alone, admission}
+
+abbrev Entries : Type 0
+Entries = List (ℕ × Tenant)
+
+-- a number of each tenant, summed up
+abbrev total : (Tenant → ℕ) → Entries → ℕ
+total m [] = 0
+total m (e ∷ es) = m e.1 + total m es
+
+segments-total : (es : Entries) → reserved_segments (accounts_in es) ≡ total (λ t. t.reserve.segments) es
+segments-total [] = refl
+segments-total (e ∷ es) = sum_by-cons (λ (a : ℕ × Account). a.1.reserve.segments) (e.0, account_in e.1) (accounts_in es) ∙ ap (λ (n : ℕ). e.1.reserve.segments + n) (segments-total es)
+
+nodes-total : (es : Entries) → reserved_nodes (accounts_in es) ≡ total (λ t. t.reserve.nodes) es
+nodes-total [] = refl
+nodes-total (e ∷ es) = sum_by-cons (λ (a : ℕ × Account). a.1.reserve.nodes) (e.0, account_in e.1) (accounts_in es) ∙ ap (λ (n : ℕ). e.1.reserve.nodes + n) (nodes-total es)
+
+charged-total : (es : Entries) → charged_in es ≡ total (λ t. charged_for t.frames) es
+charged-total [] = refl
+charged-total (e ∷ es) = ap (λ (n : ℕ). charged_for e.1.frames + n) (charged-total es)
+
+total-same : (m : Tenant → ℕ) (n : ℕ) (old t : Tenant) (es : Entries) → tenant_in es n ≡ Some old → m t ≡ m old → total m (with_tenant n t es) ≡ total m es
+total-same m n old t [] at same = absurd cc
+total-same m n old t (e ∷ es) at same = elim (cases_Bool (eqb e.0 n)) [
+  | inl is ↦ (let both : Some e.1 ≡ Some old = rw is at at in let own : e.1 ≡ old = cc in rw is (ap (λ (k : ℕ). k + total m es) (same ∙ ap m (sym own))))
+  | inr other ↦ rw other (ap (λ (k : ℕ). m e.1 + k) (total-same m n old t es (rw other at at) same))
+]
+
+total-more : (m : Tenant → ℕ) (n : ℕ) (t : Tenant) (es : Entries) → total m (with_tenant n t es) ≤ total m es + m t
+total-more m n t [] = omega arith
+total-more m n t (e ∷ es) = elim (cases_Bool (eqb e.0 n)) [
+  | inl is ↦ rw is (omega arith)
+  | inr other ↦ rw other (let rest = total-more m n t es in omega (arith, rest))
+]
+
+total-less : (m : Tenant → ℕ) (n : ℕ) (es : Entries) → total m (without_tenant n es) ≤ total m es
+total-less m n [] = omega arith
+total-less m n (e ∷ es) = let rest = total-less m n es in elim (cases_Bool (eqb e.0 n)) [
+  | inl is ↦ rw is (omega (arith, rest))
+  | inr other ↦ rw other (omega (arith, rest))
+]
+
+-- a tenant that is left keeps what it reserved
+abbrev pub KeepsReserve : Quota → Option Tenant → Type 0
+KeepsReserve quota None = Unit {0}
+KeepsReserve quota (Some tenant) = tenant.reserve ≡ quota
+
+then-reserve : {I A : Type 0} (functions : Functions I A) (t : Tenant) (worker : ℕ) (name : FrameId) (path words : List ℕ) (after : Then) → KeepsReserve t.reserve (then_done functions t worker name path words after).0
+then-reserve functions t worker name path words (Grow more) = refl
+then-reserve functions t worker name path words (Spawn given size) = refl
+then-reserve functions t worker name path words Go = refl
+then-reserve functions t worker name path words Wait = elim (cases_Bool (has_child t.frames name.serial)) [ inl some ↦ rw some refl | inr none ↦ rw none refl ]
+then-reserve functions t worker name path words Compute = refl
+then-reserve functions t worker name path words Return = elim (cases_Bool (has_child t.frames name.serial)) [ inl some ↦ rw some refl | inr none ↦ rw none refl ]
+
+inlet-reserve : (I : Type 0) (tenant : Tenant) (worker : ℕ) (name : FrameId) (parent : ℕ) (act : InletAct) → KeepsReserve tenant.reserve (taken_in {I = I} tenant worker name parent act).0
+inlet-reserve I tenant worker name parent act =
+    let frames = staying tenant.frames name.serial parent act.abort in
+    elim (cases_Bool (does_wait (frame_at frames parent) && (act.abort || act.wake || not (has_child frames parent)))) [ inl woken ↦ rw woken refl | inr sleeps ↦ rw sleeps refl ]
+
+came-reserve : {I : Type 0} (quota : Quota) (effect outcome : Outcome I) → effect ≡ outcome → KeepsReserve quota effect.0 → KeepsReserve quota outcome.0
+came-reserve {I} quota effect outcome is keeps = let P : Outcome I → Type 0 = λ o. KeepsReserve quota o.0 in subst P is keeps
+
+refused-reserve : {I : Type 0} (quota : Quota) (refusal : Refusal) (outcome : Outcome I) → ◌≡◌ {A = Result (Outcome I) Refusal} (Err refusal) (Ok outcome) → KeepsReserve quota outcome.0
+refused-reserve quota refusal outcome e = absurd cc
+
+cancel-reserve : {I : Type 0} (tenant : Tenant) (job : Option Job) (outcome : Outcome I) → cancelled tenant job ≡ Ok outcome → KeepsReserve tenant.reserve outcome.0
+cancel-reserve tenant None outcome is = refused-reserve tenant.reserve NoJob outcome is
+cancel-reserve {I} tenant (Some (Live root)) outcome is =
+    let e : ◌≡◌ {A = Result (Outcome I) Refusal} (Ok (Some (ended root CancelledJob tenant), Cancelled)) (Ok outcome) = is in
+    let pair : ◌≡◌ {A = Outcome I} (Some (ended root CancelledJob tenant), Cancelled) outcome = cc in
+    came-reserve tenant.reserve (Some (ended root CancelledJob tenant), Cancelled) outcome pair refl
+cancel-reserve tenant (Some (Done words)) outcome is = refused-reserve tenant.reserve NoJob outcome is
+cancel-reserve tenant (Some SpentJob) outcome is = refused-reserve tenant.reserve NoJob outcome is
+cancel-reserve tenant (Some CancelledJob) outcome is = refused-reserve tenant.reserve NoJob outcome is
+
+pub step-reserve : {I A : Type 0} (functions : Functions I A) (tenant : Tenant) (step : StepOf A) (outcome : Outcome I) → lone_step functions tenant step ≡ Ok outcome → KeepsReserve tenant.reserve outcome.0
+step-reserve functions tenant (Admit number quota) outcome is = refused-reserve tenant.reserve OldTenant outcome is
+step-reserve {I} functions tenant (Submit number words size) outcome is =
+    let p = unless-passed (submit_tests tenant words size) (submitted {I = I} tenant number words size) outcome is in came-reserve tenant.reserve (submitted tenant number words size) outcome p.1 refl
+step-reserve {I} functions tenant (Take worker name) outcome is =
+    let f = frame-found tenant.frames name.serial (λ frame. unless (take_tests tenant worker frame) (taken_by tenant worker frame)) outcome is in
+    let p = unless-passed (take_tests tenant worker f.0) (taken_by {I = I} tenant worker f.0) outcome f.2 in came-reserve tenant.reserve (taken_by tenant worker f.0) outcome p.1 refl
+step-reserve {I} functions tenant (Steal worker from name) outcome is =
+    let f = frame-found tenant.frames name.serial (λ frame. unless (steal_tests tenant worker from frame) (taken_by tenant worker frame)) outcome is in
+    let p = unless-passed (steal_tests tenant worker from f.0) (taken_by {I = I} tenant worker f.0) outcome f.2 in came-reserve tenant.reserve (taken_by tenant worker f.0) outcome p.1 refl
+step-reserve functions tenant (Advance worker name) outcome is =
+    let f = frame-found tenant.frames name.serial (λ frame. unless (advance_tests tenant worker frame (act_of functions tenant frame)) (advanced functions tenant worker name frame (act_of functions tenant frame))) outcome is in
+    let act = act_of functions tenant f.0 in
+    let p = unless-passed (advance_tests tenant worker f.0 act) (advanced functions tenant worker name f.0 act) outcome f.2 in
+    came-reserve tenant.reserve (advanced functions tenant worker name f.0 act) outcome p.1 (then-reserve functions (counted (holding f.0.serial _ tenant)) worker name f.0.path _ act.after)
+step-reserve functions tenant (Answer worker name answer) outcome is =
+    let f = frame-found tenant.frames name.serial (λ frame. unless (answer_tests functions tenant worker frame answer) (answered functions tenant worker frame answer)) outcome is in
+    let p = unless-passed (answer_tests functions tenant worker f.0 answer) (answered functions tenant worker f.0 answer) outcome f.2 in came-reserve tenant.reserve (answered functions tenant worker f.0 answer) outcome p.1 refl
+step-reserve {I} functions tenant (Inlet worker name) outcome is =
+    let f = frame-found tenant.frames name.serial (λ frame. inlet_under functions tenant worker name frame (parent_of frame.path)) outcome is in by f.0 (parent_of f.0.path) f.2
+  where
+    by : (f : Frame (List ℕ)) (parent : Option ℕ) → inlet_under functions tenant worker name f parent ≡ Ok outcome → KeepsReserve tenant.reserve outcome.0
+    by f None e = refused-reserve tenant.reserve NotReturned outcome e
+    by f (Some parent) e =
+        let act = functions.inlet (words_in tenant.frames parent) f.value in
+        let p = unless-passed (inlet_tests tenant worker f parent act) (taken_in {I = I} tenant worker name parent act) outcome e in came-reserve tenant.reserve (taken_in tenant worker name parent act) outcome p.1 (inlet-reserve I tenant worker name parent act)
+step-reserve {I} functions tenant (Finish worker name) outcome is =
+    let f = frame-found tenant.frames name.serial (λ frame. unless (finish_tests tenant worker frame) (finished tenant frame)) outcome is in
+    let p = unless-passed (finish_tests tenant worker f.0) (finished {I = I} tenant f.0) outcome f.2 in came-reserve tenant.reserve (finished tenant f.0) outcome p.1 refl
+step-reserve {I} functions tenant (Spend name) outcome is =
+    let f = frame-found tenant.frames name.serial (λ frame. unless ((not (is_spendable functions tenant frame), NotSpent) ∷ []) (spent tenant frame)) outcome is in
+    let p = unless-passed ((not (is_spendable functions tenant f.0), NotSpent) ∷ []) (spent {I = I} tenant f.0) outcome f.2 in came-reserve tenant.reserve (spent tenant f.0) outcome p.1 refl
+step-reserve functions tenant (Cancel number job) outcome is = cancel-reserve tenant (job_at tenant.jobs job) outcome is
+step-reserve {I} functions tenant (Leave number) outcome is =
+    let e : ◌≡◌ {A = Result (Outcome I) Refusal} (Ok (None, Left)) (Ok outcome) = is in let own : ◌≡◌ {A = Outcome I} (None, Left) outcome = cc in came-reserve tenant.reserve (None, Left) outcome own tt
+
+-- a number that goes by what is reserved, after a tenant came to this
+outcome-total : (m : Quota → ℕ) (n : ℕ) (old : Tenant) (o : Option Tenant) (es : Entries) → tenant_in es n ≡ Some old → KeepsReserve old.reserve o → total (λ t. m t.reserve) (with_outcome n o es) ≤ total (λ t. m t.reserve) es
+outcome-total m n old None es at keeps = total-less (λ t. m t.reserve) n es
+outcome-total m n old (Some t) es at keeps = let same = total-same (λ u. m u.reserve) n old t es at (ap m keeps) in omega (arith, same)
+
+-- a taken step keeps the reservations within the totals
+room : (m : Quota → ℕ) (number : ℕ) (quota : Quota) (es : Entries) (most : ℕ) → total (λ t. m t.reserve) es + m quota ≤ most → total (λ t. m t.reserve) (with_tenant number (admitted_with quota) es) ≤ most
+room m number quota es most le = let more = total-more (λ t. m t.reserve) number (admitted_with quota) es in omega (arith, more, le)
+
+admit-within : {I A : Type 0} (functions : Functions I A) (before : Shared) (number : ℕ) (quota : Quota) (outcome : Outcome I) → judged {A = A} functions before (Admit number quota) ≡ Ok outcome → IsReservedWithin before →
+    (total (λ t. t.reserve.segments) (with_outcome number outcome.0 before.tenants) ≤ before.totals.segments) × (total (λ t. t.reserve.nodes) (with_outcome number outcome.0 before.tenants) ≤ before.totals.nodes)
+admit-within {I} functions before number quota outcome is within =
+    let effect : Outcome I = (Some (admitted_with quota), Admitted) in
+    let book = reservations_in before in
+    let full = is_full book quota in
+    let p = unless-passed (admit_tests before number quota) effect outcome is in
+    let none : full ≡ false = second _ full p.0 in
+    let first = or_parts (leb 64 (length book.accounts) || ltb book.segments (reserved_segments book.accounts + quota.segments)) (ltb book.nodes (reserved_nodes book.accounts + quota.nodes)) none in
+    let inner = or_parts (leb 64 (length book.accounts)) (ltb book.segments (reserved_segments book.accounts + quota.segments)) first.0 in
+    let segments = ltb-false book.segments (reserved_segments book.accounts + quota.segments) inner.1 in
+    let nodes = ltb-false book.nodes (reserved_nodes book.accounts + quota.nodes) first.1 in
+    let all_segments = segments-total before.tenants in
+    let all_nodes = nodes-total before.tenants in
+    let P : Outcome I → Type 0 = λ o. (total (λ t. t.reserve.segments) (with_outcome number o.0 before.tenants) ≤ before.totals.segments) × (total (λ t. t.reserve.nodes) (with_outcome number o.0 before.tenants) ≤ before.totals.nodes) in
+    subst P p.1 (room (λ q. q.segments) number quota before.tenants before.totals.segments (omega (arith, segments, all_segments)), room (λ q. q.nodes) number quota before.tenants before.totals.nodes (omega (arith, nodes, all_nodes)))
+  where
+    second : (a b : Bool) → (a || (b || false)) ≡ false → b ≡ false
+    second a b e = (or_parts b false (or_parts a (b || false) e).1).0
+
+step-within : {I A : Type 0} (functions : Functions I A) (before : Shared) (step : StepOf A) (outcome : Outcome I) → is_admission step ≡ false → judged functions before step ≡ Ok outcome → IsReservedWithin before →
+    (total (λ t. t.reserve.segments) (with_outcome (tenant_of step) outcome.0 before.tenants) ≤ before.totals.segments) × (total (λ t. t.reserve.nodes) (with_outcome (tenant_of step) outcome.0 before.tenants) ≤ before.totals.nodes)
+step-within functions before step outcome no_admission is within = by (tenant_in before.tenants (tenant_of step)) refl
+  where
+    alone : lone functions (tenant_in before.tenants (tenant_of step)) step ≡ Ok outcome
+    alone = taken-alone functions before step outcome no_admission is
+
+    by : (own : Option Tenant) → tenant_in before.tenants (tenant_of step) ≡ own → (total (λ t. t.reserve.segments) (with_outcome (tenant_of step) outcome.0 before.tenants) ≤ before.totals.segments) × (total (λ t. t.reserve.nodes) (with_outcome (tenant_of step) outcome.0 before.tenants) ≤ before.totals.nodes)
+    by None at = absurd (there functions None step outcome no_admission (ap (λ o. lone functions o step) (sym at) ∙ alone) refl)
+    by (Some tenant) at =
+        let keeps = step-reserve functions tenant step outcome (ap (λ o. lone functions o step) (sym at) ∙ alone) in
+        let a = outcome-total (λ q. q.segments) (tenant_of step) tenant outcome.0 before.tenants at keeps in
+        let b = outcome-total (λ q. q.nodes) (tenant_of step) tenant outcome.0 before.tenants at keeps in
+        let c = within.segments in let d = within.nodes in
+        let e = segments-total before.tenants in let f = nodes-total before.tenants in
+        (omega (arith, a, c, e), omega (arith, b, d, f))
+
+after-within : {I A : Type 0} (functions : Functions I A) (before : Shared) (step : StepOf A) (came_to : Result (Outcome I) Refusal) → judged functions before step ≡ came_to → IsReservedWithin before → IsReservedWithin (shared_after before step came_to)
+after-within functions before step (Err refusal) is within = within
+after-within {I} {A} functions before step (Ok outcome) is within =
+    let both = elim (cases_Bool (is_admission step)) as (λ _. (total (λ t. t.reserve.segments) (with_outcome (tenant_of step) outcome.0 before.tenants) ≤ before.totals.segments) × (total (λ t. t.reserve.nodes) (with_outcome (tenant_of step) outcome.0 before.tenants) ≤ before.totals.nodes)) [
+      | inr no_admission ↦ step-within functions before step outcome no_admission is within
+      | inl admits ↦ (let a = admission step admits in
+          let P : StepOf A → Type 0 = λ st. (total (λ t. t.reserve.segments) (with_outcome (tenant_of st) outcome.0 before.tenants) ≤ before.totals.segments) × (total (λ t. t.reserve.nodes) (with_outcome (tenant_of st) outcome.0 before.tenants) ≤ before.totals.nodes) in
+          subst P (sym a.2) (admit-within functions before a.0 a.1 outcome (ap (judged functions before) (sym a.2) ∙ is) within))
+    ] in
+    let e = segments-total (with_outcome (tenant_of step) outcome.0 before.tenants) in
+    let f = nodes-total (with_outcome (tenant_of step) outcome.0 before.tenants) in
+    record { segments = omega (arith, both.0, e); nodes = omega (arith, both.1, f) }
+
+pub reserved-answer : {I A : Type 0} (functions : Functions I A) (before : Shared) (step : StepOf A) (answer : Result (DidOf I) Refusal) → IsReservedWithin before → IsReservedWithin (after_answer functions before step answer)
+reserved-answer functions before step (Err refusal) within = within
+reserved-answer functions before step (Ok did) within = after-within functions before step (judged functions before step) refl within
+
+pub reserved-answers : {I A : Type 0} (functions : Functions I A) (before : Shared) (steps : List (StepOf A)) (answers : List (Result (DidOf I) Refusal)) → IsReservedWithin before → IsReservedWithin (after_answers functions before steps answers)
+reserved-answers functions before [] answers within = within
+reserved-answers functions before (step ∷ steps) [] within = within
+reserved-answers functions before (step ∷ steps) (answer ∷ answers) within = reserved-answers functions (after_answer functions before step answer) steps answers (reserved-answer functions before step answer within)
+
+-- the charges are within what is reserved, and so within the total
+charged-reserved : (es : Entries) → AreShaped es → charged_in es ≤ total (λ t. t.reserve.segments) es
+charged-reserved [] all = omega arith
+charged-reserved (e ∷ es) all = let rest = charged-reserved es all.1 in let own = all.0.charged in omega (arith, rest, own)
+
+pub covered : (shared : Shared) → AreShaped shared.tenants → IsReservedWithin shared → IsCovered shared
+covered shared all within = let a = charged-reserved shared.tenants all in let b = within.segments in let c = segments-total shared.tenants in omega (arith, a, b, c)
+
+pub free-whole : (shared : Shared) → AreShaped shared.tenants → IsReservedWithin shared → free_in shared + charged_in shared.tenants ≡ shared.totals.segments
+free-whole shared all within = let c : charged_in shared.tenants ≤ shared.totals.segments = covered shared all within in omega (arith, c)
+
+pub left-segments : (tenant : Tenant) → IsShaped tenant → (left tenant).segments + charged_for tenant.frames ≡ tenant.reserve.segments
+left-segments tenant shape = let c = shape.charged in omega (arith, c)
+
+pub left-nodes : (tenant : Tenant) → IsShaped tenant → (left tenant).nodes + tenant.serials ≡ tenant.reserve.nodes
+left-nodes tenant shape = let c = shape.opened in omega (arith, c)
+
+pub left-steps : (tenant : Tenant) → IsShaped tenant → (left tenant).steps + tenant.steps ≡ 16 * tenant.reserve.nodes
+left-steps tenant shape = let c = shape.ticks in omega (arith, c)

@@ -1,0 +1,10 @@
+use Rattle.sched_laws.proofs.FitAnswers.{stays-fitting, nobody-fits}
+use Rattle.sched_laws.proofs.laws.every_frame_fits.Goals as goal
+
+pub returns : goal.returns
+returns g c = record {
+  each_step = λ procedure origins before steps answers known shaped core right.
+      stays-fitting (g.P.Procedure.functions procedure) (g.P.Procedure.fits procedure) (g.P.Procedure.rooted procedure) origins before steps answers
+      (record { next = g.met.P.Procedure.next_keeps procedure; inlet = g.met.P.Procedure.inlet_keeps procedure; accept = g.met.P.Procedure.accept_keeps procedure }) known shaped core right;
+  nobody = λ procedure totals. nobody-fits (g.P.Procedure.fits procedure) (g.P.Procedure.rooted procedure) totals;
+}

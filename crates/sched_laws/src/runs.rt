@@ -1,0 +1,48 @@
+//! Lists of steps in parts, the numbers of jobs, and the newest ready frame.
+ghost use Rattle.std.specs.Prelude.{◌≡◌, ℕ, ◌+◌, List, ◌++◌, Option, Some, None, Result, Ok, length, false};
+ghost use Rattle.tenant_quota.specs.Quota.{Quota};
+ghost use Rattle.frame_table.specs.declared.names.FrameId.{FrameId};
+ghost use Rattle.frame_table.specs.Frames.{Frame, frame_at, is_ready, newest_ready_of};
+ghost use Rattle.sched_rules.specs.declared.refusal.Refusal.{Refusal};
+ghost use Rattle.sched_rules.specs.declared.step.StepOf.{StepOf};
+ghost use Rattle.sched_rules.specs.declared.step.StepOf.TheVariants.{Submit};
+ghost use Rattle.sched_rules.specs.declared.step.DidOf.{DidOf};
+ghost use Rattle.sched_rules.specs.declared.step.DidOf.TheVariants.{Submitted};
+ghost use Rattle.sched_rules.specs.Trees.{Tenant};
+ghost use Rattle.sched_rules.specs.Runs.{only, alone_from, answers_from};
+ghost use Rattle.sched_rules.specs.Cores.{Shared, shared_by_nobody, tenant_in};
+ghost use Rattle.sched_rules.specs.Headline.{IsAnswerTo, AreAnswersTo, after_answers, taken};
+ghost use Rattle.sched_laws.specs.Shapes.{IsShaped};
+ghost use Rattle.sched_laws.specs.Fitted.{origins_of};
+ghost use Rattle.sched_laws.specs.Newest.{IsNewestReady};
+
+use sched_rules::Procedure;
+
+/// What a tenant alone comes to by a list of steps, and what it is answered, is that of the first part
+/// and then of the rest; and a tenant's own steps of a list are those of each part.
+pub fn steps_in_parts<P: Procedure>()
+    ensures state { (procedure : P) (before : Option Tenant) (steps more : List (StepOf P.Answer)) →
+        alone_from (P.functions procedure) before (steps ++ more) ≡ alone_from (P.functions procedure) (alone_from (P.functions procedure) before steps) more }
+    ensures answers { (procedure : P) (before : Option Tenant) (steps more : List (StepOf P.Answer)) →
+        answers_from (P.functions procedure) before (steps ++ more) ≡ answers_from (P.functions procedure) before steps ++ answers_from (P.functions procedure) (alone_from (P.functions procedure) before steps) more }
+    ensures own { (number : ℕ) (steps more : List (StepOf P.Answer)) → only number (steps ++ more) ≡ only number steps ++ only number more }
+{}
+
+/// Job k of a tenant is that of its k-th taken Submit: it has as many jobs as its Submits that were
+/// taken, and a taken Submit is answered one more than it had.
+pub fn jobs_are_numbered_by_their_submits<P: Procedure>()
+    ensures count { (procedure : P) (totals : Quota) (steps : List (StepOf P.Answer)) (answers : List (Result (DidOf P.Input) Refusal)) (number : ℕ) (tenant : Tenant) →
+        AreAnswersTo (P.functions procedure) (shared_by_nobody totals) steps answers →
+        tenant_in (after_answers (P.functions procedure) (shared_by_nobody totals) steps answers).tenants number ≡ Some tenant →
+        length tenant.jobs ≡ length (origins_of (only number (taken steps answers))) }
+    ensures number { (procedure : P) (before : Shared) (number : ℕ) (words : List ℕ) (size : ℕ) (did : DidOf P.Input) (tenant : Tenant) →
+        IsAnswerTo (P.functions procedure) before (Submit number words size) (Ok did) → tenant_in before.tenants number ≡ Some tenant →
+        did ≡ Submitted (length tenant.jobs + 1) (record { tenant = number; serial = tenant.serials + 1 }) }
+{}
+
+/// The frame that `newest_ready_of` names is a ready one of the greatest serial; it names none exactly
+/// where none is ready.
+pub fn the_newest_ready_frame_has_the_greatest_serial()
+    ensures found { (tenant : Tenant) (number : ℕ) (name : FrameId) (home : ℕ) → IsShaped tenant → newest_ready_of number tenant.frames ≡ Some (name, home) → IsNewestReady number tenant.frames name home }
+    ensures none { (tenant : Tenant) (number s : ℕ) (frame : Frame (List ℕ)) → IsShaped tenant → newest_ready_of number tenant.frames ≡ None → frame_at tenant.frames s ≡ Some frame → is_ready frame.state ≡ false }
+{}

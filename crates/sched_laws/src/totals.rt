@@ -1,0 +1,31 @@
+//! That nothing is cut off where what is left is worked out by subtraction.
+ghost use Rattle.std.specs.Prelude.{◌≡◌, ℕ, ◌+◌, ◌*◌, List, Result};
+ghost use Rattle.tenant_quota.specs.Quota.{Quota};
+ghost use Rattle.sched_rules.specs.declared.refusal.Refusal.{Refusal};
+ghost use Rattle.sched_rules.specs.declared.step.StepOf.{StepOf};
+ghost use Rattle.sched_rules.specs.declared.step.DidOf.{DidOf};
+ghost use Rattle.sched_rules.specs.Trees.{Tenant, left, charged_for};
+ghost use Rattle.sched_rules.specs.Cores.{Shared, charged_in, shared_by_nobody};
+ghost use Rattle.sched_rules.specs.Headline.{after_answer, after_answers};
+ghost use Rattle.sched_rules.specs.Views.{free_in};
+ghost use Rattle.sched_laws.specs.Shapes.{IsShaped, AreShaped, IsReservedWithin, IsCovered};
+
+use sched_rules::Procedure;
+
+/// Whatever a step is answered, what all tenants have reserved stays within the totals.
+pub fn reservations_stay_within_the_totals<P: Procedure>()
+    ensures step { (procedure : P) (before : Shared) (step : StepOf P.Answer) (answer : Result (DidOf P.Input) Refusal) →
+        IsReservedWithin before → IsReservedWithin (after_answer (P.functions procedure) before step answer) }
+    ensures run { (procedure : P) (before : Shared) (steps : List (StepOf P.Answer)) (answers : List (Result (DidOf P.Input) Refusal)) →
+        IsReservedWithin before → IsReservedWithin (after_answers (P.functions procedure) before steps answers) }
+    ensures nobody { (totals : Quota) → IsReservedWithin (shared_by_nobody totals) }
+{}
+
+/// What is left and what is used make up what is reserved; what is free and what is charged, the total.
+pub fn nothing_is_cut_off()
+    ensures segments { (tenant : Tenant) → IsShaped tenant → (left tenant).segments + charged_for tenant.frames ≡ tenant.reserve.segments }
+    ensures nodes { (tenant : Tenant) → IsShaped tenant → (left tenant).nodes + tenant.serials ≡ tenant.reserve.nodes }
+    ensures steps { (tenant : Tenant) → IsShaped tenant → (left tenant).steps + tenant.steps ≡ 16 * tenant.reserve.nodes }
+    ensures covered { (shared : Shared) → AreShaped shared.tenants → IsReservedWithin shared → IsCovered shared }
+    ensures free { (shared : Shared) → AreShaped shared.tenants → IsReservedWithin shared → free_in shared + charged_in shared.tenants ≡ shared.totals.segments }
+{}

@@ -1,0 +1,31 @@
+-- Small tenants, jobs and procedures on which the laws are tried.
+use Rattle.std.specs.Prelude.{◌≡◌, ℕ, List, [], ◌∷◌, replicate}
+use Rattle.frame_table.specs.declared.names.State.{State}
+use Rattle.frame_table.specs.declared.names.State.TheVariants.{Ready, Running, Waiting, Returned}
+use Rattle.sched_rules.specs.declared.job.Job.{Job}
+use Rattle.sched_rules.specs.declared.job.Job.TheVariants.{Live, Done, Spent, Cancelled}
+use Rattle.sched_rules.specs.Trees.{Tree, Tenant}
+use Rattle.sched_rules.specs.Laws.{Fitting, Rooting, HasReturned}
+use Rattle.sched_toys.specs.Toys.{word_at}
+use Rattle.sched_toys.specs.FanRows.{quota}
+use Rattle.sched_toys.specs.SmallStates.{fresh, root, child}
+
+-- a root in this state with two children
+abbrev pub parent_in : State → Tree
+parent_in state = root state ∷ child 2 (Ready 1) ∷ child 3 Returned ∷ []
+
+-- a tenant of 4 segments and 4 nodes, 3 of them opened, with these jobs and frames
+abbrev pub with_jobs : List Job → Tree → Tenant
+with_jobs jobs frames = record (fresh frames) { jobs = jobs }
+
+-- a job of each kind that has ended
+abbrev pub ended_jobs : List Job
+ended_jobs = Done (2 ∷ 1 ∷ []) ∷ Spent ∷ Cancelled ∷ []
+
+-- every root's first word is that of what was submitted
+abbrev pub SameFirstWord : Rooting
+SameFirstWord origin own = word_at own 0 ≡ word_at origin 0
+
+-- a frame fits that has returned, without a child
+abbrev pub FitsReturned : Fitting
+FitsReturned own children mark = (children ≡ []) × (mark ≡ HasReturned)

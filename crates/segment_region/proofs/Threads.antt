@@ -1,0 +1,56 @@
+-- The owners may cross threads where what they own may.
+use Rattle.std.specs.Prelude.{ℕ, ◌+◌, List, [], ◌∷◌, Option, Some, None}
+use Rattle.std.specs.Mem.{type_size}
+use base.Fraction.{full_share}
+use base.Shift.{Keyless}
+use denote.RattleType.{RattleType}
+use denote.RawPtr.{Ptr, block_ptr, null_ptr}
+use denote.Struct.Struct.{exits_of}
+use denote.Struct.Owning.{shape, fields, to}
+use denote.Param.Send.{IsSend, IsSync, Common, AllSend, part_keyless, owning_send, struct_send, struct_sync, sendable}
+use Rattle.core.specs.declared.alloc.Allocator.{Ghosts}
+use Rattle.std_alloc.proofs.SendSync.{FreesAnywhere, quiet}
+use Rattle.segment_region.specs.Ownership.{row_owned, row_lent, places_owned, places_lent}
+use Rattle.segment_region.specs.contracts.cells.Cells as CellsType
+use Rattle.segment_region.specs.contracts.cells.Deed as DeedType
+
+module _ (R : RattleType) (send : IsSend R) where
+  row-moves : (block byte : ℕ) (places : List (Option R.Denot)) → Keyless (row_owned R block byte places)
+  row-moves block byte [] = tt
+  row-moves block byte (None ∷ places) = (tt, row-moves block (byte + type_size R) places)
+  row-moves block byte (Some value ∷ places) = (part_keyless R send full_share value block byte, row-moves block (byte + type_size R) places)
+
+  places-move : (at : Ptr) (places : List (Option R.Denot)) → Keyless (places_owned R at places)
+  places-move null_ptr places = tt
+  places-move (block_ptr block byte) places = (tt, row-moves block byte places)
+
+  pub cells-move : IsSend (CellsType.the_row R)
+  cells-move =
+      let type = CellsType.the_type R in let all : AllSend (fields type) = (search sendable, tt) in
+      owning_send type all (λ cells. places-move cells.at cells.slots) (λ k. quiet (to type) (exits_of k (fields type)) ((struct_send (shape type) all).leaving k))
+
+module _ (R : RattleType) (sync : IsSync R) where
+  row-shows : (block byte : ℕ) (places : List (Option R.Denot)) → Common (row_lent R block byte places)
+  row-shows block byte [] κ = tt
+  row-shows block byte (None ∷ places) κ = (tt, row-shows block (byte + type_size R) places κ)
+  row-shows block byte (Some value ∷ places) κ = (sync.shared value block byte κ, row-shows block (byte + type_size R) places κ)
+
+  places-show : (at : Ptr) (places : List (Option R.Denot)) → Common (places_lent R at places)
+  places-show null_ptr places κ = tt
+  places-show (block_ptr block byte) places κ = (tt, row-shows block byte places κ)
+
+  pub cells-show : IsSync (CellsType.the_row R)
+  cells-show =
+      let type = CellsType.the_type R in
+      record { shared = λ cells block byte κ. ((struct_sync (shape type) (search sendable, tt)).shared (to type cells) block byte κ, places-show cells.at cells.slots κ) }
+
+module _ (R A : RattleType) (g : Ghosts A.Denot) where
+  pub deed-moves : FreesAnywhere A.Denot g → IsSend (DeedType.the_row R A g)
+  deed-moves anywhere =
+      let type = DeedType.the_type R A g in let all : AllSend (fields type) = (search sendable, tt) in
+      owning_send type all (λ deed. anywhere.frees deed.alloc _ deed.at) (λ k. quiet (to type) (exits_of k (fields type)) ((struct_send (shape type) all).leaving k))
+
+  pub deed-shows : IsSync (DeedType.the_row R A g)
+  deed-shows =
+      let type = DeedType.the_type R A g in
+      record { shared = λ deed block byte κ. ((struct_sync (shape type) (search sendable, tt)).shared (to type deed) block byte κ, tt) }

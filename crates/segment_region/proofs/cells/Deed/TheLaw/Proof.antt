@@ -1,0 +1,18 @@
+-- A `&` to a deed holds nothing.
+use denote.RattleType.{RattleType}
+use denote.RawPtr.{RawPtr}
+use denote.Param.Laws.{Laws}
+use denote.Param.Shared.{copy_shared}
+use denote.SharingLaws.{nothing_shr_laws}
+use denote.Struct.Laws.{field_copy}
+use denote.Struct.Lending.{of_Lends, Lends-nothing}
+use Rattle.core.specs.declared.alloc.Allocator.{Ghosts}
+use Rattle.core.specs.contracts.marker.PhantomData as mark
+use Rattle.segment_region.specs.contracts.cells.Deed as deed
+use Rattle.segment_region.proofs.cells.Deed.TheLaw.Statement.{statement}
+
+pub shares : (T A : RattleType) (g : Ghosts A.Denot) (of_T : Laws T) (of_A : Laws A) → statement T A g of_T of_A
+shares T A g of_T of_A =
+    of_Lends (deed.struct T A g) (deed.the_codes T.Denot A.Denot T.coded A.coded (mark.the_row RawPtr).coded) (deed.the_heap T A g) (deed.the_lent T A g)
+    (λ d place. nothing_shr_laws) (copy_shared (mark.the_field RawPtr) (field_copy (mark.the_type RawPtr) tt), tt)
+    (λ M 𝓤 𝓛 d place. Lends-nothing 𝓛 (deed.the_heap T A g d) (deed.the_row T A g).lives)

@@ -1,0 +1,7 @@
+use Rattle.line_io.proofs.ByFunction.{Run-related}
+use Rattle.solve_engine.specs.Solving.{IsVisitedLine}
+use Rattle.solve_engine.proofs.solving.solve_visited.Goals as goal
+
+pub returns : goal.returns
+returns g c =
+    Run-related g.S.Source.gives g.K.Sink.takes _ IsVisitedLine (λ a line text b h. h) _ _ _ _ _ _ _ c.answer_lines.ensures
