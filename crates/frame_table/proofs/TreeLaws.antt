@@ -295,7 +295,7 @@ top-path frames s frame t at none =
       | inr u ↦ (let e = u.named in absurd cc)
     ]
 
-named-under : {T : Type 0} (frames : List (Frame T)) (s p : ℕ) (frame : Frame T) → IsTree frames → frame_at frames s ≡ Some frame → parent_of frame.path ≡ Some p → (u : IsUnder frames frame) × (u.parent ≡ p)
+pub named-under : {T : Type 0} (frames : List (Frame T)) (s p : ℕ) (frame : Frame T) → IsTree frames → frame_at frames s ≡ Some frame → parent_of frame.path ≡ Some p → (u : IsUnder frames frame) × (u.parent ≡ p)
 named-under {T} frames s p frame t at named =
     elim (placed frames s frame t at) [
       | inl top ↦ (let e = top.0 in absurd cc)

@@ -1,7 +1,8 @@
 //! What follows from the definitions of a tree, for those who keep trees: each change leaves a tree,
 //! and what is found and who is whose child after it.
-ghost use Rattle.std.specs.Prelude.{◌≡◌, ◌≢◌, ℕ, ◌<◌, List, [], ◌∷◌, ◌++◌, Option, Some, None, true, false, filter, map, not, option_map};
+ghost use Rattle.std.specs.Prelude.{◌≡◌, ◌≢◌, ℕ, ◌+◌, ◌<◌, List, [], ◌∷◌, ◌++◌, Option, Some, None, true, false, filter, map, not, option_map};
 ghost use Rattle.frame_table.specs.Frames.{Frame, frame_at, has_frame, has_parent, path_in, AllBelow, parent_of, root_of, goes_under, aborted, frames_under, frames_without, with_state, children_of, values_of, IsTree};
+ghost use Rattle.frame_table.specs.Rows.{five_frames};
 ghost use Rattle.frame_table.specs.Tables.{new_frame};
 ghost use Rattle.frame_table.specs.TreeLaws.{is_child_of, AreRising, if_kept, map_value, map_values};
 ghost use Rattle.frame_table.specs.declared.names.State.{State};
@@ -81,4 +82,17 @@ pub fn values_change_alone<T, U>()
     ensures added { (change : T → U) (frames more : List (Frame T)) → map_values change (frames ++ more) ≡ map_values change frames ++ map_values change more }
     ensures new { (change : T → U) (frames : List (Frame T)) (serial : ℕ) (parent : Option ℕ) (home : ℕ) (value : T) → new_frame (map_values change frames) serial parent home (change value) ≡ map_value change (new_frame frames serial parent home value) }
     ensures values { (change : T → U) (frames : List (Frame T)) → values_of (map_values change frames) ≡ map change (values_of frames) }
+{}
+
+/// The words of these laws on the tree of five frames: frame 5 is a child of 3 and of no other, and each
+/// value is changed alone.
+pub fn laws_on_five_frames()
+    ensures child { is_child_of 3 (path_in five_frames 5) ≡ true }
+    ensures grandchild { is_child_of 1 (path_in five_frames 5) ≡ false }
+    ensures itself { is_child_of 5 (path_in five_frames 5) ≡ false }
+    ensures root { is_child_of 1 (path_in five_frames 1) ≡ false }
+    ensures values { values_of (map_values (λ value. value + 10) five_frames) ≡ 11 ∷ 12 ∷ 13 ∷ 14 ∷ 15 ∷ [] }
+    ensures paths { path_in (map_values (λ value. value + 10) five_frames) 5 ≡ path_in five_frames 5 }
+    ensures kept { if_kept (λ frame. is_child_of 1 frame.path) (frame_at five_frames 5) ≡ None }
+    ensures stays { if_kept (λ frame. is_child_of 3 frame.path) (frame_at five_frames 5) ≡ frame_at five_frames 5 }
 {}
