@@ -1,13 +1,11 @@
 //! Serial window search of Othello positions by three engines: the proved crate `leaf_search`, linked as
 //! a static library; plain bit boards, below; and bit boards in vectors (`vectors.rs`). All take the choices
 //! in one order (legal corners a1, h1, a8, h8, then the other squares by rising index) with the same
-//! windows, so values, moves and counts must agree. They alternate over the same positions; the best round
-//! of each counts.
+//! windows, so values, moves and counts must agree. They take turns at each position, by the thread's
+//! processor time; the best round of each counts.
 //!
 //! usage: search_peer DEPTH ROUNDS, or DEPTH ENGINE for one round of one engine (proved, plain, vectors)
 mod vectors;
-
-use std::time::Instant;
 
 #[repr(C)]
 #[derive(Clone, Copy, PartialEq, Eq, Debug)]
@@ -19,7 +17,17 @@ struct Found {
 
 unsafe extern "C" {
     fn kernel_search(own: u64, opp: u64, depth: u8, found: *mut Found);
+    fn clock_gettime(clock: i32, now: *mut Timespec) -> i32;
 }
+
+#[repr(C)]
+struct Timespec {
+    seconds: i64,
+    nanoseconds: i64,
+}
+
+/// The number of the clock of a thread's processor time, on Linux.
+const THREAD_PROCESSOR_TIME: i32 = 3;
 
 const INF: i32 = 200_000;
 const POSITIONS: usize = 60;
@@ -182,13 +190,28 @@ type Engine = fn(u64, u64, u8) -> Found;
 
 const ENGINES: [(&str, Engine); 3] = [("proved", proved), ("plain", plain), ("vectors", by_vectors)];
 
-/// What an engine finds in all positions, and how many positions it enters a second.
-fn timed(positions: &[(u64, u64)], depth: u8, engine: Engine) -> (Vec<Found>, f64) {
-    let start = Instant::now();
-    let found: Vec<Found> = positions.iter().map(|(own, opp)| engine(*own, *opp, depth)).collect();
-    let seconds = start.elapsed().as_secs_f64();
-    let speed = visited_of(&found) as f64 / seconds;
-    (found, speed)
+/// The processor seconds that this thread has used: on a busy machine they say more than the clock.
+fn processor_seconds() -> f64 {
+    let mut now = Timespec { seconds: 0, nanoseconds: 0 };
+    unsafe { clock_gettime(THREAD_PROCESSOR_TIME, &mut now) };
+    now.seconds as f64 + now.nanoseconds as f64 / 1e9
+}
+
+/// What each engine finds in all positions, and how many positions it enters a second of processor time.
+/// The engines take turns at each position.
+fn timed(positions: &[(u64, u64)], depth: u8, engines: &[(&str, Engine)]) -> Vec<(Vec<Found>, f64)> {
+    let mut results: Vec<(Vec<Found>, f64)> = engines.iter().map(|_| (Vec::new(), 0.0)).collect();
+    for (own, opp) in positions {
+        for ((_, engine), (found, seconds)) in engines.iter().zip(&mut results) {
+            let start = processor_seconds();
+            found.push(engine(*own, *opp, depth));
+            *seconds += processor_seconds() - start;
+        }
+    }
+    for (found, speed) in &mut results {
+        *speed = visited_of(found) as f64 / *speed;
+    }
+    results
 }
 
 fn visited_of(found: &[Found]) -> u64 {
@@ -199,15 +222,14 @@ fn main() {
     let words: Vec<String> = std::env::args().collect();
     let depth: u8 = words[1].parse().expect("a depth");
     let positions = positions();
-    if let Some((_, engine)) = ENGINES.iter().find(|(name, _)| *name == words[2]) {
-        let (found, _) = timed(&positions, depth, *engine);
-        println!("{}", visited_of(&found));
+    if let Some(one) = ENGINES.iter().find(|(name, _)| *name == words[2]) {
+        println!("{}", visited_of(&timed(&positions, depth, &[*one])[0].0));
         return;
     }
     let rounds: u32 = words[2].parse().expect("a number of rounds, or an engine");
     let mut best = [0.0f64; ENGINES.len()];
     for round in 1..=rounds {
-        let results: Vec<(Vec<Found>, f64)> = ENGINES.iter().map(|(_, engine)| timed(&positions, depth, *engine)).collect();
+        let results = timed(&positions, depth, &ENGINES);
         for (result, fastest) in results.iter().zip(&mut best) {
             assert_eq!(result.0, results[0].0, "value, move or count differs");
             *fastest = fastest.max(result.1);

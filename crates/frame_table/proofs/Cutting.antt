@@ -6,12 +6,13 @@ use Rattle.slab.specs.Slab.{Slab, get, slab_len}
 use Rattle.frame_table.specs.declared.slot.Slot.{Slot as TenantSlot}
 use Rattle.frame_table.specs.declared.shelf.Kept.{Kept}
 use Rattle.frame_table.specs.Slots.{frames_from, is_kept, IsLinked, kept_slots, gone_values, child_slots, is_serial, AllAbove, Rises, serials_of}
-use Rattle.frame_table.specs.Shelves.{with_found, slots_in, has_key, AreApartKeys, HasSerial, KnowsParent, IsHere, AllHere, IsShelf, AreThere, is_marked, marked_in, swept_in, values_in}
+use Rattle.frame_table.specs.Places.{has_number}
+use Rattle.frame_table.specs.Shelves.{with_found, slots_in, AreApartKeys, HasSerial, KnowsParent, IsHere, AllHere, IsShelf, AreThere, is_marked, marked_in, swept_in, values_in}
 use Rattle.frame_table.proofs.Cuts.{IsClosed, IsClosed-from_follows, kept_follows}
 use Rattle.frame_table.proofs.Lengths.{length-filter-le}
 use Rattle.frame_table.specs.Shelves.{Marks}
 use Rattle.frame_table.proofs.Search.{above_at, serial_read}
-use Rattle.frame_table.proofs.Shelves.{has_key-append, has_key-at, slots_in-length, slot_read}
+use Rattle.frame_table.proofs.Shelves.{has_number-append, has_number-at, slots_in-length, slot_read}
 
 -- the slot that is here
 pub here_found : {T : Type 0} (slab : Slab (Kept T)) (before : List ℕ) (o : Option (Kept T)) → IsHere slab before o → (kept : Kept T) × (o ≡ Some kept)
@@ -26,22 +27,22 @@ all_there slab before (k ∷ keys) h = (some slab before (get slab k) h.0, all_t
     some slab before None h = absurd h
     some slab before (Some x) h = refl
 
-has_key-filter : (keep : ℕ → Bool) (keys : List ℕ) (a : ℕ) → has_key keys a ≡ true → keep a ≡ true → has_key (filter keep keys) a ≡ true
-has_key-filter keep [] a has kept = absurd (false≢true has)
-has_key-filter keep (k ∷ keys) a has kept =
+has_number-filter : (keep : ℕ → Bool) (keys : List ℕ) (a : ℕ) → has_number keys a ≡ true → keep a ≡ true → has_number (filter keep keys) a ≡ true
+has_number-filter keep [] a has kept = absurd (false≢true has)
+has_number-filter keep (k ∷ keys) a has kept =
     elim (cases_eq k a) [
       | inl same ↦ rw (ap keep same ∙ kept, eq-eqb k a same) refl
-      | inr differs ↦ (let rest : has_key keys a ≡ true = rw (ne_eqb k a differs) at has in
+      | inr differs ↦ (let rest : has_number keys a ≡ true = rw (ne_eqb k a differs) at has in
           elim (cases_Bool (keep k)) [
-            | inl stays ↦ rw (stays, ne_eqb k a differs) (has_key-filter keep keys a rest kept)
-            | inr goes ↦ rw goes (has_key-filter keep keys a rest kept)
+            | inl stays ↦ rw (stays, ne_eqb k a differs) (has_number-filter keep keys a rest kept)
+            | inr goes ↦ rw goes (has_number-filter keep keys a rest kept)
           ])
     ]
 
-no_key-filter : (keep : ℕ → Bool) (keys : List ℕ) (a : ℕ) → has_key keys a ≡ false → has_key (filter keep keys) a ≡ false
+no_key-filter : (keep : ℕ → Bool) (keys : List ℕ) (a : ℕ) → has_number keys a ≡ false → has_number (filter keep keys) a ≡ false
 no_key-filter keep [] a none = refl
 no_key-filter keep (k ∷ keys) a none =
-    let parts = or_false (eqb k a) (has_key keys a) none in
+    let parts = or_false (eqb k a) (has_number keys a) none in
     elim (cases_Bool (keep k)) [
       | inl stays ↦ rw (stays, parts.0) (no_key-filter keep keys a parts.1)
       | inr goes ↦ rw goes (no_key-filter keep keys a parts.1)
@@ -64,11 +65,11 @@ filter-append keep [] ys = refl
 filter-append keep (x ∷ xs) ys =
     elim (cases_Bool (keep x)) [ inl stays ↦ rw stays (ap (λ zs. x ∷ zs) (filter-append keep xs ys)) | inr goes ↦ rw goes (filter-append keep xs ys) ]
 
-head_key : (k : ℕ) (keys : List ℕ) → has_key (k ∷ keys) k ≡ true
+head_key : (k : ℕ) (keys : List ℕ) → has_number (k ∷ keys) k ≡ true
 head_key k keys = rw (eq-eqb k k refl) refl
 
-tail_key : (k j : ℕ) (keys : List ℕ) → has_key keys j ≡ true → has_key (k ∷ keys) j ≡ true
-tail_key k j keys h = or_right (eqb k j) (has_key keys j) h
+tail_key : (k j : ℕ) (keys : List ℕ) → has_number keys j ≡ true → has_number (k ∷ keys) j ≡ true
+tail_key k j keys h = or_right (eqb k j) (has_number keys j) h
   where
     or_right : (a b : Bool) → b ≡ true → (a || b) ≡ true
     or_right true b h = refl
@@ -76,11 +77,11 @@ tail_key k j keys h = or_right (eqb k j) (has_key keys j) h
 
 -- which slots stay, by key and by serial, and how those are kept
 pub record Stays {T : Type 0} (old new : Slab (Kept T)) (by_key by_serial : ℕ → Bool) (keys : List ℕ) : Type 0 where
-  pub agree : (k : ℕ) (x : Kept T) → has_key keys k ≡ true → get old k ≡ Some x → by_key k ≡ by_serial x.slot.serial
-  pub renew : (k : ℕ) (x : Kept T) → has_key keys k ≡ true → get old k ≡ Some x → by_key k ≡ true → get new k ≡ Some (record x { marked = false })
+  pub agree : (k : ℕ) (x : Kept T) → has_number keys k ≡ true → get old k ≡ Some x → by_key k ≡ by_serial x.slot.serial
+  pub renew : (k : ℕ) (x : Kept T) → has_number keys k ≡ true → get old k ≡ Some x → by_key k ≡ true → get new k ≡ Some (record x { marked = false })
 
 -- those that stay are here as before
-pub here-filter : {T : Type 0} (old new : Slab (Kept T)) (by_key by_serial : ℕ → Bool) (all before keys : List ℕ) → Stays old new by_key by_serial all → ((k : ℕ) → has_key before k ≡ true → has_key all k ≡ true) → ((k : ℕ) → has_key keys k ≡ true → has_key all k ≡ true) → IsClosed by_serial (slots_in old keys) → AllHere old before keys → AllHere new (filter by_key before) (filter by_key keys)
+pub here-filter : {T : Type 0} (old new : Slab (Kept T)) (by_key by_serial : ℕ → Bool) (all before keys : List ℕ) → Stays old new by_key by_serial all → ((k : ℕ) → has_number before k ≡ true → has_number all k ≡ true) → ((k : ℕ) → has_number keys k ≡ true → has_number all k ≡ true) → IsClosed by_serial (slots_in old keys) → AllHere old before keys → AllHere new (filter by_key before) (filter by_key keys)
 here-filter old new by_key by_serial all before [] s b w c h = tt
 here-filter {T} old new by_key by_serial all before (k ∷ keys) s b w c h =
     let found = here_found old before (get old k) h.0 in
@@ -89,7 +90,7 @@ here-filter {T} old new by_key by_serial all before (k ∷ keys) s b w c h =
     let here : IsHere old before (Some x) = subst (λ o. IsHere old before o) found.1 h.0 in
     let there = w k (head_key k keys) in
     let agree = s.agree k x there found.1 in
-    let rest = here-filter old new by_key by_serial all (before ++ k ∷ []) keys s (λ j has. in_either before k j all b there (sym (has_key-append before (k ∷ []) j) ∙ has)) (λ j has. w j (tail_key k j keys has)) closed.1 h.1 in
+    let rest = here-filter old new by_key by_serial all (before ++ k ∷ []) keys s (λ j has. in_either before k j all b there (sym (has_number-append before (k ∷ []) j) ∙ has)) (λ j has. w j (tail_key k j keys has)) closed.1 h.1 in
     elim (cases_Bool (by_key k)) [
       | inl stays ↦ (let more : filter by_key (before ++ k ∷ []) ≡ filter by_key before ++ k ∷ [] = filter-append by_key before (k ∷ []) ∙ (rw stays refl) in
           let last : IsHere new (filter by_key before) (get new k) = rw (s.renew k x there found.1 stays) (refl, parent old new by_key by_serial all before x.slot.parent x.above s b (λ p is. closed.0 p is (sym agree ∙ stays)) here.1) in
@@ -98,12 +99,12 @@ here-filter {T} old new by_key by_serial all before (k ∷ keys) s b w c h =
           rw goes (subst (λ bs. AllHere new bs (filter by_key keys)) more rest))
     ]
   where
-    in_either : (before : List ℕ) (k j : ℕ) (all : List ℕ) → ((k : ℕ) → has_key before k ≡ true → has_key all k ≡ true) → has_key all k ≡ true → (has_key before j || (eqb k j || false)) ≡ true → has_key all j ≡ true
+    in_either : (before : List ℕ) (k j : ℕ) (all : List ℕ) → ((k : ℕ) → has_number before k ≡ true → has_number all k ≡ true) → has_number all k ≡ true → (has_number before j || (eqb k j || false)) ≡ true → has_number all j ≡ true
     in_either before k j all b there h =
-        elim (cases_Bool (has_key before j)) [
+        elim (cases_Bool (has_number before j)) [
           | inl has ↦ b j has
           | inr none ↦ elim (cases_eq k j) [
-            | inl same ↦ ap (has_key all) (sym same) ∙ there
+            | inl same ↦ ap (has_number all) (sym same) ∙ there
             | inr differs ↦ absurd (false≢true (rw (none, ne_eqb k j differs) at h))
           ]
         ]
@@ -112,17 +113,17 @@ here-filter {T} old new by_key by_serial all before (k ∷ keys) s b w c h =
     serial p None h = absurd h
     serial p (Some y) h = (y, refl, h)
 
-    parent : {T : Type 0} (old new : Slab (Kept T)) (by_key by_serial : ℕ → Bool) (all before : List ℕ) (parent above : Option ℕ) → Stays old new by_key by_serial all → ((k : ℕ) → has_key before k ≡ true → has_key all k ≡ true) → ((p : ℕ) → parent ≡ Some p → by_serial p ≡ true) → KnowsParent old before parent above → KnowsParent new (filter by_key before) parent above
+    parent : {T : Type 0} (old new : Slab (Kept T)) (by_key by_serial : ℕ → Bool) (all before : List ℕ) (parent above : Option ℕ) → Stays old new by_key by_serial all → ((k : ℕ) → has_number before k ≡ true → has_number all k ≡ true) → ((p : ℕ) → parent ≡ Some p → by_serial p ≡ true) → KnowsParent old before parent above → KnowsParent new (filter by_key before) parent above
     parent old new by_key by_serial all before None None s b up k = tt
     parent old new by_key by_serial all before None (Some a) s b up k = absurd k
     parent old new by_key by_serial all before (Some p) None s b up k = absurd k
     parent old new by_key by_serial all before (Some p) (Some a) s b up k =
         let y = serial p (get old a) k.1 in
         let stays : by_key a ≡ true = s.agree a y.0 (b a k.0) y.1 ∙ (ap by_serial y.2 ∙ up p refl) in
-        (has_key-filter by_key before a k.0 stays, rw (s.renew a y.0 (b a k.0) y.1 stays) y.2)
+        (has_number-filter by_key before a k.0 stays, rw (s.renew a y.0 (b a k.0) y.1 stays) y.2)
 
 -- and stand for the same slots
-pub slots-filter : {T : Type 0} (old new : Slab (Kept T)) (by_key by_serial : ℕ → Bool) (all before keys : List ℕ) → ((k : ℕ) (x : Kept T) → has_key all k ≡ true → get old k ≡ Some x → by_key k ≡ by_serial x.slot.serial) → ((k : ℕ) (x : Kept T) → has_key all k ≡ true → get old k ≡ Some x → by_key k ≡ true → with_found (get new k) [] ≡ x.slot ∷ []) → ((k : ℕ) → has_key keys k ≡ true → has_key all k ≡ true) → AllHere old before keys → slots_in new (filter by_key keys) ≡ filter (λ slot. by_serial slot.serial) (slots_in old keys)
+pub slots-filter : {T : Type 0} (old new : Slab (Kept T)) (by_key by_serial : ℕ → Bool) (all before keys : List ℕ) → ((k : ℕ) (x : Kept T) → has_number all k ≡ true → get old k ≡ Some x → by_key k ≡ by_serial x.slot.serial) → ((k : ℕ) (x : Kept T) → has_number all k ≡ true → get old k ≡ Some x → by_key k ≡ true → with_found (get new k) [] ≡ x.slot ∷ []) → ((k : ℕ) → has_number keys k ≡ true → has_number all k ≡ true) → AllHere old before keys → slots_in new (filter by_key keys) ≡ filter (λ slot. by_serial slot.serial) (slots_in old keys)
 slots-filter old new by_key by_serial all before [] agree same w h = refl
 slots-filter {T} old new by_key by_serial all before (k ∷ keys) agree same w h =
     let found = here_found old before (get old k) h.0 in
@@ -148,7 +149,7 @@ pub record HasCut {T : Type 0} (under : ℕ) (old marked new : Slab (Kept T)) (o
 pub has_cut : {T : Type 0} (under : ℕ) (old marked new : Slab (Kept T)) (order left : List ℕ) → Marks under (slots_in old order) order old marked → left ≡ filter (λ key. not (is_marked (get marked key))) order → ((key : ℕ) → get new key ≡ swept_in marked order key) → HasCut under old marked new order left
 has_cut under old marked new order left marks kept swept = record { marks = marks; kept = kept; swept = swept }
 
-pub cut_marks : {T : Type 0} (under : ℕ) (old marked new : Slab (Kept T)) (order left : List ℕ) → HasCut under old marked new order left → (k : ℕ) (x : Kept T) → has_key order k ≡ true → get old k ≡ Some x → get marked k ≡ Some (record x { marked = not (is_kept under (frames_from [] (slots_in old order)) x.slot.serial) })
+pub cut_marks : {T : Type 0} (under : ℕ) (old marked new : Slab (Kept T)) (order left : List ℕ) → HasCut under old marked new order left → (k : ℕ) (x : Kept T) → has_number order k ≡ true → get old k ≡ Some x → get marked k ≡ Some (record x { marked = not (is_kept under (frames_from [] (slots_in old order)) x.slot.serial) })
 cut_marks under old marked new order left c k x has is = c.marks k ∙ (rw (is, has) refl)
 
 not_not : (b : Bool) → not (not b) ≡ b
@@ -235,7 +236,7 @@ pub remove_key : (keys : List ℕ) (i d : ℕ) → AreApartKeys keys → i < len
 remove_key [] i d a lt = absurd (omega arith)
 remove_key (k ∷ keys) zero d a lt = rw (eq-eqb k k refl) (sym (all_stay k keys a.0))
   where
-    all_stay : (k : ℕ) (keys : List ℕ) → has_key keys k ≡ false → filter (λ j. not (eqb j k)) keys ≡ keys
+    all_stay : (k : ℕ) (keys : List ℕ) → has_number keys k ≡ false → filter (λ j. not (eqb j k)) keys ≡ keys
     all_stay k [] none = refl
     all_stay k (j ∷ keys) none =
         elim (cases_Bool (eqb j k)) [
@@ -243,11 +244,11 @@ remove_key (k ∷ keys) zero d a lt = rw (eq-eqb k k refl) (sym (all_stay k keys
           | inr differs ↦ rw differs (ap (λ ks. j ∷ ks) (all_stay k keys (rw differs at none)))
         ]
 remove_key (k ∷ keys) (suc i) d a lt =
-    let other : k ≢ get_or keys i d = λ e. false≢true (sym a.0 ∙ (ap (has_key keys) e ∙ has_key-at keys i d (omega arith))) in
+    let other : k ≢ get_or keys i d = λ e. false≢true (sym a.0 ∙ (ap (has_number keys) e ∙ has_number-at keys i d (omega arith))) in
     rw (ne_eqb k (get_or keys i d) other) (ap (λ ks. k ∷ ks) (remove_key keys i d a.1 (omega arith)))
 
 -- no slot is marked
-pub unmarked : {T : Type 0} (slab : Slab (Kept T)) (before keys : List ℕ) (k : ℕ) (x : Kept T) → AllHere slab before keys → has_key keys k ≡ true → get slab k ≡ Some x → x.marked ≡ false
+pub unmarked : {T : Type 0} (slab : Slab (Kept T)) (before keys : List ℕ) (k : ℕ) (x : Kept T) → AllHere slab before keys → has_number keys k ≡ true → get slab k ≡ Some x → x.marked ≡ false
 unmarked slab before [] k x h has is = absurd (false≢true has)
 unmarked slab before (j ∷ keys) k x h has is =
     elim (cases_eq j k) [
@@ -256,7 +257,7 @@ unmarked slab before (j ∷ keys) k x h has is =
     ]
 
 -- a serial above another, by its key
-above_key : {T : Type 0} (slab : Slab (Kept T)) (before keys : List ℕ) (n k : ℕ) (x : Kept T) → AllHere slab before keys → AllAbove n (slots_in slab keys) → has_key keys k ≡ true → get slab k ≡ Some x → n < x.slot.serial
+above_key : {T : Type 0} (slab : Slab (Kept T)) (before keys : List ℕ) (n k : ℕ) (x : Kept T) → AllHere slab before keys → AllAbove n (slots_in slab keys) → has_number keys k ≡ true → get slab k ≡ Some x → n < x.slot.serial
 above_key slab before [] n k x h above has is = absurd (false≢true has)
 above_key {T} slab before (j ∷ keys) n k x h above has is =
     let found = here_found slab before (get slab j) h.0 in
@@ -268,7 +269,7 @@ above_key {T} slab before (j ∷ keys) n k x h above has is =
     ]
 
 -- slots of one serial stand under one key
-pub same_key : {T : Type 0} (slab : Slab (Kept T)) (before keys : List ℕ) (k j : ℕ) (x y : Kept T) → AllHere slab before keys → Rises (slots_in slab keys) → has_key keys k ≡ true → has_key keys j ≡ true → get slab k ≡ Some x → get slab j ≡ Some y → x.slot.serial ≡ y.slot.serial → k ≡ j
+pub same_key : {T : Type 0} (slab : Slab (Kept T)) (before keys : List ℕ) (k j : ℕ) (x y : Kept T) → AllHere slab before keys → Rises (slots_in slab keys) → has_number keys k ≡ true → has_number keys j ≡ true → get slab k ≡ Some x → get slab j ≡ Some y → x.slot.serial ≡ y.slot.serial → k ≡ j
 same_key slab before [] k j x y h rise has_k has_j is_k is_j same = absurd (false≢true has_k)
 same_key {T} slab before (i ∷ keys) k j x y h rise has_k has_j is_k is_j same =
     let found = here_found slab before (get slab i) h.0 in
@@ -299,7 +300,7 @@ same_key {T} slab before (i ∷ keys) k j x y h rise has_k has_j is_k is_j same 
 -- those that stay when a leaf is taken away
 pub taken_stays : {T : Type 0} (old new : Slab (Kept T)) (order : List ℕ) (at key : ℕ) (kept : Kept T) → HasTaken old new order at key kept → AllHere old [] order → Rises (slots_in old order) → Stays old new (λ k. not (eqb k key)) (λ serial. not (eqb serial kept.slot.serial)) order
 taken_stays old new order at key kept t h rise =
-    let there : has_key order key ≡ true = ap (has_key order) t.read ∙ has_key-at order at key t.within in
+    let there : has_number order key ≡ true = ap (has_number order) t.read ∙ has_number-at order at key t.within in
     record {
       agree = λ k x has is. elim (cases_eq k key) [
         | inl same ↦ (let e = by_one (get old k) x kept is (ap (get old) same ∙ t.was) in rw (eq-eqb k key same, eq-eqb x.slot.serial kept.slot.serial e) refl)

@@ -10,7 +10,8 @@ use Rattle.frame_table.specs.Frames.{Frame, has_parent}
 use Rattle.frame_table.specs.declared.ready.ReadyFrame.{ReadyFrame}
 use Rattle.frame_table.specs.Readies.{ready_in}
 use Rattle.frame_table.specs.Slots.{frame_from, frames_from, is_kept, kept_slots, IsLinked, IsSound, Rises, serials_of}
-use Rattle.frame_table.specs.Shelves.{with_found, slots_in, has_key, IsHere, AllHere, is_marked, marked_in, Marks, NoneMarked}
+use Rattle.frame_table.specs.Places.{has_number}
+use Rattle.frame_table.specs.Shelves.{with_found, slots_in, IsHere, AllHere, is_marked, marked_in, Marks, NoneMarked}
 use Rattle.frame_table.proofs.Cuts.{FollowsBy, kept_follows}
 use Rattle.frame_table.proofs.Changes.{below_bound, childless}
 use Rattle.frame_table.proofs.Forest.{linked_rises}
@@ -19,6 +20,7 @@ use Rattle.frame_table.proofs.Cutting.{NoParent}
 use Rattle.frame_table.proofs.Leaves.{AllStay, all_stay, filter_all}
 use Rattle.frame_table.proofs.Lengths.{length-take-le}
 use Rattle.frame_table.proofs.Trees.{cut_linked, cut_length}
+use Rattle.frame_table.proofs.Indexes.{serials_of-take}
 use Rattle.frame_table.proofs.Readies.{ready_in-append, ready_in-take, few_ready_in}
 
 -- each serial is below this one
@@ -75,7 +77,7 @@ slots_in-take slab before (k ∷ keys) (suc i) h = ap (with_found (get slab k)) 
 
 -- the keys of slots that stay are those of slots with no mark
 abbrev AreStaying : {T : Type 0} → (ℕ → Bool) → Slab (Kept T) → List ℕ → Type 0
-AreStaying keep slab keys = (k : ℕ) (x : Kept _) → has_key keys k ≡ true → get slab k ≡ Some x → (x.marked ≡ false) × (keep x.slot.serial ≡ true)
+AreStaying keep slab keys = (k : ℕ) (x : Kept _) → has_number keys k ≡ true → get slab k ≡ Some x → (x.marked ≡ false) × (keep x.slot.serial ≡ true)
 
 staying : {T : Type 0} (keep : ℕ → Bool) (slab : Slab (Kept T)) (before keys : List ℕ) → AllHere slab before keys → AllStay keep (slots_in slab keys) → AreStaying keep slab keys
 staying keep slab before [] h s k x has is = absurd (false≢true has)
@@ -100,10 +102,10 @@ early_staying n slab keys i h l lt at =
 pub marks_early : {T : Type 0} (n : ℕ) (slab : Slab (Kept T)) (keys : List ℕ) (i : ℕ) → AllHere slab [] keys → IsLinked [] (slots_in slab keys) → i < length (slots_in slab keys) → slice_index (serials_of (slots_in slab keys)) i ≡ n → Marks n (slots_in slab keys) (take i keys) slab slab
 marks_early n slab keys i h l lt at k = by_slot n (slots_in slab keys) (take i keys) k (get slab k) (λ x has is. early_staying n slab keys i h l lt at k x has is)
   where
-    by_slot : {T : Type 0} (n : ℕ) (slots : List (TenantSlot T)) (keys : List ℕ) (k : ℕ) (o : Option (Kept T)) → ((x : Kept T) → has_key keys k ≡ true → o ≡ Some x → (x.marked ≡ false) × (is_kept n (frames_from [] slots) x.slot.serial ≡ true)) → o ≡ marked_in n slots keys k o
+    by_slot : {T : Type 0} (n : ℕ) (slots : List (TenantSlot T)) (keys : List ℕ) (k : ℕ) (o : Option (Kept T)) → ((x : Kept T) → has_number keys k ≡ true → o ≡ Some x → (x.marked ≡ false) × (is_kept n (frames_from [] slots) x.slot.serial ≡ true)) → o ≡ marked_in n slots keys k o
     by_slot n slots keys k None stays = refl
     by_slot n slots keys k (Some x) stays =
-        elim (cases_Bool (has_key keys k)) [
+        elim (cases_Bool (has_number keys k)) [
           | inl has ↦ (let s = stays x has refl in rw (has, s.1) (ap (λ b. Some (record x { marked = b })) s.0))
           | inr none ↦ rw none refl
         ]
@@ -112,19 +114,19 @@ marks_early n slab keys i h l lt at k = by_slot n (slots_in slab keys) (take i k
 pub none_marked_early : {T : Type 0} (n : ℕ) (old marked : Slab (Kept T)) (keys : List ℕ) (i : ℕ) → AllHere old [] keys → IsLinked [] (slots_in old keys) → i < length (slots_in old keys) → slice_index (serials_of (slots_in old keys)) i ≡ n → Marks n (slots_in old keys) keys old marked → NoneMarked marked (take i keys)
 none_marked_early n old marked keys i h l lt at m = none n (slots_in old keys) keys old marked (take i keys) m (early_staying n old keys i h l lt at) (λ k has. has)
   where
-    none : {T : Type 0} (n : ℕ) (slots : List (TenantSlot T)) (all : List ℕ) (old marked : Slab (Kept T)) (keys : List ℕ) → Marks n slots all old marked → ((k : ℕ) (x : Kept T) → has_key keys k ≡ true → get old k ≡ Some x → (x.marked ≡ false) × (is_kept n (frames_from [] slots) x.slot.serial ≡ true)) → ((k : ℕ) → has_key keys k ≡ true → has_key keys k ≡ true) → NoneMarked marked keys
+    none : {T : Type 0} (n : ℕ) (slots : List (TenantSlot T)) (all : List ℕ) (old marked : Slab (Kept T)) (keys : List ℕ) → Marks n slots all old marked → ((k : ℕ) (x : Kept T) → has_number keys k ≡ true → get old k ≡ Some x → (x.marked ≡ false) × (is_kept n (frames_from [] slots) x.slot.serial ≡ true)) → ((k : ℕ) → has_number keys k ≡ true → has_number keys k ≡ true) → NoneMarked marked keys
     none n slots all old marked [] m stays up = tt
     none n slots all old marked (k ∷ keys) m stays up =
         (ap is_marked (m k) ∙ off n slots all k (get old k) (λ x is. stays k x (rw (eq-eqb k k refl) refl) is), none n slots all old marked keys m (λ j x has is. stays j x (tail_key k j keys has) is) (λ j has. has))
       where
-        tail_key : (k j : ℕ) (keys : List ℕ) → has_key keys j ≡ true → has_key (k ∷ keys) j ≡ true
+        tail_key : (k j : ℕ) (keys : List ℕ) → has_number keys j ≡ true → has_number (k ∷ keys) j ≡ true
         tail_key k j keys h = elim (cases_eq k j) [ inl same ↦ rw (eq-eqb k j same) refl | inr differs ↦ rw (ne_eqb k j differs) h ]
 
         off : {T : Type 0} (n : ℕ) (slots : List (TenantSlot T)) (all : List ℕ) (k : ℕ) (o : Option (Kept T)) → ((x : Kept T) → o ≡ Some x → (x.marked ≡ false) × (is_kept n (frames_from [] slots) x.slot.serial ≡ true)) → is_marked (marked_in n slots all k o) ≡ false
         off n slots all k None stays = refl
         off n slots all k (Some x) stays =
             let s = stays x refl in
-            elim (cases_Bool (has_key all k)) [ inl has ↦ rw (has, s.1) refl | inr absent ↦ rw absent s.0 ]
+            elim (cases_Bool (has_number all k)) [ inl has ↦ rw (has, s.1) refl | inr absent ↦ rw absent s.0 ]
 
 -- the serial of a slot that was put in the place of one of its name
 pub childless_at : {T : Type 0} (xs : List (TenantSlot T)) (i n : ℕ) (slot : TenantSlot T) → i < length xs → slice_index (serials_of xs) i ≡ n → slot ≡ get_or xs i slot → slice_index (serials_of (set xs i (childless slot))) i ≡ n
@@ -133,12 +135,13 @@ childless_at xs i n slot lt at is =
     serial_read (set xs i (childless slot)) i (childless slot) within (sym (get_or-set_same xs i (childless slot) (childless slot) lt)) ∙ (sym (serial_read xs i slot lt is) ∙ at)
 
 -- the ready frames after an abort: those below the aborted frame, and those among the slots from its place on
-pub record CutsReady {T : Type 0} (zs : List (TenantSlot T)) (i n places : ℕ) (frames : List ReadyFrame) : Type 0 where
+pub record CutsReady {T : Type 0} (xs zs : List (TenantSlot T)) (i n places : ℕ) (frames : List ReadyFrame) : Type 0 where
   pub within : i ≤ length zs
+  pub front : take i (serials_of zs) ≡ take i (serials_of xs)
   pub room : length (filter (λ frame. nat_lt frame.serial n) frames) + length zs ≤ places + i
   pub ready : filter (λ frame. nat_lt frame.serial n) frames ++ ready_in (drop i zs) ≡ ready_in zs
 
-pub cut_ready : {T : Type 0} (xs : List (TenantSlot T)) (count i n places : ℕ) (slot : TenantSlot T) (zs : List (TenantSlot T)) (frames : List ReadyFrame) → IsSound xs count → i < length xs → slice_index (serials_of xs) i ≡ n → slot ≡ get_or xs i slot → zs ≡ kept_slots n (set xs i (childless slot)) → frames ≡ ready_in xs → length xs ≤ places → CutsReady zs i n places frames
+pub cut_ready : {T : Type 0} (xs : List (TenantSlot T)) (count i n places : ℕ) (slot : TenantSlot T) (zs : List (TenantSlot T)) (frames : List ReadyFrame) → IsSound xs count → i < length xs → slice_index (serials_of xs) i ≡ n → slot ≡ get_or xs i slot → zs ≡ kept_slots n (set xs i (childless slot)) → frames ≡ ready_in xs → length xs ≤ places → CutsReady xs zs i n places frames
 cut_ready {T} xs count i n places slot zs frames s lt at is kept ready within =
     let ys : List (TenantSlot T) = set xs i (childless slot) in
     let long : length ys ≡ length xs = length-set xs i (childless slot) in
@@ -151,6 +154,7 @@ cut_ready {T} xs count i n places slot zs frames s lt at is kept ready within =
     let fewer = cut_length n xs i slot zs kept in
     record {
       within = rw parts (front_long i ys rest (omega (arith, long, lt)));
+      front = sym (serials_of-take zs i) ∙ (ap serials_of (rw parts (take_front i ys rest (omega (arith, long, lt)) ∙ take_set i xs (childless slot))) ∙ serials_of-take xs i);
       room = omega (arith, ap length early, few, length-take-le i ys, fewer, within);
       ready = rw (early, parts, drop_front i ys rest (omega (arith, long, lt))) (sym (ready_in-append (take i ys) rest));
     }
@@ -172,6 +176,20 @@ cut_ready {T} xs count i n places slot zs frames s lt at is kept ready within =
     front_long zero xs rest le = omega arith
     front_long (suc i) [] rest le = absurd (omega arith)
     front_long (suc i) (x ∷ xs) rest le = let h = front_long i xs rest (omega arith) in omega (arith, h)
+
+    take_front : {X : Type 0} (i : ℕ) (xs rest : List X) → i ≤ length xs → take i (take i xs ++ rest) ≡ take i xs
+    take_front zero [] rest le = none rest
+      where
+        none : {X : Type 0} (rest : List X) → take 0 rest ≡ []
+        none [] = refl
+        none (x ∷ rest) = refl
+    take_front zero (x ∷ xs) rest le = none rest
+      where
+        none : {X : Type 0} (rest : List X) → take 0 rest ≡ []
+        none [] = refl
+        none (x ∷ rest) = refl
+    take_front (suc i) [] rest le = absurd (omega arith)
+    take_front (suc i) (x ∷ xs) rest le = ap (λ ys. x ∷ ys) (take_front i xs rest (omega arith))
 
     drop_front : {X : Type 0} (i : ℕ) (xs rest : List X) → i ≤ length xs → drop i (take i xs ++ rest) ≡ rest
     drop_front zero [] rest le = refl

@@ -6,9 +6,10 @@ use Rattle.slab.specs.Slab.{Slab, get, Updates}
 use Rattle.frame_table.specs.declared.slot.Slot.{Slot as TenantSlot}
 use Rattle.frame_table.specs.declared.shelf.Kept.{Kept}
 use Rattle.frame_table.specs.Slots.{frames_from, is_kept, IsLinked}
-use Rattle.frame_table.specs.Shelves.{slots_in, has_key, AreApartKeys, HasSerial, KnowsParent, IsHere, AllHere, HasAbove, HasLink, is_marked, is_taken_by, is_taken_in, marked_in, Marks}
+use Rattle.frame_table.specs.Places.{has_number}
+use Rattle.frame_table.specs.Shelves.{slots_in, AreApartKeys, HasSerial, KnowsParent, IsHere, AllHere, HasAbove, HasLink, is_marked, is_taken_by, is_taken_in, marked_in, Marks}
 use Rattle.frame_table.proofs.Cuts.{stays_by, kept_follows, follows_at}
-use Rattle.frame_table.proofs.Shelves.{here_read, slot_read, slots_in-length, kept_read, has_key-at, has_key-append}
+use Rattle.frame_table.proofs.Shelves.{here_read, slot_read, slots_in-length, kept_read, has_number-at, has_number-append}
 
 -- a slot is there, and its parent's too
 pub link_marked : {T : Type 0} (under : ℕ) (slots : List (TenantSlot T)) (keys before : List ℕ) (old now : Slab (Kept T)) (key : ℕ) → Marks under slots keys old now → IsHere old before (get old key) → HasLink now (get now key)
@@ -35,7 +36,7 @@ taken_by under slots before old now serial (Some p) None f m k = absurd k
 taken_by under slots before old now serial (Some p) (Some a) f m k =
     rw (f, m a, mark under slots before a p (get old a) k.0 k.1) (de_morgan (eqb p under) (is_kept under (frames_from [] slots) p))
   where
-    mark : {T : Type 0} (under : ℕ) (slots : List (TenantSlot T)) (before : List ℕ) (a p : ℕ) (o : Option (Kept T)) → has_key before a ≡ true → HasSerial p o → is_marked (marked_in under slots before a o) ≡ not (is_kept under (frames_from [] slots) p)
+    mark : {T : Type 0} (under : ℕ) (slots : List (TenantSlot T)) (before : List ℕ) (a p : ℕ) (o : Option (Kept T)) → has_number before a ≡ true → HasSerial p o → is_marked (marked_in under slots before a o) ≡ not (is_kept under (frames_from [] slots) p)
     mark under slots before a p None has h = absurd h
     mark under slots before a p (Some y) has h = rw has (ap (λ s. not (is_kept under (frames_from [] slots) s)) h)
 
@@ -44,15 +45,15 @@ taken_by under slots before old now serial (Some p) (Some a) f m k =
     de_morgan false b = refl
 
 -- the key at a place is none of those before it
-pub apart_before : (keys : List ℕ) (i d : ℕ) → AreApartKeys keys → i < length keys → has_key (take i keys) (get_or keys i d) ≡ false
+pub apart_before : (keys : List ℕ) (i d : ℕ) → AreApartKeys keys → i < length keys → has_number (take i keys) (get_or keys i d) ≡ false
 apart_before [] i d a lt = absurd (omega arith)
 apart_before (k ∷ keys) zero d a lt = refl
 apart_before (k ∷ keys) (suc i) d a lt =
-    let other : k ≢ get_or keys i d = λ e. false≢true (sym a.0 ∙ (ap (has_key keys) e ∙ has_key-at keys i d (omega arith))) in
+    let other : k ≢ get_or keys i d = λ e. false≢true (sym a.0 ∙ (ap (has_number keys) e ∙ has_number-at keys i d (omega arith))) in
     rw (ne_eqb k (get_or keys i d) other) (apart_before keys i d a.1 (omega arith))
 
 -- marks depend on the keys by whether this is one of them
-marked_in-keys : {T : Type 0} (under : ℕ) (slots : List (TenantSlot T)) (some more : List ℕ) (key : ℕ) (o : Option (Kept T)) → has_key more key ≡ has_key some key → marked_in under slots some key o ≡ marked_in under slots more key o
+marked_in-keys : {T : Type 0} (under : ℕ) (slots : List (TenantSlot T)) (some more : List ℕ) (key : ℕ) (o : Option (Kept T)) → has_number more key ≡ has_number some key → marked_in under slots some key o ≡ marked_in under slots more key o
 marked_in-keys under slots some more key None e = refl
 marked_in-keys under slots some more key (Some x) e = rw e refl
 
@@ -60,11 +61,11 @@ marked_in-keys under slots some more key (Some x) e = rw e refl
 pub marks_next : {T : Type 0} (under : ℕ) (slots : List (TenantSlot T)) (keys : List ℕ) (i key : ℕ) (old now new : Slab (Kept T)) (x : Kept T) → Marks under slots (take i keys) old now → i < length keys → key ≡ get_or keys i key → get old key ≡ Some x → get new key ≡ Some (record x { marked = not (is_kept under (frames_from [] slots) x.slot.serial) }) → ((k : ℕ) → k ≢ key → get new k ≡ get now k) → Marks under slots (take (i + 1) keys) old new
 marks_next under slots keys i key old now new x m lt is was here others k =
     let more : take (i + 1) keys ≡ take i keys ++ key ∷ [] = take_more keys i key lt ∙ ap (λ j. take i keys ++ j ∷ []) (sym is) in
-    let has = ap (λ ks. has_key ks k) more ∙ has_key-append (take i keys) (key ∷ []) k in
+    let has = ap (λ ks. has_number ks k) more ∙ has_number-append (take i keys) (key ∷ []) k in
     elim (cases_eq k key) [
-      | inl same ↦ (let there : has_key (take (i + 1) keys) k ≡ true = has ∙ last (has_key (take i keys) k) key k (sym same) in
+      | inl same ↦ (let there : has_number (take (i + 1) keys) k ≡ true = has ∙ last (has_number (take i keys) k) key k (sym same) in
           rw (ap (get new) same ∙ here, ap (get old) same ∙ was, there) refl)
-      | inr differs ↦ (let alike : has_key (take (i + 1) keys) k ≡ has_key (take i keys) k = has ∙ first (has_key (take i keys) k) key k (λ e. differs (sym e)) in
+      | inr differs ↦ (let alike : has_number (take (i + 1) keys) k ≡ has_number (take i keys) k = has ∙ first (has_number (take i keys) k) key k (λ e. differs (sym e)) in
           others k differs ∙ (m k ∙ marked_in-keys under slots (take i keys) (take (i + 1) keys) k (get old k) alike))
     ]
   where
@@ -88,7 +89,7 @@ read_key under slots keys i key old now same h a l m lt is =
     let found = kept_read old keys i key h lt is in
     let x = found.0 in
     let here : IsHere old (take i keys) (Some x) = subst (λ o. IsHere old (take i keys) o) found.1 (here_read old keys i key h lt is) in
-    let absent : has_key (take i keys) key ≡ false = ap (has_key (take i keys)) is ∙ apart_before keys i key a lt in
+    let absent : has_number (take i keys) key ≡ false = ap (has_number (take i keys)) is ∙ apart_before keys i key a lt in
     let now_is : get now key ≡ Some x = m key ∙ (rw (found.1, absent) refl) in
     let at_place : x.slot ≡ get_or slots i x.slot = rw same (sym (slot_read old keys i key x x.slot h lt is found.1)) in
     let follows = follows_at (is_kept under (frames_from [] slots)) under slots i x.slot (kept_follows under (frames_from [] slots) [] slots refl l tt) (rw same (rw (slots_in-length old [] keys h) lt)) at_place in (

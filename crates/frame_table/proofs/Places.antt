@@ -3,7 +3,7 @@ use Rattle.std.proofs.Common.{◌≡◌, ◌≢◌, ℕ, zero, suc, ◌+◌, ◌
 use Rattle.std.specs.List.{filter, insert, remove}
 use Rattle.std.specs.List.Sorted.{IsNonDecreasingBy, IsPartitionPoint}
 use Rattle.std.proofs.lemmas.Bool.{cases_lt, cases_Bool, eq-eqb, ne_eqb, ltb-true, ltb-false, lt-ltb}
-use Rattle.frame_table.specs.Places.{AllAboveBy, RisesBy, AllFromBy, IsPlaceFor, inserted}
+use Rattle.frame_table.specs.Places.{has_number, AllAboveBy, RisesBy, AllFromBy, IsPlaceFor, inserted}
 
 -- a number above another, at a place
 above_by_at : {X : Type 0} (number : X → ℕ) (n k : ℕ) (xs : List X) (d : X) → AllAboveBy number n xs → k < length xs → n < number (get_or xs k d)
@@ -102,3 +102,13 @@ pub rises_by-filter : {X : Type 0} (number : X → ℕ) (keep : X → Bool) (xs 
 rises_by-filter number keep [] r = tt
 rises_by-filter number keep (x ∷ xs) r =
     elim (cases_Bool (keep x)) [ inl stays ↦ rw stays (above_by-filter number keep (number x) xs r.0, rises_by-filter number keep xs r.1) | inr goes ↦ rw goes (rises_by-filter number keep xs r.1) ]
+
+-- a number between those below a place and those from it on is not there
+pub absent_between : (xs : List ℕ) (n i : ℕ) → ((k : ℕ) → k < i → get_or xs k 0 < n) → ((k : ℕ) → i ≤ k → k < length xs → n < get_or xs k 0) → has_number xs n ≡ false
+absent_between [] n i below above = refl
+absent_between (x ∷ xs) n zero below above =
+    let first = above 0 (omega arith) (omega arith) in
+    rw (ne_eqb x n (λ e. omega (arith, first, e))) (absent_between xs n zero (λ k lt. absurd (omega (arith, lt))) (λ k ge lt. above (suc k) (omega arith) (omega arith)))
+absent_between (x ∷ xs) n (suc i) below above =
+    let first = below 0 (omega arith) in
+    rw (ne_eqb x n (λ e. omega (arith, first, e))) (absent_between xs n i (λ k lt. below (suc k) (omega arith)) (λ k ge lt. above (suc k) (omega arith) (omega arith)))

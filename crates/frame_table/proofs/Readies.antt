@@ -8,7 +8,7 @@ use Rattle.frame_table.specs.declared.names.State.TheVariants.{Ready, Running, C
 use Rattle.frame_table.specs.declared.slot.Slot.{Slot}
 use Rattle.frame_table.specs.declared.ready.ReadyFrame.{ReadyFrame}
 use Rattle.frame_table.specs.Frames.{first_of_two, is_ready, ready_name}
-use Rattle.frame_table.specs.Slots.{IsSound, ready_slots, AllAbove, Rises, with_slot, with_child, without_child, serials_of, newest_in}
+use Rattle.frame_table.specs.Slots.{SerialList, serials_of, IsSound, ready_slots, AllAbove, Rises, with_slot, with_child, without_child, serials_of, newest_in}
 use Rattle.frame_table.specs.Places.{AllAboveBy, RisesBy}
 use Rattle.frame_table.specs.Readies.{ReadyList, IsTenant, with_ready, ready_in, without_ready, put_ready, newest_of}
 use Rattle.frame_table.proofs.Search.{above_at}
@@ -214,13 +214,15 @@ pub added_ready : {T : Type 0} (xs : List (Slot T)) (parent : Option ℕ) (slot 
 added_ready xs parent slot home frames e state =
     rw (ready_in-append (with_child parent xs) (slot ∷ []), ready_in-with_child parent xs, state, e) refl
 
--- a tenant, from slots that are sound by any count and the ready frames among them
-pub is_tenant : {T : Type 0} (slots : List (Slot T)) (count places : ℕ) (ready : ReadyList) → IsSound slots count → ready.frames ≡ ready_in slots → length slots ≤ places → places ≤ 4096 → ready.places ≡ places → IsTenant slots places ready
-is_tenant slots count places ready s e within few same = record {
+-- a tenant, from slots that are sound by any count, their serials and the ready frames among them
+pub is_tenant : {T : Type 0} (slots : List (Slot T)) (count places : ℕ) (serials : SerialList) (ready : ReadyList) → IsSound slots count → serials.serials ≡ serials_of slots → ready.frames ≡ ready_in slots → length slots ≤ places → places ≤ 4096 → serials.places ≡ places → ready.places ≡ places → IsTenant slots places serials ready
+is_tenant slots count places serials ready s i e within few same_serials same = record {
   sound = record { linked = s.linked; counted = s.counted; ready_count = ap length e ∙ ready_in-length slots };
+  index = i;
   ready_frames = e;
   within = within;
   few = few;
+  serial_places = same_serials;
   ready_places = same;
 }
 
@@ -228,5 +230,5 @@ is_tenant slots count places ready s e within few same = record {
 pub few_ready_in : {T : Type 0} (slots : List (Slot T)) → length (ready_in slots) ≤ length slots
 few_ready_in slots = omega (arith, ready_in-length slots, length-filter-le (λ x. is_ready x.state) slots)
 
-pub tenant_rises : {T : Type 0} (slots : List (Slot T)) (places : ℕ) (ready : ReadyList) → IsTenant slots places ready → RisesBy (λ frame. frame.serial) ready.frames
-tenant_rises slots places ready t = rw t.ready_frames (ready_in-rises slots (linked_rises [] slots t.sound.linked))
+pub tenant_rises : {T : Type 0} (slots : List (Slot T)) (places : ℕ) (serials : SerialList) (ready : ReadyList) → IsTenant slots places serials ready → RisesBy (λ frame. frame.serial) ready.frames
+tenant_rises slots places serials ready t = rw t.ready_frames (ready_in-rises slots (linked_rises [] slots t.sound.linked))

@@ -1,13 +1,14 @@
 -- Slots under keys: reading, writing and adding them.
-use Rattle.std.proofs.Common.{◌≡◌, ◌≢◌, ℕ, zero, suc, ◌+◌, ◌-◌, ◌<◌, Bool, true, false, ◌||◌, eqb, List, [], ◌∷◌, ◌++◌, Option, Some, None, IsSome, IfSome, IfNone, is_some, length, take, get_or, set, refl, ap, sym, ◌∙◌, inl, inr, arith, append_assoc, append-nil, subst, slice_index}
+use Rattle.std.proofs.Common.{◌≡◌, ◌≢◌, ℕ, zero, suc, ◌+◌, ◌-◌, ◌<◌, Bool, true, false, ◌||◌, eqb, List, [], ◌∷◌, ◌++◌, Option, Some, None, IsSome, length, take, get_or, set, refl, ap, sym, ◌∙◌, inl, inr, arith, append_assoc, append-nil, subst, slice_index}
 use Rattle.std.proofs.lemmas.List.{get_or-set_same, length-set}
 use Rattle.std.proofs.lemmas.Bool.{cases_eq, false≢true, eq-eqb, ne_eqb}
 use Rattle.slab.specs.Slab.{Slab, get, slab_len, ContainsKey, Updates}
 use Rattle.frame_table.specs.declared.slot.Slot.{Slot as TenantSlot}
 use Rattle.frame_table.specs.declared.shelf.Kept.{Kept}
-use Rattle.frame_table.specs.Slots.{serials_of, has_slot, with_slot, with_child, without_child}
-use Rattle.frame_table.specs.Shelves.{with_found, slots_in, has_key, AreApartKeys, HasSerial, KnowsParent, IsHere, AllHere, IsShelf, StandsUnder}
-use Rattle.frame_table.proofs.Search.{serial_read, IsBetween, has_slot-found}
+use Rattle.frame_table.specs.Slots.{serials_of, with_slot, with_child, without_child}
+use Rattle.frame_table.specs.Places.{has_number}
+use Rattle.frame_table.specs.Shelves.{with_found, slots_in, AreApartKeys, HasSerial, KnowsParent, IsHere, AllHere, IsShelf, StandsUnder}
+use Rattle.frame_table.proofs.Search.{serial_read}
 use Rattle.frame_table.proofs.Lengths.{length_more}
 
 -- a slot that is here is found
@@ -89,27 +90,27 @@ all_here_like old new before [] like h = tt
 all_here_like old new before (k ∷ keys) like h = (here_like old new before (get old k) (get new k) like (like k) h.0, all_here_like old new (before ++ k ∷ []) keys like h.1)
 
 -- the same slots
-pub slots_in-same : {T : Type 0} (old new : Slab (Kept T)) (keys : List ℕ) → ((k : ℕ) → has_key keys k ≡ true → get new k ≡ get old k) → slots_in new keys ≡ slots_in old keys
+pub slots_in-same : {T : Type 0} (old new : Slab (Kept T)) (keys : List ℕ) → ((k : ℕ) → has_number keys k ≡ true → get new k ≡ get old k) → slots_in new keys ≡ slots_in old keys
 slots_in-same old new [] same = refl
 slots_in-same old new (k ∷ keys) same =
-    rw (same k (rw (eq-eqb k k refl) refl), slots_in-same old new keys (λ j h. same j (or_right (eqb k j) (has_key keys j) h))) refl
+    rw (same k (rw (eq-eqb k k refl) refl), slots_in-same old new keys (λ j h. same j (or_right (eqb k j) (has_number keys j) h))) refl
   where
     or_right : (a b : Bool) → b ≡ true → (a || b) ≡ true
     or_right true b h = refl
     or_right false b h = h
 
 -- a key that stands somewhere is there
-pub has_key-at : (keys : List ℕ) (i d : ℕ) → i < length keys → has_key keys (get_or keys i d) ≡ true
-has_key-at [] i d lt = absurd (omega arith)
-has_key-at (k ∷ keys) zero d lt = rw (eq-eqb k k refl) refl
-has_key-at (k ∷ keys) (suc i) d lt = or_right (eqb k (get_or keys i d)) (has_key keys (get_or keys i d)) (has_key-at keys i d (omega arith))
+pub has_number-at : (keys : List ℕ) (i d : ℕ) → i < length keys → has_number keys (get_or keys i d) ≡ true
+has_number-at [] i d lt = absurd (omega arith)
+has_number-at (k ∷ keys) zero d lt = rw (eq-eqb k k refl) refl
+has_number-at (k ∷ keys) (suc i) d lt = or_right (eqb k (get_or keys i d)) (has_number keys (get_or keys i d)) (has_number-at keys i d (omega arith))
   where
     or_right : (a b : Bool) → b ≡ true → (a || b) ≡ true
     or_right true b h = refl
     or_right false b h = h
 
 -- a vacant key is not there
-pub vacant_absent : {T : Type 0} (slab : Slab (Kept T)) (before keys : List ℕ) (key : ℕ) → AllHere slab before keys → get slab key ≡ None → has_key keys key ≡ false
+pub vacant_absent : {T : Type 0} (slab : Slab (Kept T)) (before keys : List ℕ) (key : ℕ) → AllHere slab before keys → get slab key ≡ None → has_number keys key ≡ false
 vacant_absent slab before [] key h none = refl
 vacant_absent slab before (k ∷ keys) key h none =
     let rest = vacant_absent slab (before ++ k ∷ []) keys key h.1 none in
@@ -121,14 +122,6 @@ vacant_absent slab before (k ∷ keys) key h none =
     gone : {T : Type 0} (slab : Slab (Kept T)) (before : List ℕ) (o : Option (Kept T)) → IsHere slab before o → o ≡ None → ⊥
     gone slab before None h none = h
     gone slab before (Some x) h none = absurd (cc)
-
--- a search over all slots
-pub between_all : {T : Type 0} (slots : List (TenantSlot T)) (serial : ℕ) → IsBetween slots serial 0 (length slots)
-between_all slots serial = record {
-  within = omega arith;
-  below = λ k lt. absurd (omega arith);
-  above = λ k ge lt. absurd (omega arith);
-}
 
 -- what stands under keys after one was written
 pub updated_like : {T : Type 0} (old new : Slab (Kept T)) (key : ℕ) (kept after : Kept T) → get old key ≡ Some kept → Updates old new key (Some after) → IsLike kept (Some after) → AreLike old new
@@ -144,14 +137,14 @@ updated_like old new key kept after found u like k x is =
 pub slots_in-put : {T : Type 0} (old new : Slab (Kept T)) (before keys : List ℕ) (i d : ℕ) (after : Kept T) → AllHere old before keys → AreApartKeys keys → i < length keys → Updates old new (get_or keys i d) (Some after) → slots_in new keys ≡ set (slots_in old keys) i after.slot
 slots_in-put old new before [] i d after h a lt u = absurd (omega arith)
 slots_in-put old new before (k ∷ keys) zero d after h a lt u =
-    let rest = slots_in-same old new keys (λ j has. u.others j (λ e. false≢true (sym a.0 ∙ (ap (has_key keys) (sym e) ∙ has)))) in
+    let rest = slots_in-same old new keys (λ j has. u.others j (λ e. false≢true (sym a.0 ∙ (ap (has_number keys) (sym e) ∙ has)))) in
     rw (u.changed, rest) (first old before (get old k) (slots_in old keys) after.slot h.0)
   where
     first : {T : Type 0} (slab : Slab (Kept T)) (before : List ℕ) (o : Option (Kept T)) (xs : List (TenantSlot T)) (x : TenantSlot T) → IsHere slab before o → x ∷ xs ≡ set (with_found o xs) 0 x
     first slab before None xs x h = absurd h
     first slab before (Some y) xs x h = refl
 slots_in-put old new before (k ∷ keys) (suc i) d after h a lt u =
-    let other : k ≢ get_or keys i d = λ e. false≢true (sym a.0 ∙ (ap (has_key keys) e ∙ has_key-at keys i d (omega arith))) in
+    let other : k ≢ get_or keys i d = λ e. false≢true (sym a.0 ∙ (ap (has_number keys) e ∙ has_number-at keys i d (omega arith))) in
     rw (u.others k other, slots_in-put old new (before ++ k ∷ []) keys i d after h.1 a.1 (omega arith) u) (next old before (get old k) (slots_in old keys) i after.slot h.0)
   where
     next : {T : Type 0} (slab : Slab (Kept T)) (before : List ℕ) (o : Option (Kept T)) (xs : List (TenantSlot T)) (i : ℕ) (x : TenantSlot T) → IsHere slab before o → with_found o (set xs i x) ≡ set (with_found o xs) (suc i) x
@@ -171,20 +164,20 @@ pub all_here-append : {T : Type 0} (slab : Slab (Kept T)) (before keys : List �
 all_here-append slab before [] key h last = (subst (λ b. IsHere slab b (get slab key)) (append-nil before) last, tt)
 all_here-append slab before (k ∷ keys) key h last = (h.0, all_here-append slab (before ++ k ∷ []) keys key h.1 (subst (λ b. IsHere slab b (get slab key)) (sym (append_assoc before (k ∷ []) keys)) last))
 
-pub has_key-append : (keys more : List ℕ) (key : ℕ) → has_key (keys ++ more) key ≡ (has_key keys key || has_key more key)
-has_key-append [] more key = refl
-has_key-append (k ∷ keys) more key = rw (has_key-append keys more key) (or_assoc (eqb k key) (has_key keys key) (has_key more key))
+pub has_number-append : (keys more : List ℕ) (key : ℕ) → has_number (keys ++ more) key ≡ (has_number keys key || has_number more key)
+has_number-append [] more key = refl
+has_number-append (k ∷ keys) more key = rw (has_number-append keys more key) (or_assoc (eqb k key) (has_number keys key) (has_number more key))
   where
     or_assoc : (a b c : Bool) → (a || (b || c)) ≡ ((a || b) || c)
     or_assoc true b c = refl
     or_assoc false b c = refl
 
-pub apart-append : (keys : List ℕ) (key : ℕ) → AreApartKeys keys → has_key keys key ≡ false → AreApartKeys (keys ++ key ∷ [])
+pub apart-append : (keys : List ℕ) (key : ℕ) → AreApartKeys keys → has_number keys key ≡ false → AreApartKeys (keys ++ key ∷ [])
 apart-append [] key a none = (refl, tt)
 apart-append (k ∷ keys) key a none =
-    let parts = or_false (eqb k key) (has_key keys key) none in
+    let parts = or_false (eqb k key) (has_number keys key) none in
     let turned : eqb key k ≡ false = ne_eqb key k (λ e. false≢true (sym parts.0 ∙ eq-eqb k key (sym e))) in
-    (has_key-append keys (key ∷ []) k ∙ (rw (a.0, turned) refl), apart-append keys key a.1 parts.1)
+    (has_number-append keys (key ∷ []) k ∙ (rw (a.0, turned) refl), apart-append keys key a.1 parts.1)
   where
     or_false : (a b : Bool) → (a || b) ≡ false → (a ≡ false) × (b ≡ false)
     or_false true b h = absurd (false≢true (sym h))
@@ -194,7 +187,7 @@ apart-append (k ∷ keys) key a none =
 pub knows_read : {T : Type 0} (slab : Slab (Kept T)) (keys : List ℕ) (parent : ℕ) (at key : ℕ) → AllHere slab [] keys → StandsUnder (slots_in slab keys) (Some parent) (Some at) → key ≡ get_or keys at key → KnowsParent slab keys (Some parent) (Some key)
 knows_read slab keys parent at key h s is =
     let lt : at < length keys = rw (slots_in-length slab [] keys h) at s.0 in
-    let has : has_key keys key ≡ true = ap (has_key keys) is ∙ has_key-at keys at key lt in
+    let has : has_number keys key ≡ true = ap (has_number keys) is ∙ has_number-at keys at key lt in
     (has, serial slab keys at key parent (get slab key) h s lt is refl)
   where
     serial : {T : Type 0} (slab : Slab (Kept T)) (keys : List ℕ) (at key parent : ℕ) (o : Option (Kept T)) → AllHere slab [] keys → StandsUnder (slots_in slab keys) (Some parent) (Some at) → at < length keys → key ≡ get_or keys at key → get slab key ≡ o → HasSerial parent o
@@ -260,7 +253,7 @@ push_shelf old new keys room places key slot above s less knows vacant u len cap
 pub push_slots : {T : Type 0} (old new : Slab (Kept T)) (keys : List ℕ) (room places key : ℕ) (kept : Kept T) → IsShelf old keys room places → get old key ≡ None → Updates old new key (Some kept) → slots_in new (keys ++ key ∷ []) ≡ slots_in old keys ++ kept.slot ∷ []
 push_slots old new keys room places key kept s vacant u =
     let absent = vacant_absent old [] keys key s.here vacant in
-    let same = slots_in-same old new keys (λ k has. u.others k (λ e. false≢true (sym absent ∙ (ap (has_key keys) (sym e) ∙ has)))) in
+    let same = slots_in-same old new keys (λ k has. u.others k (λ e. false≢true (sym absent ∙ (ap (has_number keys) (sym e) ∙ has)))) in
     slots_in-append new keys (key ∷ []) ∙ (rw (same, u.changed) refl)
 
 -- a place that is named stands among the slots
@@ -290,11 +283,6 @@ knows_none slab keys parent above s is = root slab keys parent (subst (λ o. Sta
     root : {T : Type 0} (slab : Slab (Kept T)) (keys : List ℕ) (parent : Option ℕ) → StandsUnder (slots_in slab keys) parent None → KnowsParent slab keys parent None
     root slab keys None s = tt
     root slab keys (Some p) s = absurd s
-
--- whether a search found a slot
-pub found_there : {T : Type 0} (slots : List (TenantSlot T)) (serial : ℕ) (place : Option ℕ) → IfSome place (λ at. (at < length slots) × (slice_index (serials_of slots) at ≡ serial)) → IfNone place (has_slot slots serial ≡ false) → is_some place ≡ has_slot slots serial
-found_there slots serial None found none = sym none
-found_there slots serial (Some at) found none = sym (has_slot-found slots at serial found.0 found.1)
 
 -- a parent stands where it stood after its count was written
 pub stands_set : {T : Type 0} (slots : List (TenantSlot T)) (parent : Option ℕ) (p at : ℕ) (slot : TenantSlot T) (count : ℕ) → parent ≡ Some p → at < length slots → slice_index (serials_of slots) at ≡ p → slot ≡ get_or slots at slot → StandsUnder (set slots at (record slot { children = count })) parent (Some at)

@@ -7,8 +7,9 @@ use Rattle.std.proofs.lemmas.List.Filters.{FiltersInPlace, FiltersInPlace-more_s
 use Rattle.std.proofs.lemmas.Bool.{cases_eq, eq-eqb, ne_eqb}
 use Rattle.slab.specs.Slab.{Slab, get, slab_len, ContainsKey, Updates}
 use Rattle.frame_table.specs.declared.shelf.Kept.{Kept}
-use Rattle.frame_table.specs.Shelves.{slots_in, has_key, AreApartKeys, AreThere, NoneMarked, is_marked, swept_in, values_in}
-use Rattle.frame_table.proofs.Shelves.{has_key-append, slots_in-append}
+use Rattle.frame_table.specs.Places.{has_number}
+use Rattle.frame_table.specs.Shelves.{slots_in, AreApartKeys, AreThere, NoneMarked, is_marked, swept_in, values_in}
+use Rattle.frame_table.proofs.Shelves.{has_number-append, slots_in-append}
 use Rattle.frame_table.proofs.Marks.{apart_before}
 use Rattle.frame_table.proofs.Lengths.{length_more}
 
@@ -44,7 +45,7 @@ swept_early old all had from le none = record {
     same slab [] key none = refl
     same slab (k ∷ keys) key none =
         elim (cases_eq k key) [
-          | inl here ↦ (let off : is_marked (get slab key) ≡ false = ap (λ j. is_marked (get slab j)) (sym here) ∙ none.0 in rw (off, and_false (has_key (k ∷ keys) key)) refl)
+          | inl here ↦ (let off : is_marked (get slab key) ≡ false = ap (λ j. is_marked (get slab j)) (sym here) ∙ none.0 in rw (off, and_false (has_number (k ∷ keys) key)) refl)
           | inr differs ↦ rw (ne_eqb k key differs) (same slab keys key none.1)
         ]
       where
@@ -70,7 +71,7 @@ there_at slab (k ∷ keys) (suc i) d t lt = there_at slab keys i d t.1 (omega ar
 -- the slot that is read is as it was
 pub slot_is : {T : Type 0} (old now : Slab (Kept T)) (all order : List ℕ) (had values : List T) (kept at key : ℕ) → HasSwept old now all order had values kept at → AreApartKeys all → at < length all → key ≡ get_or order at key → get now key ≡ get old key
 slot_is old now all order had values kept at key h a lt is =
-    let absent : has_key (take at all) key ≡ false = ap (has_key (take at all)) (read_of_all old now all order had values kept at key h is) ∙ apart_before all at key a lt in
+    let absent : has_number (take at all) key ≡ false = ap (has_number (take at all)) (read_of_all old now all order had values kept at key h is) ∙ apart_before all at key a lt in
     h.slots key ∙ (rw absent refl)
 
 pub slot_contains : {T : Type 0} (old now : Slab (Kept T)) (all order : List ℕ) (had values : List T) (kept at key : ℕ) → HasSwept old now all order had values kept at → AreApartKeys all → AreThere old all → at < length all → key ≡ get_or order at key → ContainsKey now key
@@ -78,8 +79,8 @@ slot_contains old now all order had values kept at key h a t lt is =
     subst (λ o. IsSome o) (sym (slot_is old now all order had values kept at key h a lt is)) (subst (λ k. ContainsKey old k) (sym (read_of_all old now all order had values kept at key h is)) (there_at old all at key t lt))
 
 -- one key more
-has_key_more : (all : List ℕ) (at key k : ℕ) → at < length all → key ≡ get_or all at key → has_key (take (at + 1) all) k ≡ (has_key (take at all) k || (eqb key k || false))
-has_key_more all at key k lt is = ap (λ ks. has_key ks k) (take_more all at key lt ∙ ap (λ j. take at all ++ j ∷ []) (sym is)) ∙ has_key-append (take at all) (key ∷ []) k
+has_number_more : (all : List ℕ) (at key k : ℕ) → at < length all → key ≡ get_or all at key → has_number (take (at + 1) all) k ≡ (has_number (take at all) k || (eqb key k || false))
+has_number_more all at key k lt is = ap (λ ks. has_number ks k) (take_more all at key lt ∙ ap (λ j. take at all ++ j ∷ []) (sym is)) ∙ has_number-append (take at all) (key ∷ []) k
 
 last_key : (b : Bool) (key k : ℕ) → key ≡ k → (b || (eqb key k || false)) ≡ true
 last_key true key k e = refl
@@ -98,8 +99,8 @@ swept_stays old now all order had values kept at key h lt read stays =
     record {
       moved = FiltersInPlace-more_set h.moved (omega (arith, h.moved.long)) (rw stays refl) read;
       slots = λ k. elim (cases_eq k key) [
-        | inl same ↦ (let m : is_marked (get old k) ≡ false = ap (λ j. is_marked (get old j)) same ∙ stays in h.slots k ∙ (rw m (both (has_key (take at all) k) (has_key (take (at + 1) all) k) (get old k))))
-        | inr differs ↦ h.slots k ∙ (rw (has_key_more all at key k lt is, first_keys (has_key (take at all) k) key k (λ e. differs (sym e))) refl)
+        | inl same ↦ (let m : is_marked (get old k) ≡ false = ap (λ j. is_marked (get old j)) same ∙ stays in h.slots k ∙ (rw m (both (has_number (take at all) k) (has_number (take (at + 1) all) k) (get old k))))
+        | inr differs ↦ h.slots k ∙ (rw (has_number_more all at key k lt is, first_keys (has_number (take at all) k) key k (λ e. differs (sym e))) refl)
       ];
       written = h.written ∙ ap (λ ks. had ++ values_in old ks) (sym more);
       counted = omega (arith, h.counted);
@@ -124,8 +125,8 @@ swept_goes old now new all order had values kept at key gone h a lt read goes fo
       moved = FiltersInPlace-more_no h.moved (omega (arith, h.moved.long)) (rw goes refl) read;
       slots = λ k. elim (cases_eq k key) [
         | inl same ↦ (let m : is_marked (get old k) ≡ true = ap (λ j. is_marked (get old j)) same ∙ goes in
-            ap (get new) same ∙ (u.changed ∙ (rw (m, has_key_more all at key k lt is, last_key (has_key (take at all) k) key k (sym same)) refl)))
-        | inr differs ↦ u.others k differs ∙ (h.slots k ∙ (rw (has_key_more all at key k lt is, first_keys (has_key (take at all) k) key k (λ e. differs (sym e))) refl))
+            ap (get new) same ∙ (u.changed ∙ (rw (m, has_number_more all at key k lt is, last_key (has_number (take at all) k) key k (sym same)) refl)))
+        | inr differs ↦ u.others k differs ∙ (h.slots k ∙ (rw (has_number_more all at key k lt is, first_keys (has_number (take at all) k) key k (λ e. differs (sym e))) refl))
       ];
       written = ap (λ vs. vs ++ gone.slot.value ∷ []) h.written ∙ (append_assoc had _ (gone.slot.value ∷ []) ∙ ap (λ vs. had ++ vs) (sym (ap (values_in old) more ∙ one_more old (filter (λ k. is_marked (get old k)) (take at all)) key gone was)));
       counted = omega (arith, h.counted, len);

@@ -1,6 +1,11 @@
 -- Lists in the order of a number that each element has.
-use Rattle.std.specs.Prelude.{ℕ, ◌<◌, ◌≤◌, nat_lt, List, [], ◌∷◌, if◌then◌else◌}
+use Rattle.std.specs.Prelude.{ℕ, ◌<◌, ◌≤◌, ◌==◌, ◌||◌, Bool, false, nat_lt, List, [], ◌∷◌, if◌then◌else◌}
 use Prim.Native.Nat.{zero, suc}
+
+-- whether this is one of the numbers
+abbrev pub has_number : List ℕ → ℕ → Bool
+has_number [] n = false
+has_number (first ∷ numbers) n = (first == n) || has_number numbers n
 
 -- each number is above this one
 abbrev pub AllAboveBy : {X : Type 0} → (X → ℕ) → ℕ → List X → Type 0

@@ -6,7 +6,7 @@ use Rattle.frame_table.specs.declared.slot.Slot.{Slot}
 use Rattle.frame_table.specs.declared.ready.ReadyFrame.{ReadyFrame}
 use Rattle.frame_table.specs.Frames.{first_of_two, is_ready}
 use Rattle.frame_table.specs.Places.{inserted}
-use Rattle.frame_table.specs.Slots.{IsSound}
+use Rattle.frame_table.specs.Slots.{IsSound, SerialList, serials_of}
 
 -- a number of places, and ready frames by rising serial
 pub record ReadyList : Type 0 where
@@ -43,10 +43,12 @@ abbrev pub newest_of : List ReadyFrame → Option ReadyFrame
 newest_of [] = None
 newest_of (frame ∷ frames) = first_of_two (newest_of frames) (Some frame)
 
--- what is true of a tenant's slots, its number of places, and its ready frames
-pub record IsTenant {T : Type 0} (slots : List (Slot T)) (places : ℕ) (ready : ReadyList) : Type 0 where
+-- what is true of a tenant's slots, its number of places, its serials and its ready frames
+pub record IsTenant {T : Type 0} (slots : List (Slot T)) (places : ℕ) (serials : SerialList) (ready : ReadyList) : Type 0 where
   pub sound : IsSound slots (length ready.frames)
+  pub index : serials.serials ≡ serials_of slots
   pub ready_frames : ready.frames ≡ ready_in slots
   pub within : length slots ≤ places
   pub few : places ≤ 4096
+  pub serial_places : serials.places ≡ places
   pub ready_places : ready.places ≡ places

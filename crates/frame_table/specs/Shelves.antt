@@ -3,6 +3,7 @@ use Rattle.std.specs.Prelude.{◌≡◌, ℕ, ◌<◌, ◌≤◌, Bool, true, fa
 use Rattle.std.specs.Borrow.{Bor}
 use Rattle.slab.specs.Slab.{Slab, get, slab_len}
 use Rattle.frame_table.specs.declared.slot.Slot.{Slot as TenantSlot}
+use Rattle.frame_table.specs.Places.{has_number}
 use Rattle.frame_table.specs.Slots.{frames_from, is_kept, serials_of}
 use Rattle.frame_table.specs.declared.shelf.Kept.{Kept}
 
@@ -21,15 +22,10 @@ abbrev pub slots_in : {T : Type 0} → Slab (Kept T) → List ℕ → List (Tena
 slots_in slab [] = []
 slots_in slab (key ∷ keys) = with_found (get slab key) (slots_in slab keys)
 
--- whether this is one of the keys
-abbrev pub has_key : List ℕ → ℕ → Bool
-has_key [] key = false
-has_key (first ∷ keys) key = (first == key) || has_key keys key
-
 -- the keys are those of slots, each once
 abbrev pub AreApartKeys : List ℕ → Type 0
 AreApartKeys [] = Unit {0}
-AreApartKeys (key ∷ keys) = (has_key keys key ≡ false) × AreApartKeys keys
+AreApartKeys (key ∷ keys) = (has_number keys key ≡ false) × AreApartKeys keys
 
 -- the slot with this serial stands under this key
 abbrev pub HasSerial : {T : Type 0} → ℕ → Option (Kept T) → Type 0
@@ -41,7 +37,7 @@ abbrev pub KnowsParent : {T : Type 0} → Slab (Kept T) → List ℕ → Option 
 KnowsParent slab keys None None = Unit {0}
 KnowsParent slab keys None (Some above) = ⊥
 KnowsParent slab keys (Some parent) None = ⊥
-KnowsParent slab keys (Some parent) (Some above) = (has_key keys above ≡ true) × HasSerial parent (get slab above)
+KnowsParent slab keys (Some parent) (Some above) = (has_number keys above ≡ true) × HasSerial parent (get slab above)
 
 -- a slot that is there, is not marked, and knows its parent among these
 abbrev pub IsHere : {T : Type 0} → Slab (Kept T) → List ℕ → Option (Kept T) → Type 0
@@ -98,7 +94,7 @@ is_taken_in slab under (Some kept) = is_taken_by slab under kept.slot.parent kep
 -- what stands under a key, marked where it is one of these keys and the abort takes its frame
 abbrev pub marked_in : {T : Type 0} → ℕ → List (TenantSlot T) → List ℕ → ℕ → Option (Kept T) → Option (Kept T)
 marked_in under slots keys key None = None
-marked_in under slots keys key (Some kept) = Some (record kept { marked = if has_key keys key then not (is_kept under (frames_from [] slots) kept.slot.serial) else kept.marked })
+marked_in under slots keys key (Some kept) = Some (record kept { marked = if has_number keys key then not (is_kept under (frames_from [] slots) kept.slot.serial) else kept.marked })
 
 -- the slots under these keys are marked where the abort takes them, and nothing else changed
 abbrev pub Marks : {T : Type 0} → ℕ → List (TenantSlot T) → List ℕ → Slab (Kept T) → Slab (Kept T) → Type 0
@@ -116,7 +112,7 @@ AreThere slab (key ∷ keys) = IsSome (get slab key) × AreThere slab keys
 
 -- what stands under a key, and nothing where it is one of these and marked
 abbrev pub swept_in : {T : Type 0} → Slab (Kept T) → List ℕ → ℕ → Option (Kept T)
-swept_in slab keys key = if has_key keys key && is_marked (get slab key) then None else get slab key
+swept_in slab keys key = if has_number keys key && is_marked (get slab key) then None else get slab key
 
 -- the values of the slots under these keys
 abbrev pub values_in : {T : Type 0} → Slab (Kept T) → List ℕ → List T

@@ -8,12 +8,13 @@ ghost use Rattle.std.specs.Prelude.{◌≡◌, ℕ, ◌+◌, ◌<◌, ◌≤◌,
 ghost use Rattle.slab.specs.Slab.{get, slab_len, ContainsKey, Updates};
 ghost use Rattle.frame_table.specs.declared.shelf.Kept.{Kept};
 ghost use Rattle.std.specs.List.{remove};
-ghost use Rattle.frame_table.specs.Slots.{serials_of, has_slot, Rises, IsLinked, kept_slots, gone_values, slot_values, child_slots};
+ghost use Rattle.frame_table.specs.Slots.{serials_of, IsLinked, kept_slots, gone_values, slot_values, child_slots};
 ghost use Rattle.frame_table.specs.Readies.{ready_in};
 ghost use Rattle.frame_table.specs.Shelves.{slots_in, AllHere, AreApartKeys, StandsUnder, HasLink, is_taken_in, Marks, AreThere, NoneMarked, is_marked, swept_in, values_in};
 
 use crate::names::State;
 use crate::ready::ReadyFrames;
+use crate::serials::Serials;
 use crate::slot::Slot;
 use slab::Slab;
 use std::alloc::{AllocError, Allocator, Global};
@@ -86,39 +87,14 @@ impl<T: Copy, A: Allocator> Shelf<T, A> {
         self.slab[self.order[at]].slot
     }
 
-    /// Where the slot with this serial stands.
-    pub(crate) fn place_of(&self, serial: u64) -> Option<usize>
-        requires { Rises self.now.slots }
-        ensures found { IfSome result (λ at. (at < length self.now.slots) × (slice_index (serials_of self.now.slots) at ≡ serial)) }
-        ensures none { IfNone result (has_slot self.now.slots serial ≡ false) }
+    /// Adds the serials of the slots from a place on.
+    pub(crate) fn add_serials(&self, from: usize, serials: &mut Serials<A>)
+        requires within { from ≤ length self.now.slots }
+        requires room { length serials.old.serials + length self.now.slots ≤ serials.old.places + from }
+        ensures { serials.new ≡ record serials.old { serials = serials.old.serials ++ serials_of (drop from self.now.slots) } }
     {
-        let mut low = 0;
-        let mut high = self.order.len();
-        while low < high {
-            let middle = low + (high - low) / 2;
-            let at = self.at(middle).serial;
-            if at == serial {
-                return Some(middle);
-            }
-            if at < serial {
-                low = middle + 1;
-            } else {
-                high = middle;
-            }
-        }
-        None
-    }
-
-    /// Where the slot with this serial stands, which is there.
-    pub(crate) fn known_place(&self, serial: u64) -> usize
-        requires rise { Rises self.now.slots }
-        requires there { has_slot self.now.slots serial ≡ true }
-        ensures within { result < length self.now.slots }
-        ensures found { slice_index (serials_of self.now.slots) result ≡ serial }
-    {
-        match self.place_of(serial) {
-            Some(at) => at,
-            None => unreachable!(),
+        for at in from..self.len() {
+            serials.push(self.at(at).serial);
         }
     }
 

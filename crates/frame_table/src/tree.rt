@@ -2,15 +2,17 @@
 //!
 //! Seen as a tenant, a number of places and a list of frames by rising serial, each with its path.
 //! What makes that true: slots rise, each names a parent that stands before it and the root above it,
-//! the counts of children are those of the slots, and so are the ready frames that are listed.
+//! the counts of children are those of the slots, and so are the serials and the ready frames that are
+//! listed beside them.
 ghost use Rattle.std.specs.Prelude.{◌≡◌, ◌+◌, ◌<◌, ◌≤◌, ◌↔◌, ◌++◌, [], ◌∷◌, true, false, length, vec_len, vec_capacity, IsTrue, IfOk, IfSome};
 ghost use Rattle.frame_table.specs.Frames.{frame_at, has_frame, path_in, root_of, children_of, aborted, frames_under, frames_without, values_of, with_state, ready_frames, AllBelow, entry_of, newest_ready_of, HasValue, has_parent, IsReadyAt, IsTree};
-ghost use Rattle.frame_table.specs.Slots.{frames_from, IsLinked, Rises, has_parent_slot, AllCountsBelow, with_child, root_under, without_child, CountsAtParent};
+ghost use Rattle.frame_table.specs.Slots.{frames_from, IsLinked, Rises, has_parent_slot, AllCountsBelow, with_child, root_under, without_child, CountsAtParent, serials_of};
 ghost use Rattle.frame_table.specs.Shelves.{StandsUnder};
 ghost use Rattle.frame_table.specs.Tables.{new_frame};
 
 use crate::names::{Entry, FrameId, State};
 use crate::ready::ReadyFrames;
+use crate::serials::Serials;
 use crate::shelf::Shelf;
 use crate::slot::Slot;
 use std::alloc::{AllocError, Allocator, Global};
@@ -21,6 +23,7 @@ use std::marker::Model;
 pub(crate) struct TenantFrames<T, A: Allocator = Global> {
     tenant: u64,
     shelf: Shelf<T, A>,
+    serials: Serials<A>,
     ready: ReadyFrames<A>,
 }
 
@@ -34,7 +37,7 @@ impl<T, A: Allocator> Model for TenantFrames<T, A> {
 
     ghost view = { λ t. record { tenant = t.tenant; places = t.shelf.places; frames = frames_from [] t.shelf.slots } };
 
-    ghost invariant = { λ t. IsTenant t.shelf.slots t.shelf.places t.ready };
+    ghost invariant = { λ t. IsTenant t.shelf.slots t.shelf.places t.serials t.ready };
 }
 
 impl<T: Copy, A: Allocator> TenantFrames<T, A> {
@@ -46,10 +49,12 @@ impl<T: Copy, A: Allocator> TenantFrames<T, A> {
         ensures { IfOk result (λ t. t ≡ record { tenant = tenant; places = places; frames = [] }) }
     {
         let shelf = Shelf::new(alloc.clone()?, places)?;
+        let serials = Serials::new(alloc.clone()?, places)?;
         let ready = ReadyFrames::new(alloc, places)?;
         Ok(TenantFrames {
             tenant,
             shelf,
+            serials,
             ready,
         })
     }
@@ -95,7 +100,7 @@ impl<T: Copy, A: Allocator> TenantFrames<T, A> {
         ensures entry { result ≡ entry_of self.now.tenant (frame_at self.now.frames serial) }
         ensures tree { IsTree self.now.frames }
     {
-        match self.shelf.place_of(serial) {
+        match self.serials.place_of(serial) {
             Some(at) => Some(self.shelf.at(at).entry(self.tenant)),
             None => None,
         }
@@ -106,7 +111,7 @@ impl<T: Copy, A: Allocator> TenantFrames<T, A> {
         requires { IsTrue (has_frame self.now.frames serial) }
         ensures { result ≡ root_of (path_in self.now.frames serial) }
     {
-        let at = self.shelf.known_place(serial);
+        let at = self.serials.known_place(serial);
         self.shelf.at(at).root
     }
 
@@ -115,7 +120,7 @@ impl<T: Copy, A: Allocator> TenantFrames<T, A> {
         ensures child { IsTrue result ↔ (0 < length (children_of self.now.frames serial)) }
         ensures leaf { result ≡ false → children_of self.now.frames serial ≡ [] }
     {
-        match self.shelf.place_of(serial) {
+        match self.serials.place_of(serial) {
             Some(at) => self.shelf.at(at).children > 0,
             None => false,
         }
@@ -125,7 +130,7 @@ impl<T: Copy, A: Allocator> TenantFrames<T, A> {
     pub(crate) fn contains(&self, serial: u64) -> bool
         ensures { result ≡ has_frame self.now.frames serial }
     {
-        self.shelf.place_of(serial).is_some()
+        self.serials.place_of(serial).is_some()
     }
 
     /// Whether a serial is above those of all frames.
@@ -162,7 +167,7 @@ impl<T: Copy, A: Allocator> TenantFrames<T, A> {
         requires room { length self.old.frames < self.old.places }
         ensures { self.new ≡ record self.old { frames = self.old.frames ++ new_frame self.old.frames serial parent home value ∷ [] } }
     {
-        let (root, above) = adopt(&mut self.shelf, parent, serial);
+        let (root, above) = adopt(&mut self.shelf, &self.serials, parent, serial);
         self.shelf.push(
             Slot {
                 serial,
@@ -174,6 +179,7 @@ impl<T: Copy, A: Allocator> TenantFrames<T, A> {
             },
             above,
         );
+        self.serials.push(serial);
         self.ready.push(serial, home);
     }
 
@@ -182,7 +188,7 @@ impl<T: Copy, A: Allocator> TenantFrames<T, A> {
         requires { IsTrue (has_frame self.old.frames serial) }
         ensures { self.new ≡ record self.old { frames = with_state serial state self.old.frames } }
     {
-        let at = self.shelf.known_place(serial);
+        let at = self.serials.known_place(serial);
         let slot = self.shelf.at(at);
         self.shelf.put(at, Slot { state, ..slot });
         self.ready.follow(serial, slot.state, state);
@@ -196,7 +202,7 @@ impl<T: Copy, A: Allocator> TenantFrames<T, A> {
         ensures values { removed.new.items ≡ removed.old.items ++ values_of (frames_under serial self.old.frames) }
         ensures capacity { vec_capacity removed.new ≡ vec_capacity removed.old }
     {
-        let at = self.shelf.known_place(serial);
+        let at = self.serials.known_place(serial);
         let slot = self.shelf.at(at);
         if slot.children == 0 {
             return;
@@ -209,6 +215,8 @@ impl<T: Copy, A: Allocator> TenantFrames<T, A> {
             },
         );
         self.shelf.cut(at, serial, removed);
+        self.serials.truncate(at);
+        self.shelf.add_serials(at, &mut self.serials);
         self.ready.forget_from(serial);
         self.shelf.add_ready(at, &mut self.ready);
     }
@@ -221,6 +229,7 @@ impl<T: Copy, A: Allocator> TenantFrames<T, A> {
         ensures capacity { vec_capacity removed.new ≡ vec_capacity removed.old }
     {
         self.shelf.clear(removed);
+        self.serials.truncate(0);
         self.ready.clear();
     }
 
@@ -231,9 +240,10 @@ impl<T: Copy, A: Allocator> TenantFrames<T, A> {
         ensures left { self.new ≡ record self.old { frames = frames_without serial self.old.frames } }
         ensures value { HasValue (frame_at self.old.frames serial) result }
     {
-        let at = self.shelf.known_place(serial);
+        let at = self.serials.known_place(serial);
         let slot = self.shelf.take(at);
-        forget(&mut self.shelf, slot.parent);
+        self.serials.remove(at);
+        forget(&mut self.shelf, &self.serials, slot.parent);
         self.ready.leave(serial, slot.state);
         slot.value
     }
@@ -243,9 +253,11 @@ impl<T: Copy, A: Allocator> TenantFrames<T, A> {
 /// stands.
 fn adopt<T: Copy, A: Allocator>(
     shelf: &mut Shelf<T, A>,
+    serials: &Serials<A>,
     parent: Option<u64>,
     serial: u64,
 ) -> (u64, Option<usize>)
+    requires index { serials.now.serials ≡ serials_of shelf.old.slots }
     requires rise { Rises shelf.old.slots }
     requires there { has_parent_slot shelf.old.slots parent ≡ true }
     requires few { AllCountsBelow 4096 shelf.old.slots }
@@ -256,7 +268,7 @@ fn adopt<T: Copy, A: Allocator>(
     match parent {
         None => (serial, None),
         Some(above) => {
-            let at = shelf.known_place(above);
+            let at = serials.known_place(above);
             let slot = shelf.at(at);
             shelf.put(
                 at,
@@ -271,14 +283,15 @@ fn adopt<T: Copy, A: Allocator>(
 }
 
 /// Counts one child less at the parent.
-fn forget<T: Copy, A: Allocator>(shelf: &mut Shelf<T, A>, parent: Option<u64>)
+fn forget<T: Copy, A: Allocator>(shelf: &mut Shelf<T, A>, serials: &Serials<A>, parent: Option<u64>)
+    requires index { serials.now.serials ≡ serials_of shelf.old.slots }
     requires rise { Rises shelf.old.slots }
     requires there { has_parent_slot shelf.old.slots parent ≡ true }
     requires counted { CountsAtParent shelf.old.slots parent }
     ensures { shelf.new ≡ record shelf.old { slots = without_child parent shelf.old.slots } }
 {
     if let Some(above) = parent {
-        let at = shelf.known_place(above);
+        let at = serials.known_place(above);
         let slot = shelf.at(at);
         shelf.put(
             at,

@@ -1,10 +1,9 @@
 -- An answer, once accepted, leaves the frame fitting; roots; and what a returned root holds.
-use Rattle.std.specs.Prelude.{◌≡◌, ◌≢◌, ℕ, ◌<◌, ◌≤◌, ◌⊎◌, ◌==◌, Bool, true, false, ℤ, pos, negsuc, ◌≤ℤ◌, ◌<ℤ◌, bit_and, List, [], ◌∷◌, map, length, refl, if◌then◌else◌}
+use Rattle.std.specs.Prelude.{◌≡◌, ℕ, ◌<◌, ◌≤◌, Bool, true, false, ℤ, pos, negsuc, ◌≤ℤ◌, ◌<ℤ◌, bit_and, List, [], refl, if◌then◌else◌}
 use Rattle.std.proofs.Common.{sym, ◌∙◌, ap, subst, arith, ⊎_elim}
-use Rattle.std.proofs.lemmas.Int.{ints, clamps, by_lt_z}
+use Rattle.std.proofs.lemmas.Int.{ints, by_lt_z}
 use Rattle.cactus_stack.specs.Nodes.{padded}
-use Rattle.othello_board.specs.Words.{cells_of}
-use Rattle.othello_eval.specs.Minimax.{minimax, best_choice}
+use Rattle.othello_eval.specs.Minimax.{best_choice}
 use Rattle.othello_eval.specs.Values.{IsWithin}
 use Rattle.othello_eval.proofs.MinimaxLemmas.{minimax_within}
 use Rattle.leaf_search.specs.Bounds.{IsBound}
@@ -14,8 +13,8 @@ use Rattle.sched_rules.specs.Laws.{ParentFits, AcceptKeeps, Neither, Computes, H
 use Rattle.jamboree_rules.specs.declared.leaf.Leaf.{Leaf}
 use Rattle.jamboree_rules.specs.declared.leaf.LeafAnswer.{LeafAnswer}
 use Rattle.jamboree_rules.specs.Frames.{Frame, board, value, coded, least, greatest}
-use Rattle.jamboree_rules.specs.Places.{frame_of, is_formed, Change, pairs_of, root_words, frame_size}
-use Rattle.jamboree_rules.specs.Leaves.{IsLeaf, leaf_in, leaf_of_answer, same_leaf, changes_of_answer, accepts}
+use Rattle.jamboree_rules.specs.Places.{frame_of, is_formed, pairs_of, root_words, frame_size}
+use Rattle.jamboree_rules.specs.Leaves.{leaf_in, leaf_of_answer, same_leaf, changes_of_answer, accepts}
 use Rattle.jamboree_rules.specs.Fits.{IsDoneFrame, Fits, AreFitting, IsRoot}
 use Rattle.jamboree_rules.proofs.LeafLemmas.{Has, has-from, same-has, moved, named-by, choice-small}
 use Rattle.jamboree_rules.proofs.BoardWords.{length-cells-of}
@@ -33,7 +32,11 @@ answered-form f answer form phase =
     let low : negsuc 127999 ≤ℤ answer.score = answer.low in
     let high : answer.score ≤ℤ pos 128000 = answer.high in
     record {
-      leaf = form.leaf; role = form.role; phase = omega arith; choice = choice-small answer; spawned = form.spawned;
+      leaf = form.leaf;
+      role = form.role;
+      phase = omega arith;
+      choice = choice-small answer;
+      spawned = form.spawned;
       early = λ (e : 4 ≤ 1). absurd (omega arith);
       late = λ _. (omega (arith, ints), omega (arith, ints));
       counts = ⊎_elim (λ (e : 4 ≡ 2). absurd (omega arith)) (λ (e : 4 ≡ 3). absurd (omega arith));
@@ -52,8 +55,11 @@ answered-done own answer form alike =
     let there : Has (leaf_in own) f.own f.opp f.depth f.alpha f.beta = has-from f.own f.opp f.depth f.alpha f.beta form.frame.leaf in
     let asked : Has answer.leaf (leaf_in own).board.own (leaf_in own).board.opp (leaf_in own).depth (leaf_in own).alpha (leaf_in own).beta = same-has answer.leaf (leaf_in own) alike in
     let has : Has answer.leaf f.own f.opp f.depth f.alpha f.beta = record {
-      own_is = asked.own_is ∙ there.own_is; opp_is = asked.opp_is ∙ there.opp_is; depth_is = asked.depth_is ∙ there.depth_is;
-      alpha_is = asked.alpha_is ∙ there.alpha_is; beta_is = asked.beta_is ∙ there.beta_is;
+      own_is = asked.own_is ∙ there.own_is;
+      opp_is = asked.opp_is ∙ there.opp_is;
+      depth_is = asked.depth_is ∙ there.depth_is;
+      alpha_is = asked.alpha_is ∙ there.alpha_is;
+      beta_is = asked.beta_is ∙ there.beta_is;
     } in
     record {
       bound = moved answer f.own f.opp f.depth f.alpha f.beta has;
@@ -76,18 +82,20 @@ accept-leaves origin own above older younger answer fits parent alike =
     let phase : f.phase ≡ 1 = fits.frame.marked in
     let s = answer-good own answer form phase in
     let g : Frame = answered_frame f answer in
-    subst (λ (stores : List (ℕ × ℕ)). AreFitting (stored stores own) [] Neither × ParentFits AreFitting IsRoot origin above older (stored stores own) younger) (accepts-is own answer fits.formed)
-    (record {
-      formed = formed-passes (stored (pairs_of (changes_of_answer answer)) own) s.formed;
-      frame = subst (λ (h : Frame). Fits h [] Neither) (sym s.is) (accepted f answer.score (coded answer.choice) fits.frame (answered-done own answer form alike));
-    }, store-above origin own (stored (pairs_of (changes_of_answer answer)) own) g above older younger (λ (z : f.phase ≡ 0). absurd (omega arith)) s.is s.goal s.own_is s.opp_is parent)
+    subst (λ (stores : List (ℕ × ℕ)). AreFitting (stored stores own) [] Neither × ParentFits AreFitting IsRoot origin above older (stored stores own) younger) (accepts-is own answer fits.formed) (
+      record {
+        formed = formed-passes (stored (pairs_of (changes_of_answer answer)) own) s.formed;
+        frame = subst (λ (h : Frame). Fits h [] Neither) (sym s.is) (accepted f answer.score (coded answer.choice) fits.frame (answered-done own answer form alike));
+      },
+      store-above origin own (stored (pairs_of (changes_of_answer answer)) own) g above older younger (λ (z : f.phase ≡ 0). absurd (omega arith)) s.is s.goal s.own_is s.opp_is parent,
+    )
 
 -- Answer keeps that frames fit
 pub accept-keeps : (functions : Functions Leaf LeafAnswer) → functions.input ≡ leaf_in → functions.asked ≡ leaf_of_answer → functions.same ≡ same_leaf → functions.accept ≡ accepts → AcceptKeeps functions AreFitting IsRoot
 accept-keeps functions input asked same accept origin own above older younger answer fits parent alike inside =
     let same' : functions.same (functions.asked answer) (functions.input own) ≡ same_leaf answer.leaf (leaf_in own) =
-        ap (λ (s : Leaf → Leaf → Bool). s (functions.asked answer) (functions.input own)) same ∙ ap (λ (a : LeafAnswer → Leaf). same_leaf (a answer) (functions.input own)) asked
-        ∙ ap (λ (i : List ℕ → Leaf). same_leaf answer.leaf (i own)) input in
+    ap (λ (s : Leaf → Leaf → Bool). s (functions.asked answer) (functions.input own)) same ∙ ap (λ (a : LeafAnswer → Leaf). same_leaf (a answer) (functions.input own)) asked
+    ∙ ap (λ (i : List ℕ → Leaf). same_leaf answer.leaf (i own)) input in
     subst (λ (a : List ℕ → LeafAnswer → List (ℕ × ℕ)). AreFitting (stored (a own answer) own) [] Neither × ParentFits AreFitting IsRoot origin above older (stored (a own answer) own) younger) (sym accept)
     (accept-leaves origin own above older younger answer fits parent (sym same' ∙ alike))
 
@@ -104,7 +112,10 @@ root-form own opp depth apart shallow = record {
   entries = refl;
   frame = record {
     leaf = record { disjoint = apart; shallow = shallow; low = omega (arith, ints); window = omega (arith, ints); high = omega (arith, ints) };
-    role = omega arith; phase = omega arith; choice = omega arith; spawned = omega arith;
+    role = omega arith;
+    phase = omega arith;
+    choice = omega arith;
+    spawned = omega arith;
     early = λ _. (refl, refl);
     late = λ (e : 1 < 0). absurd (omega arith);
     counts = ⊎_elim (λ (e : 0 ≡ 2). absurd (omega arith)) (λ (e : 0 ≡ 3). absurd (omega arith));
@@ -113,18 +124,21 @@ root-form own opp depth apart shallow = record {
 
 -- a new root fits, and belongs to the words that it was submitted with
 pub root-fits : (own opp depth : ℕ) → bit_and own opp ≡ 0 → depth ≤ 12 → AreFitting (padded (root_words own opp depth) frame_size) [] Neither × IsRoot (root_words own opp depth) (padded (root_words own opp depth) frame_size)
-root-fits own opp depth apart shallow = (record {
-  formed = formed-passes (padded (root_words own opp depth) frame_size) (root-form own opp depth apart shallow);
-  frame = record {
-    window = omega (arith, ints);
-    marked = λ (e : 0 ≡ 1). absurd (omega arith);
-    idle = λ _ _. refl;
-    searching = ⊎_elim (λ (e : 0 ≡ 2). absurd (omega arith)) (λ (e : 0 ≡ 3). absurd (omega arith));
-    done = λ (e : 0 ≡ 4). absurd (omega arith);
-    kin = tt;
-    once = λ i. omega arith;
-  };
-}, record { own_is = refl; opp_is = refl; depth_is = refl; role_is = refl; alpha_is = refl; beta_is = refl })
+root-fits own opp depth apart shallow = (
+  record {
+    formed = formed-passes (padded (root_words own opp depth) frame_size) (root-form own opp depth apart shallow);
+    frame = record {
+      window = omega (arith, ints);
+      marked = λ (e : 0 ≡ 1). absurd (omega arith);
+      idle = λ _ _. refl;
+      searching = ⊎_elim (λ (e : 0 ≡ 2). absurd (omega arith)) (λ (e : 0 ≡ 3). absurd (omega arith));
+      done = λ (e : 0 ≡ 4). absurd (omega arith);
+      kin = tt;
+      once = λ i. omega arith;
+    };
+  },
+  record { own_is = refl; opp_is = refl; depth_is = refl; role_is = refl; alpha_is = refl; beta_is = refl },
+)
 
 above-alpha : (s m : ℤ) → IsBound least greatest s m → negsuc 127999 ≤ℤ m → least <ℤ s
 above-alpha s m bound low = by_lt_z least s (λ h. h) (λ h. let u : m ≤ℤ s = bound.upper h in absurd (omega (arith, ints)))

@@ -1,19 +1,19 @@
 -- The minimax value and the best choice of a frame, by places in the list of choices.
-use Rattle.std.specs.Prelude.{◌≡◌, ◌≢◌, ℕ, zero, suc, ◌+◌, ◌-◌, ◌<◌, ◌≤◌, ◌⊎◌, Bool, true, false, ℤ, neg_ℤ, ◌<ℤ◌, ◌≤ℤ◌, List, [], ◌∷◌, Option, Some, None, length, map, find, refl, slice_index_or, int_le}
+use Rattle.std.specs.Prelude.{◌≡◌, ℕ, zero, suc, ◌<◌, Bool, true, false, ℤ, ◌<ℤ◌, ◌≤ℤ◌, List, [], ◌∷◌, Some, length, map, find, refl, slice_index_or}
 use Rattle.std.specs.Int.{int_max}
-use Rattle.std.proofs.Common.{sym, ◌∙◌, ap, subst, arith, inl, inr}
+use Rattle.std.proofs.Common.{sym, ◌∙◌, ap, subst, arith}
 use Rattle.std.proofs.lemmas.Grind.{common_steps}
 use Rattle.std.proofs.lemmas.Int.{ints, clamps, by_lt_z}
 use Rattle.othello_moves.specs.declared.choices.Choice.{Choice}
-use Rattle.othello_moves.specs.declared.choices.Choice.TheVariants.{Square, Pass}
-use Rattle.othello_moves.specs.Choices.{choices, after}
+use Rattle.othello_moves.specs.declared.choices.Choice.TheVariants.{Pass}
+use Rattle.othello_moves.specs.Choices.{choices}
 use Rattle.othello_eval.specs.Values.{final_value}
 use Rattle.othello_eval.specs.Minimax.{minimax, best_choice, choice_value, greatest_or, int_equal}
 use Rattle.othello_eval.proofs.MinimaxLemmas.{minimax-deeper, best_choice-deeper}
 use Rattle.othello_eval.proofs.GreatestLemmas.{int_equal-same, int_equal-below}
 use Rattle.jamboree_rules.specs.Fits.{IsFound}
 use Rattle.jamboree_rules.proofs.Searching.{IsGreatest}
-use Rattle.jamboree_rules.specs.Frames.{Frame, board, choice_at, code_at, code_of, coded, value_at, value}
+use Rattle.jamboree_rules.specs.Frames.{Frame, board, choice_at, code_at, coded, value_at, value}
 
 -- the value at a place of a list
 abbrev pub at : {X : Type 0} → (X → ℤ) → List X → X → ℕ → ℤ
@@ -32,7 +32,9 @@ above-both v other x xs m h (suc k) below = let e : at v xs other k ≤ℤ m = h
 pub greatest-is : {X : Type 0} (v : X → ℤ) (other : X) (none : ℤ) (x : X) (xs : List X) → IsGreatest (at v (x ∷ xs) other) (length (x ∷ xs)) (greatest_or none (map v (x ∷ xs)))
 greatest-is v other none x [] = record {
   above = λ k below. grind (arith, ints, common_steps);
-  place = 0; inside = omega arith; attained = refl;
+  place = 0;
+  inside = omega arith;
+  attained = refl;
 }
 greatest-is v other none x (y ∷ xs) =
     let rest : IsGreatest (at v (y ∷ xs) other) (length (y ∷ xs)) (greatest_or none (map v (y ∷ xs))) = greatest-is v other none y xs in
@@ -41,11 +43,15 @@ greatest-is v other none x (y ∷ xs) =
     by_lt_z m (v x)
     (λ less. record {
       above = above-both v other x (y ∷ xs) m rest.above;
-      place = 0; inside = omega arith; attained = first-greatest (v x) m less;
+      place = 0;
+      inside = omega arith;
+      attained = first-greatest (v x) m less;
     })
     (λ more. record {
       above = above-both v other x (y ∷ xs) m rest.above;
-      place = suc rest.place; inside = omega (arith, rest.inside); attained = here ∙ second-greatest (v x) m more;
+      place = suc rest.place;
+      inside = omega (arith, rest.inside);
+      attained = here ∙ second-greatest (v x) m more;
     })
 
 pub find-is : {X : Type 0} (p : X → Bool) (other : X) (xs : List X) (j : ℕ) → j < length xs → p (slice_index_or xs j other) ≡ true →
@@ -64,7 +70,7 @@ greatest-at (c ∷ cs) v none some = greatest-is v Pass none c cs
 pub IsGreatest-frame : (f : Frame) → 0 < f.depth → 0 < length (choices (board f)) → IsGreatest (value_at f) (length (choices (board f))) (value f)
 IsGreatest-frame f deep some =
     let g : IsGreatest (value_at f) (length (choices (board f))) (greatest_or (final_value (board f)) (map (choice_value f.depth (board f)) (choices (board f)))) =
-        greatest-at (choices (board f)) (choice_value f.depth (board f)) (final_value (board f)) some in
+    greatest-at (choices (board f)) (choice_value f.depth (board f)) (final_value (board f)) some in
     subst (λ (m : ℤ). IsGreatest (value_at f) (length (choices (board f))) m) (sym (minimax-deeper f.depth (board f) deep)) g
 
 -- the choice that is found first with the greatest value is the best choice
@@ -72,7 +78,7 @@ pub named-best : (f : Frame) (st : List ℕ) → 0 < f.depth → length st ≡ l
 named-best f st deep len found same =
     let p : Choice → Bool = λ c. int_equal (choice_value f.depth (board f) c) (minimax f.depth (board f)) in
     let first : find p (choices (board f)) ≡ Some (choice_at f found.place) =
-        find-is p Pass (choices (board f)) found.place (omega (arith, found.inside))
-        (int_equal-same (value_at f found.place) (value f) (found.worth ∙ sym same))
-        (λ k below. int_equal-below (value_at f k) (value f) (subst (λ (m : ℤ). value_at f k <ℤ m) (sym same) (found.earlier k below))) in
+    find-is p Pass (choices (board f)) found.place (omega (arith, found.inside))
+    (int_equal-same (value_at f found.place) (value f) (found.worth ∙ sym same))
+    (λ k below. int_equal-below (value_at f k) (value f) (subst (λ (m : ℤ). value_at f k <ℤ m) (sym same) (found.earlier k below))) in
     found.named ∙ ap coded (sym first) ∙ ap coded (sym (best_choice-deeper f.depth (board f) deep))

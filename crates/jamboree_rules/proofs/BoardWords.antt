@@ -1,17 +1,16 @@
 -- The two words of a list of cells.
-use Rattle.std.specs.Prelude.{◌≡◌, ◌≢◌, ℕ, ◌+◌, ◌-◌, ◌<◌, ◌≤◌, ◌^◌, ◌==◌, ◌&&◌, ◌||◌, ◌⊎◌, zero, suc, Bool, true, false, cond, if◌then◌else◌, bit_and, List, map, filter, length, refl, slice_index_or}
+use Rattle.std.specs.Prelude.{◌≡◌, ℕ, ◌+◌, ◌<◌, ◌≤◌, ◌^◌, ◌==◌, ◌&&◌, ◌||◌, zero, suc, Bool, true, false, cond, if◌then◌else◌, bit_and, List, map, filter, length, refl}
 use Rattle.std.specs.Int.{bit_at}
 use Rattle.std.specs.List.{range_with_len}
-use Rattle.std.proofs.Common.{sym, ◌∙◌, ap, subst, arith, inl, inr, min, eqb}
+use Rattle.std.proofs.Common.{sym, ◌∙◌, ap, arith, inl, inr, min, eqb}
 use Rattle.std.proofs.lemmas.Bool.{cases_lt, ne_eqb}
 use Rattle.std.proofs.lemmas.List.{ext_get_or, length-map}
 use Rattle.std.proofs.lemmas.List.FromFn.{get_or-map-range_with_len}
 use Rattle.std.proofs.lemmas.Nat.Bits.{bit_at_and, bit_at-zero, bit_at-lt, bit_at_above, same_from_bits}
 use Rattle.othello_board.specs.declared.cells.Cell.{Cell}
 use Rattle.othello_board.specs.declared.cells.Cell.TheVariants.{Empty, Own, Opp}
-use Rattle.othello_board.specs.declared.boards.Board.{Board}
 use Rattle.othello_board.specs.Rules.{squares, cell_at, is_among, is_own_cell, is_opp_cell}
-use Rattle.othello_board.specs.Words.{cell_of, cells_of, cells, bits_of}
+use Rattle.othello_board.specs.Words.{cell_of, cells_of, bits_of}
 use Rattle.othello_board.proofs.BitLemmas.{apart}
 use Rattle.othello_board.proofs.CellLemmas.{cell_at-cells_of, map-squares_same, bit_cases}
 use Rattle.othello_moves.specs.declared.choices.Choice.{Choice}
@@ -64,7 +63,7 @@ pub words-hold : (b : List Cell) → length b ≡ 64 → cells_of (own_word b) (
 words-hold b len =
     map-squares_same (cell_of (own_word b) (opp_word b)) (λ s. cell_at b s)
     (λ s below. cell-by (cell_at b s) (bit_at (own_word b) s) (bit_at (opp_word b) s)
-      (bit-passing (λ t. is_own_cell (cell_at b t)) s below) (bit-passing (λ t. is_opp_cell (cell_at b t)) s below))
+    (bit-passing (λ t. is_own_cell (cell_at b t)) s below) (bit-passing (λ t. is_opp_cell (cell_at b t)) s below))
     ∙ by-cells b len
 
 not-both : (c : Cell) (x y : ℕ) → x ≡ cond (is_own_cell c) 1 0 → y ≡ cond (is_opp_cell c) 1 0 → min x y ≡ 0
@@ -75,8 +74,8 @@ not-both Opp x y ex ey = omega arith
 none-both : (b : List Cell) (s : ℕ) → min (bit_at (own_word b) s) (bit_at (opp_word b) s) ≡ 0
 none-both b s =
     elim (cases_lt s 64) [
-      inl below ↦ not-both (cell_at b s) (bit_at (own_word b) s) (bit_at (opp_word b) s)
-        (bit-passing (λ t. is_own_cell (cell_at b t)) s below) (bit-passing (λ t. is_opp_cell (cell_at b t)) s below)
+      | inl below ↦ not-both (cell_at b s) (bit_at (own_word b) s) (bit_at (opp_word b) s)
+          (bit-passing (λ t. is_own_cell (cell_at b t)) s below) (bit-passing (λ t. is_opp_cell (cell_at b t)) s below)
       | inr past ↦ omega (arith, bit-past (λ t. is_own_cell (cell_at b t)) s past)
     ]
 
@@ -103,16 +102,16 @@ opp-by x y p q h =
 own-same : (own opp s : ℕ) → own < 2 ^ 64 → bit_at own s ≡ bit_at (own_word (cells_of own opp)) s
 own-same own opp s fits =
     elim (cases_lt s 64) [
-      inl below ↦ own-by (bit_at own s) (bit_at opp s) (bit_at-lt own s) (bit_at-lt opp s)
-        ∙ ap (λ (c : Cell). cond (is_own_cell c) 1 0) (sym (cell_at-cells_of own opp s below)) ∙ sym (bit-passing (λ t. is_own_cell (cell_at (cells_of own opp) t)) s below)
+      | inl below ↦ own-by (bit_at own s) (bit_at opp s) (bit_at-lt own s) (bit_at-lt opp s)
+          ∙ ap (λ (c : Cell). cond (is_own_cell c) 1 0) (sym (cell_at-cells_of own opp s below)) ∙ sym (bit-passing (λ t. is_own_cell (cell_at (cells_of own opp) t)) s below)
       | inr past ↦ bit_at_above own 64 s fits past ∙ sym (bit-past (λ t. is_own_cell (cell_at (cells_of own opp) t)) s past)
     ]
 
 opp-same : (own opp s : ℕ) → bit_and own opp ≡ 0 → opp < 2 ^ 64 → bit_at opp s ≡ bit_at (opp_word (cells_of own opp)) s
 opp-same own opp s disjoint fits =
     elim (cases_lt s 64) [
-      inl below ↦ opp-by (bit_at own s) (bit_at opp s) (bit_at-lt own s) (bit_at-lt opp s) (apart own opp s disjoint)
-        ∙ ap (λ (c : Cell). cond (is_opp_cell c) 1 0) (sym (cell_at-cells_of own opp s below)) ∙ sym (bit-passing (λ t. is_opp_cell (cell_at (cells_of own opp) t)) s below)
+      | inl below ↦ opp-by (bit_at own s) (bit_at opp s) (bit_at-lt own s) (bit_at-lt opp s) (apart own opp s disjoint)
+          ∙ ap (λ (c : Cell). cond (is_opp_cell c) 1 0) (sym (cell_at-cells_of own opp s below)) ∙ sym (bit-passing (λ t. is_opp_cell (cell_at (cells_of own opp) t)) s below)
       | inr past ↦ bit_at_above opp 64 s fits past ∙ sym (bit-past (λ t. is_opp_cell (cell_at (cells_of own opp) t)) s past)
     ]
 

@@ -1,5 +1,5 @@
 -- The form of a frame as facts, and what the test of the form tells.
-use Rattle.std.specs.Prelude.{◌≡◌, ℕ, ◌+◌, ◌<◌, ◌≤◌, ◌⊎◌, ◌==◌, ◌&&◌, ◌||◌, nat_le, nat_lt, int_le, Bool, true, false, ℤ, pos, negsuc, ◌≤ℤ◌, if◌then◌else◌, List, drop, length, refl}
+use Rattle.std.specs.Prelude.{◌≡◌, ℕ, ◌+◌, ◌<◌, ◌≤◌, ◌⊎◌, ◌==◌, ◌&&◌, nat_le, nat_lt, Bool, true, ℤ, ◌≤ℤ◌, if◌then◌else◌, List, drop, length, refl}
 use Rattle.std.specs.Ordering.{int_eq}
 use Rattle.std.proofs.Common.{sym, ◌∙◌, ap, subst, arith}
 use Rattle.std.proofs.lemmas.Bool.{and_parts, and_from, eqb-true, eq-eqb, leb-true, le-leb}
@@ -79,9 +79,9 @@ frame-passes f h =
     (and_from (nat_le f.choice 65) (nat_le f.spawned f.count && is_in_phase f) (le-leb f.choice 65 h.choice)
     (and_from (nat_le f.spawned f.count) (is_in_phase f) (le-leb f.spawned f.count h.spawned)
     (phase-passes f.phase (int_eq f.best unscored && (f.count == 0)) (is_score f.best) (counts_choices f)
-      (λ l. early-passes f.best f.count (h.early l).0 (h.early l).1)
-      (λ l. score-passes f.best (h.late l).0 (h.late l).1)
-      (λ l. counts-passes f.depth f.count (length (choices (board f))) (h.counts l).0 (h.counts l).1 (h.counts l).2))))))
+    (λ l. early-passes f.best f.count (h.early l).0 (h.early l).1)
+    (λ l. score-passes f.best (h.late l).0 (h.late l).1)
+    (λ l. counts-passes f.depth f.count (length (choices (board f))) (h.counts l).0 (h.counts l).1 (h.counts l).2))))))
 
 -- words have the form of a frame
 pub record IsFormed (words : List ℕ) : Type 0 where

@@ -1,9 +1,8 @@
 -- The laws of Jamboree as a procedure: frames stay fitting, whatever the order of spawns, steals, inlets and aborts.
-use Rattle.std.specs.Prelude.{◌≡◌, ◌≢◌, ℕ, zero, suc, ◌+◌, ◌-◌, ◌<◌, ◌≤◌, ◌⊎◌, ◌==◌, ◌&&◌, ◌||◌, nat_lt, nat_le, Bool, true, false, ℤ, neg_ℤ, int_le, bit_and, List, [], ◌∷◌, ◌++◌, map, length, refl, slice_index, if◌then◌else◌, cond}
-use Rattle.std.proofs.Common.{sym, ◌∙◌, ap, subst, arith, inl, inr, ⊎_elim}
+use Rattle.std.specs.Prelude.{◌≡◌, ◌≢◌, ℕ, zero, suc, ◌<◌, ◌≤◌, ◌⊎◌, ◌==◌, ◌&&◌, ◌||◌, nat_lt, nat_le, Bool, true, false, int_le, bit_and, List, [], ◌∷◌, ◌++◌, map, length, refl, slice_index, if◌then◌else◌}
+use Rattle.std.proofs.Common.{sym, ◌∙◌, ap, subst, arith, inl, inr}
 use Rattle.std.proofs.lemmas.Bool.{and_from, eq-eqb}
 use Rattle.std.proofs.lemmas.Bool.Decides.{nat_tests}
-use Rattle.std.proofs.lemmas.Int.{ints}
 use Rattle.othello_board.specs.declared.cells.Cell.{Cell}
 use Rattle.othello_board.specs.Words.{cells_of}
 use Rattle.othello_moves.specs.Choices.{choices, after}
@@ -12,15 +11,15 @@ use Rattle.sched_rules.specs.declared.act.InletAct.{InletAct}
 use Rattle.sched_rules.specs.Functions.{Functions}
 use Rattle.sched_rules.specs.Trees.{stored, is_outside}
 use Rattle.sched_rules.specs.Lone.{is_bad_act}
-use Rattle.sched_rules.specs.Laws.{ParentFits, NewChildFits, ActFits, AllFit, NextKeeps, InletKeeps, Mark, Neither, Computes, HasReturned, grown, children_after, mark_after, has_one, children_left}
+use Rattle.sched_rules.specs.Laws.{ParentFits, ActFits, NextKeeps, InletKeeps, Mark, Neither, HasReturned, grown, has_one, children_left}
 use Rattle.jamboree_rules.specs.Frames.{Frame, board, choice_at, own_word, opp_word, may_be_child}
-use Rattle.jamboree_rules.specs.Places.{frame_of, is_formed, is_placed, Change, pairs_of}
-use Rattle.jamboree_rules.specs.Acts.{returns, is_computed, opening_on, opening_under, first_search, first_open, tests_from, act_by, act_of, parent_in, next_act, seen, changes_of, inlet_of, inlet_act}
+use Rattle.jamboree_rules.specs.Places.{frame_of, is_formed, is_placed, pairs_of}
+use Rattle.jamboree_rules.specs.Acts.{returns, is_computed, opening_on, opening_under, first_open, act_by, act_of, parent_in, next_act, seen, changes_of, inlet_of, inlet_act}
 use Rattle.jamboree_rules.specs.Fits.{IsInRole, First, Test, Again, IsChildOf, IsSearchingFrame, Fits, AreFitting, IsRoot}
 use Rattle.jamboree_rules.proofs.Kinship.{IsSameGoal, parent-kept, child-of, in-search}
 use Rattle.jamboree_rules.proofs.BoardWords.{words-apart, after-holds}
-use Rattle.jamboree_rules.proofs.Forms.{IsFrame, IsFormed, formed-told, formed-passes, child-passes}
-use Rattle.jamboree_rules.proofs.Steps.{HasSameGoal, IsGoodAct, IsAtTests, status-count, map-joined, none-told, first-good, tests-good, done-good, opening-good}
+use Rattle.jamboree_rules.proofs.Forms.{IsFormed, formed-told, formed-passes, child-passes}
+use Rattle.jamboree_rules.proofs.Steps.{HasSameGoal, IsGoodAct, status-count, map-joined, none-told, first-good, tests-good, done-good, opening-good}
 use Rattle.jamboree_rules.proofs.Takings.{frame_after, frames_left, IsGoodStore, inlet-good, inlet-fits}
 
 -- ---- a frame among its parent's children
@@ -28,7 +27,7 @@ use Rattle.jamboree_rules.proofs.Takings.{frame_after, frames_left, IsGoodStore,
 pub kin-of : (parent own : List ℕ) (older younger : List (List ℕ)) (mark : Mark) → AreFitting parent (older ++ own ∷ younger) mark → IsChildOf (frame_of parent) (frame_of own)
 kin-of parent own older younger mark fits =
     let there : Fits (frame_of parent) (map frame_of older ++ frame_of own ∷ map frame_of younger) mark =
-        subst (λ (fs : List Frame). Fits (frame_of parent) fs mark) (map-joined older (own ∷ younger)) fits.frame in
+    subst (λ (fs : List Frame). Fits (frame_of parent) fs mark) (map-joined older (own ∷ younger)) fits.frame in
     child-of (frame_of parent) (frame_of own) (map frame_of older) (map frame_of younger) there.kin
 
 -- a parent of words that changed to those of the same goal
@@ -36,7 +35,7 @@ parent-one : (parent own own' : List ℕ) (older younger : List (List ℕ)) → 
     AreFitting parent (older ++ own ∷ younger) Neither → AreFitting parent (older ++ own' ∷ younger) Neither
 parent-one parent own own' older younger goal fits =
     let there : Fits (frame_of parent) (map frame_of older ++ frame_of own ∷ map frame_of younger) Neither =
-        subst (λ (fs : List Frame). Fits (frame_of parent) fs Neither) (map-joined older (own ∷ younger)) fits.frame in
+    subst (λ (fs : List Frame). Fits (frame_of parent) fs Neither) (map-joined older (own ∷ younger)) fits.frame in
     record {
       formed = fits.formed;
       frame = subst (λ (fs : List Frame). Fits (frame_of parent) fs Neither) (sym (map-joined older (own' ∷ younger)))
@@ -52,8 +51,12 @@ IsBoardOf (parent ∷ above) f o p = cells_of o p ≡ after (board (frame_of par
 above-kept : (origin own own' : List ℕ) (above older younger : List (List ℕ)) → HasSameGoal (frame_of own) (frame_of own') → IsBoardOf above (frame_of own) (frame_of own').own (frame_of own').opp →
     ParentFits AreFitting IsRoot origin above older own younger → ParentFits AreFitting IsRoot origin above older own' younger
 above-kept origin own own' [] older younger goal words root = record {
-  own_is = words.0 ∙ root.own_is; opp_is = words.1 ∙ root.opp_is; depth_is = goal.depth ∙ root.depth_is;
-  role_is = goal.role ∙ root.role_is; alpha_is = goal.alpha ∙ root.alpha_is; beta_is = goal.beta ∙ root.beta_is;
+  own_is = words.0 ∙ root.own_is;
+  opp_is = words.1 ∙ root.opp_is;
+  depth_is = goal.depth ∙ root.depth_is;
+  role_is = goal.role ∙ root.role_is;
+  alpha_is = goal.alpha ∙ root.alpha_is;
+  beta_is = goal.beta ∙ root.beta_is;
 }
 above-kept origin own own' (parent ∷ above) older younger goal words fits =
     parent-one parent own own' older younger
@@ -138,18 +141,26 @@ act-goes : (p0 p1 p2 p3 : Bool) (grain : ℕ) (origin own : List ℕ) (above old
     IsFormed own → Fits (frame_of own) (map frame_of children) Neither → ParentFits AreFitting IsRoot origin above older own younger → Goes own above children (act_by p0 p1 p2 p3 grain (frame_of own) (parent_in above))
 act-goes true p1 p2 p3 grain origin own above older younger children e0 e1 e2 e3 form fits parent = opens grain own above children (none-told (frame_of own).phase e0) form fits
 act-goes false true p2 p3 grain origin own above older younger children e0 e1 e2 e3 form fits parent = absurd (fits.marked (is-told (frame_of own).phase 1 e1))
-act-goes false false true p3 grain origin own above older younger children e0 e1 e2 e3 form fits parent =
-    ((frame_of own).own, (frame_of own).opp, first-good ((frame_of own).spawned == 0) own children refl (is-told (frame_of own).phase 2 e2) form fits,
-      known-board origin own above older younger (isn't-told (frame_of own).phase 0 e0) parent)
+act-goes false false true p3 grain origin own above older younger children e0 e1 e2 e3 form fits parent = (
+  (frame_of own).own,
+  (frame_of own).opp,
+  first-good ((frame_of own).spawned == 0) own children refl (is-told (frame_of own).phase 2 e2) form fits,
+  known-board origin own above older younger (isn't-told (frame_of own).phase 0 e0) parent,
+)
 act-goes false false false true grain origin own above older younger children e0 e1 e2 e3 form fits parent =
-    let st : List ℕ = (frame_of own).statuses in
-    ((frame_of own).own, (frame_of own).opp,
+    let st : List ℕ = (frame_of own).statuses in (
+      (frame_of own).own,
+      (frame_of own).opp,
       tests-good (nat_lt (first_open st) (length st) && (slice_index st (first_open st) == 3)) (nat_lt (frame_of own).spawned (length st)) (nat_le (length st) (first_open st)) own children (first_open st)
-        (record { settled = open-settled st; inside = open-inside st }) refl refl refl (is-told (frame_of own).phase 3 e3) form fits,
-      known-board origin own above older younger (isn't-told (frame_of own).phase 0 e0) parent)
-act-goes false false false false grain origin own above older younger children e0 e1 e2 e3 form fits parent =
-    ((frame_of own).own, (frame_of own).opp, done-good own children (last-phase (frame_of own).phase form.frame.phase e0 e2 e3 fits.marked) form fits,
-      known-board origin own above older younger (isn't-told (frame_of own).phase 0 e0) parent)
+          (record { settled = open-settled st; inside = open-inside st }) refl refl refl (is-told (frame_of own).phase 3 e3) form fits,
+      known-board origin own above older younger (isn't-told (frame_of own).phase 0 e0) parent,
+    )
+act-goes false false false false grain origin own above older younger children e0 e1 e2 e3 form fits parent = (
+  (frame_of own).own,
+  (frame_of own).opp,
+  done-good own children (last-phase (frame_of own).phase form.frame.phase e0 e2 e3 fits.marked) form fits,
+  known-board origin own above older younger (isn't-told (frame_of own).phase 0 e0) parent,
+)
 
 chosen-act : (formed placed : Bool) (act other : Act) → formed ≡ true → placed ≡ true → act ≡ (if formed && placed then act else other)
 chosen-act formed placed act other ef ep = rw (ef, ep) refl
@@ -169,11 +180,12 @@ next-keeps functions grain is origin own above older younger children fits paren
     let goes = next-goes grain origin own above older younger children fits parent in
     let act : Act = next_act grain (own ∷ above) in
     let after : List ℕ = grown act.after (stored act.stores own) in
-    let whole : ActFits AreFitting IsRoot origin own above older younger children act =
-        (record { formed = formed-passes after goes.2.formed; frame = goes.2.fits },
-         above-kept origin own after above older younger goes.2.goal
-           (subst (λ (o : ℕ). IsBoardOf above (frame_of own) o (frame_of after).opp) (sym goes.2.own_is) (subst (λ (p : ℕ). IsBoardOf above (frame_of own) goes.0 p) (sym goes.2.opp_is) goes.3)) parent,
-         goes.2.child) in
+    let whole : ActFits AreFitting IsRoot origin own above older younger children act = (
+      record { formed = formed-passes after goes.2.formed; frame = goes.2.fits },
+      above-kept origin own after above older younger goes.2.goal
+          (subst (λ (o : ℕ). IsBoardOf above (frame_of own) o (frame_of after).opp) (sym goes.2.own_is) (subst (λ (p : ℕ). IsBoardOf above (frame_of own) goes.0 p) (sym goes.2.opp_is) goes.3)) parent,
+      goes.2.child,
+    ) in
     subst (λ (next : List (List ℕ) → Act). ActFits AreFitting IsRoot origin own above older younger children (next (own ∷ above))) (sym is) whole
 
 -- the next act of a frame that fits can be done
@@ -212,8 +224,8 @@ pub store-above : (origin own own' : List ℕ) (g : Frame) (above older younger 
 store-above origin own own' g above older younger known is goal own_is opp_is parent =
     above-kept origin own own' above older younger (subst (λ (h : Frame). HasSameGoal (frame_of own) h) (sym is) goal)
     (subst (λ (h : Frame). IsBoardOf above (frame_of own) h.own h.opp) (sym is)
-      (subst (λ (o : ℕ). IsBoardOf above (frame_of own) o g.opp) (sym own_is) (subst (λ (p : ℕ). IsBoardOf above (frame_of own) (frame_of own).own p) (sym opp_is)
-        (known-board origin own above older younger known parent)))) parent
+    (subst (λ (o : ℕ). IsBoardOf above (frame_of own) o g.opp) (sym own_is) (subst (λ (p : ℕ). IsBoardOf above (frame_of own) (frame_of own).own p) (sym opp_is)
+    (known-board origin own above older younger known parent)))) parent
 
 -- what an inlet of the frames leaves
 inlet-leaves : (origin own child : List ℕ) (above older younger before behind : List (List ℕ)) → AreFitting own (before ++ child ∷ behind) Neither → ParentFits AreFitting IsRoot origin above older own younger → AreFitting child [] HasReturned →
@@ -226,12 +238,14 @@ inlet-leaves origin own child above older younger before behind fits parent retu
     let s = inlet-stores own child before behind fits returned in
     let after : List ℕ = stored (pairs_of (changes_of f c)) own in
     let there : Fits f (map frame_of before ++ c ∷ map frame_of behind) Neither = subst (λ (fs : List Frame). Fits f fs Neither) (map-joined before (child ∷ behind)) fits.frame in
-    let phase : (f.phase ≡ 2) ⊎ (f.phase ≡ 3) = in-search f c (kin-of own child before behind Neither fits).in_role in
-    (record {
-      formed = formed-passes after s.formed;
-      frame = subst (λ (g : Frame). Fits g (map frame_of (children_left cuts (before ++ behind))) Neither) (sym s.is)
-          (subst (λ (fs : List Frame). Fits (frame_after f c) fs Neither) (sym (left-joined cuts before behind)) (inlet-fits f c (map frame_of before) (map frame_of behind) there returned.frame));
-    }, store-above origin own after (frame_after f c) above older younger (searching-known f phase) s.is s.goal s.own_is s.opp_is parent)
+    let phase : (f.phase ≡ 2) ⊎ (f.phase ≡ 3) = in-search f c (kin-of own child before behind Neither fits).in_role in (
+      record {
+        formed = formed-passes after s.formed;
+        frame = subst (λ (g : Frame). Fits g (map frame_of (children_left cuts (before ++ behind))) Neither) (sym s.is)
+            (subst (λ (fs : List Frame). Fits (frame_after f c) fs Neither) (sym (left-joined cuts before behind)) (inlet-fits f c (map frame_of before) (map frame_of behind) there returned.frame));
+      },
+      store-above origin own after (frame_after f c) above older younger (searching-known f phase) s.is s.goal s.own_is s.opp_is parent,
+    )
 
 -- Inlet keeps that frames fit, also after an abort
 pub inlet-keeps : {I A : Type 0} (functions : Functions I A) → functions.inlet ≡ inlet_act → InletKeeps functions AreFitting IsRoot

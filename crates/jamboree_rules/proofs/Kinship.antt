@@ -1,18 +1,18 @@
 -- The inlets keep that a frame fits.
-use Rattle.std.specs.Prelude.{◌≡◌, ◌≢◌, ℕ, suc, ◌+◌, ◌-◌, ◌<◌, ◌≤◌, ◌⊎◌, ◌==◌, Bool, true, false, ℤ, pos, negsuc, neg_ℤ, ◌<ℤ◌, ◌≤ℤ◌, ◌+ℤ◌, List, [], ◌∷◌, ◌++◌, Option, Some, None, length, refl, slice_index, slice_index_or, slice_set, count_by}
+use Rattle.std.specs.Prelude.{◌≡◌, ◌≢◌, ℕ, ◌+◌, ◌<◌, ◌≤◌, ◌⊎◌, ℤ, pos, neg_ℤ, ◌<ℤ◌, ◌≤ℤ◌, ◌+ℤ◌, List, [], ◌∷◌, ◌++◌, length, refl, slice_index, slice_set}
 use Rattle.std.specs.Int.{int_max}
 use Rattle.std.proofs.Common.{sym, ◌∙◌, ap, subst, arith, inl, inr, ⊎_elim}
 use Rattle.std.proofs.lemmas.Grind.{common_steps}
 use Rattle.std.proofs.lemmas.Bool.{cases_eq}
 use Rattle.std.proofs.lemmas.Int.{ints, clamps, by_lt_z}
-use Rattle.othello_moves.specs.Choices.{choices, after}
+use Rattle.othello_moves.specs.Choices.{after}
 use Rattle.leaf_search.specs.Bounds.{IsBound}
-use Rattle.sched_rules.specs.Laws.{Mark, Neither, Computes, HasReturned}
+use Rattle.sched_rules.specs.Laws.{Neither, HasReturned}
 use Rattle.othello_eval.specs.Minimax.{best_choice}
-use Rattle.jamboree_rules.specs.Fits.{IsFound, IsSearching}
-use Rattle.jamboree_rules.proofs.Searching.{all_settled, IsSearching-mark, IsSearching-low, IsSearching-higher, set_there, set_beside, set_length, low_side, high_side, inner_side, cut, IsGreatest, floor-kept}
+use Rattle.jamboree_rules.specs.Fits.{IsSearching}
+use Rattle.jamboree_rules.proofs.Searching.{all_settled, IsSearching-mark, IsSearching-low, IsSearching-higher, set_there, set_beside, set_length, low_side, high_side, inner_side, cut, IsGreatest}
 use Rattle.jamboree_rules.specs.Frames.{Frame, coded, board, choice_at, code_at, value_at, value, floor}
-use Rattle.jamboree_rules.specs.Fits.{IsFirst, IsTest, IsAgain, IsInRole, First, Test, Again, IsChildOf, AreChildren, how_many, IsSearchingFrame, IsDoneFrame, Fits}
+use Rattle.jamboree_rules.specs.Fits.{IsFirst, IsTest, IsAgain, IsInRole, First, Test, Again, IsChildOf, AreChildren, how_many, IsSearchingFrame, Fits}
 use Rattle.jamboree_rules.proofs.Roles.{worth_of, role-kept-mark}
 
 -- a child of another number stays a child where a choice is settled
@@ -24,7 +24,11 @@ role-kept-settle f c i choice best inside other phase more same (Test r) =
     let most : neg_ℤ c.beta ≤ℤ floor f = r.most in
     Test (record { role = r.role; phase = refl; status = set_beside f.statuses i 2 c.number other ∙ r.status; low = r.low; least = r.least; most = omega (arith, ints, clamps) })
 role-kept-settle f c i choice best inside other phase more same (Again r) = Again (record {
-  role = r.role; phase = refl; status = set_beside f.statuses i 2 c.number other ∙ r.status; low = r.low; high = r.high ∙ ap neg_ℤ (sym (same r));
+  role = r.role;
+  phase = refl;
+  status = set_beside f.statuses i 2 c.number other ∙ r.status;
+  low = r.low;
+  high = r.high ∙ ap neg_ℤ (sym (same r));
   earlier = λ k below. let e : slice_index f.statuses k ≡ 2 = r.earlier k below in grind (arith, common_steps, set_there, set_beside);
 })
 
@@ -340,14 +344,14 @@ respawned f c spawned i x (Again r) = Again (record { role = r.role; phase = r.p
 once-more : (j i : ℕ) (c : Frame) (children : List Frame) → c.number ≡ i → how_many i children ≡ 0 → how_many j children ≤ 1 → how_many j (children ++ c ∷ []) ≡ how_many j children + how_many j (c ∷ []) → how_many j (children ++ c ∷ []) ≤ 1
 once-more j i c children number none most sum =
     elim (cases_eq j i) [
-      inl e ↦
-        let here : how_many j children ≡ 0 = ap (λ (k : ℕ). how_many k children) e ∙ none in
-        let single : how_many j (c ∷ []) ≤ 1 = grind (arith, common_steps) in
-        omega arith
+      | inl e ↦
+          let here : how_many j children ≡ 0 = ap (λ (k : ℕ). how_many k children) e ∙ none in
+          let single : how_many j (c ∷ []) ≤ 1 = grind (arith, common_steps) in
+          omega arith
       | inr other ↦
-        let apart : c.number ≢ j = λ (e : c.number ≡ j). other (sym e ∙ number) in
-        let zero : how_many j (c ∷ []) ≡ 0 = grind (arith, common_steps, apart) in
-        omega arith
+          let apart : c.number ≢ j = λ (e : c.number ≡ j). other (sym e ∙ number) in
+          let zero : how_many j (c ∷ []) ≡ 0 = grind (arith, common_steps, apart) in
+          omega arith
     ]
 
 -- next, phases 2 and 3: a child is opened for choice i, whose status was 0 or 3 and is 1 or 4 now
@@ -387,7 +391,6 @@ spawned-child f c children i x spawned fits phase inside not1 not2 not4 x2 x0 mo
           once-more j i c children number none most sum;
     }
 
-
 -- a child whose words changed stays its parent's: its goal is the same, and once it knows its board, that is the board after its choice
 pub record IsSameGoal (p c c' : Frame) : Type 0 where
   pub depth : c'.depth ≡ c.depth
@@ -399,14 +402,29 @@ pub record IsSameGoal (p c c' : Frame) : Type 0 where
 
 role-same : (p c c' : Frame) → IsSameGoal p c c' → IsInRole p c → IsInRole p c'
 role-same p c c' g (First r) = First (record {
-  role = g.role ∙ r.role; phase = r.phase; number = g.number ∙ r.number; status = ap (λ (i : ℕ). slice_index p.statuses i) g.number ∙ r.status; low = g.alpha ∙ r.low; high = g.beta ∙ r.high })
+  role = g.role ∙ r.role;
+  phase = r.phase;
+  number = g.number ∙ r.number;
+  status = ap (λ (i : ℕ). slice_index p.statuses i) g.number ∙ r.status;
+  low = g.alpha ∙ r.low;
+  high = g.beta ∙ r.high;
+})
 role-same p c c' g (Test r) = Test (record {
-  role = g.role ∙ r.role; phase = r.phase; status = ap (λ (i : ℕ). slice_index p.statuses i) g.number ∙ r.status;
+  role = g.role ∙ r.role;
+  phase = r.phase;
+  status = ap (λ (i : ℕ). slice_index p.statuses i) g.number ∙ r.status;
   low = g.alpha ∙ r.low ∙ ap (λ (b : ℤ). neg_ℤ (neg_ℤ b +ℤ pos 1)) (sym g.beta);
-  least = rw g.beta r.least; most = rw g.beta r.most })
+  least = rw g.beta r.least;
+  most = rw g.beta r.most;
+})
 role-same p c c' g (Again r) = Again (record {
-  role = g.role ∙ r.role; phase = r.phase; status = ap (λ (i : ℕ). slice_index p.statuses i) g.number ∙ r.status; low = g.alpha ∙ r.low; high = g.beta ∙ r.high;
-  earlier = λ k below. r.earlier k (subst (λ (n : ℕ). k < n) g.number below) })
+  role = g.role ∙ r.role;
+  phase = r.phase;
+  status = ap (λ (i : ℕ). slice_index p.statuses i) g.number ∙ r.status;
+  low = g.alpha ∙ r.low;
+  high = g.beta ∙ r.high;
+  earlier = λ k below. r.earlier k (subst (λ (n : ℕ). k < n) g.number below);
+})
 
 pub child-same : (p c c' : Frame) → IsSameGoal p c c' → IsChildOf p c → IsChildOf p c'
 child-same p c c' g kin = record {
@@ -454,19 +472,30 @@ pub next-settled : (f : Frame) (children : List Frame) → Fits f children Neith
     IsGreatest (value_at f) (length f.statuses) (value f) → (f.alpha <ℤ f.best → f.best <ℤ f.beta → f.choice ≡ coded (best_choice f.depth (board f))) →
     (children ≡ []) × Fits (record f { phase = 4 }) [] HasReturned
 next-settled f children fits phase all g named =
-    let s : IsSearchingFrame f = fits.searching (inr phase) in
-    (childless f children all fits.kin, record {
-      window = fits.window;
-      marked = refl;
-      idle = λ _ _. refl;
-      searching = ⊎_elim (λ (e : 4 ≡ 2). absurd (omega arith)) (λ (e : 4 ≡ 3). absurd (omega arith));
-      done = λ _. record { bound = all_settled (value_at f) (code_at f) f.statuses f.alpha f.beta f.best (value f) f.choice s.search all g; named = named };
-      kin = tt;
-      once = λ i. omega arith;
-    })
+    let s : IsSearchingFrame f = fits.searching (inr phase) in (
+      childless f children all fits.kin,
+      record {
+        window = fits.window;
+        marked = refl;
+        idle = λ _ _. refl;
+        searching = ⊎_elim (λ (e : 4 ≡ 2). absurd (omega arith)) (λ (e : 4 ≡ 3). absurd (omega arith));
+        done = λ _. record { bound = all_settled (value_at f) (code_at f) f.statuses f.alpha f.beta f.best (value f) f.choice s.search all g; named = named };
+        kin = tt;
+        once = λ i. omega arith;
+      },
+    )
 
 -- next, phase 4
 pub next-done : (f : Frame) (children : List Frame) → Fits f children Neither → f.phase ≡ 4 → (children ≡ []) × Fits f [] HasReturned
-next-done f children fits phase = (fits.idle (λ e. absurd (omega arith)) (λ e. absurd (omega arith)), record {
-  window = fits.window; marked = phase; idle = λ _ _. refl; searching = fits.searching; done = fits.done; kin = tt; once = λ i. omega arith;
-})
+next-done f children fits phase = (
+  fits.idle (λ e. absurd (omega arith)) (λ e. absurd (omega arith)),
+  record {
+    window = fits.window;
+    marked = phase;
+    idle = λ _ _. refl;
+    searching = fits.searching;
+    done = fits.done;
+    kin = tt;
+    once = λ i. omega arith;
+  },
+)

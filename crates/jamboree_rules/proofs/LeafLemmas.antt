@@ -1,5 +1,5 @@
 -- Leaves by their numbers.
-use Rattle.std.specs.Prelude.{◌≡◌, ℕ, ◌≤◌, ◌==◌, ◌&&◌, Bool, true, false, ℤ, pos, ◌<ℤ◌, ◌≤ℤ◌, bit_and, refl}
+use Rattle.std.specs.Prelude.{◌≡◌, ℕ, ◌≤◌, Bool, true, false, ℤ, ◌<ℤ◌, refl}
 use Rattle.std.proofs.Common.{sym, ◌∙◌, ap, subst, arith}
 use Rattle.std.proofs.lemmas.Int.{ints}
 use Rattle.std.proofs.Props.{props}
@@ -88,13 +88,16 @@ same-value one other h = leaf-ext one other (same-has one other h)
 pub leaf-is : (leaf : Leaf) (own opp depth : ℕ) (alpha beta : ℤ) → Has leaf own opp depth alpha beta → leaf ≡ leaf_from own opp depth alpha beta
 leaf-is leaf own opp depth alpha beta h =
     let known : IsLeaf leaf.board.own leaf.board.opp leaf.depth leaf.alpha leaf.beta =
-        record { disjoint = leaf.board.disjoint; shallow = leaf.shallow; low = leaf.least; window = leaf.window; high = leaf.greatest } in
+    record { disjoint = leaf.board.disjoint; shallow = leaf.shallow; low = leaf.least; window = leaf.window; high = leaf.greatest } in
     let there : IsLeaf own opp depth alpha beta = rw (h.own_is, h.opp_is, h.depth_is, h.alpha_is, h.beta_is) at known in
     let has : Has (leaf_from own opp depth alpha beta) own opp depth alpha beta = has-from own opp depth alpha beta there in
     leaf-ext leaf (leaf_from own opp depth alpha beta)
     (record {
-      own_is = h.own_is ∙ sym has.own_is; opp_is = h.opp_is ∙ sym has.opp_is; depth_is = h.depth_is ∙ sym has.depth_is;
-      alpha_is = h.alpha_is ∙ sym has.alpha_is; beta_is = h.beta_is ∙ sym has.beta_is;
+      own_is = h.own_is ∙ sym has.own_is;
+      opp_is = h.opp_is ∙ sym has.opp_is;
+      depth_is = h.depth_is ∙ sym has.depth_is;
+      alpha_is = h.alpha_is ∙ sym has.alpha_is;
+      beta_is = h.beta_is ∙ sym has.beta_is;
     })
 
 -- the leaf of numbers that don't pass the test

@@ -1,23 +1,32 @@
 -- The acts of a running frame keep that it fits, and that a new child does.
-use Rattle.std.specs.Prelude.{◌≡◌, ◌≢◌, ℕ, suc, ◌+◌, ◌-◌, ◌<◌, ◌≤◌, ◌⊎◌, ◌==◌, Bool, true, false, ℤ, pos, negsuc, neg_ℤ, ◌<ℤ◌, ◌≤ℤ◌, ◌+ℤ◌, List, [], ◌∷◌, ◌++◌, length, replicate, refl, slice_index, slice_set}
-use Rattle.std.specs.Int.{int_max}
-use Rattle.std.proofs.Common.{sym, ◌∙◌, ap, subst, arith, inl, inr, ⊎_elim}
+use Rattle.std.specs.Prelude.{◌≡◌, ℕ, ◌+◌, ◌-◌, ◌<◌, ℤ, pos, negsuc, neg_ℤ, ◌<ℤ◌, ◌≤ℤ◌, ◌+ℤ◌, List, [], ◌∷◌, ◌++◌, length, replicate, refl, slice_index, slice_set}
+use Rattle.std.proofs.Common.{sym, ◌∙◌, ap, arith, inl, inr, ⊎_elim}
 use Rattle.std.proofs.lemmas.Grind.{common_steps}
-use Rattle.std.proofs.lemmas.Int.{ints, clamps, by_lt_z}
-use Rattle.othello_moves.specs.Choices.{choices, after}
-use Rattle.leaf_search.specs.Bounds.{IsBound}
+use Rattle.std.proofs.lemmas.Int.{ints, clamps}
+use Rattle.othello_moves.specs.Choices.{choices}
 use Rattle.othello_board.specs.Words.{cells_of}
-use Rattle.sched_rules.specs.Laws.{Mark, Neither, Computes, HasReturned}
-use Rattle.jamboree_rules.specs.Fits.{IsFound, IsSearching}
+use Rattle.sched_rules.specs.Laws.{Neither, Computes}
 use Rattle.jamboree_rules.proofs.Searching.{set_there, set_beside, set_length}
-use Rattle.jamboree_rules.specs.Frames.{Frame, unscored, board, choice_at, code_at, coded, value_at, value, floor}
-use Rattle.jamboree_rules.specs.Fits.{IsFirst, IsTest, IsAgain, IsInRole, First, Test, Again, IsChildOf, AreChildren, how_many, IsSearchingFrame, IsDoneFrame, Fits}
+use Rattle.jamboree_rules.specs.Frames.{Frame, unscored, floor}
+use Rattle.jamboree_rules.specs.Fits.{First, Test, Again, IsSearchingFrame, IsDoneFrame, Fits}
 use Rattle.jamboree_rules.proofs.Kinship.{spawned-child}
 
 -- a child as it is opened: role, number and window
 abbrev pub new_child : Frame → ℕ → ℕ → ℤ → ℤ → Frame
 new_child f role i low high = record {
-  own = 0; opp = 0; depth = f.depth - 1; alpha = low; beta = high; role = role; number = i; phase = 0; best = unscored; choice = 0; count = 0; spawned = 0; statuses = [];
+  own = 0;
+  opp = 0;
+  depth = f.depth - 1;
+  alpha = low;
+  beta = high;
+  role = role;
+  number = i;
+  phase = 0;
+  best = unscored;
+  choice = 0;
+  count = 0;
+  spawned = 0;
+  statuses = [];
 }
 
 -- a new child fits
@@ -39,17 +48,18 @@ pub next-first : (f : Frame) (children : List Frame) → Fits f children Neither
 next-first f children fits phase none =
     let s : IsSearchingFrame f = fits.searching (inl phase) in
     let zero : slice_index f.statuses 0 ≡ 0 = s.unspawned 0 (omega arith) s.some in
-    let window : f.alpha <ℤ f.beta = fits.window in
-    (spawned-child f (new_child f 1 0 (neg_ℤ f.beta) (neg_ℤ f.alpha)) children 0 1 1 fits (inl phase) s.some
-      (λ e. absurd (omega arith)) (λ e. absurd (omega arith)) (λ e. absurd (omega arith)) (λ (e : 1 ≡ 2). absurd (omega arith)) (λ (e : 1 ≡ 0). absurd (omega arith))
-      (omega arith) (omega (arith, s.some)) (omega arith) refl
-      (record {
-        inside = rw (set_length f.statuses 0 1) s.some;
-        shallower = refl;
-        known = λ there. absurd (there refl);
-        in_role = First (record { role = refl; phase = phase; number = refl; status = set_there f.statuses 0 1 s.some; low = refl; high = refl });
-      }),
-     new-child-fits f 1 0 (neg_ℤ f.beta) (neg_ℤ f.alpha) (omega (arith, ints)))
+    let window : f.alpha <ℤ f.beta = fits.window in (
+      spawned-child f (new_child f 1 0 (neg_ℤ f.beta) (neg_ℤ f.alpha)) children 0 1 1 fits (inl phase) s.some
+          (λ e. absurd (omega arith)) (λ e. absurd (omega arith)) (λ e. absurd (omega arith)) (λ (e : 1 ≡ 2). absurd (omega arith)) (λ (e : 1 ≡ 0). absurd (omega arith))
+          (omega arith) (omega (arith, s.some)) (omega arith) refl
+          (record {
+            inside = rw (set_length f.statuses 0 1) s.some;
+            shallower = refl;
+            known = λ there. absurd (there refl);
+            in_role = First (record { role = refl; phase = phase; number = refl; status = set_there f.statuses 0 1 s.some; low = refl; high = refl });
+          }),
+      new-child-fits f 1 0 (neg_ℤ f.beta) (neg_ℤ f.alpha) (omega (arith, ints)),
+    )
 
 -- phase 3 (i): a failed choice is searched again
 pub next-again : (f : Frame) (children : List Frame) (j : ℕ) → Fits f children Neither → f.phase ≡ 3 → j < length f.statuses → slice_index f.statuses j ≡ 3 →
@@ -60,20 +70,25 @@ next-again f children j fits phase inside failed earlier =
     let s : IsSearchingFrame f = fits.searching (inr phase) in
     let window : f.alpha <ℤ f.beta = fits.window in
     let below : f.best <ℤ f.beta = s.search.below in
-    let begun : j < f.spawned = grind (arith, s.unspawned j, failed, inside) in
-    (spawned-child f (new_child f 3 j (neg_ℤ f.beta) (neg_ℤ (floor f))) children j 4 f.spawned fits (inr phase) inside
-      (λ e. absurd (omega arith)) (λ e. absurd (omega arith)) (λ e. absurd (omega arith)) (λ (e : 4 ≡ 2). absurd (omega arith)) (λ (e : 4 ≡ 0). absurd (omega arith))
-      (omega arith) s.spawned_in begun refl
-      (record {
-        inside = rw (set_length f.statuses j 4) inside;
-        shallower = refl;
-        known = λ there. absurd (there refl);
-        in_role = Again (record {
-          role = refl; phase = phase; status = set_there f.statuses j 4 inside; low = refl; high = refl;
-          earlier = λ k under. set_beside f.statuses j 4 k (λ (e : k ≡ j). omega arith) ∙ earlier k under;
-        });
-      }),
-     new-child-fits f 3 j (neg_ℤ f.beta) (neg_ℤ (floor f)) (omega (arith, ints, clamps)))
+    let begun : j < f.spawned = grind (arith, s.unspawned j, failed, inside) in (
+      spawned-child f (new_child f 3 j (neg_ℤ f.beta) (neg_ℤ (floor f))) children j 4 f.spawned fits (inr phase) inside
+          (λ e. absurd (omega arith)) (λ e. absurd (omega arith)) (λ e. absurd (omega arith)) (λ (e : 4 ≡ 2). absurd (omega arith)) (λ (e : 4 ≡ 0). absurd (omega arith))
+          (omega arith) s.spawned_in begun refl
+          (record {
+            inside = rw (set_length f.statuses j 4) inside;
+            shallower = refl;
+            known = λ there. absurd (there refl);
+            in_role = Again (record {
+              role = refl;
+              phase = phase;
+              status = set_there f.statuses j 4 inside;
+              low = refl;
+              high = refl;
+              earlier = λ k under. set_beside f.statuses j 4 k (λ (e : k ≡ j). omega arith) ∙ earlier k under;
+            });
+          }),
+      new-child-fits f 3 j (neg_ℤ f.beta) (neg_ℤ (floor f)) (omega (arith, ints, clamps)),
+    )
 
 -- phase 3 (ii): the next choice is tested
 pub next-test : (f : Frame) (children : List Frame) → Fits f children Neither → f.phase ≡ 3 → f.spawned < length f.statuses →
@@ -82,20 +97,25 @@ pub next-test : (f : Frame) (children : List Frame) → Fits f children Neither 
 next-test f children fits phase inside =
     let s : IsSearchingFrame f = fits.searching (inr phase) in
     let zero : slice_index f.statuses f.spawned ≡ 0 = s.unspawned f.spawned (omega arith) inside in
-    let twice : neg_ℤ (neg_ℤ (floor f)) ≡ floor f = omega (arith, ints, clamps) in
-    (spawned-child f (new_child f 2 f.spawned (neg_ℤ (floor f +ℤ pos 1)) (neg_ℤ (floor f))) children f.spawned 1 (f.spawned + 1) fits (inr phase) inside
-      (λ e. absurd (omega arith)) (λ e. absurd (omega arith)) (λ e. absurd (omega arith)) (λ (e : 1 ≡ 2). absurd (omega arith)) (λ (e : 1 ≡ 0). absurd (omega arith))
-      (omega arith) (omega arith) (omega arith) refl
-      (record {
-        inside = rw (set_length f.statuses f.spawned 1) inside;
-        shallower = refl;
-        known = λ there. absurd (there refl);
-        in_role = Test (record {
-          role = refl; phase = phase; status = set_there f.statuses f.spawned 1 inside;
-          low = ap (λ (x : ℤ). neg_ℤ (x +ℤ pos 1)) (sym twice); least = rw twice (omega (arith, ints, clamps)); most = rw twice (omega (arith, ints, clamps));
-        });
-      }),
-     new-child-fits f 2 f.spawned (neg_ℤ (floor f +ℤ pos 1)) (neg_ℤ (floor f)) (omega (arith, ints, clamps)))
+    let twice : neg_ℤ (neg_ℤ (floor f)) ≡ floor f = omega (arith, ints, clamps) in (
+      spawned-child f (new_child f 2 f.spawned (neg_ℤ (floor f +ℤ pos 1)) (neg_ℤ (floor f))) children f.spawned 1 (f.spawned + 1) fits (inr phase) inside
+          (λ e. absurd (omega arith)) (λ e. absurd (omega arith)) (λ e. absurd (omega arith)) (λ (e : 1 ≡ 2). absurd (omega arith)) (λ (e : 1 ≡ 0). absurd (omega arith))
+          (omega arith) (omega arith) (omega arith) refl
+          (record {
+            inside = rw (set_length f.statuses f.spawned 1) inside;
+            shallower = refl;
+            known = λ there. absurd (there refl);
+            in_role = Test (record {
+              role = refl;
+              phase = phase;
+              status = set_there f.statuses f.spawned 1 inside;
+              low = ap (λ (x : ℤ). neg_ℤ (x +ℤ pos 1)) (sym twice);
+              least = rw twice (omega (arith, ints, clamps));
+              most = rw twice (omega (arith, ints, clamps));
+            });
+          }),
+      new-child-fits f 2 f.spawned (neg_ℤ (floor f +ℤ pos 1)) (neg_ℤ (floor f)) (omega (arith, ints, clamps)),
+    )
 
 zero-at : (n k : ℕ) → slice_index (replicate n 0) k ≡ 0
 zero-at n k = grind (arith, common_steps)
@@ -107,40 +127,45 @@ next-opened f children own opp fits phase least deep some =
     let n : ℕ = length (choices (cells_of own opp)) in
     let len : length (replicate {A = ℕ} n 0) ≡ n = grind (arith, common_steps) in
     let zeros : (k : ℕ) → slice_index (replicate n 0) k ≡ 0 = λ k. zero-at n k in
-    let window : f.alpha <ℤ f.beta = fits.window in
-    (fits.idle (λ e. absurd (omega arith)) (λ e. absurd (omega arith)), record {
-      window = fits.window;
-      marked = λ (e : 2 ≡ 1). absurd (omega arith);
-      idle = λ no2 _. absurd (no2 refl);
-      searching = λ _. record {
-        places = len;
-        some = omega arith;
-        deep = deep;
-        spawned_in = omega arith;
-        unspawned = λ k _ _. zeros k;
-        search = record {
-          below = omega (arith, ints);
-          settled = λ k _ is. absurd (omega (arith, zeros k, is));
-          found = λ (higher : f.alpha <ℤ negsuc 199999). absurd (omega (arith, ints));
+    let window : f.alpha <ℤ f.beta = fits.window in (
+      fits.idle (λ e. absurd (omega arith)) (λ e. absurd (omega arith)),
+      record {
+        window = fits.window;
+        marked = λ (e : 2 ≡ 1). absurd (omega arith);
+        idle = λ no2 _. absurd (no2 refl);
+        searching = λ _. record {
+          places = len;
+          some = omega arith;
+          deep = deep;
+          spawned_in = omega arith;
+          unspawned = λ k _ _. zeros k;
+          search = record {
+            below = omega (arith, ints);
+            settled = λ k _ is. absurd (omega (arith, zeros k, is));
+            found = λ (higher : f.alpha <ℤ negsuc 199999). absurd (omega (arith, ints));
+          };
         };
-      };
-      done = λ (e : 2 ≡ 4). absurd (omega arith);
-      kin = tt;
-      once = λ i. omega arith;
-    })
+        done = λ (e : 2 ≡ 4). absurd (omega arith);
+        kin = tt;
+        once = λ i. omega arith;
+      },
+    )
 
 -- phase 0: the frame is computed outside; and its answer is accepted
 pub next-computed : (f : Frame) (children : List Frame) (own opp : ℕ) → Fits f children Neither → f.phase ≡ 0 →
     (children ≡ []) × Fits (record f { own = own; opp = opp; phase = 1 }) [] Computes
-next-computed f children own opp fits phase = (fits.idle (λ e. absurd (omega arith)) (λ e. absurd (omega arith)), record {
-  window = fits.window;
-  marked = refl;
-  idle = λ _ _. refl;
-  searching = ⊎_elim (λ (e : 1 ≡ 2). absurd (omega arith)) (λ (e : 1 ≡ 3). absurd (omega arith));
-  done = λ (e : 1 ≡ 4). absurd (omega arith);
-  kin = tt;
-  once = λ i. omega arith;
-})
+next-computed f children own opp fits phase = (
+  fits.idle (λ e. absurd (omega arith)) (λ e. absurd (omega arith)),
+  record {
+    window = fits.window;
+    marked = refl;
+    idle = λ _ _. refl;
+    searching = ⊎_elim (λ (e : 1 ≡ 2). absurd (omega arith)) (λ (e : 1 ≡ 3). absurd (omega arith));
+    done = λ (e : 1 ≡ 4). absurd (omega arith);
+    kin = tt;
+    once = λ i. omega arith;
+  },
+)
 
 pub accepted : (f : Frame) (score : ℤ) (choice : ℕ) → Fits f [] Computes → IsDoneFrame (record f { phase = 4; best = score; choice = choice }) → Fits (record f { phase = 4; best = score; choice = choice }) [] Neither
 accepted f score choice fits done = record {

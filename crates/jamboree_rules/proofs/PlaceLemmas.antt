@@ -1,11 +1,11 @@
 -- Stores by what they set: the frame in the words after them, and the form of these words.
-use Rattle.std.specs.Prelude.{◌≡◌, ◌≢◌, ℕ, ◌+◌, ◌-◌, ◌<◌, ◌≤◌, ◌==◌, ◌&&◌, nat_le, Bool, true, ℤ, pos, ◌≤ℤ◌, ◌+ℤ◌, ◌-ℤ◌, nat_abs, if◌then◌else◌, List, [], ◌∷◌, ◌++◌, map, drop, replicate, length, refl, slice_index, slice_set}
-use Rattle.std.proofs.Common.{zero, suc, zero-add, suc-add, sym, ◌∙◌, ap, subst, arith}
+use Rattle.std.specs.Prelude.{◌≡◌, ◌≢◌, ℕ, ◌+◌, ◌<◌, ◌≤◌, ◌==◌, nat_le, true, ℤ, ◌≤ℤ◌, if◌then◌else◌, List, [], ◌∷◌, ◌++◌, map, drop, replicate, length, refl, slice_index, slice_set}
+use Rattle.std.proofs.Common.{zero, suc, zero-add, suc-add, sym, ◌∙◌, ap, arith}
 use Rattle.std.proofs.lemmas.Grind.{common_steps}
 use Rattle.std.proofs.lemmas.Bool.{le-leb}
 use Rattle.std.proofs.lemmas.List.{get_or-set_other, get_or-set_same, map-set}
 use Rattle.std.proofs.lemmas.List.Recursion.{and_set}
-use Rattle.std.proofs.lemmas.Int.{ints, clamps}
+use Rattle.std.proofs.lemmas.Int.{ints}
 use Rattle.std.proofs.Math.ListN.{length-set}
 use Rattle.std.proofs.Math.Path.{fun_ext}
 use Rattle.sched_rules.specs.Trees.{stored}
@@ -23,9 +23,19 @@ put g k x j = if j == k then x else g j
 -- the frame of these first words and statuses
 abbrev pub frame_with : (ℕ → ℕ) → List ℕ → Frame
 frame_with g statuses = record {
-  own = g 0; opp = g 1; depth = g 2; alpha = score_of (g 3); beta = score_of (g 4);
-  role = g 5; number = g 6; phase = g 7; best = score_of (g 8); choice = g 9;
-  count = g 10; spawned = g 11; statuses = statuses;
+  own = g 0;
+  opp = g 1;
+  depth = g 2;
+  alpha = score_of (g 3);
+  beta = score_of (g 4);
+  role = g 5;
+  number = g 6;
+  phase = g 7;
+  best = score_of (g 8);
+  choice = g 9;
+  count = g 10;
+  spawned = g 11;
+  statuses = statuses;
 }
 
 pub there : (w : List ℕ) (place x : ℕ) → place < length w → slice_index (slice_set w place x) place ≡ x
@@ -55,8 +65,22 @@ set-first w k x early long =
 set-status : (w : List ℕ) (i x : ℕ) → frame_of (slice_set w (12 + i) x) ≡ record (frame_of w) { statuses = slice_set (map status_of (drop 12 w)) i (status_of x) }
 set-status w i x =
     let same : (j : ℕ) → j < 12 → slice_index (slice_set w (12 + i) x) j ≡ slice_index w j = λ j below. beside w j (12 + i) x (λ e. absurd (omega (arith, e))) in
-    rw (same 0 (omega arith), same 1 (omega arith), same 2 (omega arith), same 3 (omega arith), same 4 (omega arith), same 5 (omega arith), same 6 (omega arith),
-      same 7 (omega arith), same 8 (omega arith), same 9 (omega arith), same 10 (omega arith), same 11 (omega arith), drop-behind w 12 i x, map-set status_of (drop 12 w) i x)
+    rw (
+      same 0 (omega arith),
+      same 1 (omega arith),
+      same 2 (omega arith),
+      same 3 (omega arith),
+      same 4 (omega arith),
+      same 5 (omega arith),
+      same 6 (omega arith),
+      same 7 (omega arith),
+      same 8 (omega arith),
+      same 9 (omega arith),
+      same 10 (omega arith),
+      same 11 (omega arith),
+      drop-behind w 12 i x,
+      map-set status_of (drop 12 w) i x,
+    )
 
 -- what is stored can be read again: a score is one, and a status is one
 abbrev pub IsSafe : Change → Type 0
@@ -144,5 +168,19 @@ pub frame-grown : (w : List ℕ) (n : ℕ) → length w ≡ 12 → frame_of (w +
 frame-grown w n len =
     let long : 12 ≤ length w = omega arith in
     let same : (j : ℕ) → j < 12 → slice_index (w ++ replicate n 0) j ≡ slice_index w j = λ j below. first-grown w (replicate n 0) j long below in
-    rw (same 0 (omega arith), same 1 (omega arith), same 2 (omega arith), same 3 (omega arith), same 4 (omega arith), same 5 (omega arith), same 6 (omega arith),
-      same 7 (omega arith), same 8 (omega arith), same 9 (omega arith), same 10 (omega arith), same 11 (omega arith), drop-grown w (replicate n 0) len, statuses-zeros n)
+    rw (
+      same 0 (omega arith),
+      same 1 (omega arith),
+      same 2 (omega arith),
+      same 3 (omega arith),
+      same 4 (omega arith),
+      same 5 (omega arith),
+      same 6 (omega arith),
+      same 7 (omega arith),
+      same 8 (omega arith),
+      same 9 (omega arith),
+      same 10 (omega arith),
+      same 11 (omega arith),
+      drop-grown w (replicate n 0) len,
+      statuses-zeros n,
+    )

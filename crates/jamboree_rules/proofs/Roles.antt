@@ -1,11 +1,11 @@
 -- What a child's role says, and what it keeps.
-use Rattle.std.specs.Prelude.{◌≡◌, ◌≢◌, ℕ, ◌-◌, ◌<◌, ℤ, neg_ℤ, List, length, slice_index, slice_set}
+use Rattle.std.specs.Prelude.{◌≡◌, ◌≢◌, ℕ, ◌<◌, neg_ℤ, List, length, slice_index, slice_set}
 use Rattle.std.proofs.Common.{sym, ◌∙◌, ap, subst}
 use Rattle.othello_board.specs.declared.cells.Cell.{Cell}
 use Rattle.othello_moves.specs.Choices.{after}
 use Rattle.othello_eval.specs.Minimax.{minimax}
 use Rattle.jamboree_rules.specs.Frames.{Frame, board, choice_at, value_at, value}
-use Rattle.jamboree_rules.specs.Fits.{IsFirst, IsTest, IsAgain, IsInRole, First, Test, Again, IsChildOf}
+use Rattle.jamboree_rules.specs.Fits.{IsInRole, First, Test, Again, IsChildOf}
 use Rattle.jamboree_rules.proofs.Searching.{set_beside}
 
 -- the value of a child's choice is the child's own, seen from the parent
@@ -17,6 +17,10 @@ pub role-kept-mark : (f c : Frame) (i x : ℕ) → i < length f.statuses → c.n
 role-kept-mark f c i x inside other unsettled (First r) = First (record { role = r.role; phase = r.phase; number = r.number; status = set_beside f.statuses i x c.number other ∙ r.status; low = r.low; high = r.high })
 role-kept-mark f c i x inside other unsettled (Test r) = Test (record { role = r.role; phase = r.phase; status = set_beside f.statuses i x c.number other ∙ r.status; low = r.low; least = r.least; most = r.most })
 role-kept-mark f c i x inside other unsettled (Again r) = Again (record {
-  role = r.role; phase = r.phase; status = set_beside f.statuses i x c.number other ∙ r.status; low = r.low; high = r.high;
+  role = r.role;
+  phase = r.phase;
+  status = set_beside f.statuses i x c.number other ∙ r.status;
+  low = r.low;
+  high = r.high;
   earlier = λ k below. set_beside f.statuses i x k (λ (e : k ≡ i). unsettled (subst (λ j. slice_index f.statuses j ≡ 2) e (r.earlier k below))) ∙ r.earlier k below;
 })

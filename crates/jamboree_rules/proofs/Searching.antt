@@ -1,9 +1,9 @@
 -- One frame's search, over the values v of its choices, the codes of its choices and the statuses of its choices.
-use Rattle.std.specs.Prelude.{◌≡◌, ◌≢◌, ℕ, ◌+◌, ◌<◌, ◌≤◌, ◌⊎◌, ℤ, pos, negsuc, neg_ℤ, ◌<ℤ◌, ◌≤ℤ◌, ◌+ℤ◌, List, length, refl, slice_index, slice_set}
+use Rattle.std.specs.Prelude.{◌≡◌, ◌≢◌, ℕ, ◌<◌, ◌⊎◌, ℤ, pos, neg_ℤ, ◌<ℤ◌, ◌≤ℤ◌, ◌+ℤ◌, List, length, refl, slice_index, slice_set}
 use Rattle.std.specs.Int.{int_max}
 use Rattle.std.proofs.Common.{sym, ◌∙◌, ap, subst, arith, inl, inr}
 use Rattle.std.proofs.lemmas.Grind.{common_steps}
-use Rattle.std.proofs.lemmas.Int.{ints, clamps, by_lt_z}
+use Rattle.std.proofs.lemmas.Int.{ints, clamps}
 use Rattle.leaf_search.specs.Bounds.{IsBound}
 use Rattle.jamboree_rules.specs.Fits.{IsFound, IsSearching}
 
@@ -34,13 +34,17 @@ found-set v code st best choice i x inside (inl other) f = record {
   place = f.place;
   inside = omega (arith, set_length st i x, f.inside);
   settled = set_beside st i x f.place (λ (e : f.place ≡ i). other (subst (λ k. slice_index st k ≡ 2) e f.settled)) ∙ f.settled;
-  named = f.named; worth = f.worth; earlier = f.earlier;
+  named = f.named;
+  worth = f.worth;
+  earlier = f.earlier;
 }
 found-set v code st best choice i x inside (inr two) f = record {
   place = f.place;
   inside = omega (arith, set_length st i x, f.inside);
   settled = grind (arith, common_steps, set_there, set_beside, f.settled);
-  named = f.named; worth = f.worth; earlier = f.earlier;
+  named = f.named;
+  worth = f.worth;
+  earlier = f.earlier;
 }
 
 -- a settled choice after a status was set

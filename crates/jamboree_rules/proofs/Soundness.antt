@@ -1,14 +1,14 @@
 -- A frame that fits is sound.
-use Rattle.std.specs.Prelude.{◌≡◌, ◌≢◌, ℕ, ◌-◌, ◌<◌, ◌≤◌, ◌⊎◌, ℤ, pos, neg_ℤ, ◌<ℤ◌, ◌≤ℤ◌, ◌+ℤ◌, List, [], ◌∷◌, map, length, refl, slice_index}
-use Rattle.std.proofs.Common.{sym, ◌∙◌, ap, subst, arith, inl, inr, ⊎_elim}
+use Rattle.std.specs.Prelude.{◌≡◌, ℕ, ◌<◌, ◌≤◌, neg_ℤ, List, [], ◌∷◌, map, length, slice_index}
+use Rattle.std.proofs.Common.{arith, ⊎_elim}
 use Rattle.std.proofs.lemmas.Int.{ints}
 use Rattle.std.proofs.lemmas.Bool.{cases_lt}
 use Rattle.std.proofs.lemmas.List.{get_or_past}
 use Rattle.sched_rules.specs.Laws.{Mark}
-use Rattle.jamboree_rules.specs.Frames.{Frame, board, choice_at, value_at, floor}
+use Rattle.jamboree_rules.specs.Frames.{Frame}
 use Rattle.jamboree_rules.specs.Places.{frame_of}
-use Rattle.jamboree_rules.specs.Fits.{IsInRole, First, Test, Again, IsChildOf, AreChildren, Fits, AreFitting}
-use Rattle.jamboree_rules.specs.Sound.{IsSettled, IsFirstBest, HasWindow, First as WholeWindow, Test as TestWindow, Again as AgainWindow, HasGoal, HaveGoals, IsSound}
+use Rattle.jamboree_rules.specs.Fits.{IsInRole, First, Test, Again, AreChildren, Fits, AreFitting}
+use Rattle.jamboree_rules.specs.Sound.{IsSettled, HasWindow, First as WholeWindow, Test as TestWindow, Again as AgainWindow, HaveGoals, IsSound}
 use Rattle.jamboree_rules.proofs.Kinship.{in-search}
 
 window-of : (f c : Frame) → IsInRole f c → HasWindow f c

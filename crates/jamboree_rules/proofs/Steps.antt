@@ -1,6 +1,5 @@
 -- What the acts of a frame that fits leave.
-use Rattle.std.specs.Prelude.{◌≡◌, ◌≢◌, ℕ, zero, suc, ◌+◌, ◌-◌, ◌<◌, ◌≤◌, ◌⊎◌, ◌==◌, ◌||◌, ◌&&◌, nat_lt, nat_le, Bool, true, false, ℤ, pos, negsuc, neg_ℤ, ◌<ℤ◌, ◌≤ℤ◌, ◌+ℤ◌, List, [], ◌∷◌, ◌++◌, map, length, drop, replicate, refl, slice_index, slice_set, if◌then◌else◌, bit_and}
-use Rattle.std.specs.Int.{int_max}
+use Rattle.std.specs.Prelude.{◌≡◌, ◌≢◌, ℕ, ◌+◌, ◌-◌, ◌<◌, ◌≤◌, ◌⊎◌, ◌==◌, ◌||◌, ◌&&◌, nat_lt, nat_le, Bool, true, false, ℤ, pos, neg_ℤ, ◌<ℤ◌, ◌≤ℤ◌, ◌+ℤ◌, List, [], ◌∷◌, ◌++◌, map, length, drop, replicate, refl, slice_index, slice_set, bit_and}
 use Rattle.std.proofs.Common.{sym, ◌∙◌, ap, subst, arith, inl, inr, ⊎_elim}
 use Rattle.std.proofs.lemmas.Grind.{common_steps}
 use Rattle.std.proofs.lemmas.Bool.{lt-leb}
@@ -12,12 +11,12 @@ use Rattle.othello_board.specs.Words.{cells_of}
 use Rattle.othello_moves.specs.Choices.{choices}
 use Rattle.sched_rules.specs.declared.act.Act.{Act}
 use Rattle.sched_rules.specs.declared.act.Then.{Then}
-use Rattle.sched_rules.specs.declared.act.Then.TheVariants.{Grow, Spawn, Go, Wait, Compute, Return}
+use Rattle.sched_rules.specs.declared.act.Then.TheVariants.{Grow, Wait, Compute, Return}
 use Rattle.sched_rules.specs.Trees.{stored, is_outside}
 use Rattle.sched_rules.specs.Lone.{is_bad_then, is_bad_act}
-use Rattle.sched_rules.specs.Laws.{NewChildFits, Mark, Neither, Computes, HasReturned, grown, children_after, mark_after, has_one}
+use Rattle.sched_rules.specs.Laws.{NewChildFits, Mark, Neither, HasReturned, grown, children_after, mark_after, has_one}
 use Rattle.leaf_search.specs.Bounds.{IsBound}
-use Rattle.jamboree_rules.specs.Frames.{Frame, board, choice_at, code_at, value_at, value, floor, least, greatest, unscored}
+use Rattle.jamboree_rules.specs.Frames.{Frame, code_at, value_at, value, floor, least, greatest}
 use Rattle.jamboree_rules.specs.Places.{word_of, status_of, frame_of, are_statuses, Change, OwnBits, OppBits, Phase, Best, Chosen, Count, Spawned, Status, pair_of, pairs_of, given_words, frame_size}
 use Rattle.jamboree_rules.specs.Acts.{returns, spawns, opening, first_search, tests}
 use Rattle.jamboree_rules.specs.Fits.{IsSearchingFrame, Fits, AreFitting}
@@ -27,8 +26,8 @@ use Rattle.jamboree_rules.proofs.Best.{IsGreatest-frame, named-best}
 use Rattle.jamboree_rules.proofs.Kinship.{next-settled, next-done}
 use Rattle.jamboree_rules.proofs.Openings.{new_child, next-first, next-again, next-test, next-opened, next-computed}
 use Rattle.jamboree_rules.proofs.Codes.{few-choices}
-use Rattle.jamboree_rules.proofs.PlaceLemmas.{held, changed_by, length-stored, frame-stored, entries-stored, drop-grown, entries-zeros, frame-grown}
-use Rattle.jamboree_rules.proofs.Forms.{IsFrame, IsFormed, formed-told, formed-passes, formed-stored}
+use Rattle.jamboree_rules.proofs.PlaceLemmas.{held, length-stored, frame-stored, drop-grown, entries-zeros, frame-grown}
+use Rattle.jamboree_rules.proofs.Forms.{IsFrame, IsFormed, formed-passes, formed-stored}
 
 -- a frame of the same depth, window, role and number
 pub record HasSameGoal (f g : Frame) : Type 0 where
@@ -180,8 +179,14 @@ spawn-good own children changes role i low high g form is inside formed small l 
 wait-good : (own : List ℕ) (children : List (List ℕ)) → IsFormed own → Fits (frame_of own) (map frame_of children) Neither → (frame_of own).phase ≢ 0 →
     IsGoodAct own children (frame_of own).own (frame_of own).opp (record { stores = []; after = Wait })
 wait-good own children form fits known = record {
-  good = refl; formed = form; fits = fits; child = tt;
-  goal = record { depth = refl; alpha = refl; beta = refl; role = refl; number = refl }; own_is = refl; opp_is = refl; known = known;
+  good = refl;
+  formed = form;
+  fits = fits;
+  child = tt;
+  goal = record { depth = refl; alpha = refl; beta = refl; role = refl; number = refl };
+  own_is = refl;
+  opp_is = refl;
+  known = known;
 }
 
 pub none-told : (n : ℕ) → true ≡ (n == 0) → n ≡ 0
@@ -203,7 +208,7 @@ first-good true own children e phase form fits =
     spawn-good own children changes 1 0 (neg_ℤ f.beta) (neg_ℤ f.alpha) (record f { spawned = 1; statuses = slice_set f.statuses 0 1 }) form
     (frame-stored changes own (tt, (omega arith, tt)) (omega (arith, form.places))) (tt, (some, tt))
     (formed-stored changes own form (tt, (omega arith, tt)) refl
-      (searched f f.phase f.choice 1 f.best (slice_set f.statuses 0 1) form.frame (inl phase) (searching-late f (inl phase)) form.frame.phase form.frame.choice (omega arith) late.0 late.1))
+    (searched f f.phase f.choice 1 f.best (slice_set f.statuses 0 1) form.frame (inl phase) (searching-late f (inl phase)) form.frame.phase form.frame.choice (omega arith) late.0 late.1))
     (omega arith) (omega (arith, ints)) (omega (arith, ints)) (omega (arith, ints))
     (next-first f (map frame_of children) fits phase (none-told f.spawned e))
     (record { depth = refl; alpha = refl; beta = refl; role = refl; number = refl }) refl refl (late-known f.phase (searching-late f (inl phase)))
@@ -237,7 +242,7 @@ return-good : (own : List ℕ) (children : List (List ℕ)) (changes : List Chan
 return-good own children changes g form is inside formed none fits goal own_is opp_is known =
     subst (λ (cs : List (List ℕ)). IsGoodAct own cs (frame_of own).own (frame_of own).opp (record { stores = pairs_of changes; after = Return })) (no-children children none)
     (good-by own [] (frame_of own).own (frame_of own).opp (record { stores = pairs_of changes; after = Return }) g is
-      (good-act changes own (frame_of own).count false Return form.places inside refl) formed fits tt goal own_is opp_is known)
+    (good-act changes own (frame_of own).count false Return form.places inside refl) formed fits tt goal own_is opp_is known)
 
 -- every choice before j is settled
 pub record IsAtTests (f : Frame) (j : ℕ) : Type 0 where
@@ -263,7 +268,7 @@ tests-good true more all own children j at ef em ea phase form fits =
     spawn-good own children changes 3 j (neg_ℤ f.beta) (neg_ℤ (floor f)) (record f { statuses = slice_set f.statuses j 4 }) form
     (frame-stored changes own (omega arith, tt) (omega (arith, form.places))) (inside, tt)
     (formed-stored changes own form (omega arith, tt) refl
-      (searched f f.phase f.choice f.spawned f.best (slice_set f.statuses j 4) form.frame (inr phase) (searching-late f (inr phase)) form.frame.phase form.frame.choice form.frame.spawned late.0 late.1))
+    (searched f f.phase f.choice f.spawned f.best (slice_set f.statuses j 4) form.frame (inr phase) (searching-late f (inr phase)) form.frame.phase form.frame.choice form.frame.spawned late.0 late.1))
     (omega arith) (omega (arith, ints)) (omega (arith, ints, clamps)) (omega (arith, ints, clamps))
     (next-again f (map frame_of children) j fits phase told.0 told.1 at.settled)
     (record { depth = refl; alpha = refl; beta = refl; role = refl; number = refl }) refl refl (late-known f.phase (searching-late f (inr phase)))
@@ -282,7 +287,7 @@ tests-good false true all own children j at ef em ea phase form fits =
     spawn-good own children changes 2 f.spawned (neg_ℤ (floor f +ℤ pos 1)) (neg_ℤ (floor f)) (record f { spawned = f.spawned + 1; statuses = slice_set f.statuses f.spawned 1 }) form
     (frame-stored changes own (tt, (omega arith, tt)) (omega (arith, form.places))) (tt, (inside, tt))
     (formed-stored changes own form (tt, (omega arith, tt)) refl
-      (searched f f.phase f.choice (f.spawned + 1) f.best (slice_set f.statuses f.spawned 1) form.frame (inr phase) (searching-late f (inr phase)) form.frame.phase form.frame.choice (omega arith) late.0 late.1))
+    (searched f f.phase f.choice (f.spawned + 1) f.best (slice_set f.statuses f.spawned 1) form.frame (inr phase) (searching-late f (inr phase)) form.frame.phase form.frame.choice (omega arith) late.0 late.1))
     (omega arith) (omega (arith, ints, clamps)) (omega (arith, ints, clamps)) (omega (arith, ints, clamps))
     (next-test f (map frame_of children) fits phase told)
     (record { depth = refl; alpha = refl; beta = refl; role = refl; number = refl }) refl refl (late-known f.phase (searching-late f (inr phase)))
@@ -295,11 +300,11 @@ tests-good false false true own children j at ef em ea phase form fits =
     let settled : (k : ℕ) → k < length f.statuses → slice_index f.statuses k ≡ 2 = λ k below. at.settled k (omega arith) in
     let g : IsGreatest (value_at f) (length f.statuses) (value f) = greatest-of f s in
     let done = next-settled f (map frame_of children) fits phase settled g (λ higher below.
-        let bound = all-bound f s settled g in
-        named-best f f.statuses s.deep s.places (s.search.found higher) (bound.exact higher below)) in
+    let bound = all-bound f s settled g in
+    named-best f f.statuses s.deep s.places (s.search.found higher) (bound.exact higher below)) in
     return-good own children changes (record f { phase = 4 }) form (frame-stored changes own (tt, tt) (omega (arith, form.places))) (tt, tt)
     (formed-stored changes own form (tt, tt) refl
-      (searched f 4 f.choice f.spawned f.best f.statuses form.frame (inr phase) (omega arith) (omega arith) form.frame.choice form.frame.spawned late.0 late.1))
+    (searched f 4 f.choice f.spawned f.best f.statuses form.frame (inr phase) (omega arith) (omega arith) form.frame.choice form.frame.spawned late.0 late.1))
     done.0 done.1 (record { depth = refl; alpha = refl; beta = refl; role = refl; number = refl }) refl refl (λ (e : 4 ≡ 0). absurd (omega arith))
 tests-good false false false own children j at ef em ea phase form fits = wait-good own children form fits (late-known (frame_of own).phase (searching-late (frame_of own) (inr phase)))
 
@@ -341,7 +346,10 @@ opening-good true own children o p deep apart phase form fits =
     let early = form.frame.early (omega arith) in
     let frame : IsFrame (record f { own = o; opp = p; phase = 1 }) = record {
       leaf = record { disjoint = apart; shallow = form.frame.leaf.shallow; low = form.frame.leaf.low; window = form.frame.leaf.window; high = form.frame.leaf.high };
-      role = form.frame.role; phase = omega arith; choice = form.frame.choice; spawned = form.frame.spawned;
+      role = form.frame.role;
+      phase = omega arith;
+      choice = form.frame.choice;
+      spawned = form.frame.spawned;
       early = λ _. early;
       late = λ (e : 1 < 1). absurd (omega arith);
       counts = ⊎_elim (λ (e : 1 ≡ 2). absurd (omega arith)) (λ (e : 1 ≡ 3). absurd (omega arith));
@@ -349,9 +357,9 @@ opening-good true own children o p deep apart phase form fits =
     let act : Act = record { stores = pairs_of changes; after = Compute } in
     subst (λ (cs : List (List ℕ)). IsGoodAct own cs o p act) (no-children children done.0)
     (good-by own [] o p act (record f { own = o; opp = p; phase = 1 }) (frame-stored changes own (tt, (tt, (tt, tt))) (omega (arith, form.places)))
-      (good-act changes own f.count false Compute form.places (tt, (tt, (tt, tt))) refl)
-      (formed-stored changes own form (tt, (tt, (tt, tt))) refl frame) done.1 tt
-      (record { depth = refl; alpha = refl; beta = refl; role = refl; number = refl }) refl refl (λ (e : 1 ≡ 0). absurd (omega arith)))
+    (good-act changes own f.count false Compute form.places (tt, (tt, (tt, tt))) refl)
+    (formed-stored changes own form (tt, (tt, (tt, tt))) refl frame) done.1 tt
+    (record { depth = refl; alpha = refl; beta = refl; role = refl; number = refl }) refl refl (λ (e : 1 ≡ 0). absurd (omega arith)))
 opening-good false own children o p deep apart phase form fits =
     let f : Frame = frame_of own in
     let n : ℕ = length (choices (cells_of o p)) in
@@ -364,7 +372,10 @@ opening-good false own children o p deep apart phase form fits =
     let same : length (stored (pairs_of (opened_changes o p n)) own) ≡ 12 = length-stored (pairs_of (opened_changes o p n)) own ∙ len in
     let frame : IsFrame (opened_frame f o p n) = record {
       leaf = record { disjoint = apart; shallow = form.frame.leaf.shallow; low = form.frame.leaf.low; window = form.frame.leaf.window; high = form.frame.leaf.high };
-      role = form.frame.role; phase = omega arith; choice = omega arith; spawned = omega arith;
+      role = form.frame.role;
+      phase = omega arith;
+      choice = omega arith;
+      spawned = omega arith;
       early = λ (e : 2 ≤ 1). absurd (omega arith);
       late = λ _. (omega (arith, ints), omega (arith, ints));
       counts = λ _. (d.0, d.1, refl);
@@ -372,10 +383,10 @@ opening-good false own children o p deep apart phase form fits =
     let act : Act = record { stores = pairs_of (opened_changes o p n); after = Grow n } in
     subst (λ (cs : List (List ℕ)). IsGoodAct own cs o p act) (no-children children done.0)
     (good-by own [] o p act (opened_frame f o p n) is
-      (good-act (opened_changes o p n) own f.count false (Grow n) form.places (tt, (tt, (tt, (tt, (tt, (tt, (tt, tt))))))) (grow-fine (length own) n len d.1 (few-choices (cells_of o p))))
-      (record {
-        places = length-grown (stored (pairs_of (opened_changes o p n)) own) n same ∙ ap (λ (g : Frame). 12 + g.count) (sym is);
-        entries = entries-grown (stored (pairs_of (opened_changes o p n)) own) n same;
-        frame = subst IsFrame (sym is) frame;
-      }) done.1 tt
-      (record { depth = refl; alpha = refl; beta = refl; role = refl; number = refl }) refl refl (λ (e : 2 ≡ 0). absurd (omega arith)))
+    (good-act (opened_changes o p n) own f.count false (Grow n) form.places (tt, (tt, (tt, (tt, (tt, (tt, (tt, tt))))))) (grow-fine (length own) n len d.1 (few-choices (cells_of o p))))
+    (record {
+      places = length-grown (stored (pairs_of (opened_changes o p n)) own) n same ∙ ap (λ (g : Frame). 12 + g.count) (sym is);
+      entries = entries-grown (stored (pairs_of (opened_changes o p n)) own) n same;
+      frame = subst IsFrame (sym is) frame;
+    }) done.1 tt
+    (record { depth = refl; alpha = refl; beta = refl; role = refl; number = refl }) refl refl (λ (e : 2 ≡ 0). absurd (omega arith)))

@@ -1,13 +1,12 @@
 -- What an inlet leaves of a frame that fits, and what an answer leaves.
-use Rattle.std.specs.Prelude.{◌≡◌, ◌≢◌, ℕ, suc, ◌+◌, ◌-◌, ◌<◌, ◌≤◌, ◌⊎◌, ◌==◌, Bool, true, false, ℤ, pos, negsuc, neg_ℤ, ◌<ℤ◌, ◌≤ℤ◌, ◌+ℤ◌, int_le, int_lt, List, [], ◌∷◌, ◌++◌, map, length, drop, refl, slice_index, slice_set}
+use Rattle.std.specs.Prelude.{◌≡◌, ◌≢◌, ℕ, ◌<◌, ◌≤◌, ◌⊎◌, ◌==◌, Bool, true, false, ℤ, neg_ℤ, ◌<ℤ◌, ◌≤ℤ◌, int_le, int_lt, List, [], ◌∷◌, ◌++◌, refl, slice_set}
 use Rattle.std.specs.Int.{int_max}
 use Rattle.std.proofs.Common.{sym, ◌∙◌, ap, subst, arith, inl, inr, ⊎_elim}
 use Rattle.std.proofs.lemmas.Int.{ints, clamps}
-use Rattle.leaf_search.specs.Bounds.{IsBound}
 use Rattle.sched_rules.specs.Trees.{stored, is_outside}
-use Rattle.sched_rules.specs.Laws.{Mark, Neither, HasReturned, children_left}
-use Rattle.jamboree_rules.specs.Frames.{Frame, board, choice_at, code_at, value_at, value, floor, least, greatest}
-use Rattle.jamboree_rules.specs.Places.{frame_of, Change, Phase, Best, Chosen, Status, pairs_of}
+use Rattle.sched_rules.specs.Laws.{Neither, HasReturned}
+use Rattle.jamboree_rules.specs.Frames.{Frame, code_at, value_at, value, floor, least, greatest}
+use Rattle.jamboree_rules.specs.Places.{frame_of, Change, pairs_of}
 use Rattle.jamboree_rules.specs.Acts.{seen, changes_by, changes_of}
 use Rattle.jamboree_rules.specs.Fits.{IsFirst, IsTest, IsAgain, IsInRole, First, Test, Again, IsChildOf, IsSearchingFrame, Fits}
 use Rattle.jamboree_rules.proofs.Searching.{IsSearching-low, IsSearching-higher}
@@ -85,8 +84,8 @@ fits-by false false low true f c before behind ec et el eh fits returned =
     let over : floor f <ℤ seen c = lt-told (floor f) (seen c) eh in
     ⊎_elim
     (λ (r : IsFirst f c). inlet-first f c before behind (code_at f c.number) fits r
-      (IsSearching-higher (value_at f) (code_at f) f.statuses f.alpha f.beta f.best (seen c) f.choice c.number kin.inside over under
-        (first-exact f c r worth.0 worth.1 under over) (λ k below. absurd (omega (arith, r.number, below))) s.search))
+    (IsSearching-higher (value_at f) (code_at f) f.statuses f.alpha f.beta f.best (seen c) f.choice c.number kin.inside over under
+    (first-exact f c r worth.0 worth.1 under over) (λ k below. absurd (omega (arith, r.number, below))) s.search))
     (λ (r : IsAgain f c). inlet-higher f c before behind fits r over under (again-exact f c r worth.0 worth.1 under over))
     (other-told f c et kin.in_role)
 fits-by false false low false f c before behind ec et el eh fits returned =
@@ -97,7 +96,7 @@ fits-by false false low false f c before behind ec et el eh fits returned =
     let small : seen c ≤ℤ floor f = not-lt-told (floor f) (seen c) eh in
     ⊎_elim
     (λ (r : IsFirst f c). inlet-first f c before behind f.choice fits r
-      (IsSearching-low (value_at f) (code_at f) f.statuses f.alpha f.beta f.best (seen c) f.choice c.number fits.window kin.inside small (first-low f c r worth.0 worth.1 under) s.search))
+    (IsSearching-low (value_at f) (code_at f) f.statuses f.alpha f.beta f.best (seen c) f.choice c.number fits.window kin.inside small (first-low f c r worth.0 worth.1 under) s.search))
     (λ (r : IsAgain f c). inlet-low f c before behind fits small (again-low f c r worth.0 worth.1 small) r.phase)
     (other-told f c et kin.in_role)
 
@@ -130,9 +129,15 @@ taken-by true test low higher f c form phase inside rf rc =
     let l : least ≤ℤ c.best = rc.low in
     let code : code_at f c.number ≤ 64 = code-small f c.number in
     record {
-      safe = (omega (arith, ints), (tt, (omega arith, (tt, tt)))); inside = (tt, (tt, (inside, (tt, tt)))); is = refl; count = refl;
+      safe = (omega (arith, ints), (tt, (omega arith, (tt, tt))));
+      inside = (tt, (tt, (inside, (tt, tt))));
+      is = refl;
+      count = refl;
       form = searched f 4 (code_at f c.number) f.spawned (seen c) (slice_set f.statuses c.number 2) form phase (omega arith) (omega arith) (omega arith) form.spawned (omega (arith, ints)) (omega (arith, ints));
-      goal = record { depth = refl; alpha = refl; beta = refl; role = refl; number = refl }; own_is = refl; opp_is = refl; known = λ (e : 4 ≡ 0). absurd (omega arith);
+      goal = record { depth = refl; alpha = refl; beta = refl; role = refl; number = refl };
+      own_is = refl;
+      opp_is = refl;
+      known = λ (e : 4 ≡ 0). absurd (omega arith);
     }
 taken-by false true true higher f c form phase inside rf rc =
     let h : c.best ≤ℤ greatest = rc.high in
@@ -141,16 +146,28 @@ taken-by false true true higher f c form phase inside rf rc =
     let fl : least ≤ℤ f.best = rf.low in
     let late : 1 < f.phase = searching-late f phase in
     record {
-      safe = (omega (arith, ints, clamps), (omega arith, tt)); inside = (tt, (inside, tt)); is = refl; count = refl;
+      safe = (omega (arith, ints, clamps), (omega arith, tt));
+      inside = (tt, (inside, tt));
+      is = refl;
+      count = refl;
       form = searched f f.phase f.choice f.spawned (int_max f.best (seen c)) (slice_set f.statuses c.number 2) form phase late form.phase form.choice form.spawned (omega (arith, ints, clamps)) (omega (arith, ints, clamps));
-      goal = record { depth = refl; alpha = refl; beta = refl; role = refl; number = refl }; own_is = refl; opp_is = refl; known = λ (e : f.phase ≡ 0). absurd (omega arith);
+      goal = record { depth = refl; alpha = refl; beta = refl; role = refl; number = refl };
+      own_is = refl;
+      opp_is = refl;
+      known = λ (e : f.phase ≡ 0). absurd (omega arith);
     }
 taken-by false true false higher f c form phase inside rf rc =
     let late : 1 < f.phase = searching-late f phase in
     record {
-      safe = (omega arith, tt); inside = (inside, tt); is = refl; count = refl;
+      safe = (omega arith, tt);
+      inside = (inside, tt);
+      is = refl;
+      count = refl;
       form = searched f f.phase f.choice f.spawned f.best (slice_set f.statuses c.number 3) form phase late form.phase form.choice form.spawned rf.low rf.high;
-      goal = record { depth = refl; alpha = refl; beta = refl; role = refl; number = refl }; own_is = refl; opp_is = refl; known = λ (e : f.phase ≡ 0). absurd (omega arith);
+      goal = record { depth = refl; alpha = refl; beta = refl; role = refl; number = refl };
+      own_is = refl;
+      opp_is = refl;
+      known = λ (e : f.phase ≡ 0). absurd (omega arith);
     }
 taken-by false false low true f c form phase inside rf rc =
     let h : c.best ≤ℤ greatest = rc.high in
@@ -159,9 +176,15 @@ taken-by false false low true f c form phase inside rf rc =
     let fl : least ≤ℤ f.best = rf.low in
     let code : code_at f c.number ≤ 64 = code-small f c.number in
     record {
-      safe = (omega (arith, ints, clamps), (tt, (omega arith, (tt, tt)))); inside = (tt, (tt, (inside, (tt, tt)))); is = refl; count = refl;
+      safe = (omega (arith, ints, clamps), (tt, (omega arith, (tt, tt))));
+      inside = (tt, (tt, (inside, (tt, tt))));
+      is = refl;
+      count = refl;
       form = searched f 3 (code_at f c.number) f.spawned (int_max f.best (seen c)) (slice_set f.statuses c.number 2) form phase (omega arith) (omega arith) (omega arith) form.spawned (omega (arith, ints, clamps)) (omega (arith, ints, clamps));
-      goal = record { depth = refl; alpha = refl; beta = refl; role = refl; number = refl }; own_is = refl; opp_is = refl; known = λ (e : 3 ≡ 0). absurd (omega arith);
+      goal = record { depth = refl; alpha = refl; beta = refl; role = refl; number = refl };
+      own_is = refl;
+      opp_is = refl;
+      known = λ (e : 3 ≡ 0). absurd (omega arith);
     }
 taken-by false false low false f c form phase inside rf rc =
     let h : c.best ≤ℤ greatest = rc.high in
@@ -169,9 +192,15 @@ taken-by false false low false f c form phase inside rf rc =
     let fh : f.best ≤ℤ greatest = rf.high in
     let fl : least ≤ℤ f.best = rf.low in
     record {
-      safe = (omega (arith, ints, clamps), (omega arith, (tt, tt))); inside = (tt, (inside, (tt, tt))); is = refl; count = refl;
+      safe = (omega (arith, ints, clamps), (omega arith, (tt, tt)));
+      inside = (tt, (inside, (tt, tt)));
+      is = refl;
+      count = refl;
       form = searched f 3 f.choice f.spawned (int_max f.best (seen c)) (slice_set f.statuses c.number 2) form phase (omega arith) (omega arith) form.choice form.spawned (omega (arith, ints, clamps)) (omega (arith, ints, clamps));
-      goal = record { depth = refl; alpha = refl; beta = refl; role = refl; number = refl }; own_is = refl; opp_is = refl; known = λ (e : 3 ≡ 0). absurd (omega arith);
+      goal = record { depth = refl; alpha = refl; beta = refl; role = refl; number = refl };
+      own_is = refl;
+      opp_is = refl;
+      known = λ (e : 3 ≡ 0). absurd (omega arith);
     }
 
 -- stores that can be done leave words of the form, with the same goal and the same board
@@ -191,7 +220,10 @@ good-store own changes form safe inside count after goal own_is opp_is known = r
   good = inside-stored changes own (frame_of own).count form.places inside;
   is = frame-stored changes own safe (omega (arith, form.places));
   formed = formed-stored changes own form safe count after;
-  goal = goal; own_is = own_is; opp_is = opp_is; known = known;
+  goal = goal;
+  own_is = own_is;
+  opp_is = opp_is;
+  known = known;
 }
 
 taken-good : (own : List ℕ) (c : Frame) (changes : List Change) (g : Frame) → IsFormed own → AreTaken (frame_of own) c changes g → IsGoodStore own changes g
@@ -199,8 +231,8 @@ taken-good own c changes g form t =
     let same : changed_by changes (frame_of own) ≡ g = t.is in
     subst (λ (h : Frame). IsGoodStore own changes h) same
     (good-store own changes form t.safe t.inside (ap (λ (h : Frame). h.count) same ∙ t.count) (subst IsFrame (sym same) t.form)
-      (subst (λ (h : Frame). HasSameGoal (frame_of own) h) (sym same) t.goal) (ap (λ (h : Frame). h.own) same ∙ t.own_is) (ap (λ (h : Frame). h.opp) same ∙ t.opp_is)
-      (subst (λ (h : Frame). h.phase ≢ 0) (sym same) t.known))
+    (subst (λ (h : Frame). HasSameGoal (frame_of own) h) (sym same) t.goal) (ap (λ (h : Frame). h.own) same ∙ t.own_is) (ap (λ (h : Frame). h.opp) same ∙ t.opp_is)
+    (subst (λ (h : Frame). h.phase ≢ 0) (sym same) t.known))
 
 -- the inlet of a frame for a child of it that has returned
 pub inlet-good : (own : List ℕ) (c : Frame) → IsFormed own → IsFrame c → IsChildOf (frame_of own) c → c.phase ≡ 4 → IsGoodStore own (changes_of (frame_of own) c) (frame_after (frame_of own) c)

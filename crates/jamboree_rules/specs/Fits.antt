@@ -1,5 +1,5 @@
 -- What is kept true of each frame: it fits its children, and they fit it.
-use Rattle.std.specs.Prelude.{◌≡◌, ◌≢◌, ℕ, ◌+◌, ◌-◌, ◌<◌, ◌≤◌, ◌⊎◌, ◌==◌, true, ℤ, pos, neg_ℤ, ◌<ℤ◌, ◌≤ℤ◌, ◌+ℤ◌, List, [], ◌∷◌, map, length, slice_index, count_by}
+use Rattle.std.specs.Prelude.{◌≡◌, ◌≢◌, ℕ, ◌-◌, ◌<◌, ◌≤◌, ◌⊎◌, ◌==◌, true, ℤ, pos, neg_ℤ, ◌<ℤ◌, ◌≤ℤ◌, ◌+ℤ◌, List, [], ◌∷◌, map, length, slice_index, count_by}
 use Rattle.othello_moves.specs.Choices.{choices, after}
 use Rattle.othello_eval.specs.Minimax.{best_choice}
 use Rattle.leaf_search.specs.Bounds.{IsBound}

@@ -1,6 +1,6 @@
 -- A frame of a Jamboree search in the terms of the game: its board, its goal, its place under its parent, and how far it has come.
 -- (Kuszmaul, Synchronized MIMD Computing, 1994: Jamboree search.)
-use Rattle.std.specs.Prelude.{◌≡◌, ℕ, ◌-◌, ◌%◌, ◌==◌, ◌&&◌, ◌||◌, nat_le, nat_lt, Bool, true, ℤ, pos, negsuc, neg_ℤ, int_le, int_lt, List, map, Option, Some, None, length, slice_index_or, bit_and, if◌then◌else◌, filter}
+use Rattle.std.specs.Prelude.{ℕ, ◌==◌, ◌&&◌, ◌||◌, nat_le, nat_lt, Bool, true, ℤ, pos, negsuc, int_le, int_lt, List, Option, Some, None, length, slice_index_or, bit_and, if◌then◌else◌, filter}
 use Rattle.std.specs.Int.{int_max}
 use Rattle.std.specs.Ordering.{int_eq}
 use Rattle.othello_board.specs.declared.cells.Cell.{Cell}
@@ -8,7 +8,7 @@ use Rattle.othello_board.specs.Rules.{squares, cell_at, is_own_cell, is_opp_cell
 use Rattle.othello_board.specs.Words.{cells_of, bits_of}
 use Rattle.othello_moves.specs.declared.choices.Choice.{Choice}
 use Rattle.othello_moves.specs.declared.choices.Choice.TheVariants.{Square, Pass}
-use Rattle.othello_moves.specs.Choices.{choices, after}
+use Rattle.othello_moves.specs.Choices.{choices}
 use Rattle.othello_eval.specs.Minimax.{minimax, choice_value}
 
 -- what a frame's words say. The phases are 0 new, 1 computing, 2 first child, 3 tests, 4 done; the roles 0 root, 1 first, 2 test,

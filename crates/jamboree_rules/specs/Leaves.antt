@@ -37,16 +37,26 @@ leaf-told own opp depth alpha beta h =
 abbrev pub leaf_with : (own opp depth : ℕ) (alpha beta : ℤ) → IsLeaf own opp depth alpha beta → Leaf
 leaf_with own opp depth alpha beta h = record {
   board = record { own = own; opp = opp; disjoint = h.disjoint };
-  depth = depth; alpha = alpha; beta = beta;
-  shallow = h.shallow; least = h.low; window = h.window; greatest = h.high;
+  depth = depth;
+  alpha = alpha;
+  beta = beta;
+  shallow = h.shallow;
+  least = h.low;
+  window = h.window;
+  greatest = h.high;
 }
 
 -- an empty board to depth 0
 abbrev pub any_leaf : Leaf
 any_leaf = record {
   board = record { own = 0; opp = 0; disjoint = refl };
-  depth = 0; alpha = pos 0; beta = pos 1;
-  shallow = lit≤ tt; least = record { le = tt }; window = record { lt = tt }; greatest = record { le = tt };
+  depth = 0;
+  alpha = pos 0;
+  beta = pos 1;
+  shallow = lit≤ tt;
+  least = record { le = tt };
+  window = record { lt = tt };
+  greatest = record { le = tt };
 }
 
 -- the leaf of these numbers where they are those of a leaf, else any leaf

@@ -5,3 +5,4 @@ pub mod Acts
 pub mod Fits
 pub mod Sound
 pub mod Procedure
+pub mod Rows

@@ -8,7 +8,7 @@
 -- | 7 | phase | 8 | the word of the best score | 9 | the code of the choice, 65 for none |
 -- | 10 | number of choices | 11 | number of choices spawned so far |
 -- | 12 + i | status of choice i |
-use Rattle.std.specs.Prelude.{ℕ, ◌+◌, ◌-◌, ◌%◌, ◌==◌, ◌&&◌, nat_le, Bool, true, ℤ, pos, ◌+ℤ◌, ◌-ℤ◌, nat_abs, List, [], ◌∷◌, map, drop, length, slice_index, slice_set}
+use Rattle.std.specs.Prelude.{ℕ, ◌+◌, ◌%◌, ◌==◌, ◌&&◌, nat_le, Bool, true, ℤ, pos, ◌+ℤ◌, ◌-ℤ◌, nat_abs, List, [], ◌∷◌, map, drop, length, slice_index, slice_set}
 use Rattle.jamboree_rules.specs.Frames.{Frame, is_frame, may_be_child}
 
 -- the score that a word stands for, and the word of a score
@@ -25,11 +25,19 @@ status_of entry = entry % 8
 -- the frame in these words
 abbrev pub frame_of : List ℕ → Frame
 frame_of words = record {
-  own = slice_index words 0; opp = slice_index words 1; depth = slice_index words 2;
-  alpha = score_of (slice_index words 3); beta = score_of (slice_index words 4);
-  role = slice_index words 5; number = slice_index words 6; phase = slice_index words 7;
-  best = score_of (slice_index words 8); choice = slice_index words 9;
-  count = slice_index words 10; spawned = slice_index words 11; statuses = map status_of (drop 12 words);
+  own = slice_index words 0;
+  opp = slice_index words 1;
+  depth = slice_index words 2;
+  alpha = score_of (slice_index words 3);
+  beta = score_of (slice_index words 4);
+  role = slice_index words 5;
+  number = slice_index words 6;
+  phase = slice_index words 7;
+  best = score_of (slice_index words 8);
+  choice = slice_index words 9;
+  count = slice_index words 10;
+  spawned = slice_index words 11;
+  statuses = map status_of (drop 12 words);
 }
 
 -- whether each of these entries is a status, 0 to 4

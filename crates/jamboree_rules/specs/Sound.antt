@@ -1,5 +1,5 @@
 -- That a frame is sound: what its numbers say of the minimax value of its board, and what its children search.
-use Rattle.std.specs.Prelude.{◌≡◌, ◌≢◌, ℕ, ◌-◌, ◌<◌, ◌≤◌, ◌⊎◌, ℤ, pos, neg_ℤ, ◌<ℤ◌, ◌≤ℤ◌, ◌+ℤ◌, List, [], ◌∷◌, slice_index}
+use Rattle.std.specs.Prelude.{◌≡◌, ◌≢◌, ℕ, ◌-◌, ◌<◌, ◌⊎◌, ℤ, pos, neg_ℤ, ◌<ℤ◌, ◌≤ℤ◌, ◌+ℤ◌, List, [], ◌∷◌, slice_index}
 use Rattle.othello_moves.specs.Choices.{after}
 use Rattle.othello_eval.specs.Minimax.{best_choice}
 use Rattle.leaf_search.specs.Bounds.{IsBound}

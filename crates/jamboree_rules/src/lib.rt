@@ -26,5 +26,6 @@
 
 pub mod laws;
 mod leaf;
+pub mod rows;
 
 pub use leaf::{Leaf, LeafAnswer};

@@ -1,6 +1,6 @@
 //! Lines in, answers out: reads bytes in blocks, cuts them into lines, and writes the answer to each line
 //! with an LF as soon as the line is complete, by one call, before anything more is read. Nothing here takes
-//! memory: a block, a line and an answer are held in arrays.
+//! memory: a block and a line are held in arrays, and an answer in what the answerer has for it.
 //!
 //! A line ends with LF, and one CR directly before that LF is dropped. Bytes after the last LF, if there are
 //! any, are a line too, and keep a CR at their end. A line of more than 128 bytes without its end is
@@ -12,12 +12,17 @@
 //! may take, and which text may answer a line. What a run did is told by chains of these states
 //! (`specs/Leads.antt`, `specs/Runs.antt`), so that no read, no write and no fault can be made up: each is that
 //! of a call. Where each answer is a function of its line, what was written is a function of what was read
-//! (`run_by_function`).
+//! (`run_by_function`), and over std's readers and writers whose bytes are known so are the bytes
+//! (`known_runs_are_exact`).
+//!
+//! Two calls go through an input. `answer_lines` waits for nobody, answers every line, and ends after 2^62 bytes
+//! at the latest. `talk_lines` answers lines up to one that `Ends` the talk (`specs/Talks.antt`), and may go on
+//! for ever.
 //!
 //! ```text
 //! let mut source = FromReader { reader: b"one\r\ntwo".as_slice() };
 //! let mut sink = FromWriter::new(Vec::new(alloc));
-//! answer_lines(&mut source, &mut sink, &mut answerer)?;   // asks for `one`, writes, asks for `two`, writes
+//! answer_lines(&mut source, &mut sink, &mut Echo::new())?;   // asks for `one`, writes, asks for `two`, writes
 //! ```
 #![tactic(auto)]
 

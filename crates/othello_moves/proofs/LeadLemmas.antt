@@ -18,7 +18,15 @@ use Rattle.othello_board.proofs.CellLemmas.{cell_at-cells_of, bit_cases}
 use Rattle.othello_board.proofs.ShiftLemmas.{all_below, holds_below, both}
 use Rattle.othello_board.proofs.StepLemmas.{step_back, beside_edge, beside_next}
 use Rattle.othello_moves.proofs.BitLemmas.{is_among-filter, is_square}
-use Rattle.othello_moves.specs.Leading.{bit_of, goes_on, leads, has_both_sides, is_inner}
+use Rattle.othello_moves.specs.Inner.{bit_of, has_both_sides, is_inner}
+
+-- the next n squares beside a square in a direction begin with opposing discs, or none, and then a disc of the mover
+abbrev pub goes_on : ℕ → List Cell → Direction → ℕ → Bool
+goes_on n board d s = is_some (outflanked board (squares_beside n d s))
+
+-- an opposing disc stands on the square, and at most n more lie between it and a disc of the mover
+abbrev pub leads : ℕ → List Cell → Direction → ℕ → Bool
+leads n board d s = is_opp_cell (cell_at board s) && goes_on (suc n) board d s
 
 -- ---- the bits of a square
 

@@ -1,4 +1,4 @@
 pub mod Choices
 pub mod Sequence
 pub mod Rows
-pub mod Leading
+pub mod Inner

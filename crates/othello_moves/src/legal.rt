@@ -4,7 +4,7 @@ ghost use Rattle.std.specs.Int.{bit_at};
 ghost use Rattle.othello_board.specs.Rules.{squares, run, is_nil, is_legal};
 ghost use Rattle.othello_board.specs.Words.{cells, bits_of};
 ghost use Rattle.othello_moves.specs.Choices.{legal_squares};
-ghost use Rattle.othello_moves.specs.Leading.{bit_of, is_inner};
+ghost use Rattle.othello_moves.specs.Inner.{bit_of, is_inner};
 
 use othello_board::{Board, Direction};
 
@@ -23,8 +23,9 @@ fn inner(direction: Direction) -> u64
     }
 }
 
-/// The squares from which a run begins in a direction: those beside which so many opposing discs lead on
-/// to a disc of the mover. The discs that lead on are found by runs of 1, of 2, of 4 and of 6.
+/// The squares from which a run begins in a direction, whatever stands on them: the squares before an
+/// opposing disc that leads on, over opposing discs, to a disc of the mover. Those discs are found for runs
+/// of 1 and of 2, and then by twos for runs of 4 and of 6, the longest there is.
 #[inline(always)]
 fn starts(board: Board, direction: Direction) -> u64
     ensures { (t : ℕ) → t < 64 → bit_at result t ≡ bit_of (not (is_nil (run (cells board) t direction))) }

@@ -211,6 +211,12 @@ core-after functions fits rooted origins before step did outcome lawful known sh
         other number (λ e. omega (arith, e, low, numbers.0)) ∙ core.unused number (omega (arith, low, numbers.1))
 
 -- whatever a step is answered
+pub known-answer : {I A : Type 0} (functions : Functions I A) (before : Shared) (step : StepOf A) (answer : Result (DidOf I) Refusal) → IsKnown before → IsAnswerTo functions before step answer → IsKnown (after_answer functions before step answer)
+known-answer functions before step (Err refusal) known right = known
+known-answer functions before step (Ok did) known right =
+    let t = step-taken functions before step did known right in
+    let K : Shared → Type 0 = λ after. IsKnown after in subst K (sym (shared-after-taken functions before step did t)) t.known
+
 pub answer-keeps : {I A : Type 0} (functions : Functions I A) (fits : Fitting) (rooted : Rooting) (origins : ℕ → Lists) (before : Shared) (step : StepOf A) (answer : Result (DidOf I) Refusal) → IsLawful functions fits rooted → IsKnown before → AreShaped before.tenants → CoreFits fits rooted origins before →
     (is_ok answer ≡ true → RootFits fits rooted step) → IsAnswerTo functions before step answer → IsKnown (after_answer functions before step answer) × CoreFits fits rooted (origins_after origins step answer) (after_answer functions before step answer)
 answer-keeps functions fits rooted origins before step (Err refusal) lawful known shaped core root right = (known, core)

@@ -15,3 +15,4 @@ pub mod Spending
 pub mod Sums
 pub mod Latest
 pub mod Orders
+pub mod EndedJobs

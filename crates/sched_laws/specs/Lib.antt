@@ -2,3 +2,4 @@ pub mod Shapes
 pub mod Fitted
 pub mod Spends
 pub mod Newest
+pub mod Ended

@@ -1,5 +1,5 @@
 //! What every step keeps.
-ghost use Rattle.std.specs.Prelude.{◌≡◌, ℕ, ◌≤◌, List, [], ◌∷◌, Some, Result, length, true};
+ghost use Rattle.std.specs.Prelude.{◌≡◌, ℕ, ◌≤◌, List, [], ◌∷◌, ◌++◌, Some, Result, length, true};
 ghost use Rattle.tenant_quota.specs.Quota.{Quota, IsWithinLimits};
 ghost use Rattle.tenant_quota.specs.Accounts.{IsWithinReserve};
 ghost use Rattle.frame_table.specs.declared.names.State.TheVariants.{Computing, Returned};
@@ -11,7 +11,7 @@ ghost use Rattle.sched_rules.specs.declared.step.DidOf.{DidOf};
 ghost use Rattle.sched_rules.specs.Trees.{Tenant, account_in, is_root, job_at, job_under};
 ghost use Rattle.sched_rules.specs.Runs.{only};
 ghost use Rattle.sched_rules.specs.Cores.{Shared, shared_by_nobody, tenant_in};
-ghost use Rattle.sched_rules.specs.Headline.{AreAnswersTo, IsKnown, after_answer, after_answers, taken};
+ghost use Rattle.sched_rules.specs.Headline.{IsAnswerTo, AreAnswersTo, IsKnown, after_answer, after_answers, taken};
 ghost use Rattle.sched_laws.specs.Shapes.{IsShaped, AreShaped};
 ghost use Rattle.sched_laws.specs.Fitted.{TenantFits, CoreFits, RootsFit, StaysFitting, origins_of};
 
@@ -38,13 +38,23 @@ pub fn what_the_shape_gives()
     ensures few { (tenant : Tenant) → IsShaped tenant → length tenant.frames ≤ tenant.reserve.segments }
 {}
 
+/// Whatever a step is rightly answered, no tenant is there under a number that wasn't taken.
+pub fn every_number_stays_taken<P: Procedure>()
+    ensures { (procedure : P) (before : Shared) (step : StepOf P.Answer) (answer : Result (DidOf P.Input) Refusal) →
+        IsKnown before → IsAnswerTo (P.functions procedure) before step answer → IsKnown (after_answer (P.functions procedure) before step answer) }
+{}
+
 /// Where the new root of each taken Submit fits, and belongs to the words that were submitted, a core
 /// whose frames fit and whose jobs hold what they were asked is such a core before and after each step
-/// of a list. A core of nobody is one.
+/// of a list, and at its end with the words of the taken Submits added. A core of nobody is one.
 pub fn every_frame_fits<P: Procedure>()
     ensures each_step { (procedure : P) (origins : ℕ → List (List ℕ)) (before : Shared) (steps : List (StepOf P.Answer)) (answers : List (Result (DidOf P.Input) Refusal)) →
         IsKnown before → AreShaped before.tenants → CoreFits (P.fits procedure) (P.rooted procedure) origins before → AreAnswersTo (P.functions procedure) before steps answers →
         StaysFitting (P.functions procedure) (P.fits procedure) (P.rooted procedure) origins before steps answers }
+    ensures at_end { (procedure : P) (origins : ℕ → List (List ℕ)) (before : Shared) (steps : List (StepOf P.Answer)) (answers : List (Result (DidOf P.Input) Refusal)) →
+        IsKnown before → AreShaped before.tenants → CoreFits (P.fits procedure) (P.rooted procedure) origins before → AreAnswersTo (P.functions procedure) before steps answers →
+        RootsFit (P.fits procedure) (P.rooted procedure) (taken steps answers) →
+        CoreFits (P.fits procedure) (P.rooted procedure) (λ number. origins number ++ origins_of (only number (taken steps answers))) (after_answers (P.functions procedure) before steps answers) }
     ensures nobody { (procedure : P) (totals : Quota) → CoreFits (P.fits procedure) (P.rooted procedure) (λ number. []) (shared_by_nobody totals) }
 {}
 

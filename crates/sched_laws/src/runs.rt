@@ -9,10 +9,12 @@ ghost use Rattle.sched_rules.specs.declared.step.StepOf.TheVariants.{Submit};
 ghost use Rattle.sched_rules.specs.declared.step.DidOf.{DidOf};
 ghost use Rattle.sched_rules.specs.declared.step.DidOf.TheVariants.{Submitted};
 ghost use Rattle.sched_rules.specs.Trees.{Tenant};
+ghost use Rattle.sched_rules.specs.Lone.{Outcome, lone_step};
 ghost use Rattle.sched_rules.specs.Runs.{only, alone_from, answers_from};
 ghost use Rattle.sched_rules.specs.Cores.{Shared, shared_by_nobody, tenant_in};
 ghost use Rattle.sched_rules.specs.Headline.{IsAnswerTo, AreAnswersTo, after_answers, taken};
 ghost use Rattle.sched_laws.specs.Shapes.{IsShaped};
+ghost use Rattle.sched_laws.specs.Ended.{KeepsEnded};
 ghost use Rattle.sched_laws.specs.Fitted.{origins_of};
 ghost use Rattle.sched_laws.specs.Newest.{IsNewestReady};
 
@@ -45,4 +47,10 @@ pub fn jobs_are_numbered_by_their_submits<P: Procedure>()
 pub fn the_newest_ready_frame_has_the_greatest_serial()
     ensures found { (tenant : Tenant) (number : ℕ) (name : FrameId) (home : ℕ) → IsShaped tenant → newest_ready_of number tenant.frames ≡ Some (name, home) → IsNewestReady number tenant.frames name home }
     ensures none { (tenant : Tenant) (number s : ℕ) (frame : Frame (List ℕ)) → IsShaped tenant → newest_ready_of number tenant.frames ≡ None → frame_at tenant.frames s ≡ Some frame → is_ready frame.state ≡ false }
+{}
+
+/// Whatever a tenant does but leave, a job that has ended stays as it is, under its number.
+pub fn ended_jobs_stay<P: Procedure>()
+    ensures { (procedure : P) (tenant : Tenant) (step : StepOf P.Answer) (outcome : Outcome P.Input) →
+        lone_step (P.functions procedure) tenant step ≡ Ok outcome → KeepsEnded tenant.jobs outcome.0 }
 {}

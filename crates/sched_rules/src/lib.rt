@@ -13,20 +13,18 @@
 //! that is busy with another tenant's frame. What holds of any list of steps by any workers for any
 //! tenants stands in `specs/Headline.antt`: each tenant is what its own steps give, and a step is
 //! refused only for its own tenant's state or a busy worker. [`laws`] proves it of the definitions,
-//! for every procedure; [`rows`], [`effect_rows`] and [`refusal_rows`] compute worked examples of
-//! them.
+//! for every procedure. What a run keeps besides is proved in `sched_laws`; worked examples of all
+//! these definitions are in `sched_toys`.
 //!
 //! What a procedure is to the core is one ghost member, `functions`: five functions of the words
 //! shown and of the values passed alone. Its invariant is `fits`: where a frame, its parent and its
-//! children fit, each taken step leaves them fitting (`specs/Laws.antt`). [`Fan`] and [`Chain`] are
-//! two toy procedures whose every step can be followed by hand.
+//! children fit, each taken step leaves them fitting (`specs/Laws.antt`); `rooted` says whose words a
+//! root's are.
 //!
 //! ```text
-//! // a root of Fan that has opened three children waits next
-//! let node = stack.open(None, &[0, 3], 4)?;
-//! let act = Fan.next(&stack.sight(node));
-//! act.stores.as_slice() == [(1, 4)];
-//! matches!(act.after, Then::Wait);
+//! // what a finished job keeps of a root of 20 words
+//! let node = stack.open(None, &[2, 2, 1], 20)?;
+//! JobWords::of(&stack.own(node)).as_slice() == [2, 2, 1, 0, 0, 0, 0, 0, 0, 0, 0, 0]
 //! ```
 #![tactic(auto)]
 

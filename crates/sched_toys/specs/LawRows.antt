@@ -1,13 +1,12 @@
 -- Small tenants, jobs and procedures on which the laws are tried.
-use Rattle.std.specs.Prelude.{◌≡◌, ℕ, List, [], ◌∷◌, replicate}
+use Rattle.std.specs.Prelude.{◌≡◌, List, [], ◌∷◌}
 use Rattle.frame_table.specs.declared.names.State.{State}
-use Rattle.frame_table.specs.declared.names.State.TheVariants.{Ready, Running, Waiting, Returned}
+use Rattle.frame_table.specs.declared.names.State.TheVariants.{Ready, Returned}
 use Rattle.sched_rules.specs.declared.job.Job.{Job}
-use Rattle.sched_rules.specs.declared.job.Job.TheVariants.{Live, Done, Spent, Cancelled}
+use Rattle.sched_rules.specs.declared.job.Job.TheVariants.{Done, Spent, Cancelled}
 use Rattle.sched_rules.specs.Trees.{Tree, Tenant}
 use Rattle.sched_rules.specs.Laws.{Fitting, Rooting, HasReturned}
 use Rattle.sched_toys.specs.Toys.{word_at}
-use Rattle.sched_toys.specs.FanRows.{quota}
 use Rattle.sched_toys.specs.SmallStates.{fresh, root, child}
 
 -- a root in this state with two children

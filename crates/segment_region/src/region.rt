@@ -14,11 +14,13 @@ use std::marker::Model;
 
 /// Segments of sixteen words, of which some are taken.
 pub struct Region<A: Allocator = Global> {
+    // One allocation of `count` blocks from `base` on: its owner, the right to free it, and by whom.
     base: Base<WordBlock>,
     count: usize,
     cells: Cells<WordBlock>,
     deed: Deed<WordBlock, A>,
     alloc: A,
+    // The first of the free blocks, and how many there are.
     free_head: Option<SegNo>,
     free_len: usize,
 }

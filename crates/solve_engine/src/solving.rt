@@ -120,12 +120,13 @@ pub fn solve_bytes<R: Read, W: Write>(
     source: &mut FromReader<R>,
     sink: &mut FromWriter<W>,
 ) -> Result<(), LineFault>
-    ensures { OnOk result ((bytes held : List ℕ) → R.remaining source.old.reader ≡ Some bytes → W.contents sink.old.writer ≡ Some held
+    ensures run { FunctionRun ⟦<FromReader<R> as Source>⟧.gives ⟦<FromWriter<W> as Sink>⟧.takes solve_out source.old sink.old source.new sink.new result }
+    ensures known { OnOk result ((bytes held : List ℕ) → R.remaining source.old.reader ≡ Some bytes → W.contents sink.old.writer ≡ Some held
         → W.contents sink.new.writer ≡ Some (held ++ solve_out bytes)) }
 {
-    solve(source, sink)?;
+    let result = solve(source, sink);
     known_runs_are_exact::<R, W>();
-    Ok(())
+    result
 }
 
 /// The same by lines `value move visited`.

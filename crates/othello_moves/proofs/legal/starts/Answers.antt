@@ -2,7 +2,7 @@ use Rattle.std.proofs.Common.{◌≡◌, ◌<◌, ℕ, bit_and, bit_or, ap, ◌�
 use Rattle.std.specs.Int.{bit_at}
 use Rattle.othello_board.specs.Words.{cells}
 use Rattle.othello_board.specs.Shifts.{opposite, slid_from, bit_there}
-use Rattle.othello_moves.specs.Leading.{bit_of}
+use Rattle.othello_moves.specs.Inner.{bit_of}
 use Rattle.othello_moves.proofs.LeadLemmas.{inside, inside_bit, paired, paired_bit, led, led_one, led_more, led_two_more, start_bit}
 use Rattle.othello_moves.proofs.legal.starts.Goals as goal
 

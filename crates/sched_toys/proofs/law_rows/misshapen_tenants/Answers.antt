@@ -1,4 +1,4 @@
-use Rattle.std.proofs.Common.{refl, inl, inr, arith, ◌≡◌}
+use Rattle.std.proofs.Common.{refl, inl, inr, arith}
 use Rattle.sched_toys.proofs.law_rows.misshapen_tenants.Goals as goal
 
 pub returns : goal.returns

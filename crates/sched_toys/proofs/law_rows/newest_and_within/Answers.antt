@@ -1,4 +1,4 @@
-use Rattle.std.proofs.Common.{refl, arith, lit≤, lit<, ◌≡◌}
+use Rattle.std.proofs.Common.{refl, arith, lit≤, lit<}
 use Rattle.sched_laws.proofs.Latest.{newest-found}
 use Rattle.sched_toys.proofs.law_rows.newest_and_within.Goals as goal
 

@@ -1,4 +1,4 @@
-use Rattle.std.proofs.Common.{refl, inl, inr, lit≤, lit<, ◌≡◌}
+use Rattle.std.proofs.Common.{refl, inl, inr, lit≤, lit<}
 use Rattle.std.proofs.Common.{ℕ, zero, suc, []}
 use Rattle.std.specs.Prelude.{replicate}
 use Rattle.sched_rules.specs.declared.job.Job.TheVariants.{Cancelled}

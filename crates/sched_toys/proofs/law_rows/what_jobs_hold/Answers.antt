@@ -1,4 +1,4 @@
-use Rattle.std.proofs.Common.{refl, inl, inr, arith, ◌≡◌, ℕ, List, [], ◌∷◌, length, ap}
+use Rattle.std.proofs.Common.{refl, arith, ◌≡◌, ℕ, List, [], ◌∷◌, length, ap}
 use Rattle.std.specs.Prelude.{replicate}
 use Rattle.std.proofs.lemmas.List.{length-take}
 use Rattle.sched_rules.specs.Trees.{kept_words}

@@ -1,4 +1,4 @@
-use Rattle.std.proofs.Common.{refl, inl, inr, ◌≡◌, [], ◌∷◌}
+use Rattle.std.proofs.Common.{refl, inl, inr, [], ◌∷◌}
 use Rattle.std.proofs.lemmas.Bool.{false≢true}
 use Rattle.frame_table.specs.declared.names.State.TheVariants.{Ready, Running, Waiting, Returned}
 use Rattle.sched_rules.specs.declared.act.Then.TheVariants.{Grow}

@@ -7,10 +7,14 @@ use Rattle.frame_table.proofs.Trees.{few_counts, added_sound, added_frames}
 use Rattle.frame_table.proofs.Readies.{is_tenant, few_ready_in, added_ready}
 use Rattle.frame_table.proofs.Shelves.{length-with_child}
 use Rattle.frame_table.proofs.Lengths.{length_more}
+use Rattle.frame_table.proofs.Indexes.{length-serials_of, added_index}
 use Rattle.frame_table.proofs.tree.TenantFrames.add.Goals as goal
 
 pub adopt-root-requires-clause-rise : goal.adopt-root-requires-clause-rise
 adopt-root-requires-clause-rise g c = linked_rises [] _ c.self.invariant.sound.linked
+
+pub adopt-root-requires-clause-index : goal.adopt-root-requires-clause-index
+adopt-root-requires-clause-index g c = c.self.invariant.index
 
 pub adopt-root-requires-clause-there : goal.adopt-root-requires-clause-there
 adopt-root-requires-clause-there g c =
@@ -32,6 +36,12 @@ pub push-requires-2 : goal.push-requires-2
 push-requires-2 g c =
     let room = rw (← c.self.view_is) at c.requires.room in
     let long = frames_from-length [] c.self.inside.shelf.slots in
+    omega (arith, room, long, ap length c.self.invariant.index, length-serials_of c.self.inside.shelf.slots, c.self.invariant.serial_places)
+
+pub push-requires-3 : goal.push-requires-3
+push-requires-3 g c =
+    let room = rw (← c.self.view_is) at c.requires.room in
+    let long = frames_from-length [] c.self.inside.shelf.slots in
     let few = few_ready_in c.self.inside.shelf.slots in
     omega (arith, room, long, few, ap length c.self.invariant.ready_frames, c.self.invariant.ready_places)
 
@@ -43,11 +53,13 @@ invariant_of-self g c =
     let room = rw (← c.self.view_is) at c.requires.room in
     let whole = rw c.adopt-root.ensures.counted at c.push.ensures in
     let long = frames_from-length [] slots in
-    rw (whole, c.push-2.ensures) (is_tenant _ _ _ _
+    rw (whole, c.push-2.ensures, c.push-3.ensures) (is_tenant _ _ _ _ _
     (added_sound slots _ (length c.self.inside.ready.frames) c.args.serial c.adopt-root.result.0 c.args.home c.args.parent c.args.value c.self.invariant.sound above there c.adopt-root.ensures.root refl)
+    (added_index slots c.args.parent _ c.self.inside.serials.serials c.self.invariant.index)
     (added_ready slots c.args.parent _ c.args.home c.self.inside.ready.frames c.self.invariant.ready_frames refl)
     (omega (arith, room, long, length-with_child c.args.parent slots, length_more (with_child c.args.parent slots) (record { serial = c.args.serial; parent = c.args.parent; root = c.adopt-root.result.0; state = Ready c.args.home; children = 0; value = c.args.value })))
     c.self.invariant.few
+    c.self.invariant.serial_places
     c.self.invariant.ready_places)
 
 pub returns : goal.returns

@@ -7,56 +7,63 @@ use Rattle.frame_table.proofs.Finds.{found}
 use Rattle.frame_table.proofs.Changes.{lost_counted}
 use Rattle.frame_table.proofs.Trees.{found_value, leaf_slots, lost, lost_sound, lost_frames}
 use Rattle.frame_table.proofs.Readies.{is_tenant, tenant_rises, ready_in-remove, ready_in-without_child}
+use Rattle.frame_table.proofs.Indexes.{found_at, index_rises, there_at, removed_index, serials_of-without_child}
 use Rattle.frame_table.proofs.tree.TenantFrames.remove.Goals as goal
 
 pub known_place-at-requires-clause-rise : goal.known_place-at-requires-clause-rise
-known_place-at-requires-clause-rise g c = linked_rises [] _ c.self.invariant.sound.linked
+known_place-at-requires-clause-rise g c = index_rises _ _ c.self.invariant.index c.self.invariant.sound.linked
 
 pub known_place-at-requires-clause-there : goal.known_place-at-requires-clause-there
 known_place-at-requires-clause-there g c =
     let there = rw (← c.self.view_is) at c.requires.there in
-    sym (has_frame-frames_from [] c.self.inside.shelf.slots c.args.serial) ∙ there
+    there_at _ _ _ c.self.invariant.index (sym (has_frame-frames_from [] c.self.inside.shelf.slots c.args.serial) ∙ there)
 
 pub take-slot-requires-clause-linked : goal.take-slot-requires-clause-linked
 take-slot-requires-clause-linked g c = c.self.invariant.sound.linked
 
 pub take-slot-requires-clause-leaf : goal.take-slot-requires-clause-leaf
 take-slot-requires-clause-leaf g c =
+    let place = found_at _ _ _ _ c.self.invariant.index c.known_place-at.ensures.within c.known_place-at.ensures.found in
     let leaf = rw (← c.self.view_is) at c.requires.leaf in
-    rw c.known_place-at.ensures.found (leaf_slots c.self.inside.shelf.slots c.args.serial c.self.invariant.sound.linked leaf)
+    rw place.found (leaf_slots c.self.inside.shelf.slots c.args.serial c.self.invariant.sound.linked leaf)
 
 pub forget-requires : goal.forget-requires
 forget-requires g c =
+    let place = found_at _ _ _ _ c.self.invariant.index c.known_place-at.ensures.within c.known_place-at.ensures.found in
     let leaf = rw (← c.self.view_is) at c.requires.leaf in
-    let h = lost c.self.inside.shelf.slots _ c.known_place-at.result c.args.serial c.take-slot.result c.self.invariant.sound c.known_place-at.ensures.within c.known_place-at.ensures.found c.take-slot.ensures.value leaf in
-    rw c.take-slot.ensures.left (record { rise = linked_rises [] _ h.linked; there = h.parent; counted = lost_counted _ _ c.take-slot.result h })
+    let h = lost c.self.inside.shelf.slots _ c.known_place-at.result c.args.serial c.take-slot.result c.self.invariant.sound place.within place.found c.take-slot.ensures.value leaf in
+    rw (c.remove.ensures, c.take-slot.ensures.left) (record { index = removed_index c.self.inside.shelf.slots c.self.inside.serials.serials c.known_place-at.result c.self.invariant.index; rise = linked_rises [] _ h.linked; there = h.parent; counted = lost_counted _ _ c.take-slot.result h })
+
+pub remove-requires : goal.remove-requires
+remove-requires g c = c.known_place-at.ensures.within
 
 pub leave-requires : goal.leave-requires
-leave-requires g c = tenant_rises _ _ _ c.self.invariant
+leave-requires g c = tenant_rises _ _ _ _ c.self.invariant
 
 pub invariant_of-self : goal.invariant_of-self
 invariant_of-self g c =
+    let place = found_at _ _ _ _ c.self.invariant.index c.known_place-at.ensures.within c.known_place-at.ensures.found in
     let slots = c.self.inside.shelf.slots in
-    let within = c.known_place-at.ensures.within in
-    let at = c.known_place-at.ensures.found in
     let leaf = rw (← c.self.view_is) at c.requires.leaf in
-    let gone = ready_in-remove slots c.known_place-at.result c.args.serial c.take-slot.result (linked_rises [] slots c.self.invariant.sound.linked) within at c.take-slot.ensures.value in
-    rw (c.forget.ensures, c.take-slot.ensures.left, c.leave.ensures) (is_tenant _ _ _ _
-    (lost_sound slots _ _ _ c.known_place-at.result c.args.serial c.take-slot.result c.self.invariant.sound within at c.take-slot.ensures.value leaf refl refl)
+    let gone = ready_in-remove slots c.known_place-at.result c.args.serial c.take-slot.result (linked_rises [] slots c.self.invariant.sound.linked) place.within place.found c.take-slot.ensures.value in
+    rw (c.forget.ensures, c.take-slot.ensures.left, c.leave.ensures, c.remove.ensures) (is_tenant _ _ _ _ _
+    (lost_sound slots _ _ _ c.known_place-at.result c.args.serial c.take-slot.result c.self.invariant.sound place.within place.found c.take-slot.ensures.value leaf refl refl)
+    (removed_index slots c.self.inside.serials.serials c.known_place-at.result c.self.invariant.index ∙ sym (serials_of-without_child c.take-slot.result.parent (remove slots c.known_place-at.result)))
     (rw (ready_in-without_child c.take-slot.result.parent (remove slots c.known_place-at.result), c.self.invariant.ready_frames) gone)
-    (omega (arith, c.self.invariant.within, length-remove slots c.known_place-at.result within, length-without_child c.take-slot.result.parent (remove slots c.known_place-at.result)))
+    (omega (arith, c.self.invariant.within, length-remove slots c.known_place-at.result place.within, length-without_child c.take-slot.result.parent (remove slots c.known_place-at.result)))
     c.self.invariant.few
+    c.self.invariant.serial_places
     c.self.invariant.ready_places)
 
 pub returns-clause-left : goal.returns-clause-left
 returns-clause-left g c =
+    let place = found_at _ _ _ _ c.self.invariant.index c.known_place-at.ensures.within c.known_place-at.ensures.found in
     let leaf = rw (← c.self.view_is) at c.requires.leaf in
-    let frames = lost_frames c.self.inside.shelf.slots _ _ _ c.known_place-at.result c.args.serial c.take-slot.result c.self.invariant.sound c.known_place-at.ensures.within c.known_place-at.ensures.found c.take-slot.ensures.value leaf refl refl in
+    let frames = lost_frames c.self.inside.shelf.slots _ _ _ c.known_place-at.result c.args.serial c.take-slot.result c.self.invariant.sound place.within place.found c.take-slot.ensures.value leaf refl refl in
     rw (← c.self.view_is, c.forget.ensures, c.take-slot.ensures.left, frames) refl
 
 pub returns-clause-value : goal.returns-clause-value
 returns-clause-value g c =
-    let within = c.known_place-at.ensures.within in
-    let at = c.known_place-at.ensures.found in
-    let f = found [] c.self.inside.shelf.slots c.known_place-at.result c.args.serial c.take-slot.result c.self.invariant.sound.linked tt within at c.take-slot.ensures.value in
+    let place = found_at _ _ _ _ c.self.invariant.index c.known_place-at.ensures.within c.known_place-at.ensures.found in
+    let f = found [] c.self.inside.shelf.slots c.known_place-at.result c.args.serial c.take-slot.result c.self.invariant.sound.linked tt place.within place.found c.take-slot.ensures.value in
     rw (← c.self.view_is) (found_value _ c.take-slot.result c.args.serial f.0 c.take-slot.result.value f.1 refl)

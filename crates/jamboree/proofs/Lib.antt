@@ -1,0 +1,7 @@
+pub mod StatusLemmas
+pub mod ViewLemmas
+pub mod OpenLemmas
+pub mod ActLemmas
+pub mod InletLemmas
+pub mod SightLemmas
+pub mod ReplyLemmas

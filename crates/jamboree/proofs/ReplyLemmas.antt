@@ -1,0 +1,80 @@
+-- What a job keeps of a returned root.
+use Rattle.std.specs.Prelude.{◌≡◌, ℕ, zero, suc, ◌<◌, ◌≤◌, ◌==◌, Bool, true, false, ℤ, List, [], ◌∷◌, length, slice_index, Option, Some, None, find, All, IfSome, cond, if◌then◌else◌, bit_and, refl}
+use Rattle.std.proofs.Common.{take, to_z, of_z, w32, sym, ◌∙◌, ap, subst, arith}
+use Rattle.std.proofs.lemmas.Int.{ints}
+use Rattle.std.proofs.lemmas.Bool.{lt-ltb}
+use Rattle.std.proofs.lemmas.List.{get_or-take, length-take}
+use Rattle.std.proofs.lemmas.List.Elements.{All-head, All-tail}
+use Rattle.othello_board.specs.declared.cells.Cell.{Cell}
+use Rattle.othello_board.specs.Words.{cells_of}
+use Rattle.othello_moves.specs.declared.choices.Choice.{Choice}
+use Rattle.othello_moves.specs.declared.choices.Choice.TheVariants.{Square, Pass}
+use Rattle.othello_moves.specs.Choices.{choices, IsAllowed}
+use Rattle.othello_moves.proofs.AllowedLemmas.{choices_allowed}
+use Rattle.othello_eval.specs.Minimax.{minimax, best_choice, choice_value, int_equal}
+use Rattle.othello_eval.proofs.MinimaxLemmas.{best_choice-leaf, best_choice-deeper}
+use Rattle.sched_rules.specs.Laws.{HasReturned}
+use Rattle.jamboree_rules.specs.Frames.{Frame, board, coded}
+use Rattle.jamboree_rules.specs.Places.{score_of, frame_of}
+use Rattle.jamboree_rules.specs.Fits.{AreFitting, IsRoot, IsKeptRoot}
+use Rattle.jamboree_rules.proofs.Forms.{IsFormed, formed-told}
+use Rattle.jamboree_rules.proofs.Answers.{root-value}
+use Rattle.jamboree.specs.Codes.{decoded}
+use Rattle.jamboree.proofs.ViewLemmas.{word-high}
+
+found-by : (b : List Cell) (passes : Bool) (c : Choice) (more : Option Choice) → IsAllowed b c → IfSome more (IsAllowed b) → IfSome (cond passes (Some c) more) (IsAllowed b)
+found-by b true c more here rest = here
+found-by b false c more here rest = rest
+
+-- a choice that is found is allowed
+find-allowed : (b : List Cell) (p : Choice → Bool) (cs : List Choice) → All (IsAllowed b) cs → IfSome (find p cs) (IsAllowed b)
+find-allowed b p [] all = tt
+find-allowed b p (c ∷ cs) all = found-by b (p c) c (find p cs) (All-head (IsAllowed b) c cs all) (find-allowed b p cs (All-tail (IsAllowed b) c cs all))
+
+-- the code of an allowed choice, or of none, is read back
+decoded-square : (s : ℕ) → s < 64 → decoded s ≡ Some (Square s)
+decoded-square s below = ap (λ (b : Bool). if b then Some (Square s) else (if s == 64 then Some Pass else None)) (lt-ltb s 64 below)
+
+decoded-coded : (b : List Cell) (c : Option Choice) → IfSome c (IsAllowed b) → decoded (coded c) ≡ c
+decoded-coded b None h = refl
+decoded-coded b (Some (Square s)) h = decoded-square s h.0
+decoded-coded b (Some Pass) h = refl
+
+best-allowed : (depth : ℕ) (b : List Cell) → IfSome (best_choice depth b) (IsAllowed b)
+best-allowed zero b = subst (λ (c : Option Choice). IfSome c (IsAllowed b)) (sym (best_choice-leaf b)) tt
+best-allowed (suc depth) b =
+    subst (λ (c : Option Choice). IfSome c (IsAllowed b)) (sym (best_choice-deeper (suc depth) b (omega arith)))
+    (find-allowed b (λ c. int_equal (choice_value (suc depth) b c) (minimax (suc depth) b)) (choices b) (choices_allowed b))
+
+-- what the kept words hold
+pub record AreKept (words : List ℕ) : Type 0 where
+  pub len : length words ≡ 12
+  pub disjoint : bit_and (slice_index words 0) (slice_index words 1) ≡ 0
+  pub shallow : slice_index words 2 ≤ 12
+  pub small : slice_index words 8 ≤ 1200000
+  pub value : score_of (slice_index words 8) ≡ minimax (slice_index words 2) (cells_of (slice_index words 0) (slice_index words 1))
+  pub choice : decoded (slice_index words 9) ≡ best_choice (slice_index words 2) (cells_of (slice_index words 0) (slice_index words 1))
+
+whole-kept : (origin whole : List ℕ) → AreFitting whole [] HasReturned → IsRoot origin whole → AreKept (take 12 whole)
+whole-kept origin whole fits root =
+    let f : Frame = frame_of whole in
+    let form : IsFormed whole = formed-told whole fits.formed in
+    let phase : f.phase ≡ 4 = fits.frame.marked in
+    let late = form.frame.late (omega arith) in
+    let holds = root-value origin whole fits root in
+    let same : (k : ℕ) → k < 12 → slice_index (take 12 whole) k ≡ slice_index whole k = λ k below. get_or-take 12 whole k 0 below in
+    record {
+      len = length-take 12 whole ∙ (let long : 12 ≤ length whole = omega (arith, form.places) in omega arith);
+      disjoint = rw (same 0 (omega arith), same 1 (omega arith)) form.frame.leaf.disjoint;
+      shallow = rw (same 2 (omega arith)) form.frame.leaf.shallow;
+      small = rw (same 8 (omega arith)) (word-high (slice_index whole 8) late.1);
+      value = rw (same 8 (omega arith), same 2 (omega arith), same 0 (omega arith), same 1 (omega arith)) holds.0;
+      choice = rw (same 9 (omega arith), same 2 (omega arith), same 0 (omega arith), same 1 (omega arith)) (ap decoded holds.1 ∙ decoded-coded (board f) (best_choice f.depth (board f)) (best-allowed f.depth (board f)));
+    }
+
+pub kept-root : (words : List ℕ) → IsKeptRoot words → AreKept words
+kept-root words k = subst AreKept k.kept (whole-kept k.origin k.whole k.fits k.rooted)
+
+-- a value in 32 bits
+pub kept-value : (w : ℕ) (s v : ℤ) → s ≡ score_of w → w ≤ 1200000 → score_of w ≡ v → to_z w32 (of_z w32 s) ≡ v
+kept-value w s v e small is = let same : to_z w32 (of_z w32 s) ≡ score_of w = omega (arith, ints) in same ∙ is

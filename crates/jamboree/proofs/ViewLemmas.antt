@@ -1,0 +1,98 @@
+-- The numbers of the first words, where they have the form of a frame.
+use Rattle.std.specs.Prelude.{◌≡◌, ℕ, ◌+◌, ◌<◌, ◌≤◌, true, ℤ, pos, negsuc, ◌≤ℤ◌, ◌<ℤ◌, List, [], map, drop, length, slice_index, ◌==◌, ◌&&◌, bit_and, refl}
+use Rattle.std.proofs.Common.{to_z, of_z, w32, sym, subst, arith, ⊎_elim}
+use Rattle.std.proofs.lemmas.Int.{ints}
+use Rattle.std.proofs.lemmas.Bool.{cases_lt, and_parts, and_from, eqb-true, eq-eqb}
+use Rattle.jamboree_rules.specs.Frames.{least, greatest, unscored, is_frame}
+use Rattle.jamboree_rules.specs.Places.{score_of, status_of, frame_of, are_statuses, is_formed}
+use Rattle.jamboree_rules.proofs.Forms.{IsFrame, frame-told}
+use Rattle.jamboree.specs.declared.phases.Phase.{Phase}
+use Rattle.jamboree.specs.declared.phases.Role.{Role}
+use Rattle.jamboree.specs.declared.phases.Status.{Status}
+use Rattle.jamboree.specs.declared.view.Head.{Head}
+use Rattle.jamboree.specs.Numbers.{phase_number, role_number, status_number, frame_by}
+use Rattle.jamboree.specs.Views.{head_of, frame_from}
+
+-- the ranges of these words
+pub record AreRanged (h : Head) : Type 0 where
+  pub disjoint : bit_and h.own h.opp ≡ 0
+  pub depth : h.depth ≤ 12
+  pub alpha_low : 800000 ≤ h.alpha
+  pub alpha_high : h.alpha ≤ 1200000
+  pub beta_low : 800000 ≤ h.beta
+  pub beta_high : h.beta ≤ 1200000
+  pub window : h.alpha < h.beta
+  pub role : h.role ≤ 3
+  pub phase : h.phase ≤ 4
+  pub best : h.best ≤ 1200000
+  pub choice : h.choice ≤ 65
+  pub spawned : h.spawned ≤ h.count
+
+word-low : (w : ℕ) → least ≤ℤ score_of w → 800000 ≤ w
+word-low w h = omega (arith, ints)
+
+pub word-high : (w : ℕ) → score_of w ≤ℤ greatest → w ≤ 1200000
+word-high w h = omega (arith, ints)
+
+word-none : (w : ℕ) → score_of w ≡ unscored → w ≤ 1200000
+word-none w h = omega (arith, ints)
+
+pub ranged : (h : Head) → is_frame (frame_from h []) ≡ true → AreRanged h
+ranged h e =
+    let f : IsFrame (frame_from h []) = frame-told (frame_from h []) e in
+    let low : least ≤ℤ score_of h.alpha = f.leaf.low in
+    let window : score_of h.alpha <ℤ score_of h.beta = f.leaf.window in
+    let high : score_of h.beta ≤ℤ greatest = f.leaf.high in
+    record {
+      disjoint = f.leaf.disjoint;
+      depth = f.leaf.shallow;
+      alpha_low = word-low h.alpha low;
+      alpha_high = word-high h.alpha (omega (arith, ints));
+      beta_low = word-low h.beta (omega (arith, ints));
+      beta_high = word-high h.beta high;
+      window = omega (arith, ints);
+      role = f.role;
+      phase = f.phase;
+      best = ⊎_elim (λ (early : h.phase < 2). word-none h.best (f.early (omega arith)).0) (λ (late : 2 ≤ h.phase). word-high h.best (f.late (omega arith)).1) (cases_lt h.phase 2);
+      choice = f.choice;
+      spawned = f.spawned;
+    }
+
+-- a score survives 32 bits
+pub as-wide : (w : ℕ) (s : ℤ) → s ≡ score_of w → w ≤ 1200000 → to_z w32 (of_z w32 s) ≡ score_of w
+as-wide w s e small = omega (arith, ints)
+
+-- the frame of parts that stand for these words
+pub frame-same : (h : Head) (statuses : List Status) (role : Role) (phase : Phase) (alpha beta best : ℤ) → alpha ≡ score_of h.alpha → beta ≡ score_of h.beta → role_number role ≡ h.role → phase_number phase ≡ h.phase → best ≡ score_of h.best →
+    frame_by h.own h.opp h.depth alpha beta role h.number phase best h.choice h.count h.spawned statuses ≡ frame_from h (map status_number statuses)
+frame-same h statuses role phase alpha beta best ea eb er ep es = rw (ea, eb, er, ep, es) refl
+
+-- words that have the form of a frame, part by part
+pub formed-by : (w : List ℕ) (h : Head) → h ≡ head_of w → (length w ≡ 12 + h.count) × (are_statuses (drop 12 w) ≡ true) → is_frame (frame_from h []) ≡ true → is_formed w ≡ true
+formed-by w h e places frame =
+    subst (λ (k : Head). (length w ≡ 12 + k.count) × (are_statuses (drop 12 w) ≡ true) → is_frame (frame_from k []) ≡ true → is_formed w ≡ true) (sym e)
+    (λ at test. and_from (length w == 12 + slice_index w 10) (are_statuses (drop 12 w) && is_frame (frame_of w)) (eq-eqb (length w) (12 + slice_index w 10) at.0)
+    (and_from (are_statuses (drop 12 w)) (is_frame (frame_of w)) at.1 test)) places frame
+
+pub formed-parts : (w : List ℕ) (h : Head) → h ≡ head_of w → is_formed w ≡ true → ((length w ≡ 12 + h.count) × (are_statuses (drop 12 w) ≡ true)) × (is_frame (frame_from h []) ≡ true)
+formed-parts w h e formed =
+    let a = and_parts (length w == 12 + slice_index w 10) (are_statuses (drop 12 w) && is_frame (frame_of w)) formed in
+    let b = and_parts (are_statuses (drop 12 w)) (is_frame (frame_of w)) a.1 in
+    subst (λ (k : Head). ((length w ≡ 12 + k.count) × (are_statuses (drop 12 w) ≡ true)) × (is_frame (frame_from k []) ≡ true)) (sym e)
+    ((eqb-true (length w) (12 + slice_index w 10) a.0, b.0), b.1)
+
+pub frame-is : (w : List ℕ) (h : Head) (statuses : List ℕ) → h ≡ head_of w → statuses ≡ map status_of (drop 12 w) → frame_from h statuses ≡ frame_of w
+frame-is w h statuses e s = rw (e, s) refl
+
+-- the scores of words in 32 bits
+pub wide-low : (w : ℕ) (s : ℤ) → s ≡ score_of w → 800000 ≤ w → w ≤ 1200000 → negsuc 199999 ≤ℤ to_z w32 (of_z w32 s)
+wide-low w s e low high = omega (arith, ints)
+
+pub wide-high : (w : ℕ) (s : ℤ) → s ≡ score_of w → w ≤ 1200000 → to_z w32 (of_z w32 s) ≤ℤ pos 200000
+wide-high w s e high = omega (arith, ints)
+
+pub wide-least : (w : ℕ) (s : ℤ) → s ≡ score_of w → w ≤ 1200000 → negsuc 999999 ≤ℤ to_z w32 (of_z w32 s)
+wide-least w s e high = omega (arith, ints)
+
+pub wide-window : (v w : ℕ) (s t : ℤ) → s ≡ score_of v → t ≡ score_of w → v < w → v ≤ 1200000 → w ≤ 1200000 → to_z w32 (of_z w32 s) <ℤ to_z w32 (of_z w32 t)
+wide-window v w s t es et below hv hw = omega (arith, ints)

@@ -1,0 +1,16 @@
+use Rattle.std.proofs.Common.{arith}
+use Rattle.std.proofs.lemmas.Int.{ints}
+use Rattle.std.specs.Prelude.{◌≤ℤ◌, ◌<ℤ◌, pos, negsuc, neg_ℤ}
+use Rattle.jamboree.specs.Views.{frame_in}
+use Rattle.jamboree.proofs.ActLemmas.{negated, two-stores, act-by, spawns-by, first-by}
+use Rattle.jamboree.proofs.next.first_search.Goals as goal
+
+pub returns : goal.returns
+returns c =
+    let v = c.args.frame.now in
+    let low : negsuc 199999 ≤ℤ v.alpha = v.least in
+    let window : v.alpha <ℤ v.beta = v.window in
+    let high : v.beta ≤ℤ pos 200000 = v.greatest in
+    first-by (frame_in v) _ c.if-frame-ne0.false
+    (act-by _ _ _ _ (two-stores _ _ _ _ _ _ c.new.ensures c.spawned.ensures c.status.ensures c.stores.ensures)
+    (spawns-by (frame_in v) 1 0 _ (neg_ℤ v.beta) _ (neg_ℤ v.alpha) c.opens.result c.opens.ensures (negated v.beta (omega (arith, ints)) (omega (arith, ints))) (negated v.alpha (omega (arith, ints)) (omega (arith, ints)))))

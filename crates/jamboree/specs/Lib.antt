@@ -1,0 +1,5 @@
+pub mod Numbers
+pub mod Views
+pub mod Levels
+pub mod Codes
+pub mod Replies

@@ -1,0 +1,46 @@
+-- The typed view of a frame's words: which frame it stands for.
+use Rattle.std.specs.Prelude.{ℕ, List, slice_index}
+use Rattle.jamboree.specs.declared.view.Head.{Head}
+use Rattle.jamboree.specs.declared.frame.View.{View}
+use Rattle.jamboree_rules.specs.Frames.{Frame}
+use Rattle.jamboree_rules.specs.Places.{score_of}
+use Rattle.jamboree.specs.Numbers.{frame_by}
+
+-- the first twelve words
+abbrev pub head_of : List ℕ → Head
+head_of words = record {
+  own = slice_index words 0;
+  opp = slice_index words 1;
+  depth = slice_index words 2;
+  alpha = slice_index words 3;
+  beta = slice_index words 4;
+  role = slice_index words 5;
+  number = slice_index words 6;
+  phase = slice_index words 7;
+  best = slice_index words 8;
+  choice = slice_index words 9;
+  count = slice_index words 10;
+  spawned = slice_index words 11;
+}
+
+-- the frame of these first words, with these statuses
+abbrev pub frame_from : Head → List ℕ → Frame
+frame_from head statuses = record {
+  own = head.own;
+  opp = head.opp;
+  depth = head.depth;
+  alpha = score_of head.alpha;
+  beta = score_of head.beta;
+  role = head.role;
+  number = head.number;
+  phase = head.phase;
+  best = score_of head.best;
+  choice = head.choice;
+  count = head.count;
+  spawned = head.spawned;
+  statuses = statuses;
+}
+
+-- the frame that a view shows
+abbrev pub frame_in : View → Frame
+frame_in v = frame_by v.board.own v.board.opp v.depth v.alpha v.beta v.role v.number v.phase v.best v.choice v.count v.spawned v.statuses.items

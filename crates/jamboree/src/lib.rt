@@ -1,0 +1,42 @@
+//! Jamboree: the search procedure of the scheduler, for Othello.
+//!
+//! A job of the scheduler is the search of a position to a depth. Its root is submitted with
+//! [`root_words`]; [`Jamboree`] says of each frame what it does next, what its inlet does about a
+//! child that has returned, what it is computed from near the leaves ([`LeafAnswer::compute`], which
+//! is called outside the scheduler's lock), and what it stores of the answer. What these acts are is
+//! written in `jamboree_rules`, over a frame's board, window, phase and statuses; the code reads a
+//! frame's words once into a typed view (`view`, the one module that knows places) and answers with
+//! just these acts. Words that have not the form of a frame return, and their inlet only wakes.
+//!
+//! `Jamboree` is a lawful procedure: whatever the order of spawns, steals, inlets and aborts, each
+//! frame fits its children (`AreFitting`), and the words that a job keeps of its returned root give a
+//! [`Reply`], whose value is the minimax value and whose choice is the best choice of its board.
+//!
+//! ```text
+//! // the opening to depth 1, near the leaves: the root is computed by one worker
+//! let jamboree = Jamboree::new(2)?;
+//! let root = stack.open(None, &root_words(&position, 1), 12)?;
+//! matches!(jamboree.next(&stack.sight(root)).after, Then::Compute);
+//! let answer = LeafAnswer::compute(jamboree.input(&stack.own(root)));
+//! jamboree.accept(&stack.own(root), &answer).as_slice() == [(8, 999_997), (9, 19), (7, 4)]
+//! ```
+#![tactic(auto)]
+
+mod codes;
+mod frame;
+mod inlet;
+mod next;
+mod phases;
+mod procedure;
+mod reading;
+mod reply;
+mod score;
+mod view;
+
+pub use jamboree_rules::{Leaf, LeafAnswer};
+pub use procedure::Jamboree;
+pub use reply::Reply;
+pub use view::root_words;
+
+#[cfg(test)]
+mod tests;

@@ -1,0 +1,212 @@
+//! What a frame does next.
+ghost use Rattle.std.specs.Prelude.{◌≡◌, ◌≢◌, ◌<◌, ◌≤ℤ◌, pos, negsuc, ◌==◌, ◌&&◌, nat_lt, ℕ, Bool, true, false, Option, List, [], map, length, slice_index};
+ghost use Rattle.othello_board.specs.Words.{cells};
+ghost use Rattle.jamboree_rules.specs.Frames.{Frame, floor, may_be_child};
+ghost use Rattle.jamboree_rules.specs.Acts.{returns, spawns, opening_on, first_search, first_open, tests, tests_from, act_of};
+ghost use Rattle.sched_rules.specs.declared.act.Then.TheVariants.{Wait};
+ghost use Rattle.jamboree.specs.Numbers.{role_number, status_number};
+ghost use Rattle.jamboree.specs.Views.{frame_in};
+
+use crate::codes::NONE;
+use crate::frame::View;
+use crate::phases::{Phase, Role, Status};
+use crate::view::{Changes, spawn};
+use leaf_search::INF;
+use othello_board::Board;
+use othello_moves::{after, choice, choice_count};
+use sched_rules::{Act, Stores, Then};
+
+/// To return without a store.
+pub(crate) fn returns() -> Act
+    ensures { result ≡ returns }
+{
+    Act {
+        stores: Stores::new(),
+        after: Then::Return,
+    }
+}
+
+/// To wait for a child.
+fn waits() -> Act
+    ensures { result ≡ record { stores = []; after = Wait } }
+{
+    Act {
+        stores: Stores::new(),
+        after: Then::Wait,
+    }
+}
+
+/// The next act of a new frame, whose board is this: it is computed outside near the leaves and
+/// where the game is over; else its choices are counted.
+fn opening(grain: u8, frame: &View, board: Board) -> Act
+    ensures { result ≡ opening_on grain (frame_in frame.now) board.own board.opp }
+{
+    let count = choice_count(board);
+    let known = Changes::new().own_bits(board.own).opp_bits(board.opp);
+    if frame.depth <= grain || count == 0 {
+        return Act {
+            stores: known.phase(Phase::Computing).stores(),
+            after: Then::Compute,
+        };
+    }
+    let opened = known
+        .phase(Phase::First)
+        .best(-INF)
+        .chosen(NONE)
+        .count(count)
+        .spawned(0);
+    Act {
+        stores: opened.stores(),
+        after: Then::Grow(count),
+    }
+}
+
+/// The greater of alpha and the best score: only a score above it still counts.
+pub(crate) fn floor(frame: &View) -> i32
+    ensures value { result ≡ floor (frame_in frame.now) }
+    ensures low { negsuc 199999 ≤ℤ result }
+    ensures high { result ≤ℤ pos 200000 }
+{
+    frame.alpha.max(frame.best)
+}
+
+/// To open a child for the choice of this number, in this role and with this window.
+fn opens(frame: &View, role: Role, number: usize, alpha: i32, beta: i32) -> Then
+    requires deep { 0 < frame.now.depth }
+    requires low { negsuc 999999 ≤ℤ alpha }
+    requires high { alpha ≤ℤ pos 1000000 }
+    requires low_too { negsuc 999999 ≤ℤ beta }
+    requires high_too { beta ≤ℤ pos 1000000 }
+    ensures { result ≡ spawns (frame_in frame.now) (role_number role) number alpha beta }
+{
+    spawn(frame.depth - 1, alpha, beta, role, number)
+}
+
+/// The next act while the first choice is searched: its child is opened with the whole window, and
+/// awaited.
+fn first_search(frame: &View) -> Act
+    requires { 0 < frame.now.depth }
+    ensures { result ≡ first_search ((frame_in frame.now).spawned == 0) (frame_in frame.now) }
+{
+    if frame.spawned != 0 {
+        return waits();
+    }
+    Act {
+        stores: Changes::new().spawned(1).status(0, Status::Runs).stores(),
+        after: opens(frame, Role::FirstChild, 0, -frame.beta, -frame.alpha),
+    }
+}
+
+/// The number of the first choice that isn't settled, or how many choices there are.
+fn first_open(statuses: &[Status]) -> usize
+    ensures { result ≡ first_open (map status_number statuses.now) }
+{
+    for (number, status) in statuses.iter().enumerate() {
+        match status {
+            Status::Settled => {}
+            _ => return number,
+        }
+    }
+    statuses.len()
+}
+
+/// Whether the test of the choice of this number has failed.
+fn has_failed(statuses: &[Status], number: usize) -> bool
+    ensures { result ≡ (nat_lt number (length (map status_number statuses.now)) && (slice_index (map status_number statuses.now) number == 3)) }
+{
+    match statuses.get(number) {
+        Some(Status::Failed) => true,
+        _ => false,
+    }
+}
+
+/// The next act while choices are tested: the first choice that isn't settled is searched again,
+/// where its test has failed; else the next one is tested; else the frame is done, or waits.
+fn tests(frame: &View) -> Act
+    requires { 0 < frame.now.depth }
+    ensures { result ≡ tests_from (frame_in frame.now) (first_open (frame_in frame.now).statuses) }
+{
+    let open = first_open(frame.statuses.as_slice());
+    if has_failed(frame.statuses.as_slice(), open) {
+        return search_again(frame, open);
+    }
+    if frame.spawned < frame.count {
+        return test(frame, frame.spawned);
+    }
+    if frame.count <= open {
+        return Act {
+            stores: Changes::new().phase(Phase::Done).stores(),
+            after: Then::Return,
+        };
+    }
+    waits()
+}
+
+/// To search a choice again, above the greater of alpha and the best score.
+fn search_again(frame: &View, number: usize) -> Act
+    requires deep { 0 < frame.now.depth }
+    requires inside { number < frame.now.count }
+    ensures { (more all : Bool) → result ≡ tests true more all (frame_in frame.now) number }
+{
+    Act {
+        stores: Changes::new().status(number, Status::RunsAgain).stores(),
+        after: opens(frame, Role::Again, number, -frame.beta, -floor(frame)),
+    }
+}
+
+/// To test the next choice, just above the greater of alpha and the best score.
+fn test(frame: &View, number: usize) -> Act
+    requires deep { 0 < frame.now.depth }
+    requires next { number ≡ (frame_in frame.now).spawned }
+    requires inside { number < frame.now.count }
+    ensures { (all : Bool) → result ≡ tests false true all (frame_in frame.now) (first_open (frame_in frame.now).statuses) }
+{
+    let floor = floor(frame);
+    Act {
+        stores: Changes::new()
+            .spawned(number + 1)
+            .status(number, Status::Runs)
+            .stores(),
+        after: opens(frame, Role::Test, number, -(floor + 1), -floor),
+    }
+}
+
+/// The next act of a frame that knows its board.
+fn later_act(frame: &View) -> Act
+    requires { (frame_in frame.now).phase ≢ 0 }
+    ensures { (grain : ℕ) (parent : Option Frame) → result ≡ act_of grain (frame_in frame.now) parent }
+{
+    match frame.phase {
+        Phase::Computing => Act {
+            stores: Stores::new(),
+            after: Then::Compute,
+        },
+        Phase::First => first_search(frame),
+        Phase::Tests => tests(frame),
+        Phase::New | Phase::Done => returns(),
+    }
+}
+
+/// The next act of a root.
+pub(crate) fn root_act(grain: u8, frame: &View) -> Act
+    ensures { result ≡ act_of grain (frame_in frame.now) None }
+{
+    match frame.phase {
+        Phase::New => opening(grain, frame, frame.board),
+        _ => later_act(frame),
+    }
+}
+
+/// The next act of a child of this parent.
+pub(crate) fn child_act(grain: u8, frame: &View, parent: &View) -> Act
+    requires { may_be_child (frame_in parent.now) (frame_in frame.now) ≡ true }
+    ensures { result ≡ act_of grain (frame_in frame.now) (Some (frame_in parent.now)) }
+{
+    match frame.phase {
+        Phase::New => {
+            let chosen = choice(parent.board, frame.number as usize);
+            opening(grain, frame, after(parent.board, chosen))
+        }
+        _ => later_act(frame),
+    }
+}

@@ -1,0 +1,134 @@
+//! How far a frame has come, what it is to its parent, and how each of its choices stands.
+ghost use Rattle.std.specs.Prelude.{◌≡◌, ◌≤◌, ◌↔◌, IsSome, IfSome};
+ghost use Rattle.jamboree.specs.Numbers.{phase_number, role_number, status_number};
+
+/// How far a frame has come.
+#[derive(Clone, Copy, Debug, PartialEq, Eq)]
+pub(crate) enum Phase {
+    /// It was opened, and a child doesn't know its board yet.
+    New,
+    /// It is computed outside.
+    Computing,
+    /// Its first choice is searched in full.
+    First,
+    /// Its other choices are tested, and searched again where a test failed.
+    Tests,
+    /// It has its score.
+    Done,
+}
+
+impl Phase {
+    /// The phase of this number, 0 to 4.
+    pub(crate) fn of(number: u64) -> Phase
+        requires { number ≤ 4 }
+        ensures { phase_number result ≡ number }
+    {
+        match number {
+            0 => Phase::New,
+            1 => Phase::Computing,
+            2 => Phase::First,
+            3 => Phase::Tests,
+            _ => Phase::Done,
+        }
+    }
+
+    /// Its number.
+    pub(crate) fn number(self) -> u64
+        ensures { result ≡ phase_number self }
+    {
+        match self {
+            Phase::New => 0,
+            Phase::Computing => 1,
+            Phase::First => 2,
+            Phase::Tests => 3,
+            Phase::Done => 4,
+        }
+    }
+}
+
+/// What a frame is to its parent.
+#[derive(Clone, Copy, Debug, PartialEq, Eq)]
+pub(crate) enum Role {
+    /// It has none: it is the root of a job.
+    Root,
+    /// The full search of the first choice.
+    FirstChild,
+    /// The test of a later choice.
+    Test,
+    /// The full search of a choice whose test failed.
+    Again,
+}
+
+impl Role {
+    /// The role of this number, 0 to 3.
+    pub(crate) fn of(number: u64) -> Role
+        requires { number ≤ 3 }
+        ensures { role_number result ≡ number }
+    {
+        match number {
+            0 => Role::Root,
+            1 => Role::FirstChild,
+            2 => Role::Test,
+            _ => Role::Again,
+        }
+    }
+
+    /// Its number.
+    pub(crate) fn number(self) -> u64
+        ensures { result ≡ role_number self }
+    {
+        match self {
+            Role::Root => 0,
+            Role::FirstChild => 1,
+            Role::Test => 2,
+            Role::Again => 3,
+        }
+    }
+}
+
+/// How a choice of a frame stands.
+#[derive(Clone, Copy, Debug, Default, PartialEq, Eq)]
+pub(crate) enum Status {
+    /// No child was opened for it.
+    #[default]
+    NotSpawned,
+    /// Its first search, or its test, runs.
+    Runs,
+    /// It is worth at most the best score.
+    Settled,
+    /// Its test failed.
+    Failed,
+    /// It is searched again.
+    RunsAgain,
+}
+
+impl Status {
+    /// The status of this number, 0 to 4, or None.
+    pub(crate) fn of(number: u64) -> Option<Status>
+        ensures known { IsSome result ↔ (number ≤ 4) }
+        ensures value { IfSome result (λ status. status_number status ≡ number) }
+    {
+        match number {
+            0 => Some(Status::NotSpawned),
+            1 => Some(Status::Runs),
+            2 => Some(Status::Settled),
+            3 => Some(Status::Failed),
+            4 => Some(Status::RunsAgain),
+            _ => None,
+        }
+    }
+
+    /// Its number.
+    pub(crate) fn number(self) -> u64
+        ensures value { result ≡ status_number self }
+        ensures small { result ≤ 4 }
+    {
+        match self {
+            Status::NotSpawned => 0,
+            Status::Runs => 1,
+            Status::Settled => 2,
+            Status::Failed => 3,
+            Status::RunsAgain => 4,
+        }
+    }
+}

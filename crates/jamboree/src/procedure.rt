@@ -1,0 +1,185 @@
+//! The search procedure.
+ghost use Rattle.std.specs.Prelude.{◌≡◌, ◌≤◌, ◌↔◌, ◌==◌, ◌&&◌, ◌∷◌, IsSome, IfSome, true, if◌then◌else◌};
+ghost use Rattle.jamboree_rules.specs.Frames.{may_be_child};
+ghost use Rattle.jamboree_rules.specs.Places.{frame_of, is_formed, pairs_of};
+ghost use Rattle.jamboree_rules.specs.Acts.{returns, act_of, next_act, wakes, inlet_of};
+ghost use Rattle.jamboree_rules.specs.Leaves.{changes_of_answer};
+ghost use Rattle.jamboree.specs.Levels.{above_of};
+ghost use Rattle.jamboree.specs.Views.{frame_in};
+
+use crate::codes::coded;
+use crate::frame::View;
+use crate::inlet::{takes_in, wakes};
+use crate::next::{child_act, returns, root_act};
+use crate::phases::{Phase, Role};
+use crate::view::{Changes, read, read_leaf};
+use cactus_stack::{Sight, Words};
+use jamboree_rules::{Leaf, LeafAnswer};
+use othello_moves::choice_count;
+use sched_rules::{Act, InletAct, Procedure, Stores};
+
+/// Jamboree search: frames of a remaining depth of at most `grain` are searched serially by one
+/// worker.
+#[derive(Clone, Copy, Debug, PartialEq, Eq)]
+pub struct Jamboree {
+    /// The greatest depth that one worker searches by itself, 0 to 6.
+    pub grain: u8,
+    ghost limit: { grain ≤ 6 },
+}
+
+impl Jamboree {
+    /// The procedure with this grain, or None where it is above 6.
+    pub fn new(grain: u8) -> Option<Jamboree>
+        ensures within { IsSome result ↔ (grain ≤ 6) }
+        ensures value { IfSome result (λ jamboree. jamboree.grain ≡ grain) }
+    {
+        if grain > 6 {
+            return None;
+        }
+        Some(Jamboree { grain })
+    }
+}
+
+impl View {
+    /// Whether this may be the frame of a child of that one: it is no root, and its number is that of
+    /// a choice of the parent.
+    fn may_be_under(&self, parent: &View) -> bool
+        ensures { result ≡ may_be_child (frame_in parent.now) (frame_in self.now) }
+    {
+        match self.role {
+            Role::Root => false,
+            _ => {
+                self.number < parent.count as u64 && self.number < choice_count(parent.board) as u64
+            }
+        }
+    }
+}
+
+/// The next act of a frame with no level above it: only a root has one.
+fn act_alone(grain: u8, frame: &View) -> Act
+    ensures { result ≡ (if (frame_in frame.now).role == 0 then act_of grain (frame_in frame.now) None else returns) }
+{
+    match frame.role {
+        Role::Root => root_act(grain, frame),
+        _ => returns(),
+    }
+}
+
+/// The next act of a frame under a parent of these words: only a child of it has one.
+fn act_below(grain: u8, frame: &View, words: &Words) -> Act
+    ensures { result ≡ (if is_formed words.now && may_be_child (frame_of words.now) (frame_in frame.now) then act_of grain (frame_in frame.now) (Some (frame_of words.now)) else returns) }
+{
+    match read(words) {
+        Some(parent) => {
+            if frame.may_be_under(&parent) {
+                child_act(grain, frame, &parent)
+            } else {
+                returns()
+            }
+        }
+        None => returns(),
+    }
+}
+
+/// The next act of a frame of these words, under a parent of those, if there is one.
+fn act_under(grain: u8, own: &Words, parent: Option<Words>) -> Act
+    ensures { result ≡ next_act grain (own.now ∷ above_of parent.entry) }
+{
+    match read(own) {
+        Some(frame) => match parent {
+            Some(words) => act_below(grain, &frame, &words),
+            None => act_alone(grain, &frame),
+        },
+        None => returns(),
+    }
+}
+
+impl Procedure for Jamboree {
+    ghost use Rattle.std.specs.Prelude.{refl};
+    ghost use Rattle.jamboree_rules.specs.Fits.{AreFitting, IsRoot};
+    ghost use Rattle.jamboree_rules.specs.Procedure.{jamboree};
+    ghost use Rattle.jamboree_rules.proofs.Keeping.{next-keeps, inlet-keeps};
+    ghost use Rattle.jamboree_rules.proofs.Answers.{accept-keeps};
+    ghost use Rattle.jamboree_rules.proofs.LeafLemmas.{same-value};
+
+    type Input = Leaf;
+
+    type Answer = LeafAnswer;
+
+    ghost functions = { λ procedure. jamboree procedure.grain };
+
+    ghost fits = { λ procedure. AreFitting };
+
+    ghost rooted = { λ procedure. IsRoot };
+
+    /// The act of the frame's phase; words of no frame return.
+    fn next(&self, sight: &Sight) -> Act {
+        match sight.up(0) {
+            Some(own) => act_under(self.grain, &own, sight.up(1)),
+            None => returns(),
+        }
+    }
+
+    /// What the child's score says of its choice; words of no frame and child only wake.
+    fn inlet(&self, own: &Words, child: &Words) -> InletAct {
+        match read(own) {
+            Some(frame) => inlet_at(&frame, child),
+            None => wakes(),
+        }
+    }
+
+    /// The frame's board, depth and window.
+    fn input(&self, own: &Words) -> Leaf {
+        read_leaf(own)
+    }
+
+    /// The leaf that the answer was computed for.
+    fn asked(&self, answer: &LeafAnswer) -> Leaf {
+        answer.leaf()
+    }
+
+    /// The answer's score and choice, and the frame is done; words of no frame store nothing.
+    fn accept(&self, own: &Words, answer: &LeafAnswer) -> Stores {
+        match read(own) {
+            Some(_) => answered(answer),
+            None => Stores::new(),
+        }
+    }
+
+    ghost compares = { λ procedure. refl };
+
+    ghost same_is_equal = { λ procedure. same-value };
+
+    ghost next_keeps = { λ procedure. next-keeps (jamboree procedure.grain) procedure.grain refl };
+
+    ghost inlet_keeps = { λ procedure. inlet-keeps (jamboree procedure.grain) refl };
+
+    ghost accept_keeps = { λ procedure. accept-keeps (jamboree procedure.grain) refl refl refl refl };
+}
+
+/// The inlet of a frame for a child of these words.
+fn inlet_at(frame: &View, words: &Words) -> InletAct
+    ensures { result ≡ (if is_formed words.now && may_be_child (frame_in frame.now) (frame_of words.now) then inlet_of (frame_in frame.now) (frame_of words.now) else wakes) }
+{
+    match read(words) {
+        Some(child) => {
+            if child.may_be_under(frame) {
+                takes_in(frame, &child)
+            } else {
+                wakes()
+            }
+        }
+        None => wakes(),
+    }
+}
+
+/// What a frame stores of an answer.
+fn answered(answer: &LeafAnswer) -> Stores
+    ensures { result ≡ pairs_of (changes_of_answer answer.now) }
+{
+    Changes::new()
+        .best(answer.score())
+        .chosen(coded(answer.choice()))
+        .phase(Phase::Done)
+        .stores()
+}

@@ -1,0 +1,23 @@
+//! Scores as words: a score is stored as the score and 1,000,000.
+ghost use Rattle.std.specs.Prelude.{◌≡◌, ◌≤◌, ◌≤ℤ◌, pos, negsuc};
+ghost use Rattle.jamboree_rules.specs.Places.{score_of, word_of};
+
+/// What is added to a score.
+const OFFSET: i32 = 1_000_000;
+
+/// The word of a score from -1,000,000 to 1,000,000.
+pub(crate) fn word_of_score(score: i32) -> u64
+    requires low { negsuc 999999 ≤ℤ score }
+    requires high { score ≤ℤ pos 1000000 }
+    ensures { result ≡ word_of score }
+{
+    (score + OFFSET) as u64
+}
+
+/// The score of a word of at most 2,000,000.
+pub(crate) fn score_of_word(word: u64) -> i32
+    requires { word ≤ 2000000 }
+    ensures { result ≡ score_of word }
+{
+    word as i32 - OFFSET
+}

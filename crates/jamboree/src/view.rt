@@ -1,0 +1,408 @@
+//! A frame's words as a typed view, and stores by what they set: nothing else knows places.
+//!
+//! The words of a frame and what they stand for are in `specs/Places.antt` of `jamboree_rules`. [`read`]
+//! reads each word once, and gives a view exactly where the words have the form of a frame.
+ghost use Rattle.std.specs.Prelude.{◌≡◌, ◌<◌, ◌≤◌, ◌+◌, ◌++◌, ◌∷◌, [], ◌↔◌, ◌==◌, ◌&&◌, true, IsSome, IfSome, bit_and, drop, length, map, slice_index, ◌≤ℤ◌, pos, negsuc};
+ghost use Rattle.jamboree_rules.specs.Frames.{is_leaf, is_frame, is_in_phase, counts_choices, least, greatest};
+ghost use Rattle.jamboree_rules.specs.Places.{score_of, status_of, frame_of, are_statuses, is_formed, pair_of, OwnBits, OppBits, Phase as ToPhase, Best, Chosen, Count, Spawned, Status as ToStatus, given_words, root_words, frame_size};
+ghost use Rattle.jamboree_rules.specs.Fits.{AreFitting, IsRoot};
+ghost use Rattle.cactus_stack.specs.Nodes.{padded};
+ghost use Rattle.sched_rules.specs.Laws.{Neither};
+ghost use Rattle.sched_rules.specs.declared.act.Then.TheVariants.{Spawn};
+ghost use Rattle.jamboree_rules.specs.Leaves.{any_leaf, leaf_in, leaf_from};
+ghost use Rattle.jamboree.specs.Numbers.{role_number, phase_number, status_number};
+ghost use Rattle.jamboree.specs.Views.{head_of, frame_from, frame_in};
+
+use crate::frame::{MOST, View};
+use crate::phases::{Phase, Role, Status};
+use crate::score::{score_of_word, word_of_score};
+use arrayvec::ArrayVec;
+use cactus_stack::Words;
+use jamboree_rules::Leaf;
+use leaf_search::INF;
+use othello_board::Board;
+use othello_moves::choice_count;
+use position_text::Position;
+use sched_rules::{GivenWords, Stores, Then};
+use std::marker::Model;
+
+/// The size of a new frame in words.
+const SIZE: usize = 12;
+
+/// The first twelve words of a frame, by name.
+#[derive(Clone, Copy)]
+pub(crate) struct Head {
+    pub(crate) own: u64,
+    pub(crate) opp: u64,
+    pub(crate) depth: u64,
+    pub(crate) alpha: u64,
+    pub(crate) beta: u64,
+    pub(crate) role: u64,
+    pub(crate) number: u64,
+    pub(crate) phase: u64,
+    pub(crate) best: u64,
+    pub(crate) choice: u64,
+    pub(crate) count: u64,
+    pub(crate) spawned: u64,
+}
+
+/// The word at a place, and 0 where there is none.
+fn word(words: &Words, place: usize) -> u64
+    ensures { result ≡ slice_index words.now place }
+{
+    words.get(place).unwrap_or(0)
+}
+
+/// The first twelve words.
+fn read_head(words: &Words) -> Head
+    ensures { result ≡ head_of words.now }
+{
+    Head {
+        own: word(words, 0),
+        opp: word(words, 1),
+        depth: word(words, 2),
+        alpha: word(words, 3),
+        beta: word(words, 4),
+        role: word(words, 5),
+        number: word(words, 6),
+        phase: word(words, 7),
+        best: word(words, 8),
+        choice: word(words, 9),
+        count: word(words, 10),
+        spawned: word(words, 11),
+    }
+}
+
+/// The statuses behind the first twelve words, where there are as many as choices and each is one.
+fn read_statuses(words: &Words, count: u64) -> Option<ArrayVec<Status, MOST>>
+    ensures formed { IsSome result ↔ ((length words.now ≡ 12 + count) × (are_statuses (drop 12 words.now) ≡ true)) }
+    ensures entries { IfSome result (λ found. length found.items ≡ count) }
+    ensures few { IfSome result (λ _. count ≤ 116) }
+    ensures value { IfSome result (λ found. map status_number found.items ≡ map status_of (drop 12 words.now)) }
+{
+    let len = words.len();
+    if len < 12 || (len - 12) as u64 != count {
+        return None;
+    }
+    let mut found = ArrayVec::new();
+    for index in 0..len - 12 {
+        match Status::of(word(words, 12 + index)) {
+            Some(status) => found.push(status),
+            None => return None,
+        }
+    }
+    Some(found)
+}
+
+impl Head {
+    /// Whether the numbers of the goal are in their ranges.
+    fn is_leaf(&self) -> bool
+        ensures { result ≡ is_leaf self.now.own self.now.opp self.now.depth (score_of self.now.alpha) (score_of self.now.beta) }
+    {
+        self.own & self.opp == 0
+            && self.depth <= 12
+            && 800_000 <= self.alpha
+            && self.alpha < self.beta
+            && self.beta <= 1_200_000
+    }
+
+    /// The leaf of the goal, or the empty board to depth 0 where its numbers are out of range.
+    fn leaf(self) -> Leaf
+        ensures { result ≡ leaf_from self.own self.opp self.depth (score_of self.alpha) (score_of self.beta) }
+    {
+        if !self.is_leaf() {
+            return empty_leaf();
+        }
+        Leaf {
+            board: Board {
+                own: self.own,
+                opp: self.opp,
+            },
+            depth: self.depth as u8,
+            alpha: score_of_word(self.alpha),
+            beta: score_of_word(self.beta),
+        }
+    }
+
+    /// Whether the count of choices is that of the board, at least 1, at a depth of at least 1.
+    fn counts_choices(&self) -> bool
+        requires { bit_and self.now.own self.now.opp ≡ 0 }
+        ensures { result ≡ counts_choices (frame_from self.now []) }
+    {
+        let board = Board {
+            own: self.own,
+            opp: self.opp,
+        };
+        0 < self.depth && 0 < self.count && self.count == choice_count(board) as u64
+    }
+
+    /// Whether best score and count are as the phase asks.
+    fn is_in_phase(&self) -> bool
+        requires { bit_and self.now.own self.now.opp ≡ 0 }
+        ensures { result ≡ is_in_phase (frame_from self.now []) }
+    {
+        if self.phase <= 1 {
+            return self.best == 0 && self.count == 0;
+        }
+        if self.best < 800_000 || 1_200_000 < self.best {
+            return false;
+        }
+        if self.phase == 2 || self.phase == 3 {
+            return self.counts_choices();
+        }
+        true
+    }
+
+    /// Whether the numbers of the frame are in their ranges.
+    fn is_frame(&self) -> bool
+        ensures { result ≡ is_frame (frame_from self.now []) }
+    {
+        self.is_leaf()
+            && self.role <= 3
+            && self.phase <= 4
+            && self.choice <= 65
+            && self.spawned <= self.count
+            && self.is_in_phase()
+    }
+
+    /// The frame of these first words, with these statuses.
+    fn view(self, statuses: ArrayVec<Status, MOST>) -> View
+        requires form { is_frame (frame_from self []) ≡ true }
+        requires entries { length statuses.items ≡ self.count }
+        requires few { self.count ≤ 116 }
+        ensures { frame_in result ≡ frame_from self (map status_number statuses.items) }
+    {
+        View {
+            board: Board {
+                own: self.own,
+                opp: self.opp,
+            },
+            depth: self.depth as u8,
+            alpha: score_of_word(self.alpha),
+            beta: score_of_word(self.beta),
+            role: Role::of(self.role),
+            number: self.number,
+            phase: Phase::of(self.phase),
+            best: score_of_word(self.best),
+            choice: self.choice,
+            count: self.count as usize,
+            spawned: self.spawned as usize,
+            statuses,
+        }
+    }
+}
+
+/// The frame in these words, or None where they haven't the form of one.
+pub(crate) fn read(words: &Words) -> Option<View>
+    ensures formed { IsSome result ↔ (is_formed words.now ≡ true) }
+    ensures frame { IfSome result (λ view. frame_in view ≡ frame_of words.now) }
+{
+    let head = read_head(words);
+    match read_statuses(words, head.count) {
+        Some(statuses) if head.is_frame() => Some(head.view(statuses)),
+        _ => None,
+    }
+}
+
+/// An empty board to depth 0.
+fn empty_leaf() -> Leaf
+    ensures { result ≡ any_leaf }
+{
+    Leaf {
+        board: Board { own: 0, opp: 0 },
+        depth: 0,
+        alpha: 0,
+        beta: 1,
+    }
+}
+
+/// The leaf in these words, or the empty board to depth 0 where they hold none.
+pub(crate) fn read_leaf(words: &Words) -> Leaf
+    ensures { result ≡ leaf_in words.now }
+{
+    read_head(words).leaf()
+}
+
+/// Stores on a frame, by what they set, done in order.
+#[derive(Drop)]
+pub(crate) struct Changes {
+    stores: Stores,
+}
+
+// Clauses see the list of places and words.
+impl Model for Changes {
+    ghost use Rattle.std.specs.Prelude.{List, ℕ};
+
+    ghost Value = { List (ℕ × ℕ) };
+
+    ghost view = { λ c. c.stores };
+}
+
+impl Changes {
+    /// No store.
+    pub(crate) fn new() -> Changes
+        ensures { result ≡ [] }
+    {
+        Changes {
+            stores: Stores::new(),
+        }
+    }
+
+    /// These stores.
+    pub(crate) fn stores(self) -> Stores
+        ensures { result ≡ self }
+    {
+        self.stores
+    }
+
+    /// The bits of the mover's discs, too.
+    pub(crate) fn own_bits(self, bits: u64) -> Changes
+        requires { length self < 8 }
+        ensures { result ≡ self ++ pair_of (OwnBits bits) ∷ [] }
+    {
+        Changes {
+            stores: self.stores.then(0, bits),
+        }
+    }
+
+    /// The bits of the opponent's discs, too.
+    pub(crate) fn opp_bits(self, bits: u64) -> Changes
+        requires { length self < 8 }
+        ensures { result ≡ self ++ pair_of (OppBits bits) ∷ [] }
+    {
+        Changes {
+            stores: self.stores.then(1, bits),
+        }
+    }
+
+    /// The phase, too.
+    pub(crate) fn phase(self, phase: Phase) -> Changes
+        requires { length self < 8 }
+        ensures { result ≡ self ++ pair_of (ToPhase (phase_number phase)) ∷ [] }
+    {
+        Changes {
+            stores: self.stores.then(7, phase.number()),
+        }
+    }
+
+    /// The best score, from -1,000,000 to 1,000,000, too.
+    pub(crate) fn best(self, score: i32) -> Changes
+        requires room { length self < 8 }
+        requires low { negsuc 999999 ≤ℤ score }
+        requires high { score ≤ℤ pos 1000000 }
+        ensures { result ≡ self ++ pair_of (Best score) ∷ [] }
+    {
+        Changes {
+            stores: self.stores.then(8, word_of_score(score)),
+        }
+    }
+
+    /// The code of the choice that has it, too.
+    pub(crate) fn chosen(self, code: u64) -> Changes
+        requires { length self < 8 }
+        ensures { result ≡ self ++ pair_of (Chosen code) ∷ [] }
+    {
+        Changes {
+            stores: self.stores.then(9, code),
+        }
+    }
+
+    /// The count of choices, too.
+    pub(crate) fn count(self, count: usize) -> Changes
+        requires { length self < 8 }
+        ensures { result ≡ self ++ pair_of (Count count) ∷ [] }
+    {
+        Changes {
+            stores: self.stores.then(10, count as u64),
+        }
+    }
+
+    /// The count of choices that were spawned, too.
+    pub(crate) fn spawned(self, count: usize) -> Changes
+        requires { length self < 8 }
+        ensures { result ≡ self ++ pair_of (Spawned count) ∷ [] }
+    {
+        Changes {
+            stores: self.stores.then(11, count as u64),
+        }
+    }
+
+    /// The status of a choice, too.
+    pub(crate) fn status(self, number: usize, status: Status) -> Changes
+        requires room { length self < 8 }
+        requires small { number ≤ 128 }
+        ensures { result ≡ self ++ pair_of (ToStatus number (status_number status)) ∷ [] }
+    {
+        Changes {
+            stores: self.stores.then(12 + number, status.number()),
+        }
+    }
+}
+
+/// A new child of this depth, with this window, in this role, for the choice of this number.
+pub(crate) fn spawn(depth: u8, alpha: i32, beta: i32, role: Role, number: usize) -> Then
+    requires low { negsuc 999999 ≤ℤ alpha }
+    requires high { alpha ≤ℤ pos 1000000 }
+    requires low_too { negsuc 999999 ≤ℤ beta }
+    requires high_too { beta ≤ℤ pos 1000000 }
+    ensures { result ≡ Spawn (given_words depth alpha beta (role_number role) number) frame_size }
+{
+    let words = [
+        0,
+        0,
+        u64::from(depth),
+        word_of_score(alpha),
+        word_of_score(beta),
+        role.number(),
+        number as u64,
+        0,
+    ];
+    match GivenWords::new(&words) {
+        Some(given) => Then::Spawn(given, SIZE),
+        None => unreachable!(),
+    }
+}
+
+/// What a job keeps of its returned root, by name: the first twelve words.
+#[derive(Clone, Copy)]
+pub(crate) struct Kept {
+    pub(crate) own: u64,
+    pub(crate) opp: u64,
+    pub(crate) depth: u64,
+    pub(crate) best: u64,
+    pub(crate) choice: u64,
+}
+
+/// What a job keeps of its returned root.
+pub(crate) fn read_kept(words: &[u64]) -> Kept
+    requires { length words.now ≡ 12 }
+    ensures { result ≡ record { own = slice_index words.now 0; opp = slice_index words.now 1; depth = slice_index words.now 2; best = slice_index words.now 8; choice = slice_index words.now 9 } }
+{
+    Kept {
+        own: words[0],
+        opp: words[1],
+        depth: words[2],
+        best: words[8],
+        choice: words[9],
+    }
+}
+
+/// The words that a job is submitted with, of a position to a depth of 0 to 12 plies: with size 12
+/// its root searches the board with the full window.
+pub fn root_words(position: &Position, depth: u8) -> [u64; 8]
+    requires { depth ≤ 12 }
+    ensures words { result ≡ root_words position.now.board.own position.now.board.opp depth }
+    ensures fits { AreFitting (padded result frame_size) [] Neither }
+    ensures rooted { IsRoot result (padded result frame_size) }
+{
+    [
+        position.board.own,
+        position.board.opp,
+        u64::from(depth),
+        word_of_score(-INF),
+        word_of_score(INF),
+        Role::Root.number(),
+        0,
+        Phase::New.number(),
+    ]
+}

@@ -1,0 +1,216 @@
+-- An abort at a frame: the frames under it go, with their nodes and what they were charged.
+use Rattle.std.proofs.Common.{◌≡◌, ◌≢◌, ℕ, ◌+◌, ◌-◌, ◌≤◌, inl, inr, Bool, true, false, not, List, [], ◌∷◌, length, Option, Some, None, IsSome, All, AllPairs, refl, ap, sym, ◌∙◌, subst, arith, option_map}
+use Rattle.std.proofs.lemmas.Bool.{cases_Bool, true≢false, false≢true, eq-eqb}
+use Rattle.cactus_stack.specs.Nodes.{Nodes, IsOpen, node_words, without, total_charge, HasAllChildren}
+use Rattle.cactus_stack.proofs.LawFacts.{charge-without}
+use Rattle.tenant_quota.specs.Accounts.{account_of, credited_by, charged_segments}
+use Rattle.tenant_quota.specs.Reservations.{Reservations, IsSound, ChangesOnly, KeepsOthers as KeepsOtherAccounts, HasCharged}
+use Rattle.tenant_quota.specs.declared.account.Account.{Account}
+use Rattle.frame_table.specs.declared.names.FrameId.{FrameId}
+use Rattle.frame_table.specs.Frames.{Frame, frame_at, has_frame, goes_under, aborted, frames_under, values_of, IsTree}
+use Rattle.frame_table.specs.Tables.{Tree as TableTree, frames_of, KeepsOthers}
+use Rattle.frame_table.specs.TreeLaws.{map_value, map_values, is_child_of}
+use Rattle.frame_table.proofs.TreeLaws.{found-there}
+use Rattle.frame_table.proofs.TreeChanges.{tree-aborted, child-further-under}
+use Rattle.frame_table.proofs.TreeValues.{aborted-map_values, frames_under-map_values}
+use Rattle.sched_rules.specs.Trees.{Tenant}
+use Rattle.sched_rules.specs.Changes.{on_tenant, without_under}
+use Rattle.sched_rules.specs.Views.{named}
+use Rattle.sched_store.specs.Ledgers.{jobs_of}
+use Rattle.sched_store.specs.Parts.{Parts, worded, shared_of}
+use Rattle.sched_store.specs.Reads.{frames_in}
+use Rattle.sched_store.specs.Stored.{IsStored, frame_in}
+use Rattle.sched_store.proofs.Lookups.{named-found, frames-found}
+use Rattle.sched_store.proofs.Cut.{IsCut, closed, closing}
+use Rattle.sched_store.proofs.Closing.{TakesChildren, closing-open, closing-once, closing-children}
+use Rattle.sched_store.proofs.Removing.{IsRemoval, can-give-back, own-words, removed-stored, removed-shared, length-without}
+
+-- a frame that is there
+pub record IsThere (parts : Parts) (name : FrameId) : Type 0 where
+  pub frame : Frame ℕ
+  pub at : frame_in parts.trees name.tenant name.serial ≡ Some frame
+  pub account : Account
+  pub there : account_of name.tenant parts.book.accounts ≡ Some account
+
+mapped-some : (nodes : Nodes) (o : Option (Frame ℕ)) → IsSome (option_map (map_value (node_words nodes)) o) → (f : Frame ℕ) × (o ≡ Some f)
+mapped-some nodes None is = absurd (false≢true is)
+mapped-some nodes (Some f) is = (f, refl)
+
+has-account : (parts : Parts) → IsStored parts → (number serial : ℕ) (frame : Frame ℕ) → frame_in parts.trees number serial ≡ Some frame → (o : Option Account) → account_of number parts.book.accounts ≡ o → (a : Account) × (account_of number parts.book.accounts ≡ Some a)
+has-account parts stored number serial frame at None none =
+    let empty : frames_of parts.trees number ≡ [] = stored.nothing number none in
+    let gone : frame_in parts.trees number serial ≡ None = ap (λ (xs : List (Frame ℕ)). frame_at xs serial) empty in
+    absurd (cc)
+has-account parts stored number serial frame at (Some a) some = (a, some)
+
+pub is-there : (parts : Parts) → IsStored parts → (name : FrameId) → IsSome (named (shared_of parts) name) → IsThere parts name
+is-there parts stored name some =
+    let found = mapped-some parts.nodes (frame_in parts.trees name.tenant name.serial) (subst IsSome (named-found parts stored name) some) in
+    let has = has-account parts stored name.tenant name.serial found.0 found.1 (account_of name.tenant parts.book.accounts) refl in
+    record { frame = found.0; at = found.1; account = has.0; there = has.1 }
+
+pub has-frame : (parts : Parts) → IsStored parts → (name : FrameId) → IsSome (named (shared_of parts) name) → has_frame (frames_of parts.trees name.tenant) name.serial ≡ true
+has-frame parts stored name some = (let is = is-there parts stored name some in found-there (frames_of parts.trees name.tenant) name.serial is.frame is.at)
+
+-- what a list of nodes gives back, from what was free before and is free then
+pub freed-is : (nodes : Nodes) (numbers : List ℕ) (before later : ℕ) → AllPairs ◌≢◌ numbers → length (without nodes numbers) ≡ length nodes → before + total_charge nodes ≡ length nodes → later + total_charge (without nodes numbers) ≡ length (without nodes numbers) →
+    (before ≤ later) × (total_charge (without nodes numbers) + (later - before) ≡ total_charge nodes)
+freed-is nodes numbers before later once long was is =
+    let closed_all = charge-without nodes numbers once in
+    (omega (arith, closed_all, long, was, is), omega (arith, closed_all, long, was, is))
+
+-- the frames that an abort leaves
+abbrev pub stays : ℕ → Frame ℕ → Bool
+stays serial frame = not (goes_under serial frame.path)
+
+pub closing-under : (serial : ℕ) (frames : List (Frame ℕ)) → closed (stays serial) frames ≡ values_of (frames_under serial frames)
+closing-under serial [] = refl
+closing-under serial (x ∷ xs) =
+    elim (cases_Bool (goes_under serial x.path)) [
+      | inl under ↦ rw (under, closing-under serial xs) refl
+      | inr not_under ↦ rw (not_under, closing-under serial xs) refl
+    ]
+
+not-stays : (b : Bool) → not b ≡ false → b ≡ true
+not-stays true is = refl
+not-stays false is = absurd (true≢false is)
+
+pub takes-under : (serial : ℕ) (frames : List (Frame ℕ)) → IsTree frames → TakesChildren frames (stays serial)
+takes-under p frames tree serial parent frame above at up at_above out =
+    let under : goes_under p above.path ≡ true = not-stays (goes_under p above.path) out in
+    let child : is_child_of parent frame.path ≡ true = rw up (eq-eqb parent parent refl) in
+    ap not (child-further-under frames p parent serial above frame tree at_above under at child)
+
+-- the cut that an abort makes
+pub abort-cut : (parts : Parts) (trees : List (TableTree ℕ)) (name : FrameId) → IsStored parts → frames_of trees name.tenant ≡ aborted name.serial (frames_of parts.trees name.tenant) → KeepsOthers parts.trees trees name.tenant →
+    IsCut parts.trees trees name.tenant (stays name.serial)
+abort-cut parts trees name stored frames keeps = record {
+  tree = stored.forest;
+  tree_after = subst (λ (xs : List (Frame ℕ)). IsTree xs) (sym frames) (tree-aborted name.serial (frames_of parts.trees name.tenant) (stored.forest name.tenant));
+  cut = frames;
+  others = keeps.frames;
+}
+
+-- the nodes that an abort closes: open, once, with their children
+pub record AreClosable (nodes : Nodes) (numbers : List ℕ) : Type 0 where
+  pub are_open : All (IsOpen nodes) numbers
+  pub once : AllPairs ◌≢◌ numbers
+  pub with_children : HasAllChildren nodes numbers
+
+pub abort-closes : (parts : Parts) (name : FrameId) (numbers : List ℕ) → IsStored parts → numbers ≡ values_of (frames_under name.serial (frames_of parts.trees name.tenant)) → AreClosable parts.nodes numbers
+abort-closes parts name numbers stored is =
+    let tree = stored.forest name.tenant in
+    let same : closing parts.trees name.tenant (stays name.serial) ≡ numbers = closing-under name.serial (frames_of parts.trees name.tenant) ∙ sym is in
+    subst (AreClosable parts.nodes) same (record {
+      are_open = closing-open parts.nodes parts.trees name.tenant (stays name.serial) stored.frames_nodes tree;
+      once = closing-once parts.nodes parts.trees name.tenant (stays name.serial) stored.frames_nodes tree;
+      with_children = closing-children parts.nodes parts.trees name.tenant (stays name.serial) stored.frames_nodes tree (takes-under name.serial (frames_of parts.trees name.tenant) tree);
+    })
+
+-- what an abort was told by the table, the stack and the book
+pub record IsAborted (parts : Parts) (nodes : Nodes) (trees : List (TableTree ℕ)) (book : Reservations) (name : FrameId) (numbers : List ℕ) (before later : ℕ) : Type 0 where
+  pub values : numbers ≡ values_of (frames_under name.serial (frames_of parts.trees name.tenant))
+  pub closed_all : nodes ≡ without parts.nodes numbers
+  pub was_free : before + total_charge parts.nodes ≡ length parts.nodes
+  pub is_free : later + total_charge nodes ≡ length nodes
+  pub frames : frames_of trees name.tenant ≡ aborted name.serial (frames_of parts.trees name.tenant)
+  pub keeps : KeepsOthers parts.trees trees name.tenant
+  pub credited : ChangesOnly parts.book book name.tenant (credited_by (later - before))
+  pub sum : charged_segments book.accounts + (later - before) ≡ charged_segments parts.book.accounts
+  pub others : KeepsOtherAccounts parts.book book name.tenant
+  pub sound : IsSound book
+
+-- no less is free, it is what the nodes gave back, and the tenant was charged as much
+pub record AreFreed (parts : Parts) (name : FrameId) (numbers : List ℕ) (before later : ℕ) : Type 0 where
+  pub more : before ≤ later
+  pub few : later ≤ 65536
+  pub frees : total_charge (without parts.nodes (closing parts.trees name.tenant (stays name.serial))) + (later - before) ≡ total_charge parts.nodes
+  pub charged : HasCharged parts.book name.tenant (later - before)
+
+pub abort-frees : (parts : Parts) (nodes : Nodes) (name : FrameId) (numbers : List ℕ) (before later : ℕ) → IsStored parts → IsSome (named (shared_of parts) name) →
+    numbers ≡ values_of (frames_under name.serial (frames_of parts.trees name.tenant)) → nodes ≡ without parts.nodes numbers → before + total_charge parts.nodes ≡ length parts.nodes → later + total_charge nodes ≡ length nodes →
+    AreFreed parts name numbers before later
+abort-frees parts nodes name numbers before later stored some values closed_all was_free is_free =
+    let closes = abort-closes parts name numbers stored values in
+    let long = length-without parts.nodes numbers in
+    let free : later + total_charge (without parts.nodes numbers) ≡ length (without parts.nodes numbers) = subst (λ (n : Nodes). later + total_charge n ≡ length n) closed_all is_free in
+    let freed = freed-is parts.nodes numbers before later closes.once long was_free free in
+    let same : numbers ≡ closing parts.trees name.tenant (stays name.serial) = values ∙ sym (closing-under name.serial (frames_of parts.trees name.tenant)) in
+    let frees = subst (λ (ns : List ℕ). total_charge (without parts.nodes ns) + (later - before) ≡ total_charge parts.nodes) same freed.1 in
+    let there = is-there parts stored name some in
+    let segments = stored.segments in
+    let within = IsSound.segments_within stored.book in
+    record {
+      more = freed.0;
+      few = omega (arith, free, long, segments, within);
+      frees = frees;
+      charged = can-give-back parts name.tenant (later - before) (stays name.serial) stored there.account there.there frees;
+    }
+
+abort-removal : (parts : Parts) (nodes : Nodes) (trees : List (TableTree ℕ)) (book : Reservations) (name : FrameId) (numbers : List ℕ) (before later : ℕ) → IsStored parts → IsSome (named (shared_of parts) name) →
+    IsAborted parts nodes trees book name numbers before later → IsRemoval parts trees book name.tenant (later - before) (stays name.serial)
+abort-removal parts nodes trees book name numbers before later stored some is =
+    let there = is-there parts stored name some in
+    let freed = abort-frees parts nodes name numbers before later stored some is.values is.closed_all is.was_free is.is_free in
+    record {
+      account = there.account;
+      there = there.there;
+      cut = abort-cut parts trees name stored is.frames is.keeps;
+      table = is.keeps;
+      frees = freed.frees;
+      credited = is.credited;
+      sum = is.sum;
+      others = is.others;
+      sound = is.sound;
+    }
+
+-- the parts after an abort
+abbrev pub with_parts : Parts → Nodes → List (TableTree ℕ) → Reservations → Parts
+with_parts parts nodes trees book = record parts { nodes = nodes; trees = trees; book = book }
+
+closed-same : (parts : Parts) (nodes : Nodes) (name : FrameId) (numbers : List ℕ) → numbers ≡ values_of (frames_under name.serial (frames_of parts.trees name.tenant)) → nodes ≡ without parts.nodes numbers →
+    without parts.nodes (closing parts.trees name.tenant (stays name.serial)) ≡ nodes
+closed-same parts nodes name numbers values closed_all =
+    ap (without parts.nodes) (closing-under name.serial (frames_of parts.trees name.tenant) ∙ sym values) ∙ sym closed_all
+
+pub abort-stored : (parts : Parts) (nodes : Nodes) (trees : List (TableTree ℕ)) (book : Reservations) (name : FrameId) (numbers : List ℕ) (before later : ℕ) → IsStored parts → IsSome (named (shared_of parts) name) →
+    IsAborted parts nodes trees book name numbers before later → IsStored (with_parts parts nodes trees book)
+abort-stored parts nodes trees book name numbers before later stored some is =
+    let removal = abort-removal parts nodes trees book name numbers before later stored some is in
+    subst (λ (n : Nodes). IsStored (with_parts parts n trees book)) (closed-same parts nodes name numbers is.values is.closed_all)
+    (removed-stored parts trees book name.tenant (later - before) (stays name.serial) stored removal)
+
+abort-frames : (parts : Parts) (nodes : Nodes) (trees : List (TableTree ℕ)) (book : Reservations) (name : FrameId) (numbers : List ℕ) (before later : ℕ) → IsStored parts → IsSome (named (shared_of parts) name) →
+    IsAborted parts nodes trees book name numbers before later →
+    worded (without parts.nodes (closing parts.trees name.tenant (stays name.serial))) (frames_of trees name.tenant) ≡ aborted name.serial (worded parts.nodes (frames_of parts.trees name.tenant))
+abort-frames parts nodes trees book name numbers before later stored some is =
+    let removal = abort-removal parts nodes trees book name numbers before later stored some is in
+    own-words parts trees book name.tenant (later - before) (stays name.serial) stored removal
+    ∙ sym (aborted-map_values (node_words parts.nodes) name.serial (frames_of parts.trees name.tenant))
+
+pub abort-shared : (parts : Parts) (nodes : Nodes) (trees : List (TableTree ℕ)) (book : Reservations) (name : FrameId) (numbers : List ℕ) (before later : ℕ) → IsStored parts → IsSome (named (shared_of parts) name) →
+    IsAborted parts nodes trees book name numbers before later → shared_of (with_parts parts nodes trees book) ≡ on_tenant name.tenant (without_under name.serial) (shared_of parts)
+abort-shared parts nodes trees book name numbers before later stored some is =
+    let removal = abort-removal parts nodes trees book name numbers before later stored some is in
+    let frames = abort-frames parts nodes trees book name numbers before later stored some is in
+    subst (λ (n : Nodes). shared_of (with_parts parts n trees book) ≡ on_tenant name.tenant (without_under name.serial) (shared_of parts)) (closed-same parts nodes name numbers is.values is.closed_all)
+    (removed-shared parts trees book name.tenant (later - before) (stays name.serial) (without_under name.serial) stored removal (ap (with-frames removal.account) frames))
+  where
+    with-frames : Account → List (Frame (List ℕ)) → Tenant
+    with-frames account frames = record { reserve = account.reserve; serials = account.opened; steps = account.ticks; jobs = jobs_of parts.ledgers name.tenant; frames = frames }
+
+-- as many go as are under the frame
+pub abort-count : (parts : Parts) → IsStored parts → (name : FrameId) (numbers : List ℕ) → numbers ≡ values_of (frames_under name.serial (frames_of parts.trees name.tenant)) →
+    length numbers ≡ length (frames_under name.serial (frames_in (shared_of parts) name.tenant))
+abort-count parts stored name numbers values =
+    let frames = frames-found parts stored name.tenant in
+    let worded_under = ap (frames_under name.serial) frames ∙ frames_under-map_values (node_words parts.nodes) name.serial (frames_of parts.trees name.tenant) in
+    ap length values ∙ length-values (frames_under name.serial (frames_of parts.trees name.tenant)) ∙ sym (ap length worded_under ∙ length-worded (frames_under name.serial (frames_of parts.trees name.tenant)))
+  where
+    length-values : (xs : List (Frame ℕ)) → length (values_of xs) ≡ length xs
+    length-values [] = refl
+    length-values (x ∷ xs) = omega (arith, length-values xs)
+
+    length-worded : (xs : List (Frame ℕ)) → length (map_values (node_words parts.nodes) xs) ≡ length xs
+    length-worded [] = refl
+    length-worded (x ∷ xs) = omega (arith, length-worded xs)

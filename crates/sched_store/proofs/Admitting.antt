@@ -1,0 +1,242 @@
+-- A tenant is admitted: an account, places and a ledger of its own, after all others, and nothing else.
+use Rattle.std.proofs.Common.{◌≡◌, ◌≢◌, ℕ, suc, ◌+◌, ◌^◌, ◌<◌, ◌≤◌, inl, inr, Bool, false, ◌||◌, eqb, List, [], ◌∷◌, ◌++◌, length, Some, None, refl, ap, sym, ◌∙◌, subst, arith}
+use Rattle.std.proofs.Math.Dec.{ltb, leb}
+use Rattle.std.proofs.lemmas.Bool.{cases_Bool, cases_eq, ne_eqb, eq-eqb, leb-false, ltb-false, or_parts, lt-ltb}
+use Rattle.cactus_stack.specs.Nodes.{Nodes}
+use Rattle.tenant_quota.specs.Quota.{Quota}
+use Rattle.tenant_quota.specs.Accounts.{account_of, fresh, with_new, reserved_segments, reserved_nodes}
+use Rattle.tenant_quota.specs.Reservations.{Reservations, IsSound, HasRoom, Admits, KeepsOthers as KeepsOtherAccounts}
+use Rattle.tenant_quota.specs.declared.account.Account.{Account}
+use Rattle.frame_table.specs.Frames.{Frame, frame_at, AllBelow}
+use Rattle.frame_table.specs.Tables.{Tree as TableTree, frames_of, places_of, tenant_count, KeepsOtherTenants}
+use Rattle.sched_rules.specs.Trees.{Tenant, admitted_with, charged_for}
+use Rattle.sched_rules.specs.Cores.{Shared, is_full, reservations_in}
+use Rattle.sched_store.specs.Changes.{with_admitted}
+use Rattle.sched_store.specs.Ledgers.{Ledger, jobs_of, numbers_of, AreBelow}
+use Rattle.sched_store.specs.Parts.{Parts, worded, tenant_from, tenants_from, shared_of}
+use Rattle.sched_store.specs.Stored.{IsStored, IsAccountFor, AreFramesNodes, IsFrameNode, numbers_in, AreAtMost, frame_in, node_of}
+use Rattle.sched_store.proofs.Lookups.{reservations-found}
+
+abbrev Entries : Type 0
+Entries = List (ℕ × Account)
+
+-- a number above all is nobody's yet
+pub newer-missing : (newest number : ℕ) (entries : Entries) → AreAtMost newest entries → newest < number → account_of number entries ≡ None
+newer-missing newest number [] most newer = refl
+newer-missing newest number (entry ∷ entries) most newer =
+    let low : entry.0 ≤ newest = most.0 in
+    let differs : entry.0 ≢ number = λ e. omega (arith, e, low, newer) in
+    rw (ne_eqb entry.0 number differs) (newer-missing newest number entries most.1 newer)
+
+below-newer : (newest number : ℕ) (entries : Entries) → AreAtMost newest entries → newest < number → AreBelow number (numbers_in entries)
+below-newer newest number [] most newer = tt
+below-newer newest number (entry ∷ entries) most newer = (let low : entry.0 ≤ newest = most.0 in omega (arith, low, newer), below-newer newest number entries most.1 newer)
+
+length-numbers : (entries : Entries) → length (numbers_in entries) ≡ length entries
+length-numbers [] = refl
+length-numbers (entry ∷ entries) = ap suc (length-numbers entries)
+
+length-ledgers : (ledgers : List Ledger) → length (numbers_of ledgers) ≡ length ledgers
+length-ledgers [] = refl
+length-ledgers (ledger ∷ ledgers) = ap suc (length-ledgers ledgers)
+
+pub many-ledgers : (parts : Parts) → IsStored parts → length parts.ledgers ≡ length parts.book.accounts
+many-ledgers parts stored = sym (length-ledgers parts.ledgers) ∙ ap length stored.ledgers ∙ length-numbers parts.book.accounts
+
+-- what a core that isn't full has room for
+pub room-found : (parts : Parts) → IsStored parts → (quota : Quota) → is_full (reservations_in (shared_of parts)) quota ≡ false → HasRoom parts.book quota
+room-found parts stored quota not_full =
+    let book = parts.book in
+    let open_book : is_full book quota ≡ false = subst (λ (b : Reservations). is_full b quota ≡ false) (reservations-found parts stored) not_full in
+    let few : Bool = leb 64 (length book.accounts) in
+    let wide : Bool = ltb book.segments (reserved_segments book.accounts + quota.segments) in
+    let first = or_parts (few || wide) (ltb book.nodes (reserved_nodes book.accounts + quota.nodes)) open_book in
+    let second = or_parts few wide first.0 in
+    record {
+      tenants = leb-false 64 (length book.accounts) second.0;
+      segments = ltb-false book.segments (reserved_segments book.accounts + quota.segments) second.1;
+      nodes = ltb-false book.nodes (reserved_nodes book.accounts + quota.nodes) first.1;
+    }
+
+-- what can be admitted
+pub record CanBeAdmitted (parts : Parts) (number : ℕ) (quota : Quota) : Type 0 where
+  pub nobody : account_of number parts.book.accounts ≡ None
+  pub no_places : places_of parts.trees number ≡ 0
+  pub few_trees : tenant_count parts.trees < 64
+  pub few_ledgers : length parts.ledgers < 64
+  pub below : AreBelow number (numbers_of parts.ledgers)
+  pub room : HasRoom parts.book quota
+
+pub can-be-admitted : (parts : Parts) (number : ℕ) (quota : Quota) → IsStored parts → parts.newest < number → is_full (reservations_in (shared_of parts)) quota ≡ false → CanBeAdmitted parts number quota
+can-be-admitted parts number quota stored newer not_full =
+    let room = room-found parts stored quota not_full in
+    let none = newer-missing parts.newest number parts.book.accounts stored.taken newer in
+    let few = room.tenants in
+    let trees = stored.tenants in
+    let ledgers = many-ledgers parts stored in
+    record {
+      nobody = none;
+      no_places = stored.nobody number none;
+      few_trees = omega (arith, few, trees);
+      few_ledgers = omega (arith, few, ledgers);
+      below = subst (λ (ns : List ℕ). AreBelow number ns) (sym stored.ledgers) (below-newer parts.newest number parts.book.accounts stored.taken newer);
+      room = room;
+    }
+
+-- what an admission was told by the table and the book
+pub record IsAdmitted (parts : Parts) (trees : List (TableTree ℕ)) (ledger : Ledger) (book : Reservations) (number : ℕ) (quota : Quota) : Type 0 where
+  pub newer : parts.newest < number
+  pub within : number ≤ 2 ^ 62
+  pub places : places_of trees number ≡ quota.segments
+  pub frames : frames_of trees number ≡ []
+  pub kept : KeepsOtherTenants parts.trees trees number
+  pub count : tenant_count trees ≡ tenant_count parts.trees + 1
+  pub ledger_is : ledger ≡ (number, [])
+  pub admits : Admits parts.book book number quota
+  pub others : KeepsOtherAccounts parts.book book number
+  pub sound : IsSound book
+
+-- the parts after it
+abbrev pub with_one_more : Parts → List (TableTree ℕ) → Ledger → Reservations → ℕ → Parts
+with_one_more parts trees ledger book number = record parts { trees = trees; ledgers = parts.ledgers ++ ledger ∷ []; book = book; newest = number }
+
+-- a new account that is above all stands last
+new-last : (newest number : ℕ) (account : Account) (entries : Entries) → AreAtMost newest entries → newest < number → with_new number account entries ≡ entries ++ (number, account) ∷ []
+new-last newest number account [] most newer = refl
+new-last newest number account (entry ∷ entries) most newer =
+    let low : entry.0 ≤ newest = most.0 in
+    let below : entry.0 < number = omega (arith, low, newer) in
+    rw (lt-ltb entry.0 number below) (ap (λ (rest : Entries). entry ∷ rest) (new-last newest number account entries most.1 newer))
+
+accounts-after : (parts : Parts) (trees : List (TableTree ℕ)) (ledger : Ledger) (book : Reservations) (number : ℕ) (quota : Quota) → IsStored parts → IsAdmitted parts trees ledger book number quota → book.accounts ≡ parts.book.accounts ++ (number, fresh quota) ∷ []
+accounts-after parts trees ledger book number quota stored is =
+    ap (λ (b : Reservations). b.accounts) is.admits.whole ∙ new-last parts.newest number (fresh quota) parts.book.accounts stored.taken is.newer
+
+-- no tenant's frames change
+same-frames : (parts : Parts) (trees : List (TableTree ℕ)) (ledger : Ledger) (book : Reservations) (number : ℕ) (quota : Quota) → IsStored parts → IsAdmitted parts trees ledger book number quota → (other : ℕ) → frames_of trees other ≡ frames_of parts.trees other
+same-frames parts trees ledger book number quota stored is other =
+    elim (cases_eq other number) [
+      | inl here ↦ rw here (is.frames ∙ sym (stored.nothing number (newer-missing parts.newest number parts.book.accounts stored.taken is.newer)))
+      | inr differs ↦ is.kept.frames other differs
+    ]
+
+same-belongs : (nodes : Nodes) (trees after : List (TableTree ℕ)) → ((other : ℕ) → frames_of after other ≡ frames_of trees other) → AreFramesNodes nodes trees → AreFramesNodes nodes after
+same-belongs nodes trees after same belong = record {
+  nodes_of_frames = λ owner serial frame at. subst (λ (xs : List (Frame ℕ)). IsFrameNode nodes xs frame) (sym (same owner)) (belong.nodes_of_frames owner serial frame (sym (found owner serial) ∙ at));
+  once = λ owner serial other_owner other_serial node these those. belong.once owner serial other_owner other_serial node (sym (ap node_of (found owner serial)) ∙ these) (sym (ap node_of (found other_owner other_serial)) ∙ those);
+  no_other = λ node is. (let has = belong.no_other node is in record { number = has.number; serial = has.serial; there = ap node_of (found has.number has.serial) ∙ has.there });
+}
+  where
+    found : (owner serial : ℕ) → frame_in after owner serial ≡ frame_in trees owner serial
+    found owner serial = ap (λ (xs : List (Frame ℕ)). frame_at xs serial) (same owner)
+
+numbers-pushed : (entries : Entries) (entry : ℕ × Account) → numbers_in (entries ++ entry ∷ []) ≡ numbers_in entries ++ entry.0 ∷ []
+numbers-pushed [] entry = refl
+numbers-pushed (first ∷ entries) entry = ap (λ (ns : List ℕ). first.0 ∷ ns) (numbers-pushed entries entry)
+
+ledgers-pushed : (ledgers : List Ledger) (ledger : Ledger) → numbers_of (ledgers ++ ledger ∷ []) ≡ numbers_of ledgers ++ ledger.0 ∷ []
+ledgers-pushed [] ledger = refl
+ledgers-pushed (first ∷ ledgers) ledger = ap (λ (ns : List ℕ). first.0 ∷ ns) (ledgers-pushed ledgers ledger)
+
+most-pushed : (newest number : ℕ) (entries : Entries) (account : Account) → AreAtMost newest entries → newest < number → AreAtMost number (entries ++ (number, account) ∷ [])
+most-pushed newest number [] account most newer = (omega arith, tt)
+most-pushed newest number (entry ∷ entries) account most newer = (let low : entry.0 ≤ newest = most.0 in omega (arith, low, newer), most-pushed newest number entries account most.1 newer)
+
+-- what a store keeps true is true after it
+pub admit-stored : (parts : Parts) (trees : List (TableTree ℕ)) (ledger : Ledger) (book : Reservations) (number : ℕ) (quota : Quota) → IsStored parts → IsAdmitted parts trees ledger book number quota →
+    IsStored (with_one_more parts trees ledger book number)
+admit-stored parts trees ledger book number quota stored is =
+    let frames = same-frames parts trees ledger book number quota stored is in
+    let accounts = accounts-after parts trees ledger book number quota stored is in
+    let tenants = stored.tenants in
+    let more = is.count in
+    let longer = is.admits.tenants in
+    record {
+      book = is.sound;
+      frames_nodes = same-belongs parts.nodes parts.trees trees frames stored.frames_nodes;
+      sized = stored.sized;
+      accounts = λ other a found. elim (cases_eq other number) [
+        | inl here ↦ (let mine : account_of number book.accounts ≡ Some a = rw (← here) found in let e : fresh quota ≡ a = cc (is.admits.account, mine) in rw (here, ← e) own)
+        | inr differs ↦ others other a differs found
+      ];
+      nobody = λ other none. elim (cases_eq other number) [
+        | inl here ↦ absurd (let mine : account_of number book.accounts ≡ None = rw (← here) none in cc (is.admits.account, mine))
+        | inr differs ↦ is.kept.places other differs ∙ stored.nobody other (sym (is.others.others other differs) ∙ none)
+      ];
+      nothing = λ other none. elim (cases_eq other number) [
+        | inl here ↦ rw here is.frames
+        | inr differs ↦ frames other ∙ stored.nothing other (sym (is.others.others other differs) ∙ none)
+      ];
+      forest = λ other. rw (frames other) (stored.forest other);
+      tenants = omega (arith, tenants, more, longer);
+      charges = stored.charges ∙ sym is.admits.charged;
+      segments = stored.segments ∙ sym is.others.segments;
+      ledgers = ledgers-pushed parts.ledgers ledger ∙ ap (λ (n : ℕ). numbers_of parts.ledgers ++ n ∷ []) (ap (λ (l : Ledger). l.0) is.ledger_is) ∙ ap (λ (ns : List ℕ). ns ++ number ∷ []) stored.ledgers ∙ sym (ap numbers_in accounts ∙ numbers-pushed parts.book.accounts (number, fresh quota));
+      workers = stored.workers;
+      places = λ worker owner serial frame at held. stored.places worker owner serial frame (sym (ap (λ (xs : List (Frame ℕ)). frame_at xs serial) (frames owner)) ∙ at) held;
+      taken = rw accounts (most-pushed parts.newest number parts.book.accounts (fresh quota) stored.taken is.newer);
+      newest = is.within;
+    }
+  where
+    own : IsAccountFor parts.nodes trees number (fresh quota)
+    own = record {
+      charged = sym (ap (λ (xs : List (Frame ℕ)). charged_for (worded parts.nodes xs)) is.frames);
+      places = is.places;
+      serials = subst (λ (xs : List (Frame ℕ)). AllBelow 1 xs) (sym is.frames) tt;
+    }
+
+    others : (other : ℕ) (a : Account) → other ≢ number → account_of other book.accounts ≡ Some a → IsAccountFor parts.nodes trees other a
+    others other a differs found =
+        let was = stored.accounts other a (sym (is.others.others other differs) ∙ found) in
+        let frames = same-frames parts trees ledger book number quota stored is other in
+        record {
+          charged = was.charged ∙ sym (ap (λ (xs : List (Frame ℕ)). charged_for (worded parts.nodes xs)) frames);
+          places = is.kept.places other differs ∙ was.places;
+          serials = subst (λ (xs : List (Frame ℕ)). AllBelow (a.opened + 1) xs) (sym frames) was.serials;
+        }
+
+jobs-other : (ledgers : List Ledger) (ledger : Ledger) (other : ℕ) → ledger.0 ≢ other → jobs_of (ledgers ++ ledger ∷ []) other ≡ jobs_of ledgers other
+jobs-other [] ledger other differs = rw (ne_eqb ledger.0 other differs) refl
+jobs-other (first ∷ ledgers) ledger other differs =
+    elim (cases_Bool (eqb first.0 other)) [
+      | inl same ↦ rw same refl
+      | inr further ↦ rw further (jobs-other ledgers ledger other differs)
+    ]
+
+jobs-own : (ledgers : List Ledger) (ledger : Ledger) → AreBelow ledger.0 (numbers_of ledgers) → jobs_of (ledgers ++ ledger ∷ []) ledger.0 ≡ ledger.1
+jobs-own [] ledger below = rw (eq-eqb ledger.0 ledger.0 refl) refl
+jobs-own (first ∷ ledgers) ledger below =
+    let low : first.0 < ledger.0 = below.0 in
+    let differs : first.0 ≢ ledger.0 = λ e. omega (arith, e, low) in
+    rw (ne_eqb first.0 ledger.0 differs) (jobs-own ledgers ledger below.1)
+
+tenants-pushed : (parts after : Parts) (newest number : ℕ) (account : Account) (entries : Entries) → AreAtMost newest entries → newest < number →
+    ((other : ℕ) (a : Account) → other ≢ number → tenant_from after other a ≡ tenant_from parts other a) →
+    tenants_from after (entries ++ (number, account) ∷ []) ≡ tenants_from parts entries ++ (number, tenant_from after number account) ∷ []
+tenants-pushed parts after newest number account [] most newer others = refl
+tenants-pushed parts after newest number account (entry ∷ entries) most newer others =
+    let low : entry.0 ≤ newest = most.0 in
+    let differs : entry.0 ≢ number = λ e. omega (arith, e, low, newer) in
+    rw (others entry.0 entry.1 differs, tenants-pushed parts after newest number account entries most.1 newer others) refl
+
+-- and the core is the one before with that tenant after all others
+pub admit-shared : (parts : Parts) (trees : List (TableTree ℕ)) (ledger : Ledger) (book : Reservations) (number : ℕ) (quota : Quota) → IsStored parts → IsAdmitted parts trees ledger book number quota →
+    shared_of (with_one_more parts trees ledger book number) ≡ with_admitted number quota (shared_of parts)
+admit-shared parts trees ledger book number quota stored is =
+    let after = with_one_more parts trees ledger book number in
+    let frames = same-frames parts trees ledger book number quota stored is in
+    let first : ledger.0 ≡ number = ap (λ (l : Ledger). l.0) is.ledger_is in
+    let none : ledger.1 ≡ [] = ap (λ (l : Ledger). l.1) is.ledger_is in
+    let others : (other : ℕ) (a : Account) → other ≢ number → tenant_from after other a ≡ tenant_from parts other a =
+    λ other a differs. rw (jobs-other parts.ledgers ledger other (λ e. differs (sym e ∙ first)), frames other) refl in
+    let below : AreBelow ledger.0 (numbers_of parts.ledgers) = subst (λ (n : ℕ). AreBelow n (numbers_of parts.ledgers)) (sym first) (subst (λ (ns : List ℕ). AreBelow number ns) (sym stored.ledgers) (below-newer parts.newest number parts.book.accounts stored.taken is.newer)) in
+    let jobs : jobs_of (parts.ledgers ++ ledger ∷ []) number ≡ [] = ap (jobs_of (parts.ledgers ++ ledger ∷ [])) (sym first) ∙ jobs-own parts.ledgers ledger below ∙ none in
+    let mine : tenant_from after number (fresh quota) ≡ admitted_with quota = rw (jobs, is.frames) refl in
+    let tenants = tenants-pushed parts after parts.newest number (fresh quota) parts.book.accounts stored.taken is.newer others ∙ ap (λ (t : Tenant). tenants_from parts parts.book.accounts ++ (number, t) ∷ []) mine in
+    let whole = ap (tenants_from after) (accounts-after parts trees ledger book number quota stored is) ∙ tenants in
+    let segments = is.others.segments in
+    let nodes = is.others.nodes in
+    rw (segments, nodes) (ap (λ (entries : List (ℕ × Tenant)). with-entries entries) whole)
+  where
+    with-entries : List (ℕ × Tenant) → Shared
+    with-entries entries = record { totals = record { segments = parts.book.segments; nodes = parts.book.nodes }; newest = number; tenants = entries }

@@ -1,0 +1,269 @@
+-- Some frames of one tenant are removed, and their nodes closed: frames and nodes still belong to one another, one to one.
+use Rattle.std.proofs.Common.{◌≡◌, ◌≢◌, ℕ, zero, suc, ◌<◌, ◌⊎◌, inl, inr, Bool, true, false, not, eqb, List, [], ◌∷◌, length, get_or, Option, Some, None, IsSome, Contains, refl, ap, sym, ◌∙◌, subst, arith}
+use Rattle.std.proofs.Math.ListN.{set}
+use Rattle.std.specs.List.{filter}
+use Rattle.std.proofs.lemmas.Bool.{cases_Bool, false≢true, true≢false, eq-eqb, eqb-true}
+use Rattle.cactus_stack.specs.Nodes.{Nodes, Node, IsOpen, node_at, node_words, words_of, parent_of as parent_at, without}
+use Rattle.cactus_stack.proofs.LawFacts.{gone, kept}
+use Rattle.frame_table.specs.declared.names.FrameId.{FrameId}
+use Rattle.frame_table.specs.Frames.{Frame, frame_at, has_frame, parent_of, values_of, IsTree}
+use Rattle.frame_table.specs.Tables.{Tree as TableTree, frames_of}
+use Rattle.frame_table.specs.TreeLaws.{AreRising, Each}
+use Rattle.frame_table.proofs.TreeLaws.{there-found, tree-rising, found-each, under-there}
+use Rattle.frame_table.proofs.TreeChanges.{frame_at-stays, filter-found}
+use Rattle.sched_store.specs.Parts.{worded}
+use Rattle.sched_store.specs.Stored.{frame_in, node_of, node_above, IsFrameNode, HasFrame, AreFramesNodes, AreSized, ArePlaces}
+
+-- what isn't there doesn't come as others go
+
+none-stays : (nodes : Nodes) (n m : ℕ) → node_at nodes m ≡ None → node_at (set nodes n None) m ≡ None
+none-stays [] n m none = none
+none-stays (e ∷ nodes) zero zero none = refl
+none-stays (e ∷ nodes) zero (suc m) none = none
+none-stays (e ∷ nodes) (suc n) zero none = none
+none-stays (e ∷ nodes) (suc n) (suc m) none = none-stays nodes n m none
+
+still-none : (nodes : Nodes) (numbers : List ℕ) (m : ℕ) → node_at nodes m ≡ None → node_at (without nodes numbers) m ≡ None
+still-none nodes [] m none = none
+still-none nodes (n ∷ numbers) m none = still-none (set nodes n None) numbers m (none-stays nodes n m none)
+
+-- the nodes of the frames that go
+abbrev pub closed : (Frame ℕ → Bool) → List (Frame ℕ) → List ℕ
+closed keep frames = values_of (filter (λ frame. not (keep frame)) frames)
+
+contains_first : (m n : ℕ) (numbers : List ℕ) → m ≡ n → Contains (m ∷ numbers) n
+contains_first m n numbers same = (0, omega arith, same)
+
+contains_later : (m n : ℕ) (numbers : List ℕ) → Contains numbers n → Contains (m ∷ numbers) n
+contains_later m n numbers among = (suc among.0, omega (arith, among.1), among.2)
+
+-- the node of a frame that goes is among them
+pub gone-listed : (keep : Frame ℕ → Bool) (frames : List (Frame ℕ)) (serial : ℕ) (frame : Frame ℕ) → frame_at frames serial ≡ Some frame → keep frame ≡ false → Contains (closed keep frames) frame.value
+gone-listed keep [] serial frame at goes = absurd cc
+gone-listed keep (x ∷ xs) serial frame at goes =
+    elim (cases_Bool (eqb x.serial serial)) [
+      | inl same ↦ (
+          let is : ◌≡◌ {A = Option (Frame ℕ)} (Some x) (Some frame) = rw same at at in
+          let e : x ≡ frame = cc in
+          let out : keep x ≡ false = ap keep e ∙ goes in
+          let v : x.value ≡ frame.value = ap (λ (f : Frame ℕ). f.value) e in
+          rw out (contains_first x.value frame.value (closed keep xs) v))
+      | inr other ↦ (
+          let later = gone-listed keep xs serial frame (rw other at at) goes in
+          elim (cases_Bool (keep x)) [
+            | inl stays ↦ rw stays later
+            | inr out ↦ rw out (contains_later x.value frame.value (closed keep xs) later)
+          ])
+    ]
+
+-- a frame that goes, with this node
+pub record Goes (keep : Frame ℕ → Bool) (frames : List (Frame ℕ)) (node : ℕ) : Type 0 where
+  pub serial : ℕ
+  pub frame : Frame ℕ
+  pub there : frame_at frames serial ≡ Some frame
+  pub out : keep frame ≡ false
+  pub node_is : frame.value ≡ node
+
+-- such a frame, of which something is known
+abbrev pub GoesWith : (Frame ℕ → Bool) → (Frame ℕ → Type 0) → ℕ → Type 0
+GoesWith keep P node = (f : Frame ℕ) × P f × (keep f ≡ false) × (f.value ≡ node)
+
+first-or-later : (keep : Frame ℕ → Bool) (P : Frame ℕ → Type 0) (x : Frame ℕ) (numbers : List ℕ) (node i : ℕ) → P x → keep x ≡ false →
+    ((k : ℕ) → k < length numbers → get_or numbers k node ≡ node → GoesWith keep P node) →
+    i < length (x.value ∷ numbers) → get_or (x.value ∷ numbers) i node ≡ node → GoesWith keep P node
+first-or-later keep P x numbers node zero p out later within is = (x, p, out, is)
+first-or-later keep P x numbers node (suc i) p out later within is = (let below : i < length numbers = omega arith in later i below is)
+
+pub listed-at : (keep : Frame ℕ → Bool) (P : Frame ℕ → Type 0) (xs : List (Frame ℕ)) (node i : ℕ) → Each P xs → i < length (closed keep xs) → get_or (closed keep xs) i node ≡ node → GoesWith keep P node
+listed-at keep P [] node i each within is = absurd (omega arith)
+listed-at keep P (x ∷ xs) node i each within is =
+    elim (cases_Bool (keep x)) [
+      | inl stays ↦ listed-at keep P xs node i each.1 (rw stays at within) (rw stays at is)
+      | inr out ↦ first-or-later keep P x (closed keep xs) node i each.0 out (λ k below same. listed-at keep P xs node k each.1 below same) (rw out at within) (rw out at is)
+    ]
+
+-- a node among them is that of a frame that goes
+pub listed-goes : (keep : Frame ℕ → Bool) (frames : List (Frame ℕ)) (node : ℕ) → AreRising frames → Contains (closed keep frames) node → Goes keep frames node
+listed-goes keep frames node rising among =
+    let P : Frame ℕ → Type 0 = λ f. (s : ℕ) × (frame_at frames s ≡ Some f) in
+    let each : Each P frames = found-each P frames rising (λ s f at. (s, at)) in
+    let found = listed-at keep P frames node among.0 each among.1 among.2 in
+    record { serial = found.1.0; frame = found.0; there = found.1.1; out = found.2; node_is = found.3 }
+
+-- the frame that has a node
+pub found-node : (o : Option (Frame ℕ)) (node : ℕ) → node_of o ≡ Some node → (f : Frame ℕ) × (o ≡ Some f) × (f.value ≡ node)
+found-node None node is = absurd cc
+found-node (Some f) node is = (f, refl, cc)
+
+-- what a cut leaves of the trees
+pub record IsCut (trees after : List (TableTree ℕ)) (number : ℕ) (keep : Frame ℕ → Bool) : Type 0 where
+  pub tree : (other : ℕ) → IsTree (frames_of trees other)
+  pub tree_after : IsTree (frames_of after number)
+  pub cut : frames_of after number ≡ filter keep (frames_of trees number)
+  pub others : (other : ℕ) → other ≢ number → frames_of after other ≡ frames_of trees other
+
+-- the nodes that are closed
+abbrev pub closing : List (TableTree ℕ) → ℕ → (Frame ℕ → Bool) → List ℕ
+closing trees number keep = closed keep (frames_of trees number)
+
+-- a frame after the cut: it was there, and its node stays open
+pub record Stays (nodes : Nodes) (trees : List (TableTree ℕ)) (number : ℕ) (keep : Frame ℕ → Bool) (owner serial : ℕ) (frame : Frame ℕ) : Type 0 where
+  pub there : frame_in trees owner serial ≡ Some frame
+  pub unlisted : Contains (closing trees number keep) frame.value → ⊥
+  pub node : node_at (without nodes (closing trees number keep)) frame.value ≡ node_at nodes frame.value
+
+unlisted-here : (nodes : Nodes) (trees : List (TableTree ℕ)) (number : ℕ) (keep : Frame ℕ → Bool) (owner serial : ℕ) (frame : Frame ℕ) →
+    AreFramesNodes nodes trees → AreRising (frames_of trees number) → frame_in trees owner serial ≡ Some frame → ((owner ≡ number) → keep frame ≡ true) → Contains (closing trees number keep) frame.value → ⊥
+unlisted-here nodes trees number keep owner serial frame belong rising at stays among =
+    let goes = listed-goes keep (frames_of trees number) frame.value rising among in
+    let mine : node_of (frame_in trees owner serial) ≡ Some frame.value = ap node_of at in
+    let its : node_of (frame_in trees number goes.serial) ≡ Some frame.value = ap node_of goes.there ∙ ap (λ (v : ℕ). Some v) goes.node_is in
+    let one = belong.once owner serial number goes.serial frame.value mine its in
+    let same : ◌≡◌ {A = Option (Frame ℕ)} (Some frame) (Some goes.frame) = sym at ∙ ap (λ (n : ℕ). frame_in trees n serial) one.0 ∙ ap (λ (s : ℕ). frame_in trees number s) one.1 ∙ goes.there in
+    let e : frame ≡ goes.frame = cc in
+    true≢false (sym (stays one.0) ∙ ap keep e ∙ goes.out)
+
+pub stays-after : (nodes : Nodes) (trees after : List (TableTree ℕ)) (number : ℕ) (keep : Frame ℕ → Bool) → AreFramesNodes nodes trees → IsCut trees after number keep →
+    (owner serial : ℕ) (frame : Frame ℕ) → frame_in after owner serial ≡ Some frame → Stays nodes trees number keep owner serial frame
+stays-after nodes trees after number keep belong is owner serial frame at =
+    elim (cases_Bool (eqb owner number)) [
+      | inl same ↦ (
+          let here : owner ≡ number = eqb-true owner number same in
+          let found : frame_at (filter keep (frames_of trees number)) serial ≡ Some frame = sym (ap (λ (xs : List (Frame ℕ)). frame_at xs serial) is.cut) ∙ ap (λ (n : ℕ). frame_in after n serial) (sym here) ∙ at in
+          let was = filter-found keep (frames_of trees number) serial frame rising found in
+          let there : frame_in trees owner serial ≡ Some frame = ap (λ (n : ℕ). frame_in trees n serial) here ∙ was.0 in
+          made there (λ e. was.1))
+      | inr other ↦ (
+          let differs : owner ≢ number = λ e. true≢false (sym (eq-eqb owner number e) ∙ other) in
+          let there : frame_in trees owner serial ≡ Some frame = sym (ap (λ (xs : List (Frame ℕ)). frame_at xs serial) (is.others owner differs)) ∙ at in
+          made there (λ e. absurd (differs e)))
+    ]
+  where
+    rising : AreRising (frames_of trees number)
+    rising = tree-rising (frames_of trees number) (is.tree number)
+
+    made : frame_in trees owner serial ≡ Some frame → ((owner ≡ number) → keep frame ≡ true) → Stays nodes trees number keep owner serial frame
+    made there stays =
+        let not = unlisted-here nodes trees number keep owner serial frame belong rising there stays in
+        record { there = there; unlisted = not; node = kept nodes (closing trees number keep) frame.value not }
+
+-- an open node is none of those that are closed, and has the same words
+open-kept : (nodes : Nodes) (numbers : List ℕ) (node : ℕ) → IsOpen (without nodes numbers) node → node_at (without nodes numbers) node ≡ node_at nodes node
+open-kept nodes numbers node is = kept nodes numbers node (λ among. false≢true (subst IsSome (gone nodes numbers node among) is))
+
+some-first : (xs : List (Frame ℕ)) (keep : Frame ℕ → Bool) (p : ℕ) → AreRising xs → has_frame (filter keep xs) p ≡ true → node_of (frame_at xs p) ≡ node_of (frame_at (filter keep xs) p)
+some-first xs keep p rising there =
+    let found = there-found (filter keep xs) p there in
+    let was = filter-found keep xs p found.0 rising found.1 in
+    ap node_of was.0 ∙ sym (ap node_of found.1)
+
+-- the node of the parent is the same as before
+above-kept : (trees after : List (TableTree ℕ)) (number : ℕ) (keep : Frame ℕ → Bool) → IsCut trees after number keep →
+    (owner serial : ℕ) (frame : Frame ℕ) → frame_in after owner serial ≡ Some frame → (parent : Option ℕ) → parent_of frame.path ≡ parent → node_above (frames_of trees owner) parent ≡ node_above (frames_of after owner) parent
+above-kept trees after number keep is owner serial frame at None top = refl
+above-kept trees after number keep is owner serial frame at (Some p) up =
+    elim (cases_Bool (eqb owner number)) [
+      | inl same ↦ (
+          let here : owner ≡ number = eqb-true owner number same in
+          let found : frame_at (frames_of after number) serial ≡ Some frame = ap (λ (n : ℕ). frame_in after n serial) (sym here) ∙ at in
+          let there : has_frame (filter keep (frames_of trees number)) p ≡ true = sym (ap (λ (xs : List (Frame ℕ)). has_frame xs p) is.cut) ∙ under-there (frames_of after number) serial p frame is.tree_after found up in
+          let one = some-first (frames_of trees number) keep p (tree-rising (frames_of trees number) (is.tree number)) there in
+          ap (λ (n : ℕ). node_of (frame_in trees n p)) here ∙ one ∙ sym (ap (λ (xs : List (Frame ℕ)). node_of (frame_at xs p)) is.cut) ∙ ap (λ (n : ℕ). node_of (frame_in after n p)) (sym here))
+      | inr other ↦ (
+          let differs : owner ≢ number = λ e. true≢false (sym (eq-eqb owner number e) ∙ other) in
+          sym (ap (λ (xs : List (Frame ℕ)). node_of (frame_at xs p)) (is.others owner differs)))
+    ]
+
+-- a frame that was there is there, or its node is closed
+stays-or-closed : (trees after : List (TableTree ℕ)) (number : ℕ) (keep : Frame ℕ → Bool) → IsCut trees after number keep →
+    (owner serial : ℕ) (frame : Frame ℕ) → frame_in trees owner serial ≡ Some frame → (frame_in after owner serial ≡ Some frame) ⊎ Contains (closing trees number keep) frame.value
+stays-or-closed trees after number keep is owner serial frame at =
+    elim (cases_Bool (eqb owner number)) [
+      | inl same ↦ (
+          let here : owner ≡ number = eqb-true owner number same in
+          let found : frame_at (frames_of trees number) serial ≡ Some frame = ap (λ (n : ℕ). frame_in trees n serial) (sym here) ∙ at in
+          elim (cases_Bool (keep frame)) [
+            | inl stays ↦ inl (
+                ap (λ (n : ℕ). frame_in after n serial) here ∙ ap (λ (xs : List (Frame ℕ)). frame_at xs serial) is.cut
+                ∙ frame_at-stays keep (frames_of trees number) serial frame (tree-rising (frames_of trees number) (is.tree number)) found stays)
+            | inr out ↦ inr (gone-listed keep (frames_of trees number) serial frame found out)
+          ])
+      | inr other ↦ (
+          let differs : owner ≢ number = λ e. true≢false (sym (eq-eqb owner number e) ∙ other) in
+          inl (ap (λ (xs : List (Frame ℕ)). frame_at xs serial) (is.others owner differs) ∙ at))
+    ]
+
+still-open : (nodes : Nodes) (numbers : List ℕ) (node : ℕ) (entry : Option Node) → node_at nodes node ≡ entry → IsOpen (without nodes numbers) node → IsSome entry
+still-open nodes numbers node None at is = subst IsSome (still-none nodes numbers node at) is
+still-open nodes numbers node (Some found) at is = refl
+
+-- frames and open nodes still belong to one another
+pub cut-belongs : (nodes : Nodes) (trees after : List (TableTree ℕ)) (number : ℕ) (keep : Frame ℕ → Bool) → AreFramesNodes nodes trees → IsCut trees after number keep →
+    AreFramesNodes (without nodes (closing trees number keep)) after
+cut-belongs nodes trees after number keep belong is = record { nodes_of_frames = belongs; once = once; no_other = no_other }
+  where
+    numbers : List ℕ
+    numbers = closing trees number keep
+
+    belongs : (owner serial : ℕ) (frame : Frame ℕ) → frame_in after owner serial ≡ Some frame → IsFrameNode (without nodes numbers) (frames_of after owner) frame
+    belongs owner serial frame at =
+        let stays = stays-after nodes trees after number keep belong is owner serial frame at in
+        let was = belong.nodes_of_frames owner serial frame stays.there in
+        record {
+          is_open = subst IsSome (sym stays.node) was.is_open;
+          parent = ap parent_at stays.node ∙ was.parent ∙ above-kept trees after number keep is owner serial frame at (parent_of frame.path) refl;
+        }
+
+    was-there : (owner serial node : ℕ) → node_of (frame_in after owner serial) ≡ Some node → node_of (frame_in trees owner serial) ≡ Some node
+    was-there owner serial node at =
+        let found = found-node (frame_in after owner serial) node at in
+        let stays = stays-after nodes trees after number keep belong is owner serial found.0 found.1 in
+        ap node_of stays.there ∙ ap (λ (v : ℕ). Some v) found.2
+
+    once : (owner serial other_owner other_serial node : ℕ) → node_of (frame_in after owner serial) ≡ Some node → node_of (frame_in after other_owner other_serial) ≡ Some node → (owner ≡ other_owner) × (serial ≡ other_serial)
+    once owner serial other_owner other_serial node these those =
+        belong.once owner serial other_owner other_serial node (was-there owner serial node these) (was-there other_owner other_serial node those)
+
+    no_other : (node : ℕ) → IsOpen (without nodes numbers) node → HasFrame after node
+    no_other node open_still =
+        let has = belong.no_other node (still-open nodes numbers node (node_at nodes node) refl open_still) in
+        let found = found-node (frame_in trees has.number has.serial) node has.there in
+        elim (stays-or-closed trees after number keep is has.number has.serial found.0 found.1) [
+          | inl there ↦ record { number = has.number; serial = has.serial; there = ap node_of there ∙ ap (λ (v : ℕ). Some v) found.2 }
+          | inr among ↦ absurd (false≢true (subst IsSome (gone nodes numbers node (subst (λ (v : ℕ). Contains numbers v) found.2 among)) open_still))
+        ]
+
+-- open nodes keep their words, so each still has 1 to 128
+pub cut-sized : (nodes : Nodes) (numbers : List ℕ) → AreSized nodes → AreSized (without nodes numbers)
+cut-sized nodes numbers sized = record {
+  some = λ node is. (let same = open-kept nodes numbers node is in let was : IsOpen nodes node = subst IsSome same is in let words : node_words (without nodes numbers) node ≡ node_words nodes node = ap words_of same in omega (arith, sized.some node was, ap length words));
+  most = λ node is. (let same = open-kept nodes numbers node is in let was : IsOpen nodes node = subst IsSome same is in let words : node_words (without nodes numbers) node ≡ node_words nodes node = ap words_of same in omega (arith, sized.most node was, ap length words));
+}
+
+-- a worker that holds a frame held it before
+pub cut-places : (nodes : Nodes) (trees after : List (TableTree ℕ)) (places : List (Option FrameId)) (number : ℕ) (keep : Frame ℕ → Bool) → AreFramesNodes nodes trees → IsCut trees after number keep →
+    ArePlaces trees places → ArePlaces after places
+cut-places nodes trees after places number keep belong is held worker owner serial frame at holds =
+    let stays = stays-after nodes trees after number keep belong is owner serial frame at in
+    held worker owner serial frame stays.there holds
+
+-- frames whose nodes keep their words
+pub worded-same : (nodes after : Nodes) (frames : List (Frame ℕ)) → Each (λ frame. node_words after frame.value ≡ node_words nodes frame.value) frames → worded after frames ≡ worded nodes frames
+worded-same nodes after [] same = refl
+worded-same nodes after (frame ∷ frames) same = rw (same.0, worded-same nodes after frames same.1) refl
+
+-- after a cut each tenant's frames have the words that they had
+pub cut-words : (nodes : Nodes) (trees after : List (TableTree ℕ)) (number : ℕ) (keep : Frame ℕ → Bool) → AreFramesNodes nodes trees → IsCut trees after number keep → (owner : ℕ) → IsTree (frames_of after owner) →
+    worded (without nodes (closing trees number keep)) (frames_of after owner) ≡ worded nodes (frames_of after owner)
+cut-words nodes trees after number keep belong is owner tree =
+    worded-same nodes (without nodes (closing trees number keep)) (frames_of after owner)
+    (found-each (λ frame. node_words (without nodes (closing trees number keep)) frame.value ≡ node_words nodes frame.value) (frames_of after owner) (tree-rising (frames_of after owner) tree)
+    (λ serial frame at. ap words_of (Stays.node (stays-after nodes trees after number keep belong is owner serial frame at))))
+
+-- all frames of a tenant are a tree after a cut
+pub cut-trees : (trees after : List (TableTree ℕ)) (number : ℕ) (keep : Frame ℕ → Bool) → IsCut trees after number keep → (owner : ℕ) → IsTree (frames_of after owner)
+cut-trees trees after number keep is owner =
+    elim (cases_Bool (eqb owner number)) [
+      | inl same ↦ subst (λ (n : ℕ). IsTree (frames_of after n)) (sym (eqb-true owner number same)) is.tree_after
+      | inr other ↦ (let differs : owner ≢ number = λ e. true≢false (sym (eq-eqb owner number e) ∙ other) in subst (λ (xs : List (Frame ℕ)). IsTree xs) (sym (is.others owner differs)) (is.tree owner))
+    ]

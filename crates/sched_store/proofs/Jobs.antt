@@ -1,0 +1,135 @@
+-- The jobs of one tenant: found by number, begun and ended.
+use Rattle.std.proofs.Common.{◌≡◌, ◌≢◌, ℕ, zero, suc, ◌<◌, ◌≤◌, ◌+◌, ◌-◌, false, List, [], ◌∷◌, ◌++◌, length, get_or, Some, None, refl, ap, sym, subst, ◌∙◌, arith, inl, inr}
+use Rattle.std.proofs.Math.ListN.{set}
+use Rattle.std.proofs.lemmas.Bool.{cases_Bool, false≢true, true≢false, ne_eqb, or_parts, or_from}
+use Rattle.sched_rules.specs.declared.job.Job.{Job}
+use Rattle.sched_rules.specs.declared.job.Job.TheVariants.{Live, Done, Spent, Cancelled}
+use Rattle.sched_rules.specs.Trees.{is_live_at, job_at, number_from, job_under, with_ended}
+use Rattle.sched_store.specs.Ledgers.{is_live, is_live_in, AreLiveOnce}
+
+abbrev pub Jobs : Type 0
+Jobs = List Job
+
+-- a job by its number
+
+pub job_at-zero : (jobs : Jobs) → job_at jobs 0 ≡ None
+job_at-zero [] = refl
+job_at-zero (job ∷ jobs) = job_at-zero jobs
+
+pub job_at-past : (jobs : Jobs) (number : ℕ) → length jobs < number → job_at jobs number ≡ None
+job_at-past [] number past = refl
+job_at-past (job ∷ jobs) number past = rw (ne_eqb number 1 (omega arith)) (job_at-past jobs (number - 1) (omega arith))
+
+pub job_at-there : (jobs : Jobs) (at : ℕ) (d : Job) → at < length jobs → job_at jobs (suc at) ≡ Some (get_or jobs at d)
+job_at-there [] at d within = absurd (omega arith)
+job_at-there (job ∷ jobs) zero d within = refl
+job_at-there (job ∷ jobs) (suc at) d within =
+    let less : suc (suc at) - 1 ≡ suc at = omega arith in
+    rw (ne_eqb (suc (suc at)) 1 (omega arith), less) (job_at-there jobs at d (omega arith))
+
+-- the number of the job that lives under a root
+
+pub number_from-none : (first root : ℕ) (jobs : Jobs) → is_live_in root jobs ≡ false → number_from first root jobs ≡ 0
+number_from-none first root [] none = refl
+number_from-none first root (job ∷ jobs) none =
+    let parts = or_parts (is_live_at root job) (is_live_in root jobs) none in
+    rw parts.0 (number_from-none (first + 1) root jobs parts.1)
+
+pub none-number_from : (first root : ℕ) (jobs : Jobs) → 0 < first → number_from first root jobs ≡ 0 → is_live_in root jobs ≡ false
+none-number_from first root [] some is = refl
+none-number_from first root (job ∷ jobs) some is =
+    elim (cases_Bool (is_live_at root job)) [
+      | inl live ↦ (let zero_is : first ≡ 0 = rw live at is in absurd (omega arith))
+      | inr other ↦ or_from (is_live_at root job) (is_live_in root jobs) other (none-number_from (first + 1) root jobs (omega arith) (rw other at is))
+    ]
+
+pub number_from-range : (first root : ℕ) (jobs : Jobs) → number_from first root jobs ≤ first + length jobs
+number_from-range first root [] = omega arith
+number_from-range first root (job ∷ jobs) =
+    elim (cases_Bool (is_live_at root job)) [
+      | inl live ↦ rw live (omega arith)
+      | inr other ↦ rw other (omega (arith, number_from-range (first + 1) root jobs))
+    ]
+
+-- ending a job
+
+pub ended-none : (root : ℕ) (ended : Job) (jobs : Jobs) → is_live_in root jobs ≡ false → with_ended root ended jobs ≡ jobs
+ended-none root ended [] none = refl
+ended-none root ended (job ∷ jobs) none =
+    let parts = or_parts (is_live_at root job) (is_live_in root jobs) none in
+    rw (parts.0, ended-none root ended jobs parts.1) refl
+
+ended-from : (first at root : ℕ) (ended : Job) (jobs : Jobs) → AreLiveOnce jobs → 0 < first → number_from first root jobs ≡ first + at → with_ended root ended jobs ≡ set jobs at ended
+ended-from first at root ended [] once some is = absurd (omega arith)
+ended-from first zero root ended (job ∷ jobs) once some is =
+    elim (cases_Bool (is_live_at root job)) [
+      | inl live ↦ rw (live, ended-none root ended jobs (once.0 root live)) refl
+      | inr other ↦ absurd (let found : number_from (first + 1) root jobs ≡ first + 0 = rw other at is in
+          not-below (first + 1) first root jobs (omega arith) some (found ∙ omega arith))
+    ]
+  where
+    not-below : (from number root : ℕ) (jobs : Jobs) → number < from → 0 < number → number_from from root jobs ≡ number → ⊥
+    not-below from number root [] low some is = omega arith
+    not-below from number root (job ∷ jobs) low some is =
+        elim (cases_Bool (is_live_at root job)) [
+          | inl live ↦ (let same : from ≡ number = rw live at is in omega arith)
+          | inr other ↦ not-below (from + 1) number root jobs (omega arith) some (rw other at is)
+        ]
+ended-from first (suc at) root ended (job ∷ jobs) once some is =
+    elim (cases_Bool (is_live_at root job)) [
+      | inl live ↦ absurd (let same : first ≡ first + suc at = rw live at is in omega arith)
+      | inr other ↦ rw other (ap (λ (rest : Jobs). job ∷ rest) (ended-from (first + 1) at root ended jobs once.1 (omega arith) (let found : number_from (first + 1) root jobs ≡ first + suc at = rw other at is in found ∙ omega arith)))
+    ]
+
+pub ended-one : (root number : ℕ) (ended : Job) (jobs : Jobs) → AreLiveOnce jobs → 0 < number → number ≡ job_under root jobs → with_ended root ended jobs ≡ set jobs (number - 1) ended
+ended-one root number ended jobs once some is = ended-from 1 (number - 1) root ended jobs once (omega arith) (sym is ∙ omega arith)
+
+pub ended-nobody : (root number : ℕ) (ended : Job) (jobs : Jobs) → number ≤ 0 → number ≡ job_under root jobs → with_ended root ended jobs ≡ jobs
+ended-nobody root number ended jobs none is = ended-none root ended jobs (none-number_from 1 root jobs (omega arith) (sym is ∙ omega arith))
+
+-- no two jobs live under one root
+
+not-live : (job : Job) (root : ℕ) → is_live job ≡ false → is_live_at root job ≡ false
+not-live (Live serial) root ends = absurd (true≢false ends)
+not-live (Done words) root ends = refl
+not-live Spent root ends = refl
+not-live Cancelled root ends = refl
+
+live-before : (jobs : Jobs) (at root : ℕ) (ended : Job) → is_live ended ≡ false → is_live_in root jobs ≡ false → is_live_in root (set jobs at ended) ≡ false
+live-before [] at root ended ends none = none
+live-before (job ∷ jobs) zero root ended ends none =
+    let parts = or_parts (is_live_at root job) (is_live_in root jobs) none in
+    or_from (is_live_at root ended) (is_live_in root jobs) (not-live ended root ends) parts.1
+live-before (job ∷ jobs) (suc at) root ended ends none =
+    let parts = or_parts (is_live_at root job) (is_live_in root jobs) none in
+    or_from (is_live_at root job) (is_live_in root (set jobs at ended)) parts.0 (live-before jobs at root ended ends parts.1)
+
+pub once-ended : (jobs : Jobs) (at : ℕ) (ended : Job) → is_live ended ≡ false → AreLiveOnce jobs → AreLiveOnce (set jobs at ended)
+once-ended [] at ended ends once = once
+once-ended (job ∷ jobs) zero ended ends once = (λ root live. absurd (false≢true (sym (not-live ended root ends) ∙ live)), once.1)
+once-ended (job ∷ jobs) (suc at) ended ends once = (λ root live. live-before jobs at root ended ends (once.0 root live), once-ended jobs at ended ends once.1)
+
+live-push : (jobs : Jobs) (root other : ℕ) → root ≢ other → is_live_in other jobs ≡ false → is_live_in other (jobs ++ Live root ∷ []) ≡ false
+live-push [] root other differs none = rw (ne_eqb root other differs) refl
+live-push (job ∷ jobs) root other differs none =
+    let parts = or_parts (is_live_at other job) (is_live_in other jobs) none in
+    or_from (is_live_at other job) (is_live_in other (jobs ++ Live root ∷ [])) parts.0 (live-push jobs root other differs parts.1)
+
+once-push : (jobs : Jobs) (root : ℕ) → is_live_in root jobs ≡ false → AreLiveOnce jobs → AreLiveOnce (jobs ++ Live root ∷ [])
+once-push [] root none once = (λ other live. refl, tt)
+once-push (job ∷ jobs) root none once =
+    let parts = or_parts (is_live_at root job) (is_live_in root jobs) none in
+    (λ other live. live-push jobs root other (λ e. absurd (true≢false (sym live ∙ (rw (← e) parts.0)))) (once.0 other live), once-push jobs root parts.1 once.1)
+
+pub once-begun : (jobs : Jobs) (root : ℕ) → job_under root jobs ≡ 0 → AreLiveOnce jobs → AreLiveOnce (jobs ++ Live root ∷ [])
+once-begun jobs root none once = once-push jobs root (none-number_from 1 root jobs (omega arith) none) once
+
+-- the job that was read under its number
+pub job-read : (jobs : Jobs) (number : ℕ) (job : Job) → number ≢ 0 → number - 1 < length jobs → job ≡ get_or jobs (number - 1) job → Some job ≡ job_at jobs number
+job-read jobs number job some within is =
+    let e : number ≡ suc (number - 1) = omega arith in
+    let P : ℕ → Type 0 = λ n. Some job ≡ job_at jobs n in
+    subst P (sym e) (ap (λ (j : Job). Some j) is ∙ sym (job_at-there jobs (number - 1) job within))
+
+pub job-past : (jobs : Jobs) (number : ℕ) → number ≢ 0 → length jobs ≤ number - 1 → None ≡ job_at jobs number
+job-past jobs number some past = sym (job_at-past jobs number (omega arith))

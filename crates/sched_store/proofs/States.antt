@@ -1,0 +1,206 @@
+-- A frame in another state.
+use Rattle.std.proofs.Common.{◌≡◌, ℕ, ◌≤◌, ◌+◌, true, false, eqb, List, [], ◌∷◌, length, get_or, Option, Some, None, refl, ap, sym, ◌∙◌, arith, inl, inr, ◌⊎◌, get_or-set_other, get_or-set_same}
+use Rattle.std.proofs.Math.ListN.{set}
+use Rattle.std.proofs.lemmas.List.{length-set}
+use Rattle.std.proofs.lemmas.List.Sums.{sum_by-cons}
+use Rattle.std.proofs.lemmas.Bool.{cases_Bool, cases_eq, false≢true}
+use Rattle.cactus_stack.specs.Nodes.{Nodes, node_words, node_parent, charge}
+use Rattle.tenant_quota.specs.Accounts.{account_of}
+use Rattle.tenant_quota.specs.Reservations.{Reservations}
+use Rattle.tenant_quota.specs.declared.account.Account.{Account}
+use Rattle.frame_table.specs.declared.names.FrameId.{FrameId}
+use Rattle.frame_table.specs.declared.names.State.{State}
+use Rattle.frame_table.specs.declared.names.State.TheVariants.{Ready, Running, Computing, Waiting, Returned}
+use Rattle.frame_table.specs.Frames.{Frame, frame_at, parent_of, with_state}
+use Rattle.frame_table.specs.TreeLaws.{map_value}
+use Rattle.frame_table.specs.Tables.{Tree as TableTree, frames_of, KeepsOthers}
+use Rattle.frame_table.proofs.TreeValues.{tree-with_state, with_state-alike, AllBelow-alike, with_state-map_values, frame_at-with_state, frame_at_other-with_state}
+use Rattle.sched_rules.specs.Trees.{Tree, charged_for, is_held_by}
+use Rattle.sched_rules.specs.Lone.{in_state}
+use Rattle.sched_rules.specs.Changes.{on_tenant}
+use Rattle.sched_store.specs.Parts.{Parts, worded, shared_of}
+use Rattle.sched_store.specs.Reads.{is_held, may_hold}
+use Rattle.sched_store.specs.Stored.{IsStored, AreFramesNodes, ArePlaces, frame_in, node_of, node_above}
+use Rattle.sched_store.proofs.Holders.{frame-account, holds-no-other}
+use Rattle.sched_store.proofs.Steps.{TenantStep, changed-same, step-stored, step-shared}
+
+-- frames under the same numbers and serials, with the same nodes and paths
+
+pub record IsLike (frame : Frame ℕ) (old : Option (Frame ℕ)) : Type 0 where
+  pub was : Frame ℕ
+  pub there : old ≡ Some was
+  pub value : frame.value ≡ was.value
+  pub path : frame.path ≡ was.path
+
+pub record AreLike (old new : List (TableTree ℕ)) : Type 0 where
+  pub nodes : (number serial : ℕ) → node_of (frame_in new number serial) ≡ node_of (frame_in old number serial)
+  pub frames : (number serial : ℕ) (frame : Frame ℕ) → frame_in new number serial ≡ Some frame → IsLike frame (frame_in old number serial)
+
+node_above-like : (old new : List (TableTree ℕ)) (number : ℕ) (parent : Option ℕ) → AreLike old new → node_above (frames_of new number) parent ≡ node_above (frames_of old number) parent
+node_above-like old new number None like = refl
+node_above-like old new number (Some parent) like = like.nodes number parent
+
+pub like-nodes : (nodes : Nodes) (old new : List (TableTree ℕ)) → AreFramesNodes nodes old → AreLike old new → AreFramesNodes nodes new
+like-nodes nodes old new is like =
+    record {
+      nodes_of_frames = λ number serial frame there.
+          let f = like.frames number serial frame there in
+          let own = is.nodes_of_frames number serial f.was f.there in
+          record {
+            is_open = rw f.value own.is_open;
+            parent =
+                ap (node_parent nodes) f.value
+                ∙ own.parent
+                ∙ sym (node_above-like old new number (parent_of f.was.path) like)
+                ∙ ap (λ (path : List ℕ). node_above (frames_of new number) (parent_of path)) (sym f.path);
+          };
+      once = λ number serial other_number other_serial node one two.
+          is.once number serial other_number other_serial node (sym (like.nodes number serial) ∙ one) (sym (like.nodes other_number other_serial) ∙ two);
+      no_other = λ node is_open.
+          let f = is.no_other node is_open in
+          record { number = f.number; serial = f.serial; there = like.nodes f.number f.serial ∙ f.there };
+    }
+
+-- the frames after one has another state
+pub record SetsState (old new : List (TableTree ℕ)) (name : FrameId) (state : State) : Type 0 where
+  pub frames : frames_of new name.tenant ≡ with_state name.serial state (frames_of old name.tenant)
+  pub kept : KeepsOthers old new name.tenant
+
+-- either it is this frame, or it is as it was
+pub state-cases : (old new : List (TableTree ℕ)) (name : FrameId) (state : State) → SetsState old new name state → (number serial : ℕ) →
+    ((number ≡ name.tenant) × (serial ≡ name.serial)) ⊎ (frame_in new number serial ≡ frame_in old number serial)
+state-cases old new name state sets number serial =
+    elim (cases_eq number name.tenant) [
+      | inl same ↦ elim (cases_eq serial name.serial) [
+        | inl here ↦ inl (same, here)
+        | inr there ↦ inr (rw (same, sets.frames) (frame_at_other-with_state name.serial state (frames_of old name.tenant) serial (λ e. there (sym e))))
+      ]
+      | inr other ↦ inr (ap (λ (frames : List (Frame ℕ)). frame_at frames serial) (sets.kept.frames number other))
+    ]
+
+state-here : (old new : List (TableTree ℕ)) (name : FrameId) (state : State) (frame : Frame ℕ) → SetsState old new name state → frame_in old name.tenant name.serial ≡ Some frame → frame_in new name.tenant name.serial ≡ Some (record frame { state = state })
+state-here old new name state frame sets there = rw sets.frames (frame_at-with_state name.serial state (frames_of old name.tenant) frame there)
+
+state-like : (old new : List (TableTree ℕ)) (name : FrameId) (state : State) (frame : Frame ℕ) → SetsState old new name state → frame_in old name.tenant name.serial ≡ Some frame → AreLike old new
+state-like old new name state frame sets there =
+    let here = state-here old new name state frame sets there in
+    record {
+      nodes = λ number serial. elim (state-cases old new name state sets number serial) [
+        | inl (m, s) ↦ rw (m, s) (ap node_of here ∙ sym (ap node_of there))
+        | inr same ↦ ap node_of same
+      ];
+      frames = λ number serial f is. elim (state-cases old new name state sets number serial) [
+        | inl (m, s) ↦ (let now : frame_in new name.tenant name.serial ≡ Some f = rw (← m, ← s) is in
+            let e : record frame { state = state } ≡ f = cc (here, now) in
+            record { was = frame; there = rw (m, s) there; value = sym (ap (λ (x : Frame ℕ). x.value) e); path = sym (ap (λ (x : Frame ℕ). x.path) e) })
+        | inr same ↦ record { was = f; there = sym same ∙ is; value = refl; path = refl }
+      ];
+    }
+
+-- charges of frames, one by one
+pub charged-cons : (frame : Frame (List ℕ)) (frames : Tree) → charged_for (frame ∷ frames) ≡ charge (length frame.value) + charged_for frames
+charged-cons frame frames = sum_by-cons (λ (f : Frame (List ℕ)). charge (length f.value)) frame frames
+
+pub charged-tail : (frame other : Frame (List ℕ)) (frames others : Tree) → frame.value ≡ other.value → charged_for frames ≡ charged_for others → charged_for (frame ∷ frames) ≡ charged_for (other ∷ others)
+charged-tail frame other frames others first rest =
+    charged-cons frame frames ∙ ap (λ (n : ℕ). charge (length frame.value) + n) rest ∙ ap (λ (words : List ℕ). charge (length words) + charged_for others) first ∙ sym (charged-cons other others)
+
+charged-with_state : (nodes : Nodes) (serial : ℕ) (state : State) (frames : List (Frame ℕ)) → charged_for (worded nodes (with_state serial state frames)) ≡ charged_for (worded nodes frames)
+charged-with_state nodes serial state [] = refl
+charged-with_state nodes serial state (frame ∷ frames) =
+    elim (cases_Bool (eqb frame.serial serial)) [
+      | inl same ↦ rw same (charged-tail (map_value (node_words nodes) (record frame { state = state })) (map_value (node_words nodes) frame) (worded nodes (with_state serial state frames)) (worded nodes frames) refl (charged-with_state nodes serial state frames))
+      | inr other ↦ rw other (charged-tail (map_value (node_words nodes) frame) (map_value (node_words nodes) frame) (worded nodes (with_state serial state frames)) (worded nodes frames) refl (charged-with_state nodes serial state frames))
+    ]
+
+state-step : (old : Parts) (trees : List (TableTree ℕ)) (places : List (Option FrameId)) (name : FrameId) (state : State) (frame : Frame ℕ) (account : Account) → IsStored old → SetsState old.trees trees name state → frame_in old.trees name.tenant name.serial ≡ Some frame →
+    account_of name.tenant old.book.accounts ≡ Some account → length places ≡ 33 → ArePlaces trees places → TenantStep old (record old { trees = trees; places = places }) name.tenant (λ a. a) account
+state-step old trees places name state frame account stored sets there own workers are =
+    record {
+      there = own;
+      sound = stored.book;
+      book = ap (λ (entries : List (ℕ × Account)). at_entries entries) (sym (changed-same name.tenant old.book.accounts));
+      trees = sets.kept;
+      tree = rw sets.frames (tree-with_state name.serial state (frames_of old.trees name.tenant) (stored.forest name.tenant));
+      frames_nodes = like-nodes old.nodes old.trees trees stored.frames_nodes (state-like old.trees trees name state frame sets there);
+      sized = stored.sized;
+      segments = refl;
+      charges = stored.charges;
+      own = (let is = stored.accounts name.tenant account own in record {
+        charged = is.charged ∙ sym (rw sets.frames (charged-with_state old.nodes name.serial state (frames_of old.trees name.tenant)));
+        places = sets.kept.places name.tenant ∙ is.places;
+        serials = rw sets.frames (AllBelow-alike (frames_of old.trees name.tenant) (with_state name.serial state (frames_of old.trees name.tenant)) (account.opened + 1) (with_state-alike name.serial state (frames_of old.trees name.tenant)) is.serials);
+      });
+      words = λ other differs. refl;
+      ledgers = refl;
+      jobs = λ other differs. refl;
+      workers = workers;
+      places = are;
+      newest = refl;
+    }
+  where
+    at_entries : List (ℕ × Account) → Reservations
+    at_entries entries = record old.book { accounts = entries }
+
+pub record StateSet (old : Parts) (trees : List (TableTree ℕ)) (places : List (Option FrameId)) (name : FrameId) (state : State) : Type 0 where
+  pub stored : IsStored (record old { trees = trees; places = places })
+  pub shared : shared_of (record old { trees = trees; places = places }) ≡ on_tenant name.tenant (in_state name.serial state) (shared_of old)
+
+state-set : (old : Parts) (trees : List (TableTree ℕ)) (places : List (Option FrameId)) (name : FrameId) (state : State) (frame : Frame ℕ) → IsStored old → SetsState old.trees trees name state → frame_in old.trees name.tenant name.serial ≡ Some frame →
+    length places ≡ 33 → ArePlaces trees places → StateSet old trees places name state
+state-set old trees places name state frame stored sets there workers are =
+    let own = frame-account old stored name.tenant name.serial frame there in
+    let step = state-step old trees places name state frame own.0 stored sets there own.1 workers are in
+    let new : Parts = record old { trees = trees; places = places } in
+    let frames : worded old.nodes (frames_of trees name.tenant) ≡ with_state name.serial state (worded old.nodes (frames_of old.trees name.tenant)) =
+    rw sets.frames (sym (with_state-map_values (node_words old.nodes) name.serial state (frames_of old.trees name.tenant))) in
+    record {
+      stored = step-stored old new name.tenant (λ a. a) own.0 stored step;
+      shared = step-shared old new name.tenant (λ a. a) own.0 (in_state name.serial state) stored step (rw frames refl);
+    }
+
+-- a state that names no worker
+
+held-is-held : (worker : ℕ) (state : State) → is_held_by worker state ≡ true → is_held state ≡ true
+held-is-held worker (Ready home) is = is
+held-is-held worker (Running holder) is = refl
+held-is-held worker (Computing holder) is = refl
+held-is-held worker Waiting is = is
+held-is-held worker Returned is = is
+
+pub unheld-set : (old : Parts) (trees : List (TableTree ℕ)) (name : FrameId) (state : State) (frame : Frame ℕ) → IsStored old → SetsState old.trees trees name state → frame_in old.trees name.tenant name.serial ≡ Some frame → is_held state ≡ false → StateSet old trees old.places name state
+unheld-set old trees name state frame stored sets there nobody =
+    state-set old trees old.places name state frame stored sets there stored.workers (λ worker number serial f is held.
+    elim (state-cases old.trees trees name state sets number serial) [
+      | inl (m, s) ↦ absurd (
+          let now : frame_in trees name.tenant name.serial ≡ Some f = rw (← m, ← s) is in
+          let e : record frame { state = state } ≡ f = cc (state-here old.trees trees name state frame sets there, now) in
+          let h : is_held_by worker state ≡ true = ap (λ (x : Frame ℕ). is_held_by worker x.state) e ∙ held in
+          false≢true (sym nobody ∙ held-is-held worker state h))
+      | inr same ↦ stored.places worker number serial f (sym same ∙ is) held
+    ])
+
+-- a state that names the worker
+
+pub held-set : (old : Parts) (trees : List (TableTree ℕ)) (worker : ℕ) (name : FrameId) (state : State) (frame : Frame ℕ) → IsStored old → SetsState old.trees trees name state → frame_in old.trees name.tenant name.serial ≡ Some frame →
+    1 ≤ worker → worker ≤ 32 → may_hold (shared_of old) worker name ≡ true → ((other : ℕ) → is_held_by other state ≡ true → other ≡ worker) → StateSet old trees (set old.places worker (Some name)) name state
+held-set old trees worker name state frame stored sets there some most may only =
+    state-set old trees (set old.places worker (Some name)) name state frame stored sets there (length-set old.places worker (Some name) ∙ stored.workers) (λ other number serial f is held.
+    elim (state-cases old.trees trees name state sets number serial) [
+      | inl (m, s) ↦
+          (let now : frame_in trees name.tenant name.serial ≡ Some f = rw (← m, ← s) is in
+          let e : record frame { state = state } ≡ f = cc (state-here old.trees trees name state frame sets there, now) in
+          let w : other ≡ worker = only other (ap (λ (x : Frame ℕ). is_held_by other x.state) e ∙ held) in
+          let place : get_or (set old.places worker (Some name)) worker None ≡ Some name = get_or-set_same old.places worker (Some name) None (omega (arith, stored.workers)) in
+          rw (w, m, s) (some, most, place))
+      | inr same ↦
+          (let was : frame_in old.trees number serial ≡ Some f = sym same ∙ is in
+          let at = stored.places other number serial f was held in
+          elim (cases_eq other worker) [
+            | inl w ↦
+                (let here = holds-no-other old stored worker name may number serial f was (rw (← w) held) in
+                let place : get_or (set old.places worker (Some name)) worker None ≡ Some name = get_or-set_same old.places worker (Some name) None (omega (arith, stored.workers)) in
+                rw (w, here.0, here.1) (some, most, place))
+            | inr differs ↦ (at.0, at.1, get_or-set_other old.places worker other (Some name) None differs ∙ at.2)
+          ])
+    ])

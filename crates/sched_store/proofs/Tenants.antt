@@ -1,0 +1,150 @@
+-- Steps that are counted, and jobs that begin and end: no frame changes.
+use Rattle.std.proofs.Common.{◌≡◌, ◌≢◌, ℕ, true, false, cond, eqb, List, [], ◌∷◌, Option, Some, None, IsSome, IsSomeAnd, option_map, refl, ap, sym, subst, ◌∙◌, inl, inr}
+use Rattle.std.proofs.lemmas.Bool.{cases_Bool, false≢true, ne_eqb, eqb-true}
+use Rattle.tenant_quota.specs.Accounts.{account_of, ticked, charged_segments, left_in}
+use Rattle.tenant_quota.specs.declared.account.Account.{Account}
+use Rattle.tenant_quota.specs.declared.account.Left.{Left}
+use Rattle.tenant_quota.specs.Reservations.{Reservations, ChangesOnly, IsSound, left_of as left_of_book}
+use Rattle.sched_rules.specs.declared.job.Job.{Job}
+use Rattle.sched_rules.specs.Trees.{Tenant}
+use Rattle.sched_rules.specs.Lone.{counted}
+use Rattle.sched_rules.specs.Cores.{tenant_in}
+use Rattle.sched_rules.specs.Views.{left_of}
+use Rattle.sched_rules.specs.Changes.{on_tenant}
+use Rattle.sched_store.specs.Ledgers.{Ledger, jobs_of, numbers_of, is_there, with_jobs}
+use Rattle.sched_store.specs.Parts.{Parts, shared_of}
+use Rattle.sched_store.specs.Stored.{IsStored, numbers_in}
+use Rattle.sched_store.proofs.Lookups.{tenant-there, left-found}
+use Rattle.sched_store.proofs.LedgerPlaces.{numbers-with_jobs}
+use Rattle.sched_store.proofs.Steps.{TenantStep, changed-same, step-stored, step-shared}
+
+-- the account of a tenant that is there
+
+account-some : (account : Option Account) → IsSome account → (a : Account) × (account ≡ Some a)
+account-some None is = absurd (cc is)
+account-some (Some a) is = (a, refl)
+
+pub there-account : (parts : Parts) (number : ℕ) → IsSome (tenant_in (shared_of parts).tenants number) → (a : Account) × (account_of number parts.book.accounts ≡ Some a)
+there-account parts number is = account-some (account_of number parts.book.accounts) (sym (tenant-there parts number) ∙ is)
+
+pub left-account : (parts : Parts) → IsStored parts → (number : ℕ) (P : Left → Type 0) → IsSomeAnd (left_of (shared_of parts) number) P → (a : Account) × ((account_of number parts.book.accounts ≡ Some a) × P (left_in a))
+left-account parts stored number P is =
+    let Q : Option Left → Type 0 = λ left. IsSomeAnd left P in
+    by (account_of number parts.book.accounts) refl (subst Q (left-found parts stored number) is)
+  where
+    by : (account : Option Account) → account_of number parts.book.accounts ≡ account → IsSomeAnd (option_map left_in account) P → (a : Account) × ((account_of number parts.book.accounts ≡ Some a) × P (left_in a))
+    by None e h = absurd h
+    by (Some a) e h = (a, (e, h))
+
+-- what the book says it has left
+pub book-left : (parts : Parts) → IsStored parts → (number : ℕ) (P : Left → Type 0) → IsSomeAnd (left_of (shared_of parts) number) P → IsSomeAnd (left_of_book number parts.book) P
+book-left parts stored number P is = let Q : Option Left → Type 0 = λ left. IsSomeAnd left P in subst Q (left-found parts stored number) is
+
+-- a step is counted
+
+ticked-step : (old : Parts) (book : Reservations) (number : ℕ) (account : Account) → IsStored old → account_of number old.book.accounts ≡ Some account → IsSound book → ChangesOnly old.book book number ticked → charged_segments book.accounts ≡ charged_segments old.book.accounts →
+    TenantStep old (record old { book = book }) number ticked account
+ticked-step old book number account stored there sound changes sum =
+    record {
+      there = there;
+      sound = sound;
+      book = changes.whole;
+      trees = record { frames = λ other differs. refl; places = λ other. refl; count = refl };
+      tree = stored.forest number;
+      frames_nodes = stored.frames_nodes;
+      sized = stored.sized;
+      segments = refl;
+      charges = stored.charges ∙ sym sum;
+      own = (let own = stored.accounts number account there in record { charged = own.charged; places = own.places; serials = own.serials });
+      words = λ other differs. refl;
+      ledgers = refl;
+      jobs = λ other differs. refl;
+      workers = stored.workers;
+      places = stored.places;
+      newest = refl;
+    }
+
+pub record Counted (old : Parts) (book : Reservations) (number : ℕ) : Type 0 where
+  pub stored : IsStored (record old { book = book })
+  pub shared : shared_of (record old { book = book }) ≡ on_tenant number counted (shared_of old)
+
+pub count-step : (old : Parts) (book : Reservations) (number : ℕ) (account : Account) → IsStored old → account_of number old.book.accounts ≡ Some account → IsSound book → ChangesOnly old.book book number ticked → charged_segments book.accounts ≡ charged_segments old.book.accounts → Counted old book number
+count-step old book number account stored there sound changes sum =
+    let step = ticked-step old book number account stored there sound changes sum in
+    record {
+      stored = step-stored old (record old { book = book }) number ticked account stored step;
+      shared = step-shared old (record old { book = book }) number ticked account counted stored step refl;
+    }
+
+-- jobs begin and end
+
+jobs-with_jobs : (n : ℕ) (change : List Job → List Job) (ledgers : List Ledger) → is_there n ledgers ≡ true → jobs_of (with_jobs n change ledgers) n ≡ change (jobs_of ledgers n)
+jobs-with_jobs n change [] there = absurd (false≢true there)
+jobs-with_jobs n change (ledger ∷ ledgers) there =
+    elim (cases_Bool (eqb ledger.0 n)) [
+      | inl same ↦ rw same (rw same refl)
+      | inr other ↦ rw other (rw other (jobs-with_jobs n change ledgers (rw other at there)))
+    ]
+
+jobs_other-with_jobs : (n m : ℕ) (change : List Job → List Job) (ledgers : List Ledger) → m ≢ n → jobs_of (with_jobs n change ledgers) m ≡ jobs_of ledgers m
+jobs_other-with_jobs n m change [] differs = refl
+jobs_other-with_jobs n m change (ledger ∷ ledgers) differs =
+    elim (cases_Bool (eqb ledger.0 n)) [
+      | inl same ↦ (let e = eqb-true ledger.0 n same in let not_m : eqb ledger.0 m ≡ false = ne_eqb ledger.0 m (λ q. differs (sym q ∙ e)) in rw (same, not_m) refl)
+      | inr other ↦ rw other (ap (λ (rest : List Job). cond (eqb ledger.0 m) ledger.1 rest) (jobs_other-with_jobs n m change ledgers differs))
+    ]
+
+pub ledger-there : (n : ℕ) (ledgers : List Ledger) (entries : List (ℕ × Account)) (a : Account) → numbers_of ledgers ≡ numbers_in entries → account_of n entries ≡ Some a → is_there n ledgers ≡ true
+ledger-there n [] [] a same there = absurd (cc there)
+ledger-there n [] (entry ∷ entries) a same there = absurd (cc same)
+ledger-there n (ledger ∷ ledgers) [] a same there = absurd (cc there)
+ledger-there n (ledger ∷ ledgers) (entry ∷ entries) a same there =
+    let first : ledger.0 ≡ entry.0 = cc same in
+    let rest : numbers_of ledgers ≡ numbers_in entries = cc same in
+    elim (cases_Bool (eqb entry.0 n)) [
+      | inl is ↦ rw (first, is) refl
+      | inr other ↦ rw (first, other) (ledger-there n ledgers entries a rest (rw other at there))
+    ]
+
+-- the tenant with its jobs changed so
+abbrev pub jobs_changed : (List Job → List Job) → Tenant → Tenant
+jobs_changed change tenant = record tenant { jobs = change tenant.jobs }
+
+jobs-step : (old : Parts) (number : ℕ) (account : Account) (change : List Job → List Job) → IsStored old → account_of number old.book.accounts ≡ Some account → TenantStep old (record old { ledgers = with_jobs number change old.ledgers }) number (λ a. a) account
+jobs-step old number account change stored there =
+    record {
+      there = there;
+      sound = stored.book;
+      book = ap (λ (entries : List (ℕ × Account)). at_entries entries) (sym (changed-same number old.book.accounts));
+      trees = record { frames = λ other differs. refl; places = λ other. refl; count = refl };
+      tree = stored.forest number;
+      frames_nodes = stored.frames_nodes;
+      sized = stored.sized;
+      segments = refl;
+      charges = stored.charges;
+      own = stored.accounts number account there;
+      words = λ other differs. refl;
+      ledgers = numbers-with_jobs number change old.ledgers;
+      jobs = λ other differs. jobs_other-with_jobs number other change old.ledgers differs;
+      workers = stored.workers;
+      places = stored.places;
+      newest = refl;
+    }
+  where
+    at_entries : List (ℕ × Account) → Reservations
+    at_entries entries = record old.book { accounts = entries }
+
+pub record JobsChanged (old : Parts) (number : ℕ) (change : List Job → List Job) (ledgers : List Ledger) : Type 0 where
+  pub stored : IsStored (record old { ledgers = ledgers })
+  pub shared : shared_of (record old { ledgers = ledgers }) ≡ on_tenant number (jobs_changed change) (shared_of old)
+
+pub jobs-change : (old : Parts) (number : ℕ) (account : Account) (change : List Job → List Job) (ledgers : List Ledger) → IsStored old → account_of number old.book.accounts ≡ Some account → ledgers ≡ with_jobs number change old.ledgers → JobsChanged old number change ledgers
+jobs-change old number account change ledgers stored there is =
+    let step = jobs-step old number account change stored there in
+    let new : Parts = record old { ledgers = with_jobs number change old.ledgers } in
+    let jobs = jobs-with_jobs number change old.ledgers (ledger-there number old.ledgers old.book.accounts account stored.ledgers there) in
+    let P : List Ledger → Type 0 = λ l. JobsChanged old number change l in
+    subst P (sym is) (record {
+      stored = step-stored old new number (λ a. a) account stored step;
+      shared = step-shared old new number (λ a. a) account (jobs_changed change) stored step (rw jobs refl);
+    })

@@ -1,0 +1,8 @@
+use Rattle.std.proofs.Common.{refl}
+use Rattle.cactus_stack.specs.Nodes.{total_charge}
+use Rattle.sched_store.specs.Inside.{parts_of}
+use Rattle.sched_store.proofs.Lookups.{free-found}
+use Rattle.sched_store.proofs.store.Store.free_segments.Goals as goal
+
+pub returns : goal.returns
+returns c = rw (← c.self.view_is) (free-found (parts_of c.self.inside) c.self.invariant c.free_count.result (total_charge c.self.inside.stack) c.free_count.ensures refl)

@@ -1,0 +1,21 @@
+use Rattle.std.proofs.Common.{◌≡◌, Option, Some, None, is_some, option_map, refl, sym, ◌∙◌}
+use Rattle.tenant_quota.specs.Accounts.{left_in, account_of}
+use Rattle.tenant_quota.specs.declared.account.Account.{Account}
+use Rattle.sched_store.specs.Inside.{parts_of}
+use Rattle.sched_store.proofs.Lookups.{tenant-there, known-found, rising-found}
+use Rattle.sched_store.proofs.store.Store.has_tenant.Goals as goal
+
+some-left : (account : Option Account) → is_some (option_map left_in account) ≡ is_some account
+some-left None = refl
+some-left (Some account) = refl
+
+pub returns-clause-there : goal.returns-clause-there
+returns-clause-there c =
+    rw (← c.self.view_is, c.is_some.ensures, c.left.ensures.left)
+    (some-left (account_of c.args.number c.self.inside.book.accounts) ∙ sym (tenant-there (parts_of c.self.inside) c.args.number))
+
+pub returns-clause-known : goal.returns-clause-known
+returns-clause-known c = rw (← c.self.view_is) (known-found (parts_of c.self.inside) c.self.invariant)
+
+pub returns-clause-rising : goal.returns-clause-rising
+returns-clause-rising c = rw (← c.self.view_is) (rising-found (parts_of c.self.inside) c.self.invariant)

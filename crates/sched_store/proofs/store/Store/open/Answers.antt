@@ -1,0 +1,116 @@
+use Rattle.std.proofs.Common.{◌≤◌, ◌+◌, ap, ◌∙◌, refl, arith}
+use Rattle.cactus_stack.specs.Nodes.{charge}
+use Rattle.frame_table.specs.Tables.{frames_of}
+use Rattle.sched_store.specs.Inside.{parts_of}
+use Rattle.sched_store.proofs.Tenants.{left-account, book-left}
+use Rattle.sched_store.proofs.Writing.{has-free, not-refused}
+use Rattle.sched_store.proofs.Opens.{serials-found, parent-found, parent-open, parent-in, serial-of-name, place-left, size-some}
+use Rattle.sched_store.proofs.Opening.{open-step}
+use Rattle.sched_store.proofs.store.Store.open.Goals as goal
+
+pub parent_node-above-requires : goal.parent_node-above-requires
+parent_node-above-requires c =
+    let parent = (let there = rw (← c.self.view_is) at c.requires.parent in parent-found (parts_of c.self.inside) c.self.invariant c.args.tenant c.args.parent there) in
+    parent
+
+pub open-requires-clause-parent_is_open : goal.open-requires-clause-parent_is_open
+open-requires-clause-parent_is_open c =
+    let parent = (let there = rw (← c.self.view_is) at c.requires.parent in parent-found (parts_of c.self.inside) c.self.invariant c.args.tenant c.args.parent there) in
+    parent-open (parts_of c.self.inside) c.self.invariant c.args.tenant c.args.parent c.parent_node-above.result parent c.parent_node-above.ensures
+
+pub unwrap-node-requires : goal.unwrap-node-requires
+unwrap-node-requires c =
+    let left = rw (← c.self.view_is) at c.requires.left in
+    let free = has-free (parts_of c.self.inside) c.self.invariant c.args.tenant (charge c.args.size) 1 left in
+    not-refused c.open.result (λ refused. let short = c.open.ensures.refused.0 refused in omega (arith, short, free))
+
+pub add-requires-clause-above : goal.add-requires-clause-above
+add-requires-clause-above c =
+    let left = rw (← c.self.view_is) at c.requires.left in
+    let own = left-account (parts_of c.self.inside) c.self.invariant c.args.tenant (λ l. (charge c.args.size ≤ l.segments) × (1 ≤ l.nodes)) left in
+    let serial = (let next = rw (← c.self.view_is) at c.next_serial-serial.ensures in next ∙ ap (λ n. n + 1) (serials-found (parts_of c.self.inside) c.args.tenant own.0 own.1.0)) in
+    rw serial (c.self.invariant.accounts c.args.tenant own.0 own.1.0).serials
+
+pub add-requires-clause-parent : goal.add-requires-clause-parent
+add-requires-clause-parent c =
+    let parent = (let there = rw (← c.self.view_is) at c.requires.parent in parent-found (parts_of c.self.inside) c.self.invariant c.args.tenant c.args.parent there) in
+    parent-in (frames_of c.self.inside.table c.args.tenant) c.args.tenant c.args.parent c.parent_name.result parent c.parent_name.ensures
+
+pub add-requires-clause-room : goal.add-requires-clause-room
+add-requires-clause-room c =
+    let left = rw (← c.self.view_is) at c.requires.left in
+    let own = left-account (parts_of c.self.inside) c.self.invariant c.args.tenant (λ l. (charge c.args.size ≤ l.segments) × (1 ≤ l.nodes)) left in
+    let size = size-some c.args.words.now c.args.size c.requires.size in
+    place-left (parts_of c.self.inside) c.self.invariant c.args.tenant c.args.size own.0 own.1.0 size.0 own.1.1.0
+
+pub charge-requires-2 : goal.charge-requires-2
+charge-requires-2 c =
+    let left = rw (← c.self.view_is) at c.requires.left in
+    let own = left-account (parts_of c.self.inside) c.self.invariant c.args.tenant (λ l. (charge c.args.size ≤ l.segments) × (1 ≤ l.nodes)) left in
+    rw own.1.0 refl
+
+pub unwrap-requires : goal.unwrap-requires
+unwrap-requires c =
+    let left = rw (← c.self.view_is) at c.requires.left in
+    c.charge-2.ensures.ok.1 (rw c.charge.ensures (book-left (parts_of c.self.inside) c.self.invariant c.args.tenant (λ l. (charge c.args.size ≤ l.segments) × (1 ≤ l.nodes)) left))
+
+pub invariant_of-self : goal.invariant_of-self
+invariant_of-self c =
+    let left = rw (← c.self.view_is) at c.requires.left in
+    let own = left-account (parts_of c.self.inside) c.self.invariant c.args.tenant (λ l. (charge c.args.size ≤ l.segments) × (1 ≤ l.nodes)) left in
+    let parent = (let there = rw (← c.self.view_is) at c.requires.parent in parent-found (parts_of c.self.inside) c.self.invariant c.args.tenant c.args.parent there) in
+    let serial = (let next = rw (← c.self.view_is) at c.next_serial-serial.ensures in next ∙ ap (λ n. n + 1) (serials-found (parts_of c.self.inside) c.args.tenant own.0 own.1.0)) in
+    let size = size-some c.args.words.now c.args.size c.requires.size in
+    let frames = rw (serial, serial-of-name c.args.tenant c.args.parent c.parent_name.result c.parent_name.ensures) at c.add.ensures.frames in
+    let unused = rw c.unwrap-node.ensures at c.open.ensures.was_unused in
+    let nodes = rw c.unwrap-node.ensures at c.open.ensures.opened in
+    let changes = rw (c.unwrap.ensures, c.charge.ensures) at c.charge-2.ensures.charges in
+    let sum = rw (c.unwrap.ensures, c.charge.ensures) at c.charge-2.ensures.sum in
+    let step = open-step (parts_of c.self.inside) c.open.new.self c.add.new.self c.charge-2.new.self c.args.tenant c.args.parent c.parent_node-above.result c.args.words.now c.args.size c.args.home c.unwrap-node.result own.0 c.self.invariant (record {
+      there = own.1.0;
+      parent_there = parent;
+      above_is = c.parent_node-above.ensures;
+      some = size.0;
+      most = size.1.0;
+      room = size.1.1;
+      unused = unused;
+      nodes_is = nodes;
+      frames = frames;
+      kept = c.add.ensures.kept;
+      sound = c.charge-2.ensures.sound;
+      changes = changes;
+      sum = sum;
+    }) in
+    step.stored
+
+pub returns-clause-name : goal.returns-clause-name
+returns-clause-name c = (let next = c.next_serial-serial.ensures in ap (λ n. record { tenant = c.args.tenant; serial = n }) next)
+
+pub returns-clause-opened : goal.returns-clause-opened
+returns-clause-opened c =
+    let left = rw (← c.self.view_is) at c.requires.left in
+    let own = left-account (parts_of c.self.inside) c.self.invariant c.args.tenant (λ l. (charge c.args.size ≤ l.segments) × (1 ≤ l.nodes)) left in
+    let parent = (let there = rw (← c.self.view_is) at c.requires.parent in parent-found (parts_of c.self.inside) c.self.invariant c.args.tenant c.args.parent there) in
+    let serial = (let next = rw (← c.self.view_is) at c.next_serial-serial.ensures in next ∙ ap (λ n. n + 1) (serials-found (parts_of c.self.inside) c.args.tenant own.0 own.1.0)) in
+    let size = size-some c.args.words.now c.args.size c.requires.size in
+    let frames = rw (serial, serial-of-name c.args.tenant c.args.parent c.parent_name.result c.parent_name.ensures) at c.add.ensures.frames in
+    let unused = rw c.unwrap-node.ensures at c.open.ensures.was_unused in
+    let nodes = rw c.unwrap-node.ensures at c.open.ensures.opened in
+    let changes = rw (c.unwrap.ensures, c.charge.ensures) at c.charge-2.ensures.charges in
+    let sum = rw (c.unwrap.ensures, c.charge.ensures) at c.charge-2.ensures.sum in
+    let step = open-step (parts_of c.self.inside) c.open.new.self c.add.new.self c.charge-2.new.self c.args.tenant c.args.parent c.parent_node-above.result c.args.words.now c.args.size c.args.home c.unwrap-node.result own.0 c.self.invariant (record {
+      there = own.1.0;
+      parent_there = parent;
+      above_is = c.parent_node-above.ensures;
+      some = size.0;
+      most = size.1.0;
+      room = size.1.1;
+      unused = unused;
+      nodes_is = nodes;
+      frames = frames;
+      kept = c.add.ensures.kept;
+      sound = c.charge-2.ensures.sound;
+      changes = changes;
+      sum = sum;
+    }) in
+    rw (← c.self.view_is) step.shared

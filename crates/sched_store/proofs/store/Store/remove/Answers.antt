@@ -1,0 +1,86 @@
+use Rattle.std.proofs.Common.{◌≡◌, IsSome, false, ℕ, ap, sym, ◌∙◌, subst}
+use Rattle.sched_rules.specs.Trees.{has_child}
+use Rattle.sched_rules.specs.Changes.{on_tenant, without_frame}
+use Rattle.sched_rules.specs.Cores.{Shared}
+use Rattle.sched_rules.specs.Views.{named}
+use Rattle.cactus_stack.specs.Nodes.{IsOpen, HasNoChild}
+use Rattle.frame_table.specs.Tables.{frames_of}
+use Rattle.frame_table.specs.Frames.{frame_at}
+use Rattle.sched_store.specs.Inside.{parts_of}
+use Rattle.sched_store.specs.Reads.{frames_in}
+use Rattle.sched_store.proofs.Aborting.{has-frame}
+use Rattle.sched_store.proofs.Leaves.{no-children, leaf-node, has-value, leaf-frees, remove-stored, remove-shared}
+use Rattle.sched_store.proofs.store.Store.remove.Goals as goal
+
+pub remove-node-requires-clause-there : goal.remove-node-requires-clause-there
+remove-node-requires-clause-there c =
+    let some = subst (λ (s : Shared). IsSome (named s c.args.name)) (sym c.self.view_is) c.requires.there in
+    has-frame (parts_of c.self.inside) c.self.invariant c.args.name some
+
+pub remove-node-requires-clause-leaf : goal.remove-node-requires-clause-leaf
+remove-node-requires-clause-leaf c =
+    let leaf = subst (λ (s : Shared). has_child (frames_in s c.args.name.tenant) c.args.name.serial ≡ false) (sym c.self.view_is) c.requires.leaf in
+    no-children (parts_of c.self.inside) c.self.invariant c.args.name leaf
+
+pub close-requires-clause-is_open : goal.close-requires-clause-is_open
+close-requires-clause-is_open c =
+    let f = has-value (frame_at (frames_of c.self.inside.table c.args.name.tenant) c.args.name.serial) c.remove-node.result c.remove-node.ensures.value in
+    subst (λ (n : ℕ). IsOpen c.self.inside.stack n) f.2 (c.self.invariant.frames_nodes.nodes_of_frames c.args.name.tenant c.args.name.serial f.0 f.1).is_open
+
+pub close-requires-clause-no_child : goal.close-requires-clause-no_child
+close-requires-clause-no_child c =
+    let leaf = subst (λ (s : Shared). has_child (frames_in s c.args.name.tenant) c.args.name.serial ≡ false) (sym c.self.view_is) c.requires.leaf in
+    let f = has-value (frame_at (frames_of c.self.inside.table c.args.name.tenant) c.args.name.serial) c.remove-node.result c.remove-node.ensures.value in
+    let none = leaf-node (parts_of c.self.inside) c.args.name f.0 c.self.invariant f.1 (no-children (parts_of c.self.inside) c.self.invariant c.args.name leaf) in
+    subst (λ (n : ℕ). HasNoChild c.self.inside.stack n) f.2 none
+
+pub overflow_sub-freed : goal.overflow_sub-freed
+overflow_sub-freed c =
+    let some = subst (λ (s : Shared). IsSome (named s c.args.name)) (sym c.self.view_is) c.requires.there in
+    (leaf-frees (parts_of c.self.inside) c.close.new.self c.args.name c.remove-node.result c.free_count-before.result c.free_count.result c.self.invariant some
+    c.remove-node.ensures.value c.close.ensures c.free_count-before.ensures c.free_count.ensures).more
+
+pub give_back-requires : goal.give_back-requires
+give_back-requires c =
+    let some = subst (λ (s : Shared). IsSome (named s c.args.name)) (sym c.self.view_is) c.requires.there in
+    (leaf-frees (parts_of c.self.inside) c.close.new.self c.args.name c.remove-node.result c.free_count-before.result c.free_count.result c.self.invariant some
+    c.remove-node.ensures.value c.close.ensures c.free_count-before.ensures c.free_count.ensures).charged
+
+pub invariant_of-self : goal.invariant_of-self
+invariant_of-self c =
+    let some = subst (λ (s : Shared). IsSome (named s c.args.name)) (sym c.self.view_is) c.requires.there in
+    let leaf = subst (λ (s : Shared). has_child (frames_in s c.args.name.tenant) c.args.name.serial ≡ false) (sym c.self.view_is) c.requires.leaf in
+    remove-stored (parts_of c.self.inside) c.close.new.self c.remove-node.new.self c.give_back.new.self c.args.name c.remove-node.result c.free_count-before.result c.free_count.result c.self.invariant some
+    (record {
+      leaf = no-children (parts_of c.self.inside) c.self.invariant c.args.name leaf;
+      value = c.remove-node.ensures.value;
+      closed_one = c.close.ensures;
+      was_free = c.free_count-before.ensures;
+      is_free = c.free_count.ensures;
+      frames = c.remove-node.ensures.frames;
+      keeps = c.remove-node.ensures.kept;
+      credited = c.give_back.ensures.credits;
+      sum = c.give_back.ensures.sum;
+      others = c.give_back.ensures.others;
+      sound = c.give_back.ensures.sound;
+    })
+
+pub returns : goal.returns
+returns c =
+    let some = subst (λ (s : Shared). IsSome (named s c.args.name)) (sym c.self.view_is) c.requires.there in
+    let leaf = subst (λ (s : Shared). has_child (frames_in s c.args.name.tenant) c.args.name.serial ≡ false) (sym c.self.view_is) c.requires.leaf in
+    remove-shared (parts_of c.self.inside) c.close.new.self c.remove-node.new.self c.give_back.new.self c.args.name c.remove-node.result c.free_count-before.result c.free_count.result c.self.invariant some
+    (record {
+      leaf = no-children (parts_of c.self.inside) c.self.invariant c.args.name leaf;
+      value = c.remove-node.ensures.value;
+      closed_one = c.close.ensures;
+      was_free = c.free_count-before.ensures;
+      is_free = c.free_count.ensures;
+      frames = c.remove-node.ensures.frames;
+      keeps = c.remove-node.ensures.kept;
+      credited = c.give_back.ensures.credits;
+      sum = c.give_back.ensures.sum;
+      others = c.give_back.ensures.others;
+      sound = c.give_back.ensures.sound;
+    })
+    ∙ ap (on_tenant c.args.name.tenant (without_frame c.args.name.serial)) c.self.view_is

@@ -1,0 +1,24 @@
+use Rattle.std.proofs.Common.{ℕ, List, IsSome, ap, sym, ◌∙◌, subst}
+use Rattle.frame_table.specs.declared.names.FrameId.{FrameId}
+use Rattle.frame_table.specs.Frames.{root_of}
+use Rattle.sched_rules.specs.Cores.{Shared}
+use Rattle.sched_rules.specs.Views.{named}
+use Rattle.sched_store.specs.Inside.{parts_of}
+use Rattle.sched_store.specs.Reads.{path_of}
+use Rattle.sched_store.proofs.Aborting.{has-frame}
+use Rattle.sched_store.proofs.Showing.{path-shown}
+use Rattle.sched_store.proofs.store.Store.root.Goals as goal
+
+pub root-requires : goal.root-requires
+root-requires c =
+    let some = subst (λ (s : Shared). IsSome (named s c.args.name)) (sym c.self.view_is) c.requires in
+    has-frame (parts_of c.self.inside) c.self.invariant c.args.name some
+
+pub returns : goal.returns
+returns c =
+    let some = subst (λ (s : Shared). IsSome (named s c.args.name)) (sym c.self.view_is) c.requires in
+    let path = sym (path-shown (parts_of c.self.inside) c.self.invariant c.args.name some) ∙ ap (λ (s : Shared). path_of (named s c.args.name)) c.self.view_is in
+    c.root.ensures ∙ ap (λ (p : List ℕ). made p) path
+  where
+    made : List ℕ → FrameId
+    made p = record { tenant = c.args.name.tenant; serial = root_of p }

@@ -1,0 +1,20 @@
+use Rattle.std.proofs.Common.{ap, ◌∙◌}
+use Rattle.sched_rules.specs.Cores.{Shared}
+use Rattle.sched_rules.specs.Views.{words_of_frame}
+use Rattle.sched_store.specs.Inside.{parts_of}
+use Rattle.sched_store.proofs.Seeing.{entry-open}
+use Rattle.sched_store.proofs.Showing.{words-shown, no-words-shown}
+use Rattle.sched_store.proofs.store.Store.words.Goals as goal
+
+pub own-requires : goal.own-requires
+own-requires c = entry-open (parts_of c.self.inside) c.self.invariant c.args.name c.in-Some.entry c.in-Some.ensures.entry
+
+pub returns-in-Some : goal.returns-in-Some
+returns-in-Some c =
+    words-shown (parts_of c.self.inside) c.self.invariant c.args.name c.in-Some.entry c.own.result c.in-Some.ensures.entry c.own.ensures
+    ∙ ap (λ (s : Shared). words_of_frame s c.args.name) c.self.view_is
+
+pub returns-in-None : goal.returns-in-None
+returns-in-None c =
+    no-words-shown (parts_of c.self.inside) c.self.invariant c.args.name c.in-None.ensures.entry
+    ∙ ap (λ (s : Shared). words_of_frame s c.args.name) c.self.view_is

@@ -1,0 +1,13 @@
+-- What an admission and a departure make of a core.
+use Rattle.std.specs.Prelude.{ℕ, [], ◌∷◌, ◌++◌}
+use Rattle.tenant_quota.specs.Quota.{Quota}
+use Rattle.sched_rules.specs.Trees.{admitted_with}
+use Rattle.sched_rules.specs.Cores.{Shared, without_tenant}
+
+-- the core with a new tenant after all others
+abbrev pub with_admitted : ℕ → Quota → Shared → Shared
+with_admitted number reserve shared = record shared { newest = number; tenants = shared.tenants ++ (number, admitted_with reserve) ∷ [] }
+
+-- the core without a tenant
+abbrev pub with_departed : ℕ → Shared → Shared
+with_departed number shared = record shared { tenants = without_tenant number shared.tenants }

@@ -1,0 +1,7 @@
+-- The parts of a store.
+use Rattle.sched_store.specs.declared.store.Store.TheInside.{Inside}
+use Rattle.sched_store.specs.Parts.{Parts}
+
+-- its fields, but for the allocator
+abbrev pub parts_of : Inside → Parts
+parts_of s = record { nodes = s.stack; book = s.book; trees = s.table; ledgers = s.ledgers; places = s.places; newest = s.newest }

@@ -1,0 +1,71 @@
+-- The jobs of each tenant: a list of tenants, each with its jobs, in the order of their numbers.
+use Rattle.std.specs.Prelude.{◌≡◌, ℕ, ◌<◌, Bool, true, false, ◌||◌, ◌==◌, List, [], ◌∷◌, if◌then◌else◌, nat_lt, suc}
+use Rattle.sched_rules.specs.declared.job.Job.{Job}
+use Rattle.sched_rules.specs.declared.job.Job.TheVariants.{Live, Done, Spent, Cancelled}
+use Rattle.sched_rules.specs.Trees.{is_live_at}
+
+-- a tenant's number, and its jobs from number 1 on
+abbrev pub Ledger : Type 0
+Ledger = ℕ × List Job
+
+-- the jobs of a tenant; none where it isn't there
+abbrev pub jobs_of : List Ledger → ℕ → List Job
+jobs_of [] number = []
+jobs_of (ledger ∷ ledgers) number = if ledger.0 == number then ledger.1 else jobs_of ledgers number
+
+-- the tenants' numbers
+abbrev pub numbers_of : List Ledger → List ℕ
+numbers_of [] = []
+numbers_of (ledger ∷ ledgers) = ledger.0 ∷ numbers_of ledgers
+
+-- whether the tenant of this number is there
+abbrev pub is_there : ℕ → List Ledger → Bool
+is_there number [] = false
+is_there number (ledger ∷ ledgers) = (ledger.0 == number) || is_there number ledgers
+
+-- each of these numbers is above this one
+abbrev pub AreAbove : ℕ → List ℕ → Type 0
+AreAbove number [] = Unit {0}
+AreAbove number (first ∷ numbers) = (number < first) × AreAbove number numbers
+
+-- each of these numbers is below this one
+abbrev pub AreBelow : ℕ → List ℕ → Type 0
+AreBelow number [] = Unit {0}
+AreBelow number (first ∷ numbers) = (first < number) × AreBelow number numbers
+
+-- each number is below all later ones
+abbrev pub AreRising : List ℕ → Type 0
+AreRising [] = Unit {0}
+AreRising (number ∷ numbers) = AreAbove number numbers × AreRising numbers
+
+-- how many numbers at the front are below this one: the place of this number, or that where it would stand
+abbrev pub count_below : ℕ → List ℕ → ℕ
+count_below number [] = 0
+count_below number (first ∷ numbers) = if nat_lt first number then suc (count_below number numbers) else 0
+
+-- whether a job lives
+abbrev pub is_live : Job → Bool
+is_live (Live root) = true
+is_live (Done words) = false
+is_live Spent = false
+is_live Cancelled = false
+
+-- whether some job lives under this root
+abbrev pub is_live_in : ℕ → List Job → Bool
+is_live_in root [] = false
+is_live_in root (job ∷ jobs) = is_live_at root job || is_live_in root jobs
+
+-- no two jobs live under one root
+abbrev pub AreLiveOnce : List Job → Type 0
+AreLiveOnce [] = Unit {0}
+AreLiveOnce (job ∷ jobs) = ((root : ℕ) → is_live_at root job ≡ true → is_live_in root jobs ≡ false) × AreLiveOnce jobs
+
+-- the ledgers, one tenant's jobs changed so
+abbrev pub with_jobs : ℕ → (List Job → List Job) → List Ledger → List Ledger
+with_jobs number change [] = []
+with_jobs number change (ledger ∷ ledgers) = if ledger.0 == number then (ledger.0, change ledger.1) ∷ ledgers else ledger ∷ with_jobs number change ledgers
+
+-- the ledgers without one tenant's
+abbrev pub without_ledger : ℕ → List Ledger → List Ledger
+without_ledger number [] = []
+without_ledger number (ledger ∷ ledgers) = if ledger.0 == number then ledgers else ledger ∷ without_ledger number ledgers

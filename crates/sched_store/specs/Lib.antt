@@ -1,0 +1,6 @@
+pub mod Ledgers
+pub mod Parts
+pub mod Stored
+pub mod Inside
+pub mod Reads
+pub mod Changes

@@ -1,0 +1,39 @@
+-- What a store keeps, and the core that it stands for: each account of the book is a tenant, with its frames of the table, each
+-- with the words of its node.
+use Rattle.std.specs.Prelude.{ℕ, List, [], ◌∷◌, Option}
+use Rattle.cactus_stack.specs.Nodes.{Nodes, node_words}
+use Rattle.tenant_quota.specs.declared.account.Account.{Account}
+use Rattle.tenant_quota.specs.Reservations.{Reservations}
+use Rattle.frame_table.specs.declared.names.FrameId.{FrameId}
+use Rattle.frame_table.specs.Frames.{Frame}
+use Rattle.frame_table.specs.TreeLaws.{map_values}
+use Rattle.frame_table.specs.Tables.{Tree as TableTree, frames_of}
+use Rattle.sched_rules.specs.Trees.{Tree, Tenant}
+use Rattle.sched_rules.specs.Cores.{Shared}
+use Rattle.sched_store.specs.Ledgers.{Ledger, jobs_of}
+
+-- what a store keeps: the stack's nodes, the book, the table of frames with their nodes, the jobs, for each worker the frame that it held last, and the greatest number of a tenant so far
+pub record Parts : Type 0 where
+  pub nodes : Nodes
+  pub book : Reservations
+  pub trees : List (TableTree ℕ)
+  pub ledgers : List Ledger
+  pub places : List (Option FrameId)
+  pub newest : ℕ
+
+-- the frames, each with its node's words in place of the node
+abbrev pub worded : Nodes → List (Frame ℕ) → Tree
+worded nodes frames = map_values (node_words nodes) frames
+
+-- the tenant that an account stands for
+abbrev pub tenant_from : Parts → ℕ → Account → Tenant
+tenant_from parts number account = record { reserve = account.reserve; serials = account.opened; steps = account.ticks; jobs = jobs_of parts.ledgers number; frames = worded parts.nodes (frames_of parts.trees number) }
+
+-- the tenants that accounts stand for
+abbrev pub tenants_from : Parts → List (ℕ × Account) → List (ℕ × Tenant)
+tenants_from parts [] = []
+tenants_from parts (entry ∷ entries) = (entry.0, tenant_from parts entry.0 entry.1) ∷ tenants_from parts entries
+
+-- the core that a store stands for
+abbrev pub shared_of : Parts → Shared
+shared_of parts = record { totals = record { segments = parts.book.segments; nodes = parts.book.nodes }; newest = parts.newest; tenants = tenants_from parts parts.book.accounts }

@@ -1,0 +1,94 @@
+-- What a store tells of its core, beside the views of a core.
+use Rattle.std.specs.Prelude.{ℕ, ◌+◌, ◌≤◌, Bool, true, false, not, ◌||◌, List, [], ◌∷◌, Option, Some, None, IsSomeAnd}
+use Rattle.frame_table.specs.declared.names.FrameId.{FrameId}
+use Rattle.frame_table.specs.declared.names.State.{State}
+use Rattle.frame_table.specs.declared.names.State.TheVariants.{Ready, Running, Computing, Waiting, Returned}
+use Rattle.frame_table.specs.Frames.{Frame, IsReadyAt}
+use Rattle.sched_rules.specs.declared.job.Job.{Job}
+use Rattle.sched_rules.specs.Trees.{Tree, Tenant, words_of, sight, is_held_by, is_busy_in}
+use Rattle.sched_rules.specs.Cores.{Shared, tenant_in}
+use Rattle.sched_rules.specs.Views.{left_of, named}
+
+-- the frames of a tenant, and none where it isn't there
+abbrev pub tree_of : Option Tenant → Tree
+tree_of None = []
+tree_of (Some tenant) = tenant.frames
+
+-- its jobs
+abbrev pub jobs_kept : Option Tenant → List Job
+jobs_kept None = []
+jobs_kept (Some tenant) = tenant.jobs
+
+-- how many serials it was given
+abbrev pub serials_given : Option Tenant → ℕ
+serials_given None = 0
+serials_given (Some tenant) = tenant.serials
+
+-- the frames of the tenant of this number
+abbrev pub frames_in : Shared → ℕ → Tree
+frames_in shared number = tree_of (tenant_in shared.tenants number)
+
+-- the jobs of the tenant of this number
+abbrev pub jobs_in : Shared → ℕ → List Job
+jobs_in shared number = jobs_kept (tenant_in shared.tenants number)
+
+-- how many serials the tenant of this number was given
+abbrev pub serials_in : Shared → ℕ → ℕ
+serials_in shared number = serials_given (tenant_in shared.tenants number)
+
+-- the path of a frame, and no serial where there is none
+abbrev pub path_of : Option (Frame (List ℕ)) → List ℕ
+path_of None = []
+path_of (Some frame) = frame.path
+
+-- what the frame of this name sees: the words along its path, nearest first
+abbrev pub sight_of : Shared → FrameId → List (List ℕ)
+sight_of shared name = sight (frames_in shared name.tenant) (path_of (named shared name))
+
+-- the words of the frame of this name, and none where it isn't there
+abbrev pub words_under : Shared → FrameId → List ℕ
+words_under shared name = words_of (named shared name)
+
+-- whether the worker runs or computes a frame of some tenant
+abbrev pub is_busy_among : ℕ → List (ℕ × Tenant) → Bool
+is_busy_among worker [] = false
+is_busy_among worker (entry ∷ entries) = is_busy_in worker entry.1.frames || is_busy_among worker entries
+
+-- whether the worker holds the frame, if it is there
+abbrev pub holds : ℕ → Option (Frame (List ℕ)) → Bool
+holds worker None = false
+holds worker (Some frame) = is_held_by worker frame.state
+
+-- whether the worker may run or compute the frame of this name: it is free, or it is this very frame that it holds
+abbrev pub may_hold : Shared → ℕ → FrameId → Bool
+may_hold shared worker name = not (is_busy_among worker shared.tenants) || holds worker (named shared name)
+
+-- whether a state names a worker that runs or computes the frame
+abbrev pub is_held : State → Bool
+is_held (Ready home) = false
+is_held (Running worker) = true
+is_held (Computing worker) = true
+is_held Waiting = false
+is_held Returned = false
+
+-- the tenant is there, and has so many segments and so many nodes left
+abbrev pub HasLeft : Shared → ℕ → ℕ → ℕ → Type 0
+HasLeft shared number segments nodes = IsSomeAnd (left_of shared number) (λ left. (segments ≤ left.segments) × (nodes ≤ left.nodes))
+
+-- the tenant is there, and has a step left
+abbrev pub HasStepLeft : Shared → ℕ → Type 0
+HasStepLeft shared number = IsSomeAnd (left_of shared number) (λ left. 1 ≤ left.steps)
+
+-- each tenant's number is below all later ones
+abbrev pub AreAfter : ℕ → List (ℕ × Tenant) → Type 0
+AreAfter number [] = Unit {0}
+AreAfter number (entry ∷ entries) = (number + 1 ≤ entry.0) × AreAfter number entries
+
+-- the tenants stand by rising number
+abbrev pub AreRising : List (ℕ × Tenant) → Type 0
+AreRising [] = Unit {0}
+AreRising (entry ∷ entries) = AreAfter entry.0 entries × AreRising entries
+
+-- the frame of this name is there, ready at this home
+abbrev pub IsReadyIn : Shared → FrameId → ℕ → Type 0
+IsReadyIn shared name home = IsReadyAt (named shared name) home

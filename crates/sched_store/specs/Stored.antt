@@ -1,0 +1,88 @@
+-- What a store keeps true of its parts.
+use Rattle.std.specs.Prelude.{◌≡◌, ℕ, ◌+◌, ◌^◌, ◌≤◌, true, List, [], ◌∷◌, length, Option, Some, None, slice_index_or}
+use Rattle.cactus_stack.specs.Nodes.{Nodes, IsOpen, node_words, node_parent, total_charge}
+use Rattle.tenant_quota.specs.Accounts.{account_of, charged_segments}
+use Rattle.tenant_quota.specs.declared.account.Account.{Account}
+use Rattle.tenant_quota.specs.Reservations.{IsSound}
+use Rattle.frame_table.specs.declared.names.FrameId.{FrameId}
+use Rattle.frame_table.specs.Frames.{Frame, frame_at, parent_of, AllBelow, IsTree}
+use Rattle.frame_table.specs.Tables.{Tree as TableTree, frames_of, places_of, tenant_count}
+use Rattle.sched_rules.specs.Trees.{charged_for, is_held_by}
+use Rattle.sched_store.specs.Ledgers.{numbers_of}
+use Rattle.sched_store.specs.Parts.{Parts, worded}
+
+-- the frames of all tenants: under a tenant's number and a serial the frame, if there is one
+abbrev pub frame_in : List (TableTree ℕ) → ℕ → ℕ → Option (Frame ℕ)
+frame_in trees number serial = frame_at (frames_of trees number) serial
+
+-- the node of a frame
+abbrev pub node_of : Option (Frame ℕ) → Option ℕ
+node_of None = None
+node_of (Some frame) = Some frame.value
+
+-- the node of the parent, if there is one
+abbrev pub node_above : List (Frame ℕ) → Option ℕ → Option ℕ
+node_above frames None = None
+node_above frames (Some parent) = node_of (frame_at frames parent)
+
+-- a frame's node is open, under the node of the frame's parent
+pub record IsFrameNode (nodes : Nodes) (frames : List (Frame ℕ)) (frame : Frame ℕ) : Type 0 where
+  pub is_open : IsOpen nodes frame.value
+  pub parent : node_parent nodes frame.value ≡ node_above frames (parent_of frame.path)
+
+-- the frame that has this node
+pub record HasFrame (trees : List (TableTree ℕ)) (node : ℕ) : Type 0 where
+  pub number : ℕ
+  pub serial : ℕ
+  pub there : node_of (frame_in trees number serial) ≡ Some node
+
+-- frames and open nodes belong to one another, one to one
+pub record AreFramesNodes (nodes : Nodes) (trees : List (TableTree ℕ)) : Type 0 where
+  pub nodes_of_frames : (number serial : ℕ) (frame : Frame ℕ) → frame_in trees number serial ≡ Some frame → IsFrameNode nodes (frames_of trees number) frame
+  pub once : (number serial other_number other_serial node : ℕ) → node_of (frame_in trees number serial) ≡ Some node → node_of (frame_in trees other_number other_serial) ≡ Some node →
+      (number ≡ other_number) × (serial ≡ other_serial)
+  pub no_other : (node : ℕ) → IsOpen nodes node → HasFrame trees node
+
+-- an open node has 1 to 128 words
+pub record AreSized (nodes : Nodes) : Type 0 where
+  pub some : (node : ℕ) → IsOpen nodes node → 1 ≤ length (node_words nodes node)
+  pub most : (node : ℕ) → IsOpen nodes node → length (node_words nodes node) ≤ 128
+
+-- a tenant's account and its frames agree: it is charged for its frames, has as many places for them as segments, and their serials were given
+pub record IsAccountFor (nodes : Nodes) (trees : List (TableTree ℕ)) (number : ℕ) (account : Account) : Type 0 where
+  pub charged : account.charged ≡ charged_for (worded nodes (frames_of trees number))
+  pub places : places_of trees number ≡ account.reserve.segments
+  pub serials : AllBelow (account.opened + 1) (frames_of trees number)
+
+-- a worker that holds a frame has that frame's name at its place
+abbrev pub ArePlaces : List (TableTree ℕ) → List (Option FrameId) → Type 0
+ArePlaces trees places = (worker number serial : ℕ) (frame : Frame ℕ) → frame_in trees number serial ≡ Some frame → is_held_by worker frame.state ≡ true →
+    (1 ≤ worker) × (worker ≤ 32) × (slice_index_or places worker None ≡ Some (record { tenant = number; serial = serial }))
+
+-- the numbers of tenants
+abbrev pub numbers_in : List (ℕ × Account) → List ℕ
+numbers_in [] = []
+numbers_in (entry ∷ entries) = entry.0 ∷ numbers_in entries
+
+-- each number is at most this
+abbrev pub AreAtMost : ℕ → List (ℕ × Account) → Type 0
+AreAtMost most [] = Unit {0}
+AreAtMost most (entry ∷ entries) = (entry.0 ≤ most) × AreAtMost most entries
+
+-- what a store keeps true
+pub record IsStored (parts : Parts) : Type 0 where
+  pub book : IsSound parts.book
+  pub frames_nodes : AreFramesNodes parts.nodes parts.trees
+  pub sized : AreSized parts.nodes
+  pub accounts : (number : ℕ) (account : Account) → account_of number parts.book.accounts ≡ Some account → IsAccountFor parts.nodes parts.trees number account
+  pub nobody : (number : ℕ) → account_of number parts.book.accounts ≡ None → places_of parts.trees number ≡ 0
+  pub nothing : (number : ℕ) → account_of number parts.book.accounts ≡ None → frames_of parts.trees number ≡ []
+  pub forest : (number : ℕ) → IsTree (frames_of parts.trees number)
+  pub tenants : tenant_count parts.trees ≡ length parts.book.accounts
+  pub charges : total_charge parts.nodes ≡ charged_segments parts.book.accounts
+  pub segments : length parts.nodes ≡ parts.book.segments
+  pub ledgers : numbers_of parts.ledgers ≡ numbers_in parts.book.accounts
+  pub workers : length parts.places ≡ 33
+  pub places : ArePlaces parts.trees parts.places
+  pub taken : AreAtMost parts.newest parts.book.accounts
+  pub newest : parts.newest ≤ 2 ^ 62

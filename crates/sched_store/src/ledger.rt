@@ -1,0 +1,117 @@
+//! The jobs of one tenant.
+ghost use Rattle.std.specs.Prelude.{◌≡◌, ◌+◌, ◌<◌, ◌≤◌, ℕ, List, [], ◌∷◌, ◌++◌, false, length, IfOk, option_copied};
+ghost use Rattle.sched_rules.specs.Trees.{is_live_at, job_at, job_under, with_ended};
+ghost use Rattle.sched_store.specs.Ledgers.{is_live};
+
+use sched_rules::Job;
+use std::alloc::{AllocError, Global};
+use std::marker::Model;
+
+/// How many jobs a tenant can have.
+pub(crate) const JOBS: usize = 256;
+
+/// A tenant's jobs, from number 1 on, in the places that were made for all of them.
+#[derive(Drop)]
+pub(crate) struct Ledger {
+    number: u64,
+    jobs: Vec<Job>,
+}
+
+// Clauses see the tenant's number and the list of its jobs.
+impl Model for Ledger {
+    ghost use Rattle.std.specs.Prelude.{ℕ, ◌≤◌, List, length};
+    ghost use Rattle.std.specs.Vec.{vec_capacity};
+    ghost use Rattle.sched_rules.specs.declared.job.Job.{Job as JobOf};
+    ghost use Rattle.sched_store.specs.Ledgers.{AreLiveOnce};
+
+    ghost Value = { ℕ × List JobOf };
+
+    ghost view = { λ l. (l.number, l.jobs.items) };
+
+    ghost invariant = { λ l. (256 ≤ vec_capacity l.jobs) × (length l.jobs.items ≤ 256) × AreLiveOnce l.jobs.items };
+}
+
+impl Ledger {
+    /// The ledger of a tenant that has no job yet. It makes places for 256.
+    pub(crate) fn new(alloc: Global, number: u64) -> Result<Ledger, AllocError>
+        ensures { IfOk result (λ ledger. ledger ≡ (number, [])) }
+    {
+        let jobs = Vec::with_capacity(alloc, JOBS)?;
+        Ok(Ledger { number, jobs })
+    }
+
+    /// The tenant's number.
+    pub(crate) fn number(&self) -> u64
+        ensures { result ≡ self.now.0 }
+    {
+        self.number
+    }
+
+    /// How many jobs it has.
+    pub(crate) fn len(&self) -> usize
+        ensures count { result ≡ length self.now.1 }
+        ensures few { result ≤ 256 }
+    {
+        self.jobs.len()
+    }
+
+    /// The job of this number, from 1 on.
+    pub(crate) fn job(&self, number: u64) -> Option<&Job>
+        ensures { option_copied result ≡ job_at self.now.1 number }
+    {
+        if number == 0 {
+            return None;
+        }
+        let at = number as usize - 1;
+        if at < self.jobs.len() {
+            Some(&self.jobs[at])
+        } else {
+            None
+        }
+    }
+
+    /// The number of the job that lives under this root; 0 where there is none.
+    pub(crate) fn under(&self, root: u64) -> usize
+        ensures number { result ≡ job_under root self.now.1 }
+        ensures within { result ≤ length self.now.1 }
+    {
+        for (at, job) in self.jobs.iter().enumerate() {
+            if lives_under(job, root) {
+                return at + 1;
+            }
+        }
+        0
+    }
+
+    /// One more job, which lives under this root.
+    pub(crate) fn begin(&mut self, root: u64)
+        requires room { length self.old.1 < JOBS }
+        requires fresh { job_under root self.old.1 ≡ 0 }
+        ensures { self.new ≡ (self.old.0, self.old.1 ++ Job.Live root ∷ []) }
+    {
+        self.jobs.push_reserved(Job::Live(root));
+    }
+
+    /// Ends the job that lives under this root, if there is one, so.
+    pub(crate) fn end(&mut self, root: u64, ended: Job)
+        requires { is_live ended ≡ false }
+        ensures { self.new ≡ (self.old.0, with_ended root ended self.old.1) }
+    {
+        let number = self.under(root);
+        if number > 0 {
+            self.jobs[number - 1] = ended;
+        }
+    }
+}
+
+/// Whether a job lives under this root.
+fn lives_under(job: &Job, root: u64) -> bool
+    ensures { result ≡ is_live_at root job.now }
+{
+    match job {
+        Job::Live(serial) => *serial == root,
+        Job::Done(_) => false,
+        Job::Spent => false,
+        Job::Cancelled => false,
+    }
+}

@@ -1,0 +1,143 @@
+//! The jobs of all tenants.
+ghost use Rattle.std.specs.Prelude.{◌≡◌, ◌+◌, ◌<◌, ◌≤◌, ℕ, List, [], ◌∷◌, ◌++◌, true, false, length, nat_lt, IfOk, IfSome, IfNone, option_copied};
+ghost use Rattle.sched_rules.specs.Trees.{job_at, job_under, with_ended};
+ghost use Rattle.sched_store.specs.Ledgers.{jobs_of, numbers_of, AreBelow, AreRising, count_below, with_jobs, without_ledger, is_there, is_live};
+
+use crate::ledger::Ledger;
+use sched_rules::Job;
+use std::alloc::{AllocError, Global};
+use std::marker::Model;
+
+/// How many tenants can be there.
+const TENANTS: usize = 64;
+
+/// The ledgers of all tenants, by rising number, in the places that were made for 64.
+#[derive(Drop)]
+pub(crate) struct Ledgers {
+    all: Vec<Ledger>,
+}
+
+// Clauses see the list of numbers and jobs.
+impl Model for Ledgers {
+    ghost use Rattle.std.specs.Prelude.{ℕ, ◌≤◌, List, length};
+    ghost use Rattle.std.specs.Vec.{vec_capacity};
+    ghost use Rattle.sched_rules.specs.declared.job.Job.{Job as JobOf};
+    ghost use Rattle.sched_store.specs.Ledgers.{AreRising, numbers_of};
+
+    ghost Value = { List (ℕ × List JobOf) };
+
+    ghost view = { λ l. l.all.items };
+
+    ghost invariant = { λ l. (64 ≤ vec_capacity l.all) × AreRising (numbers_of l.all.items) };
+}
+
+impl Ledgers {
+    /// No ledger, with places for 64.
+    pub(crate) fn new(alloc: Global) -> Result<Ledgers, AllocError>
+        ensures { IfOk result (λ ledgers. ledgers ≡ []) }
+    {
+        let all = Vec::with_capacity(alloc, TENANTS)?;
+        Ok(Ledgers { all })
+    }
+
+    /// Adds the ledger of a tenant whose number is above all others.
+    pub(crate) fn add(&mut self, ledger: Ledger)
+        requires room { length self.old < TENANTS }
+        requires above { AreBelow ledger.0 (numbers_of self.old) }
+        ensures { self.new ≡ self.old ++ ledger ∷ [] }
+    {
+        self.all.push_reserved(ledger);
+    }
+
+    /// Takes out the ledger of a tenant that is there.
+    pub(crate) fn remove(&mut self, number: u64)
+        requires { is_there number self.old ≡ true }
+        ensures { self.new ≡ without_ledger number self.old }
+    {
+        let at = place_of(self.all.as_slice(), number);
+        self.all.remove(at);
+    }
+
+    /// How many jobs a tenant has.
+    pub(crate) fn job_count(&self, number: u64) -> usize
+        ensures count { result ≡ length (jobs_of self.now number) }
+        ensures few { result ≤ 256 }
+    {
+        match self.find(number) {
+            Some(ledger) => ledger.len(),
+            None => 0,
+        }
+    }
+
+    /// A tenant's job by its number, from 1 on.
+    pub(crate) fn job(&self, number: u64, job: u64) -> Option<&Job>
+        ensures { option_copied result ≡ job_at (jobs_of self.now number) job }
+    {
+        match self.find(number) {
+            Some(ledger) => ledger.job(job),
+            None => None,
+        }
+    }
+
+    /// The number of a tenant's job that lives under this root; 0 where there is none.
+    pub(crate) fn job_under(&self, number: u64, root: u64) -> usize
+        ensures { result ≡ job_under root (jobs_of self.now number) }
+    {
+        match self.find(number) {
+            Some(ledger) => ledger.under(root),
+            None => 0,
+        }
+    }
+
+    /// One more job of a tenant that is there, which lives under this root.
+    pub(crate) fn begin(&mut self, number: u64, root: u64)
+        requires there { is_there number self.old ≡ true }
+        requires room { length (jobs_of self.old number) < 256 }
+        requires fresh { job_under root (jobs_of self.old number) ≡ 0 }
+        ensures { self.new ≡ with_jobs number (λ jobs. jobs ++ Job.Live root ∷ []) self.old }
+    {
+        let at = place_of(self.all.as_slice(), number);
+        let ledger = &mut self.all[at];
+        ledger.begin(root);
+    }
+
+    /// Ends the job of a tenant that is there which lives under this root, if there is one, so.
+    pub(crate) fn end(&mut self, number: u64, root: u64, ended: Job)
+        requires there { is_there number self.old ≡ true }
+        requires ended { is_live ended ≡ false }
+        ensures { self.new ≡ with_jobs number (with_ended root ended) self.old }
+    {
+        let at = place_of(self.all.as_slice(), number);
+        let ledger = &mut self.all[at];
+        ledger.end(root, ended);
+    }
+
+    /// A tenant's ledger, if it is there.
+    fn find(&self, number: u64) -> Option<&Ledger>
+        ensures found { IfSome result (λ ledger. jobs_of self.now number ≡ ledger.now.1) }
+        ensures none { IfNone result (jobs_of self.now number ≡ []) }
+    {
+        let at = place_of(self.all.as_slice(), number);
+        if at >= self.all.len() {
+            return None;
+        }
+        let ledger = &self.all[at];
+        if ledger.number() == number {
+            Some(ledger)
+        } else {
+            None
+        }
+    }
+}
+
+/// Where the ledger of this number stands, or would stand.
+fn place_of(ledgers: &[Ledger], number: u64) -> usize
+    requires { AreRising (numbers_of ledgers.now) }
+    ensures { result ≡ count_below number (numbers_of ledgers.now) }
+{
+    ledgers.partition_point(
+        |ledger: &Ledger| -> bool
+            ensures { result ≡ nat_lt ledger.now.0 number }
+        { ledger.number() < number },
+    )
+}

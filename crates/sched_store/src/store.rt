@@ -1,0 +1,83 @@
+//! The store, and what it keeps.
+ghost use Rattle.std.specs.Prelude.{◌≡◌, IfOk, IsTrue};
+ghost use Rattle.frame_table.specs.Frames.{frame_at, has_frame, HasValue};
+ghost use Rattle.frame_table.specs.Tables.{frames_of};
+ghost use Rattle.sched_rules.specs.Cores.{shared_by_nobody};
+
+mod opening;
+mod reading;
+mod removing;
+mod tenants;
+mod writing;
+
+use crate::ledgers::Ledgers;
+use cactus_stack::{NodeNo, Stack};
+use frame_table::{FrameId, FrameTable};
+use sched_rules::Config;
+use std::alloc::{AllocError, Global};
+use std::marker::Model;
+use tenant_quota::Book;
+
+/// How many workers there are, and one place more: workers are numbered from 1.
+const PLACES: usize = 33;
+
+/// The tenants of a core, with their frames, jobs and what they have left.
+#[derive(Drop)]
+pub struct Store {
+    alloc: Global,
+    stack: Stack,
+    book: Book,
+    table: FrameTable<NodeNo>,
+    ledgers: Ledgers,
+    places: [Option<FrameId>; PLACES],
+    newest: u64,
+}
+
+// Clauses see the core that the parts stand for.
+impl Model for Store {
+    ghost use Rattle.sched_rules.specs.Cores.{Shared};
+
+    ghost Value = { Shared };
+
+    ghost use Rattle.sched_store.specs.Parts.{shared_of};
+    ghost use Rattle.sched_store.specs.Stored.{IsStored};
+    ghost use Rattle.sched_store.specs.Inside.{parts_of};
+
+    ghost view = { λ s. shared_of (parts_of s) };
+
+    ghost invariant = { λ s. IsStored (parts_of s) };
+}
+
+impl Store {
+    /// A store of these totals with no tenant. Takes memory: `AllocError` only where a growth was
+    /// refused.
+    pub fn new(alloc: Global, config: Config) -> Result<Store, AllocError>
+        ensures { IfOk result (λ store. store ≡ shared_by_nobody config) }
+    {
+        let segments = config.segments();
+        let stack = Stack::new(alloc, segments as usize)?;
+        let book = Book::new(alloc, segments, config.nodes())?;
+        let table = FrameTable::new(alloc)?;
+        let ledgers = Ledgers::new(alloc)?;
+        Ok(Store {
+            alloc,
+            stack,
+            book,
+            table,
+            ledgers,
+            places: [None; PLACES],
+            newest: 0,
+        })
+    }
+}
+
+/// The node of a frame that is there.
+fn node_of(table: &FrameTable<NodeNo>, name: FrameId) -> NodeNo
+    requires { IsTrue (has_frame (frames_of table.now name.tenant) name.serial) }
+    ensures { HasValue (frame_at (frames_of table.now name.tenant) name.serial) result }
+{
+    match table.find(name) {
+        Some(entry) => entry.value,
+        None => unreachable!(),
+    }
+}

@@ -1,0 +1,234 @@
+//! The calls that only read: the tests by which steps are decided, and what a core shows. Each is
+//! total or asks for a frame that is there; none takes memory.
+ghost use Rattle.std.specs.Prelude.{◌≡◌, ◌↔◌, ◌+◌, ◌≤◌, ◌^◌, ℕ, [], length, is_some, IfSome, IsSome, IsNone, Some, option_copied};
+ghost use Rattle.frame_table.specs.declared.names.State.TheVariants.{Ready};
+ghost use Rattle.frame_table.specs.Frames.{root_of, IsTree};
+ghost use Rattle.sched_rules.specs.Trees.{is_held_by, has_child as has_child_in, is_root as is_root_path, job_under as number_under};
+ghost use Rattle.sched_rules.specs.Cores.{tenant_in, reservations_in, is_full as is_full_for};
+ghost use Rattle.sched_rules.specs.Headline.{IsKnown};
+ghost use Rattle.sched_rules.specs.Views.{left_of, job_of, named, frame_of, words_of_frame, live_of, newest_ready_in, ready_count, free_in};
+ghost use Rattle.sched_store.specs.Reads.{frames_in, jobs_in, serials_in, path_of, words_under, sight_of, is_busy_among, holds, AreRising, IsReadyIn};
+
+use crate::store::Store;
+use cactus_stack::{Sight, Words};
+use frame_table::{FrameId, State};
+use sched_rules::{Job, Worker};
+use tenant_quota::{Left, Reserve};
+
+impl Store {
+    /// Whether a tenant is there.
+    pub fn has_tenant(&self, number: u64) -> bool
+        ensures there { result ≡ is_some (tenant_in self.now.tenants number) }
+        ensures known { IsKnown self.now }
+        ensures rising { AreRising self.now.tenants }
+    {
+        self.book.left(number).is_some()
+    }
+
+    /// The greatest number of a tenant so far, 0 to 2^62.
+    pub fn newest(&self) -> u64
+        ensures newest { result ≡ self.now.newest }
+        ensures within { result ≤ 2 ^ 62 }
+        ensures known { IsKnown self.now }
+        ensures rising { AreRising self.now.tenants }
+    {
+        self.newest
+    }
+
+    /// Whether 64 tenants are there, or a total doesn't allow the reservation.
+    pub fn is_full(&self, reserve: Reserve) -> bool
+        ensures { result ≡ is_full_for (reservations_in self.now) reserve }
+    {
+        let rest = self.book.rest();
+        let segments = reserve.segments();
+        let nodes = reserve.nodes();
+        if rest.tenants == 0 {
+            return true;
+        }
+        if rest.segments < segments {
+            return true;
+        }
+        rest.nodes < nodes
+    }
+
+    /// What a tenant has left; `None` where it isn't there.
+    pub fn left(&self, tenant: u64) -> Option<Left>
+        ensures left { result ≡ left_of self.now tenant }
+
+        // What the tenant has left is free, whatever others hold.
+        ensures free { IfSome result (λ left. left.segments ≤ free_in self.now) }
+    {
+        self.book.left(tenant)
+    }
+
+    /// The serial that the tenant's next frame is given.
+    pub fn next_serial(&self, tenant: u64) -> u64
+        requires { IsSome (tenant_in self.now.tenants tenant) }
+        ensures { result ≡ serials_in self.now tenant + 1 }
+    {
+        let reserve = self.book.reserved(tenant).unwrap();
+        let left = self.book.left(tenant).unwrap();
+        (reserve.nodes() - left.nodes) as u64 + 1
+    }
+
+    /// The parent and the state of a frame; `None` where it isn't there. A root has no parent.
+    pub fn find(&self, name: FrameId) -> Option<(Option<FrameId>, State)>
+        ensures frame { result ≡ frame_of self.now name }
+        ensures tree { IsTree (frames_in self.now name.tenant) }
+    {
+        match self.table.find(name) {
+            Some(entry) => Some((entry.parent, entry.state)),
+            None => None,
+        }
+    }
+
+    /// The words of a frame; `None` where it isn't there.
+    pub fn words(&self, name: FrameId) -> Option<Words<'_>>
+        ensures { result ≡ words_of_frame self.now name }
+    {
+        match self.table.find(name) {
+            Some(entry) => Some(self.stack.own(entry.value)),
+            None => None,
+        }
+    }
+
+    /// What a frame that is there sees: its own words, its parent's, and so on to its root's.
+    pub fn sight(&self, name: FrameId) -> Sight<'_>
+        requires { IsSome (named self.now name) }
+        ensures { result ≡ sight_of self.now name }
+    {
+        match self.table.find(name) {
+            Some(entry) => self.stack.sight(entry.value),
+            None => unreachable!(),
+        }
+    }
+
+    /// The root above a frame that is there, or the frame itself.
+    pub fn root(&self, name: FrameId) -> FrameId
+        requires { IsSome (named self.now name) }
+        ensures { result ≡ record { tenant = name.tenant; serial = root_of (path_of (named self.now name)) } }
+    {
+        self.table.root(name)
+    }
+
+    /// Whether a frame that is there is a root.
+    pub fn is_root(&self, name: FrameId) -> bool
+        requires { IsSome (named self.now name) }
+        ensures { result ≡ is_root_path (path_of (named self.now name)) }
+    {
+        match self.table.find(name) {
+            Some(entry) => entry.parent.is_none(),
+            None => unreachable!(),
+        }
+    }
+
+    /// Whether a frame has a child, from a kept count.
+    pub fn has_child(&self, name: FrameId) -> bool
+        ensures { result ≡ has_child_in (frames_in self.now name.tenant) name.serial }
+    {
+        self.table.has_child(name)
+    }
+
+    /// Whether a worker runs or computes a frame of some tenant: one look at its place.
+    pub fn is_busy(&self, worker: Worker) -> bool
+        ensures busy { result ≡ is_busy_among worker self.now.tenants }
+        ensures rising { AreRising self.now.tenants }
+    {
+        let number = worker.number();
+        match self.places[number as usize] {
+            Some(name) => self.is_held_by(name, worker),
+            None => false,
+        }
+    }
+
+    /// A tenant's job by its number, from 1 on; `None` where there is none.
+    pub fn job(&self, tenant: u64, number: u64) -> Option<&Job>
+        ensures { option_copied result ≡ job_of self.now tenant number }
+    {
+        self.ledgers.job(tenant, number)
+    }
+
+    /// How many jobs a tenant has had, at most 256.
+    pub fn job_count(&self, tenant: u64) -> usize
+        ensures count { result ≡ length (jobs_in self.now tenant) }
+        ensures few { result ≤ 256 }
+    {
+        self.ledgers.job_count(tenant)
+    }
+
+    /// The number of a tenant's job that lives under this root; 0 where there is none.
+    pub fn job_under(&self, tenant: u64, root: u64) -> usize
+        ensures { result ≡ number_under root (jobs_in self.now tenant) }
+    {
+        self.ledgers.job_under(tenant, root)
+    }
+
+    /// How many frames a tenant has, and how many words they have. It looks at each frame.
+    pub fn live(&self, tenant: u64) -> Option<(usize, usize)>
+        ensures { result ≡ live_of self.now tenant }
+    {
+        if !self.has_tenant(tenant) {
+            return None;
+        }
+        let mut words = 0;
+        for name in self.table.frames(tenant) {
+            words += self.word_count(name);
+        }
+        Some((self.table.frame_count(tenant), words))
+    }
+
+    /// A tenant's ready frame of the greatest serial, with its home.
+    pub fn newest_ready(&self, tenant: u64) -> Option<(FrameId, u8)>
+        ensures { result ≡ newest_ready_in self.now tenant }
+    {
+        self.table.newest_ready(tenant)
+    }
+
+    /// A ready frame of some tenant, with its home; `None` exactly where none is ready.
+    pub fn any_ready(&self) -> Option<(FrameId, u8)>
+        ensures found { IfSome result (λ ready. IsReadyIn self.now ready.0 ready.1) }
+        ensures none { IsNone result ↔ (ready_count self.now.tenants ≡ 0) }
+    {
+        self.table.any_ready()
+    }
+
+    /// How many segments are free.
+    pub fn free_segments(&self) -> usize
+        ensures { result ≡ free_in self.now }
+    {
+        self.stack.free_count()
+    }
+
+    /// Whether this frame is there and held by this worker.
+    fn is_held_by(&self, name: FrameId, worker: Worker) -> bool
+        ensures { result ≡ holds worker (named self.now name) }
+    {
+        match self.table.find(name) {
+            Some(entry) => holds_frame(entry.state, worker),
+            None => false,
+        }
+    }
+
+    /// How many words a frame has.
+    fn word_count(&self, name: FrameId) -> usize
+        ensures { result ≡ length (words_under self.now name) }
+    {
+        match self.words(name) {
+            Some(words) => words.len(),
+            None => 0,
+        }
+    }
+}
+
+/// Whether a frame in this state is run or computed by this worker.
+fn holds_frame(state: State, worker: Worker) -> bool
+    ensures { result ≡ is_held_by worker state }
+{
+    match state {
+        State::Running(holder) => holder == worker.number(),
+        State::Computing(holder) => holder == worker.number(),
+        State::Ready(_) => false,
+        State::Waiting => false,
+        State::Returned => false,
+    }
+}

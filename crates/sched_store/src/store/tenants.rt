@@ -1,0 +1,73 @@
+//! Tenants come and go, take steps, and have jobs.
+ghost use Rattle.std.specs.Prelude.{◌≡◌, ◌<◌, ◌≤◌, ◌^◌, ℕ, false, length, IsSome, OnOk, OnErr};
+ghost use Rattle.sched_rules.specs.Trees.{job_under as number_under};
+ghost use Rattle.sched_rules.specs.Lone.{counted};
+ghost use Rattle.sched_rules.specs.Cores.{tenant_in, reservations_in, is_full as is_full_for};
+ghost use Rattle.sched_rules.specs.Changes.{on_tenant, with_job, ending_job};
+ghost use Rattle.sched_store.specs.Changes.{with_admitted, with_departed};
+ghost use Rattle.sched_store.specs.Ledgers.{is_live};
+ghost use Rattle.sched_store.specs.Reads.{jobs_in, HasStepLeft};
+
+use crate::ledger::Ledger;
+use crate::store::Store;
+use sched_rules::Job;
+use std::alloc::AllocError;
+use tenant_quota::Reserve;
+
+impl Store {
+    /// A new tenant with its reservation, after all others. It makes the places for the tenant's
+    /// frames and for 256 jobs: `AllocError` only where a growth was refused.
+    pub fn admit(&mut self, number: u64, reserve: Reserve) -> Result<(), AllocError>
+        requires above { self.old.newest < number }
+        requires within { number ≤ 2 ^ 62 }
+        requires room { is_full_for (reservations_in self.old) reserve ≡ false }
+        ensures ok { OnOk result (self.new ≡ with_admitted number reserve self.old) }
+        ensures err { OnErr result (self.new ≡ self.old) }
+    {
+        let ledger = Ledger::new(self.alloc, number)?;
+        self.table.reserve(number, reserve.segments() as usize)?;
+        self.ledgers.add(ledger);
+        self.newest = number;
+        self.book.reserve(number, reserve).unwrap();
+        Ok(())
+    }
+
+    /// The tenant is gone, with its reservation, its jobs and its frames: all their segments are free.
+    pub fn leave(&mut self, tenant: u64)
+        requires { IsSome (tenant_in self.old.tenants tenant) }
+        ensures { self.new ≡ with_departed tenant self.old }
+    {
+        let nodes = self.table.remove_all(tenant);
+        self.stack.close_all(nodes);
+        self.table.release(tenant);
+        self.ledgers.remove(tenant);
+        self.book.release(tenant);
+    }
+
+    /// One more step of the tenant is counted.
+    pub fn count_step(&mut self, tenant: u64)
+        requires { HasStepLeft self.old tenant }
+        ensures { self.new ≡ on_tenant tenant counted self.old }
+    {
+        self.book.tick(tenant).unwrap();
+    }
+
+    /// The tenant's next job lives under this root, under which no job lives.
+    pub fn begin_job(&mut self, tenant: u64, root: u64)
+        requires there { IsSome (tenant_in self.old.tenants tenant) }
+        requires room { length (jobs_in self.old tenant) < 256 }
+        requires fresh { number_under root (jobs_in self.old tenant) ≡ 0 }
+        ensures { self.new ≡ on_tenant tenant (with_job (Job.Live root)) self.old }
+    {
+        self.ledgers.begin(tenant, root);
+    }
+
+    /// The tenant's job that lives under this root, if there is one, ends so.
+    pub fn end_job(&mut self, tenant: u64, root: u64, ended: Job)
+        requires there { IsSome (tenant_in self.old.tenants tenant) }
+        requires ended { is_live ended ≡ false }
+        ensures { self.new ≡ on_tenant tenant (ending_job root ended) self.old }
+    {
+        self.ledgers.end(tenant, root, ended);
+    }
+}

@@ -1,0 +1,81 @@
+//! Frames are written, made longer, and put into other states.
+ghost use Rattle.std.specs.Prelude.{◌≡◌, ◌+◌, ◌≤◌, ◌++◌, ℕ, true, false, length, replicate, IsSome};
+ghost use Rattle.cactus_stack.specs.Nodes.{IsOpen, node_words, with_words, growth_charge as growth_of_words};
+ghost use Rattle.frame_table.specs.declared.names.State.TheVariants.{Running, Computing};
+ghost use Rattle.sched_rules.specs.Trees.{stored, is_outside};
+ghost use Rattle.sched_rules.specs.Lone.{holding, in_state};
+ghost use Rattle.sched_rules.specs.Changes.{on_tenant};
+ghost use Rattle.sched_rules.specs.Views.{named};
+ghost use Rattle.sched_store.specs.Reads.{words_under, is_held, may_hold, HasLeft};
+
+use crate::store::{Store, node_of};
+use cactus_stack::{NodeNo, Stack, growth_charge};
+use frame_table::{FrameId, State};
+use sched_rules::Worker;
+
+impl Store {
+    /// Stores words at places of a frame that has these places, in order.
+    pub fn store_all(&mut self, name: FrameId, stores: &[(usize, u64)])
+        requires there { IsSome (named self.old name) }
+        requires inside { is_outside stores.now (words_under self.old name) ≡ false }
+        ensures { self.new ≡ on_tenant name.tenant (holding name.serial (stored stores.now (words_under self.old name))) self.old }
+    {
+        let node = node_of(&self.table, name);
+        store_words(&mut self.stack, node, stores);
+    }
+
+    /// Makes a frame longer by so many words, each 0, to at most 128.
+    pub fn grow(&mut self, name: FrameId, more: usize)
+        requires there { IsSome (named self.old name) }
+        requires size { length (words_under self.old name) + more ≤ 128 }
+        requires left { HasLeft self.old name.tenant (growth_of_words (length (words_under self.old name)) more) 0 }
+        ensures { self.new ≡ on_tenant name.tenant (holding name.serial (words_under self.old name ++ replicate more 0)) self.old }
+    {
+        let node = node_of(&self.table, name);
+        let added = growth_charge(self.stack.own(node).len(), more);
+        self.stack.grow(node, more).unwrap();
+        self.book.charge(name.tenant, added as u32, 0).unwrap();
+    }
+
+    /// Puts a frame into a state that names no worker: Ready, Waiting or Returned.
+    pub fn set_state(&mut self, name: FrameId, state: State)
+        requires there { IsSome (named self.old name) }
+        requires nobody { is_held state ≡ false }
+        ensures { self.new ≡ on_tenant name.tenant (in_state name.serial state) self.old }
+    {
+        self.table.set_state(name, state);
+    }
+
+    /// The worker runs the frame. It held none before, or this one.
+    pub fn run(&mut self, worker: Worker, name: FrameId)
+        requires there { IsSome (named self.old name) }
+        requires free { may_hold self.old worker name ≡ true }
+        ensures { self.new ≡ on_tenant name.tenant (in_state name.serial (Running worker)) self.old }
+    {
+        let number = worker.number();
+        self.places[number as usize] = Some(name);
+        self.table.set_state(name, State::Running(number));
+    }
+
+    /// The worker computes for the frame. It held none before, or this one.
+    pub fn compute(&mut self, worker: Worker, name: FrameId)
+        requires there { IsSome (named self.old name) }
+        requires free { may_hold self.old worker name ≡ true }
+        ensures { self.new ≡ on_tenant name.tenant (in_state name.serial (Computing worker)) self.old }
+    {
+        let number = worker.number();
+        self.places[number as usize] = Some(name);
+        self.table.set_state(name, State::Computing(number));
+    }
+}
+
+/// Stores words at places of a node that has these places, in order.
+fn store_words(stack: &mut Stack, node: NodeNo, stores: &[(usize, u64)])
+    requires is_open { IsOpen stack.old node }
+    requires inside { is_outside stores.now (node_words stack.old node) ≡ false }
+    ensures { stack.new ≡ with_words stack.old node (stored stores.now (node_words stack.old node)) }
+{
+    for (at, word) in stores {
+        stack.store(node, *at, *word);
+    }
+}
