@@ -1,0 +1,93 @@
+-- A done job kept a returned root, which holds what it was asked.
+use Rattle.std.proofs.Common.{◌≡◌, ℕ, ◌<◌, ◌≤◌, List, [], ◌∷◌, take, get_or, Some, Result, refl, ap, sym, ◌∙◌, subst, arith}
+use Rattle.std.proofs.lemmas.List.{get_or-take}
+use Rattle.tenant_quota.specs.Quota.{Quota}
+use Rattle.cactus_stack.specs.Nodes.{padded}
+use Rattle.frame_table.specs.Frames.{Frame as TreeFrame, children_of, values_of}
+use Rattle.othello_board.specs.Words.{cells_of}
+use Rattle.othello_eval.specs.Minimax.{minimax, best_choice}
+use Rattle.sched_rules.specs.declared.job.Job.{Job}
+use Rattle.sched_rules.specs.declared.job.Job.TheVariants.{Live, Done, Spent as SpentJob, Cancelled as CancelledJob}
+use Rattle.sched_rules.specs.declared.refusal.Refusal.{Refusal}
+use Rattle.sched_rules.specs.declared.step.StepOf.{StepOf}
+use Rattle.sched_rules.specs.declared.step.StepOf.TheVariants.{Admit, Submit, Take, Steal, Advance, Answer, Inlet, Finish, Spend, Cancel, Leave}
+use Rattle.sched_rules.specs.declared.step.DidOf.{DidOf}
+use Rattle.sched_rules.specs.Trees.{Tree, Tenant, kept_words}
+use Rattle.sched_rules.specs.Laws.{Neither, HasReturned, mark_of, EachFits, EveryFrameFits}
+use Rattle.sched_rules.specs.Runs.{only}
+use Rattle.sched_rules.specs.Cores.{shared_by_nobody, tenant_in}
+use Rattle.sched_rules.specs.Headline.{AreAnswersTo, after_answers, taken}
+use Rattle.sched_laws.specs.Fitted.{JobsFit, TenantFits, RootFits, RootsFit, origins_of}
+use Rattle.sched_laws.proofs.FitAnswers.{run-fits, nobody-fits}
+use Rattle.jamboree_rules.specs.declared.leaf.Leaf.{Leaf}
+use Rattle.jamboree_rules.specs.declared.leaf.LeafAnswer.{LeafAnswer}
+use Rattle.jamboree_rules.specs.Frames.{Frame, coded, board, value}
+use Rattle.jamboree_rules.specs.Places.{root_words, frame_size, frame_of, score_of}
+use Rattle.jamboree_rules.specs.Fits.{AreFitting, IsRoot}
+use Rattle.jamboree_rules.specs.Procedure.{jamboree}
+use Rattle.jamboree_rules.proofs.Keeping.{next-keeps, inlet-keeps}
+use Rattle.jamboree_rules.proofs.Soundness.{fits-sound}
+use Rattle.jamboree_rules.proofs.Answers.{accept-keeps, root-fits, root-value}
+use Rattle.jamboree_laws.specs.Replies.{AreRootWords, IsSearch, AreSearches, IsReplyTo, HoldsReply, AreReplies, AreAllSound}
+
+-- the new root of a search fits
+search-fits : (step : StepOf LeafAnswer) → IsSearch step → RootFits AreFitting IsRoot step
+search-fits (Admit number quota) is = tt
+search-fits (Submit number words size) is =
+    let root = root-fits is.0.own is.0.opp is.0.depth is.0.apart is.0.shallow in
+    rw (is.0.are, is.1) root
+search-fits (Take worker name) is = tt
+search-fits (Steal worker from name) is = tt
+search-fits (Advance worker name) is = tt
+search-fits (Answer worker name answer) is = tt
+search-fits (Inlet worker name) is = tt
+search-fits (Finish worker name) is = tt
+search-fits (Spend name) is = tt
+search-fits (Cancel number job) is = tt
+search-fits (Leave number) is = tt
+
+searches-fit : (steps : List (StepOf LeafAnswer)) → AreSearches steps → RootsFit AreFitting IsRoot steps
+searches-fit [] are = tt
+searches-fit (step ∷ steps) are = (search-fits step are.0, searches-fit steps are.1)
+
+-- a tenant fits after any list of searches
+pub searched : (grain : ℕ) (totals : Quota) (steps : List (StepOf LeafAnswer)) (answers : List (Result (DidOf Leaf) Refusal)) (number : ℕ) (tenant : Tenant) →
+    AreAnswersTo (jamboree grain) (shared_by_nobody totals) steps answers → AreSearches (taken steps answers) →
+    tenant_in (after_answers (jamboree grain) (shared_by_nobody totals) steps answers).tenants number ≡ Some tenant →
+    TenantFits AreFitting IsRoot (origins_of (only number (taken steps answers))) tenant
+searched grain totals steps answers number tenant right searches at =
+    let core = run-fits (jamboree grain) AreFitting IsRoot (λ n. []) (shared_by_nobody totals) steps answers
+    (record { next = next-keeps (jamboree grain) grain refl; inlet = inlet-keeps (jamboree grain) refl; accept = accept-keeps (jamboree grain) refl refl refl refl }) tt tt
+    (nobody-fits AreFitting IsRoot totals) right (searches-fit (taken steps answers) searches) in
+    core.tenants number tenant at
+
+-- the word at a place that a job keeps
+kept-at : (all words : List ℕ) (i : ℕ) → i < 12 → kept_words all ≡ words → get_or words i 0 ≡ get_or all i 0
+kept-at all words i within kept = ap (λ (ws : List ℕ). get_or ws i 0) (sym kept) ∙ get_or-take 12 all i 0 within
+
+reply-held : (origin words all : List ℕ) → kept_words all ≡ words → AreFitting all [] HasReturned → IsRoot origin all → IsReplyTo origin words
+reply-held origin words all kept fits root =
+    let holds = root-value origin all fits root in
+    let own : (frame_of all).own ≡ (frame_of origin).own = root.own_is in
+    let opp : (frame_of all).opp ≡ (frame_of origin).opp = root.opp_is in
+    let depth : (frame_of all).depth ≡ (frame_of origin).depth = root.depth_is in
+    record {
+      own = kept-at all words 0 (omega arith) kept ∙ own;
+      opp = kept-at all words 1 (omega arith) kept ∙ opp;
+      depth = kept-at all words 2 (omega arith) kept ∙ depth;
+      value = ap score_of (kept-at all words 8 (omega arith) kept) ∙ holds.0 ∙ (rw (depth, own, opp) refl);
+      choice = kept-at all words 9 (omega arith) kept ∙ holds.1 ∙ (rw (depth, own, opp) refl);
+    }
+
+pub replies-held : (tree : Tree) (origins : List (List ℕ)) (jobs : List Job) → JobsFit AreFitting IsRoot tree origins jobs → AreReplies origins jobs
+replies-held tree [] [] fit = tt
+replies-held tree [] (job ∷ jobs) fit = absurd fit
+replies-held tree (origin ∷ origins) [] fit = absurd fit
+replies-held tree (origin ∷ origins) (Live root ∷ jobs) fit = (tt, replies-held tree origins jobs fit.1)
+replies-held tree (origin ∷ origins) (Done words ∷ jobs) fit = (reply-held origin words fit.0.0 fit.0.1 fit.0.2 fit.0.3, replies-held tree origins jobs fit.1)
+replies-held tree (origin ∷ origins) (SpentJob ∷ jobs) fit = (tt, replies-held tree origins jobs fit.1)
+replies-held tree (origin ∷ origins) (CancelledJob ∷ jobs) fit = (tt, replies-held tree origins jobs fit.1)
+
+pub all-sound : (tree : Tree) (frames : List (TreeFrame (List ℕ))) → EachFits AreFitting tree frames → AreAllSound tree frames
+all-sound tree [] fit = tt
+all-sound tree (frame ∷ frames) fit = (fits-sound (frame.value) (values_of (children_of tree frame.serial)) (mark_of frame.state) fit.0, all-sound tree frames fit.1)

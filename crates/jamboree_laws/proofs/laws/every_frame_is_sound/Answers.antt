@@ -1,0 +1,7 @@
+use Rattle.sched_laws.specs.Fitted.{TenantFits}
+use Rattle.jamboree_laws.proofs.Replying.{searched, all-sound}
+use Rattle.jamboree_laws.proofs.laws.every_frame_is_sound.Goals as goal
+
+pub returns : goal.returns
+returns c grain totals steps answers number tenant right searches at =
+    all-sound tenant.frames tenant.frames (TenantFits.frames (searched grain totals steps answers number tenant right searches at))

@@ -1,0 +1,68 @@
+-- What lists of searches come to: each job that is done holds the minimax value and the best choice of what was asked.
+use Rattle.std.specs.Prelude.{◌≡◌, ℕ, ◌≤◌, bit_and, List, [], ◌∷◌, map, slice_index}
+use Rattle.frame_table.specs.Frames.{Frame, children_of, values_of}
+use Rattle.othello_board.specs.Words.{cells_of}
+use Rattle.othello_eval.specs.Minimax.{minimax, best_choice}
+use Rattle.sched_rules.specs.declared.job.Job.{Job}
+use Rattle.sched_rules.specs.declared.job.Job.TheVariants.{Live, Done, Spent as SpentJob, Cancelled as CancelledJob}
+use Rattle.sched_rules.specs.declared.step.StepOf.{StepOf}
+use Rattle.sched_rules.specs.declared.step.StepOf.TheVariants.{Admit, Submit, Take, Steal, Advance, Answer, Inlet, Finish, Spend, Cancel, Leave}
+use Rattle.sched_rules.specs.Trees.{Tree}
+use Rattle.jamboree_rules.specs.Frames.{coded}
+use Rattle.jamboree_rules.specs.Places.{root_words, frame_size, frame_of, score_of}
+use Rattle.jamboree_rules.specs.Sound.{IsSound}
+
+-- these are the words of a search: of two words with no shared bit, a board, to a depth of at most 12
+pub record AreRootWords (words : List ℕ) : Type 0 where
+  pub own : ℕ
+  pub opp : ℕ
+  pub depth : ℕ
+  pub are : words ≡ root_words own opp depth
+  pub apart : bit_and own opp ≡ 0
+  pub shallow : depth ≤ 12
+
+-- a step, if it submits a job, asks for a search
+abbrev pub IsSearch : {A : Type 0} → StepOf A → Type 0
+IsSearch (Admit number quota) = Unit {0}
+IsSearch (Submit number words size) = AreRootWords words × (size ≡ frame_size)
+IsSearch (Take worker name) = Unit {0}
+IsSearch (Steal worker from name) = Unit {0}
+IsSearch (Advance worker name) = Unit {0}
+IsSearch (Answer worker name answer) = Unit {0}
+IsSearch (Inlet worker name) = Unit {0}
+IsSearch (Finish worker name) = Unit {0}
+IsSearch (Spend name) = Unit {0}
+IsSearch (Cancel number job) = Unit {0}
+IsSearch (Leave number) = Unit {0}
+
+-- so does each of a list
+abbrev pub AreSearches : {A : Type 0} → List (StepOf A) → Type 0
+AreSearches [] = Unit {0}
+AreSearches (step ∷ steps) = IsSearch step × AreSearches steps
+
+-- words that a job kept answer those that it was submitted with: the same board to the same depth, its minimax value, and the code of its best choice
+pub record IsReplyTo (origin words : List ℕ) : Type 0 where
+  pub own : slice_index words 0 ≡ slice_index origin 0
+  pub opp : slice_index words 1 ≡ slice_index origin 1
+  pub depth : slice_index words 2 ≡ slice_index origin 2
+  pub value : score_of (slice_index words 8) ≡ minimax (slice_index origin 2) (cells_of (slice_index origin 0) (slice_index origin 1))
+  pub choice : slice_index words 9 ≡ coded (best_choice (slice_index origin 2) (cells_of (slice_index origin 0) (slice_index origin 1)))
+
+-- a job, where it is done, holds the reply to what it was submitted with
+abbrev pub HoldsReply : List ℕ → Job → Type 0
+HoldsReply origin (Live root) = Unit {0}
+HoldsReply origin (Done words) = IsReplyTo origin words
+HoldsReply origin SpentJob = Unit {0}
+HoldsReply origin CancelledJob = Unit {0}
+
+-- as many jobs as origins, each that is done with the reply to its own, in order
+abbrev pub AreReplies : List (List ℕ) → List Job → Type 0
+AreReplies [] [] = Unit {0}
+AreReplies [] (job ∷ jobs) = ⊥
+AreReplies (origin ∷ origins) [] = ⊥
+AreReplies (origin ∷ origins) (job ∷ jobs) = HoldsReply origin job × AreReplies origins jobs
+
+-- each of these frames of a tree is sound, among its children
+abbrev pub AreAllSound : Tree → List (Frame (List ℕ)) → Type 0
+AreAllSound tree [] = Unit {0}
+AreAllSound tree (frame ∷ frames) = IsSound (frame_of frame.value) (map frame_of (values_of (children_of tree frame.serial))) × AreAllSound tree frames

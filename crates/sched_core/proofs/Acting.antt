@@ -1,0 +1,143 @@
+-- What a procedure makes of a frame, done.
+use Rattle.std.proofs.Common.{◌≡◌, ◌≢◌, ℕ, ◌+◌, ◌<◌, ◌≤◌, ◌⊎◌, inl, inr, ◌==◌, Bool, true, false, List, [], ◌∷◌, ◌++◌, Option, Some, None, Result, Ok, Err, refl, sym, ◌∙◌, ap, arith}
+use Rattle.std.specs.Prelude.{◌||◌, ◌&&◌, not, length, nat_lt, nat_le, replicate, IsSome}
+use Rattle.std.proofs.lemmas.Bool.Decides.{nat_tests}
+use Rattle.frame_table.specs.declared.names.FrameId.{FrameId}
+use Rattle.frame_table.specs.declared.names.State.{State}
+use Rattle.frame_table.specs.declared.names.State.TheVariants.{Ready, Running, Computing, Waiting, Returned}
+use Rattle.frame_table.specs.Frames.{Frame, frame_at}
+use Rattle.sched_rules.specs.declared.refusal.Refusal.TheVariants.{NoTenant}
+use Rattle.sched_rules.specs.declared.act.Then.{Then}
+use Rattle.sched_rules.specs.declared.act.Then.TheVariants.{Grow, Spawn, Go, Wait, Compute, Return}
+use Rattle.sched_rules.specs.declared.step.StepOf.TheVariants.{Advance, Answer, Inlet}
+use Rattle.sched_rules.specs.declared.step.DidOf.{DidOf}
+use Rattle.sched_rules.specs.declared.step.DidOf.TheVariants.{Went, Grew, Spawned, Waited, Computing as IsComputing, Returned as HasReturned}
+use Rattle.sched_rules.specs.Functions.{Functions}
+use Rattle.sched_rules.specs.Trees.{Tenant, has_child, is_held_by, is_root}
+use Rattle.sched_rules.specs.Lone.{unless, is_computed_by, is_run_by, holding, opened, in_state, answer_tests, answered, advance_tests, advanced, act_of, then_done}
+use Rattle.sched_rules.specs.Changes.{on_tenant}
+use Rattle.sched_rules.specs.Views.{named}
+use Rattle.sched_rules.specs.Cores.{Shared, tenant_in, shared_refusal}
+use Rattle.sched_laws.proofs.Words.{frame_at-with_words}
+use Rattle.sched_store.specs.Reads.{frames_in, path_of, serials_in, words_under, may_hold, holds, is_busy_among}
+use Rattle.sched_core.specs.Judging.{IsCome}
+use Rattle.sched_core.proofs.Going.{IsWith, IsGoing, going, begins, then-changed}
+use Rattle.sched_core.proofs.Ending.{named-words}
+
+-- Answer and Advance
+pub answer-going : {I A : Type 0} (functions : Functions I A) (shared : Shared) (worker : ℕ) (name : FrameId) (answer : A) → None ≡ shared_refusal functions shared (Answer worker name answer) →
+    IsGoing functions shared (Answer worker name answer) name (λ tenant frame. answer_tests functions tenant worker frame answer) (λ tenant frame. answered functions tenant worker frame answer)
+answer-going functions shared worker name answer none =
+    going functions shared (Answer worker name answer) name false (λ tenant frame. answer_tests functions tenant worker frame answer) (λ tenant frame. answered functions tenant worker frame answer) refl refl (λ tenant. refl) none
+
+pub advance-going : {I A : Type 0} (functions : Functions I A) (shared : Shared) (worker : ℕ) (name : FrameId) → None ≡ shared_refusal functions shared (Advance worker name) →
+    IsGoing functions shared (Advance worker name) name (λ tenant frame. advance_tests tenant worker frame (act_of functions tenant frame)) (λ tenant frame. advanced functions tenant worker name frame (act_of functions tenant frame))
+advance-going functions shared worker name none =
+    going functions shared (Advance worker name) name false (λ tenant frame. advance_tests tenant worker frame (act_of functions tenant frame)) (λ tenant frame. advanced functions tenant worker name frame (act_of functions tenant frame))
+    refl refl (λ tenant. refl) none
+
+-- a test that doesn't apply
+pub not-false : (b : Bool) → not b ≡ false → b ≡ true
+not-false true is = refl
+not-false false is = absurd cc
+
+or-true : (b : Bool) → (b || true) ≡ true
+or-true true = refl
+or-true false = refl
+
+-- a worker that computes or runs a frame holds it
+pub computes-holds : (worker : ℕ) (state : State) → is_computed_by worker state ≡ true → is_held_by worker state ≡ true
+computes-holds worker (Ready home) is = absurd cc
+computes-holds worker (Running holder) is = absurd cc
+computes-holds worker (Computing holder) is = is
+computes-holds worker Waiting is = absurd cc
+computes-holds worker Returned is = absurd cc
+
+pub runs-holds : (worker : ℕ) (state : State) → is_run_by worker state ≡ true → is_held_by worker state ≡ true
+runs-holds worker (Ready home) is = absurd cc
+runs-holds worker (Running holder) is = is
+runs-holds worker (Computing holder) is = absurd cc
+runs-holds worker Waiting is = absurd cc
+runs-holds worker Returned is = absurd cc
+
+-- and may go on holding it
+pub may-hold : (shared : Shared) (worker : ℕ) (name : FrameId) (tenant : Tenant) (frame : Frame (List ℕ)) → tenant_in shared.tenants name.tenant ≡ Some tenant → frame_at tenant.frames name.serial ≡ Some frame →
+    is_held_by worker frame.state ≡ true → may_hold shared worker name ≡ true
+may-hold shared worker name tenant frame owner found held = rw (owner, found, held) (or-true (not (is_busy_among worker shared.tenants)))
+
+-- a frame with other words is still there
+pub held-found : (name : FrameId) (words : List ℕ) (tenant : Tenant) (frame : Frame (List ℕ)) → frame_at tenant.frames name.serial ≡ Some frame →
+    frame_at (holding name.serial words tenant).frames name.serial ≡ Some (record frame { value = words })
+held-found name words tenant frame found = frame_at-with_words name.serial words tenant.frames frame found
+
+pub held-at : (serial : ℕ) (words : List ℕ) (tenant : Tenant) (frame : Frame (List ℕ)) → frame_at tenant.frames serial ≡ Some frame →
+    frame_at (holding serial words tenant).frames serial ≡ Some (record frame { value = words })
+held-at serial words tenant frame found = frame_at-with_words serial words tenant.frames frame found
+
+-- what comes after the stores of an act, case by case
+came : {I : Type 0} (number : ℕ) (tenant : Tenant) (before : Shared) (told did : DidOf I) (after : Shared) → IsWith before number tenant after → did ≡ told → IsCome number (Some tenant, told) before did after
+came number tenant before told did after is same = record { told = same; left = is.is }
+
+pub go-came : {I A : Type 0} (functions : Functions I A) (shared : Shared) (worker : ℕ) (name : FrameId) (tenant : Tenant) (frame : Frame (List ℕ)) (act : Then) → act ≡ Go →
+    tenant_in shared.tenants name.tenant ≡ Some tenant → IsCome name.tenant (then_done functions tenant worker name frame.path frame.value act) shared Went shared
+go-came functions shared worker name tenant frame act is owner = rw is (came name.tenant tenant shared Went Went shared (begins shared name.tenant tenant owner) refl)
+
+pub grow-came : {I A : Type 0} (functions : Functions I A) (shared now : Shared) (worker : ℕ) (name : FrameId) (tenant : Tenant) (frame : Frame (List ℕ)) (act : Then) (more : ℕ) → act ≡ Grow more →
+    tenant_in shared.tenants name.tenant ≡ Some tenant → frame_at tenant.frames name.serial ≡ Some frame →
+    now ≡ on_tenant name.tenant (holding name.serial (words_under shared name ++ replicate more 0)) shared →
+    IsCome name.tenant (then_done functions tenant worker name frame.path frame.value act) shared Grew now
+grow-came functions shared now worker name tenant frame act more is owner found grows =
+    let words = named-words shared name tenant frame owner found in
+    let grows' : now ≡ on_tenant name.tenant (holding name.serial (frame.value ++ replicate more 0)) shared = rw words at grows in
+    rw is (came name.tenant (holding name.serial (frame.value ++ replicate more 0) tenant) shared Grew Grew now
+    (then-changed _ _ _ _ now (holding name.serial (frame.value ++ replicate more 0)) (begins shared name.tenant tenant owner) grows') refl)
+
+pub spawn-came : {I A : Type 0} (functions : Functions I A) (shared now : Shared) (worker : ℕ) (name child : FrameId) (tenant : Tenant) (frame : Frame (List ℕ)) (act : Then) (given : List ℕ) (size : ℕ) → act ≡ Spawn given size →
+    tenant_in shared.tenants name.tenant ≡ Some tenant → now ≡ on_tenant name.tenant (opened (Some name.serial) given size worker) shared →
+    child ≡ record { tenant = name.tenant; serial = serials_in shared name.tenant + 1 } →
+    IsCome name.tenant (then_done functions tenant worker name frame.path frame.value act) shared (Spawned child) now
+spawn-came {I = I} functions shared now worker name child tenant frame act given size is owner opens named =
+    let at : child ≡ record { tenant = name.tenant; serial = tenant.serials + 1 } = rw owner at named in
+    let told : ◌≡◌ {A = DidOf I} (Spawned child) (Spawned (record { tenant = name.tenant; serial = tenant.serials + 1 })) = rw at refl in
+    rw is (came name.tenant (opened (Some name.serial) given size worker tenant) shared (Spawned (record name { serial = tenant.serials + 1 })) (Spawned child) now
+    (then-changed _ _ _ _ now (opened (Some name.serial) given size worker) (begins shared name.tenant tenant owner) opens) told)
+
+pub compute-came : {I A : Type 0} (functions : Functions I A) (shared now : Shared) (worker : ℕ) (name : FrameId) (tenant : Tenant) (frame : Frame (List ℕ)) (act : Then) (input : I) → act ≡ Compute →
+    tenant_in shared.tenants name.tenant ≡ Some tenant → frame_at tenant.frames name.serial ≡ Some frame → now ≡ on_tenant name.tenant (in_state name.serial (Computing worker)) shared →
+    input ≡ functions.input (words_under shared name) →
+    IsCome name.tenant (then_done functions tenant worker name frame.path frame.value act) shared (IsComputing input) now
+compute-came {I = I} functions shared now worker name tenant frame act input is owner found changes same =
+    let words = named-words shared name tenant frame owner found in
+    let told : ◌≡◌ {A = DidOf I} (IsComputing input) (IsComputing (functions.input frame.value)) = rw (same, words) refl in
+    rw is (came name.tenant (in_state name.serial (Computing worker) tenant) shared (IsComputing (functions.input frame.value)) (IsComputing input) now
+    (then-changed _ _ _ _ now (in_state name.serial (Computing worker)) (begins shared name.tenant tenant owner) changes) told)
+
+-- Wait and Return, of a frame with a child
+pub waits-came : {I A : Type 0} (functions : Functions I A) (shared now : Shared) (worker : ℕ) (name : FrameId) (tenant : Tenant) (frame : Frame (List ℕ)) (act : Then) → (act ≡ Wait) ⊎ (act ≡ Return) →
+    tenant_in shared.tenants name.tenant ≡ Some tenant → has_child (frames_in shared name.tenant) name.serial ≡ true → now ≡ on_tenant name.tenant (in_state name.serial Waiting) shared →
+    IsCome name.tenant (then_done functions tenant worker name frame.path frame.value act) shared Waited now
+waits-came functions shared now worker name tenant frame act (inl is) owner child changes =
+    let own : has_child tenant.frames name.serial ≡ true = rw owner at child in
+    rw (is, own) (came name.tenant (in_state name.serial Waiting tenant) shared Waited Waited now (then-changed _ _ _ _ now (in_state name.serial Waiting) (begins shared name.tenant tenant owner) changes) refl)
+waits-came functions shared now worker name tenant frame act (inr is) owner child changes =
+    let own : has_child tenant.frames name.serial ≡ true = rw owner at child in
+    rw (is, own) (came name.tenant (in_state name.serial Waiting tenant) shared Waited Waited now (then-changed _ _ _ _ now (in_state name.serial Waiting) (begins shared name.tenant tenant owner) changes) refl)
+
+-- and of one without
+pub wait-came : {I A : Type 0} (functions : Functions I A) (shared : Shared) (worker : ℕ) (name : FrameId) (tenant : Tenant) (frame : Frame (List ℕ)) (act : Then) → act ≡ Wait →
+    tenant_in shared.tenants name.tenant ≡ Some tenant → has_child (frames_in shared name.tenant) name.serial ≡ false →
+    IsCome name.tenant (then_done functions tenant worker name frame.path frame.value act) shared Went shared
+wait-came functions shared worker name tenant frame act is owner leaf =
+    let own : has_child tenant.frames name.serial ≡ false = rw owner at leaf in
+    rw (is, own) (came name.tenant tenant shared Went Went shared (begins shared name.tenant tenant owner) refl)
+
+pub return-came : {I A : Type 0} (functions : Functions I A) (shared now : Shared) (worker : ℕ) (name : FrameId) (tenant : Tenant) (frame : Frame (List ℕ)) (act : Then) (top : Bool) → act ≡ Return →
+    tenant_in shared.tenants name.tenant ≡ Some tenant → frame_at tenant.frames name.serial ≡ Some frame → has_child (frames_in shared name.tenant) name.serial ≡ false →
+    now ≡ on_tenant name.tenant (in_state name.serial Returned) shared → top ≡ is_root (path_of (named shared name)) →
+    IsCome name.tenant (then_done functions tenant worker name frame.path frame.value act) shared (HasReturned top) now
+return-came {I = I} functions shared now worker name tenant frame act top is owner found leaf changes same =
+    let own : has_child tenant.frames name.serial ≡ false = rw owner at leaf in
+    let root : top ≡ is_root frame.path = rw (owner, found) at same in
+    let told : ◌≡◌ {A = DidOf I} (HasReturned top) (HasReturned (is_root frame.path)) = rw root refl in
+    rw (is, own) (came name.tenant (in_state name.serial Returned tenant) shared (HasReturned (is_root frame.path)) (HasReturned top) now
+    (then-changed _ _ _ _ now (in_state name.serial Returned) (begins shared name.tenant tenant owner) changes) told)

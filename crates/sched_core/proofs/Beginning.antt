@@ -1,0 +1,79 @@
+-- A tenant that comes, and a job of it.
+use Rattle.std.proofs.Common.{◌≡◌, ◌≢◌, ℕ, ◌+◌, ◌<◌, ◌≤◌, ◌==◌, Bool, true, false, List, [], ◌∷◌, ◌++◌, Option, Some, None, Result, Ok, Err, refl, sym, ◌∙◌, ap, arith}
+use Rattle.std.specs.Prelude.{◌||◌, ◌^◌, nat_le, nat_lt, length}
+use Rattle.std.proofs.lemmas.Bool.Decides.{nat_tests}
+use Rattle.frame_table.specs.Frames.{Frame, has_frame, path_in}
+use Rattle.frame_table.proofs.TreeLaws.{below-found, found-there}
+use Rattle.tenant_quota.specs.Quota.{Quota}
+use Rattle.sched_rules.specs.declared.job.Job.{Job}
+use Rattle.sched_rules.specs.declared.job.Job.TheVariants.{Live, Done, Spent, Cancelled}
+use Rattle.sched_rules.specs.declared.refusal.Refusal.{Refusal}
+use Rattle.sched_rules.specs.declared.refusal.Refusal.TheVariants.{NoTenant}
+use Rattle.sched_rules.specs.declared.step.StepOf.{StepOf}
+use Rattle.sched_rules.specs.declared.step.StepOf.TheVariants.{Admit, Submit}
+use Rattle.sched_rules.specs.declared.step.DidOf.TheVariants.{Admitted}
+use Rattle.sched_rules.specs.Functions.{Functions}
+use Rattle.sched_rules.specs.Trees.{Tenant, Tree, admitted_with, is_live_at, number_from, job_under}
+use Rattle.sched_rules.specs.Lone.{Outcome, unless, refusal_in, submitted, submit_tests}
+use Rattle.sched_rules.specs.Headline.{IsKnown, AreNumbersTaken}
+use Rattle.sched_rules.specs.Cores.{Shared, tenant_in, with_tenant, judged, shared_refusal, admit_tests, shared_with}
+use Rattle.sched_laws.specs.Shapes.{IsShaped, AreLiveRootsThere, IsRootThere}
+use Rattle.sched_store.specs.Changes.{with_admitted}
+use Rattle.sched_core.specs.Judging.{IsJudged}
+use Rattle.sched_core.proofs.Changing.{with_tenant-new}
+use Rattle.sched_core.proofs.Deciding.{not-elsewhere}
+use Rattle.sched_core.proofs.Ending.{root-found}
+use Rattle.sched_core.proofs.Going.{AllPass, all-pass, judged-taken}
+
+-- Submit
+pub record IsSubmitting {I A : Type 0} (functions : Functions I A) (shared : Shared) (number : ℕ) (words : List ℕ) (size : ℕ) : Type 0 where
+  pub tenant : Tenant
+  pub owner : tenant_in shared.tenants number ≡ Some tenant
+  pub passes : AllPass (submit_tests tenant words size)
+  pub among : judged functions shared (Submit number words size) ≡ Ok (submitted tenant number words size)
+
+pub submit-going : {I A : Type 0} (functions : Functions I A) (shared : Shared) (number : ℕ) (words : List ℕ) (size : ℕ) →
+    None ≡ shared_refusal functions shared (Submit number words size) → IsSubmitting functions shared number words size
+submit-going {I = I} functions shared number words size none = by-owner (tenant_in shared.tenants number) refl
+  where
+    by-owner : (owner : Option Tenant) → tenant_in shared.tenants number ≡ owner → IsSubmitting functions shared number words size
+    by-owner None lost = absurd (let no : None ≡ Some NoTenant = rw lost at none in cc)
+    by-owner (Some tenant) owner =
+        let passed = all-pass {I = I} false (submit_tests tenant words size) (submitted tenant number words size) (sym (rw owner at none)) in
+        record { tenant = tenant; owner = owner; passes = passed.1; among = rw owner passed.0 }
+
+-- under a serial that wasn't given no job lives
+not-live : (jobs : List Job) (frames : Tree) (first root bound : ℕ) → AreLiveRootsThere frames jobs → ((serial : ℕ) → has_frame frames serial ≡ true → serial < root) → number_from first root jobs ≡ 0
+not-live [] frames first root bound live below = refl
+not-live (Live serial ∷ jobs) frames first root bound live below =
+    let found = root-found frames serial live.0 in
+    let low : serial < root = below serial (found-there frames serial found.0 found.1) in
+    let other : (serial == root) ≡ false = grind (arith, nat_tests, low) in
+    rw other (not-live jobs frames (first + 1) root bound live.1 below)
+not-live (Done words ∷ jobs) frames first root bound live below = not-live jobs frames (first + 1) root bound live.1 below
+not-live (Spent ∷ jobs) frames first root bound live below = not-live jobs frames (first + 1) root bound live.1 below
+not-live (Cancelled ∷ jobs) frames first root bound live below = not-live jobs frames (first + 1) root bound live.1 below
+
+pub fresh-root : (tenant : Tenant) → IsShaped tenant → job_under (tenant.serials + 1) tenant.jobs ≡ 0
+fresh-root tenant shape = not-live tenant.jobs tenant.frames 1 (tenant.serials + 1) 0 shape.live (λ serial there. below-found tenant.frames (tenant.serials + 1) serial shape.given there)
+
+-- no tenant is there under a number that wasn't taken
+tenant_in-new : (newest n : ℕ) (es : List (ℕ × Tenant)) → newest < n → AreNumbersTaken newest es → tenant_in es n ≡ None
+tenant_in-new newest n [] lt all = refl
+tenant_in-new newest n (e ∷ es) lt all = grind (arith, nat_tests, tenant_in-new newest n es lt all.1, all.0)
+
+above : (number newest : ℕ) → ((number == 0) || nat_le number newest || nat_lt (2 ^ 62) number) ≡ false → newest < number
+above number newest is_new = grind (arith, nat_tests)
+
+-- Admit, taken
+pub admit-taken : {I A : Type 0} (functions : Functions I A) (shared after : Shared) (number : ℕ) (quota : Quota) → IsKnown shared → None ≡ shared_refusal functions shared (Admit number quota) →
+    after ≡ with_admitted number quota shared → IsJudged functions shared (Admit number quota) (Ok Admitted) after
+admit-taken {I = I} functions shared after number quota known none is =
+    let passed = all-pass {I = I} false (admit_tests shared number quota) (Some (admitted_with quota), Admitted) (not-elsewhere _ ∙ sym none) in
+    let nothing = tenant_in-new shared.newest number shared.tenants (above number shared.newest passed.1.0) known in
+    let among : judged functions shared (Admit number quota) ≡ Ok (Some (admitted_with quota), Admitted) = unless-only (admit_tests shared number quota) passed.1 in
+    judged-taken functions shared (Admit number quota) (Some (admitted_with quota), Admitted) (Ok Admitted) after among refl (rw (with_tenant-new number (admitted_with quota) shared.tenants nothing) is)
+  where
+    unless-only : {X : Type 0} {effect : X} (tests : List _) → AllPass tests → unless tests effect ≡ Ok effect
+    unless-only [] passes = refl
+    unless-only (test ∷ tests) passes = rw passes.0 (unless-only tests passes.1)

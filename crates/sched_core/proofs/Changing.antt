@@ -1,0 +1,46 @@
+-- One tenant changed, once and again, and looked up.
+use Rattle.std.proofs.Common.{◌≡◌, ◌≢◌, ℕ, ◌<◌, ◌≤◌, ◌==◌, Bool, true, false, List, [], ◌∷◌, ◌++◌, Option, Some, None, refl, arith, ◌∙◌, ap}
+use Rattle.std.specs.Prelude.{◌||◌, ◌&&◌, not, option_map, if◌then◌else◌}
+use Rattle.std.proofs.lemmas.Bool.Decides.{nat_tests}
+use Rattle.sched_rules.specs.Trees.{Tenant, is_busy_in}
+use Rattle.sched_rules.specs.Cores.{Shared, tenant_in, with_tenant, is_busy_elsewhere}
+use Rattle.sched_rules.specs.Changes.{with_change, on_tenant}
+
+abbrev Entries : Type 0
+Entries = List (ℕ × Tenant)
+
+-- a tenant that is there, changed
+pub with_change-there : (n : ℕ) (f : Tenant → Tenant) (es : Entries) (t : Tenant) → tenant_in es n ≡ Some t → with_change n f es ≡ with_tenant n (f t) es
+with_change-there n f [] t is = absurd cc
+with_change-there n f (e ∷ es) t is =
+    elim (e.0 == n) as (λ b. (e.0 == n) ≡ b → with_change n f (e ∷ es) ≡ with_tenant n (f t) (e ∷ es)) [
+      | true ↦ λ same. grind (arith, nat_tests, is)
+      | false ↦ λ other. grind (arith, nat_tests, with_change-there n f es t (rw other at is))
+    ] refl
+
+-- and looked up
+pub tenant_in-with_change : (n : ℕ) (f : Tenant → Tenant) (es : Entries) → tenant_in (with_change n f es) n ≡ option_map f (tenant_in es n)
+tenant_in-with_change n f [] = refl
+tenant_in-with_change n f (e ∷ es) =
+    elim (e.0 == n) as (λ b. (e.0 == n) ≡ b → tenant_in (with_change n f (e ∷ es)) n ≡ option_map f (tenant_in (e ∷ es) n)) [
+      | true ↦ λ same. rw same (rw same refl)
+      | false ↦ λ other. rw other (rw other (tenant_in-with_change n f es))
+    ] refl
+
+-- changed twice
+pub with_change-twice : (n : ℕ) (f g : Tenant → Tenant) (es : Entries) → with_change n f (with_change n g es) ≡ with_change n (λ t. f (g t)) es
+with_change-twice n f g [] = refl
+with_change-twice n f g (e ∷ es) =
+    elim (e.0 == n) as (λ b. (e.0 == n) ≡ b → with_change n f (with_change n g (e ∷ es)) ≡ with_change n (λ t. f (g t)) (e ∷ es)) [
+      | true ↦ λ same. rw same (rw same refl)
+      | false ↦ λ other. rw other (rw other (ap (λ rest. e ∷ rest) (with_change-twice n f g es)))
+    ] refl
+
+-- a new tenant is the last
+pub with_tenant-new : (n : ℕ) (t : Tenant) (es : Entries) → tenant_in es n ≡ None → with_tenant n t es ≡ es ++ (n, t) ∷ []
+with_tenant-new n t [] none = refl
+with_tenant-new n t (e ∷ es) none =
+    elim (e.0 == n) as (λ b. (e.0 == n) ≡ b → with_tenant n t (e ∷ es) ≡ (e ∷ es) ++ (n, t) ∷ []) [
+      | true ↦ λ same. absurd (grind (arith, nat_tests, none))
+      | false ↦ λ other. rw other (ap (λ rest. e ∷ rest) (with_tenant-new n t es (rw other at none)))
+    ] refl

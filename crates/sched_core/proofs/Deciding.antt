@@ -1,0 +1,259 @@
+-- The tests of a step, read off its definition.
+use Rattle.std.proofs.Common.{◌≡◌, ◌≢◌, ℕ, ◌+◌, ◌<◌, ◌≤◌, ◌==◌, Bool, true, false, List, [], ◌∷◌, ◌++◌, Option, Some, None, Result, Ok, Err, refl, sym, ◌∙◌, ap, arith}
+use Rattle.std.specs.Prelude.{◌||◌, ◌&&◌, not, option_map, if◌then◌else◌, is_err}
+use Rattle.std.proofs.lemmas.Bool.Decides.{nat_tests}
+use Rattle.std.proofs.Math.Bool.{false-or, or-false}
+use Rattle.frame_table.specs.declared.names.FrameId.{FrameId}
+use Rattle.frame_table.specs.declared.names.State.TheVariants.{Running}
+use Rattle.frame_table.specs.Frames.{Frame, frame_at, has_frame, is_ready}
+use Rattle.sched_rules.specs.declared.refusal.Refusal.{Refusal}
+use Rattle.sched_rules.specs.declared.refusal.Refusal.TheVariants.{NoTenant, NoFrame, NotReady, NotHere, NotRunning, NotComputing, NotReturned, Mismatch, NoSteps, BadAct, Busy}
+use Rattle.sched_rules.specs.declared.act.Act.{Act}
+use Rattle.sched_rules.specs.declared.step.StepOf.{StepOf}
+use Rattle.sched_rules.specs.declared.step.StepOf.TheVariants.{Take, Steal, Advance, Answer, Inlet, Finish, Spend}
+use Rattle.sched_rules.specs.Functions.{Functions}
+use Rattle.sched_rules.specs.Trees.{Tenant, left, is_busy_in, is_outside, is_root, has_child}
+use Rattle.sched_rules.specs.Lone.{Outcome, unless, lone, refusal_in, is_ready_at, is_run_by, is_computed_by, is_returned, taken_by, finished, no_step, act_of, act_tests, advanced, answer_tests, answered, applies, is_spendable}
+use Rattle.sched_rules.specs.Views.{named}
+use Rattle.sched_rules.specs.Cores.{Shared, tenant_in, is_busy_elsewhere, unless_busy, shared_refusal}
+use Rattle.sched_core.specs.declared.engine.Seen.{Seen}
+use Rattle.sched_store.specs.Reads.{is_busy_among, AreAfter, AreRising, frames_in, path_of, sight_of, words_under}
+use Rattle.sched_core.specs.Seeing.{IsSeen, missing_in, missing}
+
+-- no frame of a tenant that is there has a serial that isn't found
+unfound : (tenant : Tenant) (serial : ℕ) (found : Option (Frame (List ℕ))) → frame_at tenant.frames serial ≡ found → has_frame tenant.frames serial ≡ false → found ≡ None
+unfound tenant serial None is lacks = refl
+unfound tenant serial (Some frame) is lacks = absurd (there tenant.frames is lacks)
+  where
+    there : (frames : List (Frame (List ℕ))) → frame_at frames serial ≡ Some frame → has_frame frames serial ≡ false → ⊥
+    there [] is lacks = cc
+    there (other ∷ frames) is lacks =
+        elim (other.serial == serial) as (λ b. (other.serial == serial) ≡ b → ⊥) [
+          | true ↦ λ same. (let no : true ≡ false = rw same at lacks in cc)
+          | false ↦ λ different. there frames (rw different at is) (rw different at lacks)
+        ] refl
+
+-- a step that names a frame which isn't there is refused, by its tenant's want or its own
+lost-in : {I : Type 0} (busy : Bool) (owner : Option Tenant) (serial : ℕ) (alone : Option Tenant → Result (Outcome I) Refusal) (refusal : Refusal) →
+    alone None ≡ Err NoTenant → ((tenant : Tenant) → frame_at tenant.frames serial ≡ None → alone (Some tenant) ≡ Err NoFrame) →
+    missing_in owner serial ≡ Some refusal → refusal_in (unless_busy busy (alone owner)) ≡ Some refusal
+lost-in busy None serial alone refusal nobody nothing is = rw nobody is
+lost-in busy (Some tenant) serial alone refusal nobody nothing is =
+    elim (has_frame tenant.frames serial) as (λ b. has_frame tenant.frames serial ≡ b → refusal_in (unless_busy busy (alone (Some tenant))) ≡ Some refusal) [
+      | true ↦ λ there. absurd (let no : None ≡ Some refusal = rw there at is in cc)
+      | false ↦ λ lacks. rw (nothing tenant (unfound tenant serial (frame_at tenant.frames serial) refl lacks)) (rw lacks at is)
+    ] refl
+
+pub lost-take : {I A : Type 0} (functions : Functions I A) (shared : Shared) (worker : ℕ) (name : FrameId) (refusal : Refusal) →
+    missing shared name ≡ Some refusal → shared_refusal functions shared (Take worker name) ≡ Some refusal
+lost-take functions shared worker name refusal is =
+    lost-in _ (tenant_in shared.tenants name.tenant) name.serial (λ owner. lone functions owner (Take worker name)) refusal refl (λ tenant none. rw none refl) is
+
+pub lost-steal : {I A : Type 0} (functions : Functions I A) (shared : Shared) (worker from : ℕ) (name : FrameId) (refusal : Refusal) →
+    missing shared name ≡ Some refusal → shared_refusal functions shared (Steal worker from name) ≡ Some refusal
+lost-steal functions shared worker from name refusal is =
+    lost-in _ (tenant_in shared.tenants name.tenant) name.serial (λ owner. lone functions owner (Steal worker from name)) refusal refl (λ tenant none. rw none refl) is
+
+pub lost-finish : {I A : Type 0} (functions : Functions I A) (shared : Shared) (worker : ℕ) (name : FrameId) (refusal : Refusal) →
+    missing shared name ≡ Some refusal → shared_refusal functions shared (Finish worker name) ≡ Some refusal
+lost-finish functions shared worker name refusal is =
+    lost-in _ (tenant_in shared.tenants name.tenant) name.serial (λ owner. lone functions owner (Finish worker name)) refusal refl (λ tenant none. rw none refl) is
+
+pub lost-advance : {I A : Type 0} (functions : Functions I A) (shared : Shared) (worker : ℕ) (name : FrameId) (refusal : Refusal) →
+    missing shared name ≡ Some refusal → shared_refusal functions shared (Advance worker name) ≡ Some refusal
+lost-advance functions shared worker name refusal is =
+    lost-in false (tenant_in shared.tenants name.tenant) name.serial (λ owner. lone functions owner (Advance worker name)) refusal refl (λ tenant none. rw none refl) is
+
+pub lost-answer : {I A : Type 0} (functions : Functions I A) (shared : Shared) (worker : ℕ) (name : FrameId) (answer : A) (refusal : Refusal) →
+    missing shared name ≡ Some refusal → shared_refusal functions shared (Answer worker name answer) ≡ Some refusal
+lost-answer functions shared worker name answer refusal is =
+    lost-in false (tenant_in shared.tenants name.tenant) name.serial (λ owner. lone functions owner (Answer worker name answer)) refusal refl (λ tenant none. rw none refl) is
+
+pub lost-inlet : {I A : Type 0} (functions : Functions I A) (shared : Shared) (worker : ℕ) (name : FrameId) (refusal : Refusal) →
+    missing shared name ≡ Some refusal → shared_refusal functions shared (Inlet worker name) ≡ Some refusal
+lost-inlet functions shared worker name refusal is =
+    lost-in _ (tenant_in shared.tenants name.tenant) name.serial (λ owner. lone functions owner (Inlet worker name)) refusal refl (λ tenant none. rw none refl) is
+
+pub lost-spend : {I A : Type 0} (functions : Functions I A) (shared : Shared) (name : FrameId) (refusal : Refusal) →
+    missing shared name ≡ Some refusal → shared_refusal functions shared (Spend name) ≡ Some refusal
+lost-spend functions shared name refusal is =
+    lost-in false (tenant_in shared.tenants name.tenant) name.serial (λ owner. lone functions owner (Spend name)) refusal refl (λ tenant none. rw none refl) is
+
+-- the last test is that the worker is busy with a frame of this tenant, and then it may be busy elsewhere
+busy-last : {I : Type 0} (tests : List (Bool × Refusal)) (here elsewhere : Bool) (effect : Outcome I) →
+    refusal_in (unless_busy elsewhere (unless (tests ++ (here, Busy) ∷ []) effect)) ≡ refusal_in (unless (tests ++ (here || elsewhere, Busy) ∷ []) (tt {0}))
+busy-last [] true elsewhere effect = refl
+busy-last [] false true effect = refl
+busy-last [] false false effect = refl
+busy-last ((true, refusal) ∷ tests) here elsewhere effect = refl
+busy-last ((false, refusal) ∷ tests) here elsewhere effect = busy-last tests here elsewhere effect
+
+-- a worker that is busy with some tenant's frame is busy with this one's or elsewhere
+busy-later : (worker number : ℕ) (entries : List (ℕ × Tenant)) → AreAfter number entries → is_busy_elsewhere worker number entries ≡ is_busy_among worker entries
+busy-later worker number [] after = refl
+busy-later worker number (entry ∷ entries) after =
+    let other : (entry.0 == number) ≡ false = grind (arith, nat_tests, after.0) in
+    rw (other, busy-later worker number entries after.1) refl
+
+or-swap : (own first elsewhere : Bool) → (own || (first || elsewhere)) ≡ (first || (own || elsewhere))
+or-swap true true elsewhere = refl
+or-swap true false elsewhere = refl
+or-swap false true elsewhere = refl
+or-swap false false elsewhere = refl
+
+pub some-is : {X : Type 0} (x y : X) → Some x ≡ Some y → x ≡ y
+some-is x y e = cc
+
+pub busy-among : (worker number : ℕ) (entries : List (ℕ × Tenant)) (tenant : Tenant) → AreRising entries → tenant_in entries number ≡ Some tenant →
+    (is_busy_in worker tenant.frames || is_busy_elsewhere worker number entries) ≡ is_busy_among worker entries
+busy-among worker number [] tenant rising is = absurd cc
+busy-among worker number (entry ∷ entries) tenant rising is =
+    elim (entry.0 == number) as (λ b. (entry.0 == number) ≡ b → (is_busy_in worker tenant.frames || is_busy_elsewhere worker number (entry ∷ entries)) ≡ is_busy_among worker (entry ∷ entries)) [
+      | true ↦ λ same.
+          let own : entry.1 ≡ tenant = some-is entry.1 tenant (rw same at is) in
+          let at : entry.0 ≡ number = grind (arith, nat_tests, same) in
+          let later : is_busy_elsewhere worker number entries ≡ is_busy_among worker entries = rw (← at) (busy-later worker entry.0 entries rising.0) in
+          rw (same, later, own) refl
+      | false ↦ λ other.
+          let rest = busy-among worker number entries tenant rising.1 (rw other at is) in
+          rw other (or-swap (is_busy_in worker tenant.frames) (is_busy_in worker entry.1.frames) (is_busy_elsewhere worker number entries) ∙ ap (λ b. is_busy_in worker entry.1.frames || b) rest)
+    ] refl
+
+-- the tests with the worker's business anywhere as the last one
+pub busy-anywhere : {I : Type 0} (tests : List (Bool × Refusal)) (shared : Shared) (worker number : ℕ) (tenant : Tenant) (effect : Outcome I) →
+    AreRising shared.tenants → tenant_in shared.tenants number ≡ Some tenant →
+    refusal_in (unless (tests ++ (is_busy_among worker shared.tenants, Busy) ∷ []) (tt {0}))
+    ≡ refusal_in (unless_busy (is_busy_elsewhere worker number shared.tenants) (unless (tests ++ (is_busy_in worker tenant.frames, Busy) ∷ []) effect))
+busy-anywhere tests shared worker number tenant effect rising is =
+    rw (busy-last tests (is_busy_in worker tenant.frames) (is_busy_elsewhere worker number shared.tenants) effect)
+    (rw (busy-among worker number shared.tenants tenant rising is) refl)
+
+-- the refusal of tests is that of their effect's want
+pub no-effect : {X : Type 0} (tests : List (Bool × Refusal)) (effect : X) → refusal_in (unless tests (tt {0})) ≡ refusal_in (unless tests effect)
+no-effect [] effect = refl
+no-effect ((true, refusal) ∷ tests) effect = refl
+no-effect ((false, refusal) ∷ tests) effect = no-effect tests effect
+
+-- and where no other tenant matters
+pub not-elsewhere : {I : Type 0} (answer : Result (Outcome I) Refusal) → refusal_in (unless_busy false answer) ≡ refusal_in answer
+not-elsewhere (Ok outcome) = refl
+not-elsewhere (Err refusal) = refl
+
+-- tests that are made in two parts
+pub first-part : (tests others : List (Bool × Refusal)) (refusal : Refusal) → unless tests (tt {0}) ≡ Err refusal → refusal_in (unless (tests ++ others) (tt {0})) ≡ Some refusal
+first-part [] others refusal is = absurd cc
+first-part ((true, told) ∷ tests) others refusal is = let same : ◌≡◌ {A = Result (Unit {0}) Refusal} (Err told) (Err refusal) = is in cc
+first-part ((false, told) ∷ tests) others refusal is = first-part tests others refusal is
+
+pub second-part : (tests others : List (Bool × Refusal)) → unless tests (tt {0}) ≡ Ok (tt {0}) → unless (tests ++ others) (tt {0}) ≡ unless others (tt {0})
+second-part [] others is = refl
+second-part ((true, told) ∷ tests) others is = absurd cc
+second-part ((false, told) ∷ tests) others is = second-part tests others is
+
+-- Take, where the tenant and the frame are there
+pub take-decided : {I A : Type 0} (functions : Functions I A) (shared : Shared) (worker : ℕ) (name : FrameId) (tenant : Tenant) (frame : Frame (List ℕ)) (seen : Seen) →
+    IsSeen shared name tenant frame seen → AreRising shared.tenants →
+    refusal_in (unless ((not (is_ready seen.state), NotReady) ∷ (not (is_ready_at worker seen.state), NotHere) ∷ (seen.left.steps == 0, NoSteps) ∷ (is_busy_among worker shared.tenants, Busy) ∷ []) (tt {0}))
+    ≡ shared_refusal functions shared (Take worker name)
+take-decided {I = I} functions shared worker name tenant frame seen is rising =
+    rw (is.state, is.left, is.owner, is.found)
+    (busy-anywhere {I = I} ((not (is_ready frame.state), NotReady) ∷ (not (is_ready_at worker frame.state), NotHere) ∷ ((left tenant).steps == 0, NoSteps) ∷ []) shared worker name.tenant tenant (taken_by tenant worker frame) rising is.owner)
+
+-- Steal
+pub steal-decided : {I A : Type 0} (functions : Functions I A) (shared : Shared) (worker from : ℕ) (name : FrameId) (tenant : Tenant) (frame : Frame (List ℕ)) (seen : Seen) →
+    IsSeen shared name tenant frame seen → AreRising shared.tenants →
+    refusal_in (unless ((not (is_ready seen.state), NotReady) ∷ (not (is_ready_at from seen.state) || (from == worker), NotHere) ∷ (seen.left.steps == 0, NoSteps) ∷ (is_busy_among worker shared.tenants, Busy) ∷ []) (tt {0}))
+    ≡ shared_refusal functions shared (Steal worker from name)
+steal-decided {I = I} functions shared worker from name tenant frame seen is rising =
+    rw (is.state, is.left, is.owner, is.found)
+    (busy-anywhere {I = I} ((not (is_ready frame.state), NotReady) ∷ (not (is_ready_at from frame.state) || (from == worker), NotHere) ∷ ((left tenant).steps == 0, NoSteps) ∷ []) shared worker name.tenant tenant (taken_by tenant worker frame) rising is.owner)
+
+-- Finish
+pub finish-decided : {I A : Type 0} (functions : Functions I A) (shared : Shared) (worker : ℕ) (name : FrameId) (tenant : Tenant) (frame : Frame (List ℕ)) (seen : Seen) →
+    IsSeen shared name tenant frame seen → AreRising shared.tenants →
+    refusal_in (unless ((not (is_returned seen.state) || not (is_root (path_of (named shared name))), NotReturned) ∷ (seen.left.steps == 0, NoSteps) ∷ (is_busy_among worker shared.tenants, Busy) ∷ []) (tt {0}))
+    ≡ shared_refusal functions shared (Finish worker name)
+finish-decided {I = I} functions shared worker name tenant frame seen is rising =
+    rw (is.state, is.left, is.owner, is.found)
+    (busy-anywhere {I = I} ((not (is_returned frame.state) || not (is_root frame.path), NotReturned) ∷ ((left tenant).steps == 0, NoSteps) ∷ []) shared worker name.tenant tenant (finished tenant frame) rising is.owner)
+
+-- Advance
+pub advance-decided : {I A : Type 0} (functions : Functions I A) (shared : Shared) (worker : ℕ) (name : FrameId) (tenant : Tenant) (frame : Frame (List ℕ)) (seen : Seen) (act : Act) →
+    IsSeen shared name tenant frame seen → act ≡ functions.next (sight_of shared name) →
+    refusal_in (unless ((not (is_run_by worker seen.state), NotRunning) ∷ (seen.left.steps == 0, NoSteps) ∷ act_tests tenant frame act) (tt {0}))
+    ≡ shared_refusal functions shared (Advance worker name)
+advance-decided functions shared worker name tenant frame seen act is same =
+    rw (same, is.state, is.left, is.owner, is.found)
+    (no-effect ((not (is_run_by worker frame.state), NotRunning) ∷ no_step tenant ∷ act_tests tenant frame (act_of functions tenant frame)) (advanced functions tenant worker name frame (act_of functions tenant frame))
+    ∙ sym (not-elsewhere _))
+
+-- Answer
+pub answer-decided : {I A : Type 0} (functions : Functions I A) (shared : Shared) (worker : ℕ) (name : FrameId) (answer : A) (tenant : Tenant) (frame : Frame (List ℕ)) (seen : Seen) →
+    IsSeen shared name tenant frame seen →
+    refusal_in (unless ((not (is_computed_by worker seen.state), NotComputing) ∷ (not (functions.same (functions.asked answer) (functions.input (words_under shared name))), Mismatch)
+    ∷ (seen.left.steps == 0, NoSteps) ∷ (is_outside (functions.accept (words_under shared name) answer) (words_under shared name), BadAct) ∷ []) (tt {0}))
+    ≡ shared_refusal functions shared (Answer worker name answer)
+answer-decided functions shared worker name answer tenant frame seen is =
+    rw (is.state, is.left, is.owner, is.found)
+    (no-effect (answer_tests functions tenant worker frame answer) (answered functions tenant worker frame answer) ∙ sym (not-elsewhere _))
+
+-- a refusal that is passed on
+pub passed-on : {X : Type 0} (answer : Result X Refusal) (told refusal : Refusal) (right : Option Refusal) → answer ≡ Err told → told ≡ refusal → right ≡ Some refusal → refusal_in answer ≡ right
+passed-on answer told refusal right is same e = rw (is, same, e) refl
+
+-- what is seen of a frame
+pub seen-serial : (frames : List (Frame (List ℕ))) (serial : ℕ) (frame : Frame (List ℕ)) → frame_at frames serial ≡ Some frame → frame.serial ≡ serial
+seen-serial [] serial frame is = absurd cc
+seen-serial (other ∷ frames) serial frame is =
+    elim (other.serial == serial) as (λ b. (other.serial == serial) ≡ b → frame.serial ≡ serial) [
+      | true ↦ λ same. (let own : other ≡ frame = some-is other frame (rw same at is) in rw (← own) (grind (arith, nat_tests, same)))
+      | false ↦ λ different. seen-serial frames serial frame (rw different at is)
+    ] refl
+
+pub seen-words : (shared : Shared) (name : FrameId) (tenant : Tenant) (frame : Frame (List ℕ)) (seen : Seen) → IsSeen shared name tenant frame seen → frame.value ≡ words_under shared name
+seen-words shared name tenant frame seen is = rw (is.owner, is.found) refl
+
+pub seen-child : (shared : Shared) (name : FrameId) (tenant : Tenant) (frame : Frame (List ℕ)) (seen : Seen) → IsSeen shared name tenant frame seen →
+    has_child tenant.frames frame.serial ≡ has_child (frames_in shared name.tenant) name.serial
+seen-child shared name tenant frame seen is = rw (seen-serial tenant.frames name.serial frame is.found, is.owner) refl
+
+-- Advance, where the worker runs the frame and a step is left, by the tests of the act
+pub advance-goes : {I A : Type 0} (functions : Functions I A) (shared : Shared) (worker : ℕ) (name : FrameId) (tenant : Tenant) (frame : Frame (List ℕ)) (seen : Seen) (act : Act) (runs : Bool) (answer : Result (Unit {0}) Refusal) →
+    IsSeen shared name tenant frame seen → act ≡ functions.next (sight_of shared name) → runs ≡ is_run_by worker seen.state →
+    Ok (tt {0}) ≡ unless ((not runs, NotRunning) ∷ (seen.left.steps == 0, NoSteps) ∷ []) (tt {0}) →
+    answer ≡ unless (act_tests tenant frame act) (tt {0}) →
+    refusal_in answer ≡ shared_refusal functions shared (Advance worker name)
+advance-goes functions shared worker name tenant frame seen act runs answer is same run passes told =
+    let passes' : unless ((not (is_run_by worker seen.state), NotRunning) ∷ (seen.left.steps == 0, NoSteps) ∷ []) (tt {0}) ≡ Ok (tt {0}) = rw (← run) (sym passes) in
+    ap refusal_in (told ∙ sym (second-part ((not (is_run_by worker seen.state), NotRunning) ∷ (seen.left.steps == 0, NoSteps) ∷ []) (act_tests tenant frame act) passes'))
+    ∙ advance-decided functions shared worker name tenant frame seen act is same
+
+-- Answer, by its tests
+pub answer-told : {I A : Type 0} (functions : Functions I A) (shared : Shared) (worker : ℕ) (name : FrameId) (answer : A) (tenant : Tenant) (frame : Frame (List ℕ)) (seen : Seen)
+    (computes other outside : Bool) (refusal : Refusal) →
+    IsSeen shared name tenant frame seen → computes ≡ is_computed_by worker seen.state →
+    other ≡ not (functions.same (functions.asked answer) (functions.input (words_under shared name))) →
+    outside ≡ is_outside (functions.accept (words_under shared name) answer) (words_under shared name) →
+    Err refusal ≡ unless ((not computes, NotComputing) ∷ (other, Mismatch) ∷ (seen.left.steps == 0, NoSteps) ∷ (outside, BadAct) ∷ []) (tt {0}) →
+    shared_refusal functions shared (Answer worker name answer) ≡ Some refusal
+answer-told functions shared worker name answer tenant frame seen computes other outside refusal is c o u told =
+    sym (answer-decided functions shared worker name answer tenant frame seen is) ∙ rw (← c, ← o, ← u) (sym (ap refusal_in told))
+
+-- a test that applies is a refusal
+applies-is : (tests : List (Bool × Refusal)) → is_err (unless tests (tt {0})) ≡ applies tests
+applies-is [] = refl
+applies-is ((true, refusal) ∷ tests) = refl
+applies-is ((false, refusal) ∷ tests) = applies-is tests
+
+-- the job of a frame that runs may be given up where its next act can't be done
+pub spend-running : {I A : Type 0} (functions : Functions I A) (shared : Shared) (name : FrameId) (tenant : Tenant) (frame : Frame (List ℕ)) (seen : Seen) (act : Act) (holder : ℕ) (answer : Result (Unit {0}) Refusal) →
+    IsSeen shared name tenant frame seen → seen.state ≡ Running holder → seen.left.steps ≢ 0 → act ≡ functions.next (sight_of shared name) →
+    answer ≡ unless (act_tests tenant frame act) (tt {0}) → is_err answer ≡ is_spendable functions tenant frame
+spend-running functions shared name tenant frame seen act holder answer is runs some same told =
+    let steps : ((left tenant).steps == 0) ≡ false = rw is.left at (none-left seen.left.steps some) in
+    let state : frame.state ≡ Running holder = sym is.state ∙ runs in
+    let next : act ≡ act_of functions tenant frame = rw (is.owner, is.found) at same in
+    rw (steps, state, told, next) (applies-is (act_tests tenant frame (act_of functions tenant frame)) ∙ sym (or-false _))
+  where
+    none-left : (n : ℕ) → n ≢ 0 → (n == 0) ≡ false
+    none-left n some = grind (arith, nat_tests)

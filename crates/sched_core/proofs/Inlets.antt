@@ -1,0 +1,162 @@
+-- A returned frame is taken in by its parent.
+use Rattle.std.proofs.Common.{◌≡◌, ◌≢◌, ℕ, ◌+◌, ◌<◌, ◌≤◌, ◌==◌, eqb, Bool, true, false, List, [], ◌∷◌, ◌++◌, Option, Some, None, Result, Ok, Err, refl, sym, ◌∙◌, ap, arith}
+use Rattle.std.specs.Prelude.{◌||◌, ◌&&◌, not, length, IsSome}
+use Rattle.std.proofs.lemmas.Bool.Decides.{nat_tests}
+use Rattle.std.proofs.lemmas.Bool.{eq-eqb}
+use Rattle.frame_table.specs.declared.names.FrameId.{FrameId}
+use Rattle.frame_table.specs.declared.names.State.{State}
+use Rattle.frame_table.specs.declared.names.State.TheVariants.{Ready, Running, Computing, Waiting, Returned}
+use Rattle.frame_table.specs.Frames.{Frame, frame_at, name_of, parent_of, goes_under, aborted, frames_without, children_of, IsTree}
+use Rattle.frame_table.specs.TreeLaws.{is_child_of, Each}
+use Rattle.frame_table.proofs.TreeLaws.{tree-rising, found-each, found-serial, there-found, under-there, under-below}
+use Rattle.frame_table.proofs.TreeChanges.{child-under-parent, aborted-itself, frame_at_other-without}
+use Rattle.sched_rules.specs.declared.refusal.Refusal.{Refusal}
+use Rattle.sched_rules.specs.declared.refusal.Refusal.TheVariants.{NoTenant, NoFrame, NotReturned}
+use Rattle.sched_rules.specs.declared.act.InletAct.{InletAct}
+use Rattle.sched_rules.specs.declared.step.StepOf.TheVariants.{Inlet}
+use Rattle.sched_rules.specs.declared.step.DidOf.TheVariants.{TakenIn}
+use Rattle.sched_rules.specs.Functions.{Functions}
+use Rattle.sched_rules.specs.Trees.{Tenant, words_in, words_of, has_child, stored}
+use Rattle.sched_rules.specs.Lone.{Outcome, unless, lone, refusal_in, inlet_tests, inlet_under, taken_in, staying, aborted_beside, does_wait, is_returned, holding, counted, in_state}
+use Rattle.sched_rules.specs.Changes.{without_frame, without_under}
+use Rattle.sched_rules.specs.Views.{named}
+use Rattle.sched_rules.specs.Cores.{Shared, tenant_in, is_busy_elsewhere, unless_busy, judged, shared_refusal}
+use Rattle.sched_laws.specs.Shapes.{IsShaped}
+use Rattle.sched_laws.proofs.Consequences.{returned-leaf}
+use Rattle.sched_store.specs.Reads.{words_under}
+use Rattle.sched_core.specs.Seeing.{MayBeTakenIn}
+use Rattle.sched_core.specs.Judging.{staying_with}
+use Rattle.sched_core.proofs.Going.{AllPass, all-pass, IsWith}
+
+-- what an inlet that is taken comes to
+pub record IsInlet {I A : Type 0} (functions : Functions I A) (shared : Shared) (worker : ℕ) (name : FrameId) : Type 0 where
+  pub tenant : Tenant
+  pub frame : Frame (List ℕ)
+  pub parent : ℕ
+  pub owner : tenant_in shared.tenants name.tenant ≡ Some tenant
+  pub found : frame_at tenant.frames name.serial ≡ Some frame
+  pub path : parent_of frame.path ≡ Some parent
+  pub passes : AllPass (inlet_tests tenant worker frame parent (functions.inlet (words_in tenant.frames parent) frame.value))
+  pub among : judged functions shared (Inlet worker name) ≡ Ok (taken_in tenant worker name parent (functions.inlet (words_in tenant.frames parent) frame.value))
+
+pub inlet-going : {I A : Type 0} (functions : Functions I A) (shared : Shared) (worker : ℕ) (name : FrameId) → None ≡ shared_refusal functions shared (Inlet worker name) → IsInlet functions shared worker name
+inlet-going {I = I} {A = A} functions shared worker name none = by-owner (tenant_in shared.tenants name.tenant) refl
+  where
+    refused : (refusal : Refusal) (alone : Result (Outcome I) Refusal) → alone ≡ Err refusal → None ≡ refusal_in (unless_busy (is_busy_elsewhere worker name.tenant shared.tenants) alone) → ⊥
+    refused refusal alone is right = let wrong : None ≡ Some refusal = rw is at right in cc
+
+    by-parent : (tenant : Tenant) (frame : Frame (List ℕ)) → tenant_in shared.tenants name.tenant ≡ Some tenant → frame_at tenant.frames name.serial ≡ Some frame → (parent : Option ℕ) → parent_of frame.path ≡ parent → IsInlet functions shared worker name
+    by-parent tenant frame owner found None path =
+        absurd (refused NotReturned (lone functions (tenant_in shared.tenants name.tenant) (Inlet worker name)) (rw (owner, found, path) refl) none)
+    by-parent tenant frame owner found (Some parent) path =
+        let act = functions.inlet (words_in tenant.frames parent) frame.value in
+        let effect : Outcome I = taken_in tenant worker name parent act in
+        let is : lone functions (tenant_in shared.tenants name.tenant) (Inlet worker name) ≡ unless (inlet_tests tenant worker frame parent act) effect = rw (owner, found, path) refl in
+        let passed = all-pass {I = I} (is_busy_elsewhere worker name.tenant shared.tenants) (inlet_tests tenant worker frame parent act) effect (sym (rw is at none)) in
+        record { tenant = tenant; frame = frame; parent = parent; owner = owner; found = found; path = path; passes = passed.1; among = rw is passed.0 }
+
+    by-frame : (tenant : Tenant) → tenant_in shared.tenants name.tenant ≡ Some tenant → (found : Option (Frame (List ℕ))) → frame_at tenant.frames name.serial ≡ found → IsInlet functions shared worker name
+    by-frame tenant owner None lost = absurd (refused NoFrame (lone functions (tenant_in shared.tenants name.tenant) (Inlet worker name)) (rw (owner, lost) refl) none)
+    by-frame tenant owner (Some frame) found = by-parent tenant frame owner found (parent_of frame.path) refl
+
+    by-owner : (owner : Option Tenant) → tenant_in shared.tenants name.tenant ≡ owner → IsInlet functions shared worker name
+    by-owner None lost = absurd (refused NoTenant (lone functions (tenant_in shared.tenants name.tenant) (Inlet worker name)) (rw lost refl) none)
+    by-owner (Some tenant) owner = by-frame tenant owner (frame_at tenant.frames name.serial) refl
+
+-- the parent that is named
+pub parent-is : (number parent : ℕ) (above : FrameId) → name_of number (Some parent) ≡ Some above → above ≡ record { tenant = number; serial = parent }
+parent-is number parent above is = cc
+
+has-returned : (state : State) → is_returned state ≡ true → state ≡ Returned
+has-returned (Ready home) is = absurd cc
+has-returned (Running worker) is = absurd cc
+has-returned (Computing worker) is = absurd cc
+has-returned Waiting is = absurd cc
+has-returned Returned is = refl
+
+not-false : (b : Bool) → not b ≡ false → b ≡ true
+not-false true is = refl
+not-false false is = absurd cc
+
+-- it may be taken in
+pub may-be-taken-in : {I A : Type 0} (functions : Functions I A) (shared : Shared) (worker : ℕ) (name above : FrameId) (t : IsInlet functions shared worker name) → IsShaped t.tenant → above ≡ record { tenant = name.tenant; serial = t.parent } →
+    MayBeTakenIn shared name above t.tenant t.frame
+may-be-taken-in functions shared worker name above t shape is =
+    let returned = has-returned t.frame.state (not-false (is_returned t.frame.state) t.passes.0) in
+    let serial : above.serial ≡ t.parent = ap (λ n. n.serial) is in
+    record {
+      owner = t.owner;
+      found = t.found;
+      tree = shape.tree;
+      under = rw serial t.path;
+      same = ap (λ n. n.tenant) is;
+      leaf = returned-leaf t.tenant name.serial t.frame shape t.found returned;
+    }
+
+-- the parent stays
+other : (p c : ℕ) → p < c → c ≢ p
+other p c low is = omega (arith, low, is)
+
+pub parent-found : (frames : List (Frame (List ℕ))) (child parent : ℕ) (frame : Frame (List ℕ)) → IsTree frames → frame_at frames child ≡ Some frame → parent_of frame.path ≡ Some parent →
+    (above : Frame (List ℕ)) × (frame_at frames parent ≡ Some above)
+parent-found frames child parent frame tree found path = there-found frames parent (under-there frames child parent frame tree found path)
+
+pub stays-beside : (frames : List (Frame (List ℕ))) (child parent : ℕ) (frame above : Frame (List ℕ)) → IsTree frames → frame_at frames child ≡ Some frame → parent_of frame.path ≡ Some parent → frame_at frames parent ≡ Some above →
+    frame_at (frames_without child frames) parent ≡ Some above
+stays-beside frames child parent frame above tree found path at =
+    frame_at_other-without child frames parent (other parent child (under-below frames child parent frame tree found path)) ∙ at
+
+pub parent-stays : (frames : List (Frame (List ℕ))) (child parent : ℕ) (abort : Bool) (frame above : Frame (List ℕ)) → IsTree frames → frame_at frames child ≡ Some frame → parent_of frame.path ≡ Some parent → frame_at frames parent ≡ Some above →
+    frame_at (staying frames child parent abort) parent ≡ Some above
+parent-stays frames child parent true frame above tree found path at = aborted-itself parent frames above tree at
+parent-stays frames child parent false frame above tree found path at = stays-beside frames child parent frame above tree found path at
+
+-- an abort removes the child too
+abbrev IsBelow : ℕ → ℕ → Frame (List ℕ) → Type 0
+IsBelow parent child frame = (frame.serial == child) ≡ true → goes_under parent frame.path ≡ true
+
+dropped : (parent child : ℕ) (frames : List (Frame (List ℕ))) → Each (IsBelow parent child) frames → aborted parent (frames_without child frames) ≡ aborted parent frames
+dropped parent child [] each = refl
+dropped parent child (frame ∷ frames) each =
+    let rest = dropped parent child frames each.1 in
+    elim (frame.serial == child) as (λ b. (frame.serial == child) ≡ b → aborted parent (frames_without child (frame ∷ frames)) ≡ aborted parent (frame ∷ frames)) [
+      | true ↦ λ same. (let below = each.0 same in rw (same, below) rest)
+      | false ↦ λ differs. elim (goes_under parent frame.path) as (λ b. goes_under parent frame.path ≡ b → aborted parent (frames_without child (frame ∷ frames)) ≡ aborted parent (frame ∷ frames)) [
+        | true ↦ λ below. rw (differs, below) rest
+        | false ↦ λ beside. rw (differs, beside) (ap (λ fs. frame ∷ fs) rest)
+      ] refl
+    ] refl
+
+some-same : (x y : Frame (List ℕ)) → Some x ≡ Some y → x ≡ y
+some-same x y e = cc
+
+pub same-tenant : (x y : Tenant) → Some x ≡ Some y → x ≡ y
+same-tenant x y e = cc
+
+pub aborts-child : (frames : List (Frame (List ℕ))) (child parent : ℕ) (frame : Frame (List ℕ)) → IsTree frames → frame_at frames child ≡ Some frame → parent_of frame.path ≡ Some parent →
+    aborted parent (frames_without child frames) ≡ aborted parent frames
+aborts-child frames child parent frame tree found path =
+    dropped parent child frames (found-each (IsBelow parent child) frames (tree-rising frames tree) (λ serial x at same.
+    let own = found-serial frames serial x at in
+    let is : serial ≡ child = grind (arith, nat_tests, own, same) in
+    let at_child : frame_at frames child ≡ Some x = rw (← is) at in
+    let one : x ≡ frame = some-same x frame (sym at_child ∙ found) in
+    let child_path : is_child_of parent x.path ≡ true = rw (one, path) (eq-eqb parent parent refl) in
+    child-under-parent frames parent child x tree at_child child_path))
+
+-- what comes of an inlet, by whether the parent is woken
+pub taken-asleep : {I : Type 0} (tenant : Tenant) (worker : ℕ) (name : FrameId) (parent : ℕ) (act : InletAct) →
+    (does_wait (frame_at (staying tenant.frames name.serial parent act.abort) parent) && (act.abort || act.wake || not (has_child (staying tenant.frames name.serial parent act.abort) parent))) ≡ false →
+    ◌≡◌ {A = Outcome I} (taken_in tenant worker name parent act) (
+      Some (counted (holding parent (stored act.stores (words_in (staying tenant.frames name.serial parent act.abort) parent)) (staying_with name.serial parent act.abort tenant))),
+      TakenIn None (aborted_beside tenant.frames name.serial parent act.abort),
+    )
+taken-asleep tenant worker name parent act asleep = rw asleep refl
+
+pub taken-awake : {I : Type 0} (tenant : Tenant) (worker : ℕ) (name : FrameId) (parent : ℕ) (act : InletAct) →
+    (does_wait (frame_at (staying tenant.frames name.serial parent act.abort) parent) && (act.abort || act.wake || not (has_child (staying tenant.frames name.serial parent act.abort) parent))) ≡ true →
+    ◌≡◌ {A = Outcome I} (taken_in tenant worker name parent act) (
+      Some (in_state parent (Ready worker) (counted (holding parent (stored act.stores (words_in (staying tenant.frames name.serial parent act.abort) parent)) (staying_with name.serial parent act.abort tenant)))),
+      TakenIn (Some (record name { serial = parent })) (aborted_beside tenant.frames name.serial parent act.abort),
+    )
+taken-awake tenant worker name parent act awake = rw awake refl

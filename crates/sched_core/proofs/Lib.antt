@@ -1,0 +1,11 @@
+pub mod Changing
+pub mod Looking
+pub mod Deciding
+pub mod Parents
+pub mod Going
+pub mod Ending
+pub mod Beginning
+pub mod Acting
+pub mod Advancing
+pub mod Inlets
+pub mod Stepping

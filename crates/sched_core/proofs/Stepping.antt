@@ -1,0 +1,129 @@
+-- What one step does, from how it is judged; and a list of steps.
+use Rattle.std.proofs.Common.{◌≡◌, ◌≢◌, ℕ, ◌⊎◌, inl, inr, Bool, true, false, List, [], ◌∷◌, ◌++◌, Option, Some, None, Result, Ok, Err, refl, sym, ◌∙◌, ap, append_assoc, append-nil, length, take, ◌≤◌, arith}
+use Rattle.std.proofs.lemmas.Grind.{common_steps}
+use Rattle.sched_rules.specs.declared.refusal.Refusal.{Refusal}
+use Rattle.sched_rules.specs.declared.refusal.Refusal.TheVariants.{Busy, OutOfMemory}
+use Rattle.sched_rules.specs.declared.step.StepOf.{StepOf}
+use Rattle.sched_rules.specs.declared.step.StepOf.TheVariants.{Admit}
+use Rattle.sched_rules.specs.declared.step.DidOf.{DidOf}
+use Rattle.tenant_quota.specs.Quota.{Quota}
+use Rattle.sched_rules.specs.Functions.{Functions}
+use Rattle.sched_rules.specs.Lone.{Outcome}
+use Rattle.sched_rules.specs.Runs.{answer_of}
+use Rattle.sched_rules.specs.Cores.{Shared, judged, shared_after, shared_refusal}
+use Rattle.sched_rules.specs.Headline.{IsAnswerTo, IsAnswerToAdmit, IsOneStep, after_answer, after_answers, AreAnswersTo, IsHeadline, IsKnown, is_admission}
+use Rattle.sched_rules.proofs.Isolation.{right-answer, step-taken, shared-after-taken, headline}
+use Rattle.sched_rules.specs.Laws.{Fitting, Rooting}
+use Rattle.sched_rules.specs.Runs.{only}
+use Rattle.sched_rules.specs.Headline.{taken}
+use Rattle.std.specs.Prelude.{is_ok}
+use Rattle.sched_laws.specs.Fitted.{CoreFits, RootFits, RootsFit, origins_of, origins_after}
+use Rattle.sched_laws.proofs.Levels.{IsLawful}
+use Rattle.sched_laws.proofs.FitAnswers.{answer-keeps, run-fits}
+use Rattle.sched_laws.proofs.Answers.{shaped-answer}
+use Rattle.sched_core.specs.Keeping.{IsKept}
+use Rattle.sched_core.specs.Judging.{IsJudged, IsAdmitted}
+
+-- the core after a step that was judged
+after-judged : {I A : Type 0} (functions : Functions I A) (before : Shared) (step : StepOf A) (judgement : Result (Outcome I) Refusal) (answer : Result (DidOf I) Refusal) →
+    judged functions before step ≡ judgement → answer ≡ answer_of judgement → shared_after before step judgement ≡ after_answer functions before step answer
+after-judged functions before step (Ok outcome) answer at is = rw (is, at) refl
+after-judged functions before step (Err refusal) answer at is = rw is refl
+
+pub one-step : {I A : Type 0} (functions : Functions I A) (before : Shared) (step : StepOf A) (answer : Result (DidOf I) Refusal) (after : Shared) →
+    IsJudged functions before step answer after → IsOneStep functions before step answer after
+one-step functions before step answer after is =
+    record {
+      answered = rw is.told (right-answer functions before step);
+      left = is.left ∙ after-judged functions before step (judged functions before step) answer refl is.told;
+    }
+
+-- an admission for which memory is wanting
+wanting : {I A : Type 0} (functions : Functions I A) (before : Shared) (number : ℕ) (quota : Quota) → shared_refusal functions before (Admit number quota) ≡ None →
+    IsAnswerTo functions before (Admit number quota) (Err OutOfMemory)
+wanting functions before number quota none =
+    (λ is. record { refused = λ refusal some. absurd (let wrong : Some refusal ≡ None = sym some ∙ none in cc); else_taken = λ same. inr refl }, λ is_not. absurd cc)
+
+pub one-admission : {I A : Type 0} (functions : Functions I A) (before : Shared) (number : ℕ) (quota : Quota) (answer : Result (DidOf I) Refusal) (after : Shared) →
+    IsAdmitted functions before (Admit number quota) answer after → IsOneStep functions before (Admit number quota) answer after
+one-admission functions before number quota answer after (inl is) = one-step functions before (Admit number quota) answer after is
+one-admission functions before number quota answer after (inr is) =
+    let out = is.1 in let stays = is.2 in
+    record { answered = rw out (wanting functions before number quota is.0); left = rw out stays }
+
+-- what follows from one step
+pub refused-stays : {I A : Type 0} (functions : Functions I A) (before : Shared) (step : StepOf A) (refusal : Refusal) (after : Shared) → IsOneStep functions before step (Err refusal) after → after ≡ before
+refused-stays functions before step refusal after is = is.left
+
+-- no tenant is there under a number that wasn't taken
+pub known-still : {I A : Type 0} (functions : Functions I A) (before : Shared) (step : StepOf A) (answer : Result (DidOf I) Refusal) (after : Shared) → IsKnown before → IsOneStep functions before step answer after → IsKnown after
+known-still functions before step (Ok did) after known is =
+    let t = step-taken functions before step did known is.answered in rw (is.left, shared-after-taken functions before step did t) t.known
+known-still functions before step (Err refusal) after known is = rw is.left known
+
+-- a core keeps what it keeps
+pub kept-still : {I A : Type 0} (functions : Functions I A) (before : Shared) (step : StepOf A) (answer : Result (DidOf I) Refusal) (after : Shared) → IsKept before → IsOneStep functions before step answer after → IsKept after
+kept-still functions before step answer after kept is =
+    record { shaped = rw is.left (shaped-answer functions before step answer kept.shaped); known = known-still functions before step answer after kept.known is }
+
+-- a list of steps, of which some were answered
+pub record IsRunning {I A : Type 0} (functions : Functions I A) (before : Shared) (steps : List (StepOf A)) (earlier items : List (Result (DidOf I) Refusal)) (now : Shared) : Type 0 where
+  pub answered : List (Result (DidOf I) Refusal)
+  pub appended : items ≡ earlier ++ answered
+  pub right : AreAnswersTo functions before steps answered
+  pub left : now ≡ after_answers functions before steps answered
+
+answers-snoc : {I A : Type 0} (functions : Functions I A) (before : Shared) (steps : List (StepOf A)) (answers : List (Result (DidOf I) Refusal)) (step : StepOf A) (answer : Result (DidOf I) Refusal) →
+    AreAnswersTo functions before steps answers → IsAnswerTo functions (after_answers functions before steps answers) step answer → AreAnswersTo functions before (steps ++ step ∷ []) (answers ++ answer ∷ [])
+answers-snoc functions before [] [] step answer right is = (is, tt)
+answers-snoc functions before [] (other ∷ answers) step answer right is = absurd right
+answers-snoc functions before (first ∷ steps) [] step answer right is = absurd right
+answers-snoc functions before (first ∷ steps) (other ∷ answers) step answer right is =
+    (right.0, answers-snoc functions (after_answer functions before first other) steps answers step answer right.1 is)
+
+after-snoc : {I A : Type 0} (functions : Functions I A) (before : Shared) (steps : List (StepOf A)) (answers : List (Result (DidOf I) Refusal)) (step : StepOf A) (answer : Result (DidOf I) Refusal) →
+    AreAnswersTo functions before steps answers → after_answers functions before (steps ++ step ∷ []) (answers ++ answer ∷ []) ≡ after_answer functions (after_answers functions before steps answers) step answer
+after-snoc functions before [] [] step answer right = refl
+after-snoc functions before [] (other ∷ answers) step answer right = absurd right
+after-snoc functions before (first ∷ steps) [] step answer right = absurd right
+after-snoc functions before (first ∷ steps) (other ∷ answers) step answer right = after-snoc functions (after_answer functions before first other) steps answers step answer right.1
+
+pub runs-begin : {I A : Type 0} (functions : Functions I A) (before : Shared) (items : List (Result (DidOf I) Refusal)) → IsRunning functions before [] items items before
+runs-begin functions before items = record { answered = []; appended = sym (append-nil items); right = tt; left = refl }
+
+pub runs-on : {I A : Type 0} (functions : Functions I A) (before : Shared) (steps : List (StepOf A)) (earlier items : List (Result (DidOf I) Refusal)) (now : Shared) (step : StepOf A) (answer : Result (DidOf I) Refusal) (after : Shared) →
+    IsRunning functions before steps earlier items now → IsOneStep functions now step answer after → IsRunning functions before (steps ++ step ∷ []) earlier (items ++ answer ∷ []) after
+runs-on functions before steps earlier items now step answer after runs is =
+    record {
+      answered = runs.answered ++ answer ∷ [];
+      appended = rw runs.appended (append_assoc earlier runs.answered (answer ∷ []));
+      right = answers-snoc functions before steps runs.answered step answer runs.right (rw runs.left at is.answered);
+      left = is.left ∙ rw (runs.left, after-snoc functions before steps runs.answered step answer runs.right) refl;
+    }
+
+-- at its end the headline holds
+pub runs-out : {I A : Type 0} (functions : Functions I A) (before : Shared) (steps : List (StepOf A)) (earlier items : List (Result (DidOf I) Refusal)) (now : Shared) → IsKnown before →
+    IsRunning functions before steps earlier items now → (answered : List (Result (DidOf I) Refusal)) × (items ≡ earlier ++ answered) × IsHeadline functions before steps answered now
+runs-out functions before steps earlier items now known runs = (runs.answered, runs.appended, rw runs.left (headline functions before steps runs.answered known runs.right))
+
+pub take-all : {X : Type 0} (xs : List X) (n : ℕ) → length xs ≤ n → take n xs ≡ xs
+take-all xs n le = grind (arith, common_steps)
+
+-- a lawful procedure's frames go on fitting
+pub fits-still : {I A : Type 0} (functions : Functions I A) (fits : Fitting) (rooted : Rooting) (before : Shared) (step : StepOf A) (answer : Result (DidOf I) Refusal) (after : Shared) → IsLawful functions fits rooted → IsKept before →
+    IsOneStep functions before step answer after → (origins : ℕ → List (List ℕ)) → CoreFits fits rooted origins before → (is_ok answer ≡ true → RootFits fits rooted step) → CoreFits fits rooted (origins_after origins step answer) after
+fits-still functions fits rooted before step answer after lawful kept is origins core root =
+    rw is.left (answer-keeps functions fits rooted origins before step answer lawful kept.known kept.shaped core root is.answered).1
+
+-- so over a list of steps
+pub fits-on : {I A : Type 0} (functions : Functions I A) (fits : Fitting) (rooted : Rooting) (before : Shared) (steps : List (StepOf A)) (earlier items : List (Result (DidOf I) Refusal)) (now : Shared) → IsLawful functions fits rooted → IsKept before →
+    IsRunning functions before steps earlier items now → (answered : List (Result (DidOf I) Refusal)) → items ≡ earlier ++ answered → (origins : ℕ → List (List ℕ)) → CoreFits fits rooted origins before →
+    RootsFit fits rooted (taken steps answered) → CoreFits fits rooted (λ number. origins number ++ origins_of (only number (taken steps answered))) now
+fits-on functions fits rooted before steps earlier items now lawful kept runs answered appended origins core roots =
+    let same : answered ≡ runs.answered = append-left earlier answered runs.answered (sym appended ∙ runs.appended) in
+    let fit = run-fits functions fits rooted origins before steps runs.answered lawful kept.known kept.shaped core runs.right (rw same at roots) in
+    rw (runs.left, same) fit
+  where
+    append-left : {X : Type 0} (xs ys zs : List X) → xs ++ ys ≡ xs ++ zs → ys ≡ zs
+    append-left [] ys zs e = e
+    append-left (x ∷ xs) ys zs e = append-left xs ys zs (cc)

@@ -1,0 +1,6 @@
+use Rattle.std.proofs.Common.{◌≡◌, drop}
+use Rattle.sched_rules.specs.Lone.{unless}
+use Rattle.sched_core.proofs.decide.first_of.Given as goal
+
+abbrev pub invariant-loop-test : goal.invariant-loop-test
+invariant-loop-test l = unless l.tests (tt {0}) ≡ unless (drop l.test-index l.tests) (tt {0})

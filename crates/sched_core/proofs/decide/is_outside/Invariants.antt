@@ -1,0 +1,6 @@
+use Rattle.std.proofs.Common.{◌≡◌, drop}
+use Rattle.sched_rules.specs.Trees.{is_outside as is_outside_of}
+use Rattle.sched_core.proofs.decide.is_outside.Given as goal
+
+abbrev pub invariant-loop-store : goal.invariant-loop-store
+invariant-loop-store l = is_outside_of l.stores l.words ≡ is_outside_of (drop l.store-index l.stores) l.words

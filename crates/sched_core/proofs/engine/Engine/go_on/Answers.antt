@@ -1,0 +1,42 @@
+use Rattle.std.proofs.Common.{◌≡◌, inl, inr, refl, sym, ◌∙◌}
+use Rattle.frame_table.proofs.TreeLaws.{found-there}
+use Rattle.sched_core.proofs.Acting.{go-came, grow-came, spawn-came, compute-came, waits-came, wait-came, return-came}
+use Rattle.sched_core.proofs.engine.Engine.go_on.Goals as goal
+
+pub open-requires-clause-parent : goal.open-requires-clause-parent
+open-requires-clause-parent g c =
+    let s = c.requires in
+    rw s.2.owner (found-there s.0.frames c.args.name.serial s.1 s.2.found)
+
+pub returns-in-Go-clause-came : goal.returns-in-Go-clause-came
+returns-in-Go-clause-came g c tenant frame on = go-came (g.P.Procedure.functions c.args.self.now.procedure) c.args.self.now.store c.args.worker c.args.name tenant frame c.args.after.now c.in-Go.is on.owner
+
+pub returns-in-Grow-clause-came : goal.returns-in-Grow-clause-came
+returns-in-Grow-clause-came g c tenant frame on =
+    grow-came (g.P.Procedure.functions c.args.self.now.procedure) c.args.self.now.store c.grow.new.self c.args.worker c.args.name tenant frame c.args.after.now _ c.in-Grow.is on.owner on.found c.grow.ensures
+
+pub returns-in-Spawn-clause-came : goal.returns-in-Spawn-clause-came
+returns-in-Spawn-clause-came g c tenant frame on =
+    spawn-came (g.P.Procedure.functions c.args.self.now.procedure) c.args.self.now.store c.open.new.self c.args.worker c.args.name c.open.result tenant frame c.args.after.now _ _ c.in-Spawn.is on.owner
+    (rw (c.as_slice.ensures.words, c.number.ensures.value) at c.open.ensures.opened) c.open.ensures.name
+
+pub returns-in-Compute-clause-came : goal.returns-in-Compute-clause-came
+returns-in-Compute-clause-came g c tenant frame on =
+    compute-came (g.P.Procedure.functions c.args.self.now.procedure) c.args.self.now.store c.compute.new.self c.args.worker c.args.name tenant frame c.args.after.now c.input-input.result c.in-Compute.is on.owner on.found c.compute.ensures
+    (rw (← c.own.ensures) c.input-input.ensures)
+
+pub returns-then-not-has_child-clause-came : goal.returns-then-not-has_child-clause-came
+returns-then-not-has_child-clause-came g c tenant frame on =
+    wait-came (g.P.Procedure.functions c.args.self.now.procedure) c.args.self.now.store c.args.worker c.args.name tenant frame c.args.after.now c.in-Wait.is on.owner (sym c.if-not-has_child.ensures)
+
+pub returns-else-not-has_child-clause-came : goal.returns-else-not-has_child-clause-came
+returns-else-not-has_child-clause-came g c tenant frame on =
+    waits-came (g.P.Procedure.functions c.args.self.now.procedure) c.args.self.now.store c.set_state.new.self c.args.worker c.args.name tenant frame c.args.after.now (inl c.in-Wait.is) on.owner (sym c.if-not-has_child.ensures) c.set_state.ensures
+
+pub returns-then-has_child-clause-came : goal.returns-then-has_child-clause-came
+returns-then-has_child-clause-came g c tenant frame on =
+    waits-came (g.P.Procedure.functions c.args.self.now.procedure) c.args.self.now.store c.set_state-then-has_child.new.self c.args.worker c.args.name tenant frame c.args.after.now (inr c.in-Return.is) on.owner (sym c.if-has_child.ensures) c.set_state-then-has_child.ensures
+
+pub returns-else-has_child-clause-came : goal.returns-else-has_child-clause-came
+returns-else-has_child-clause-came g c tenant frame on =
+    return-came (g.P.Procedure.functions c.args.self.now.procedure) c.args.self.now.store c.set_state-in-Return.new.self c.args.worker c.args.name tenant frame c.args.after.now c.is_root-is_root.result c.in-Return.is on.owner on.found (sym c.if-has_child.ensures) c.set_state-in-Return.ensures c.is_root-is_root.ensures

@@ -1,0 +1,18 @@
+use Rattle.std.proofs.Common.{sym, ◌∙◌, ap}
+use Rattle.std.proofs.lemmas.Result.{err_from_is_err_and}
+use Rattle.sched_core.proofs.Deciding.{passed-on, lost-finish, finish-decided}
+use Rattle.sched_core.proofs.engine.Engine.may_finish.Goals as goal
+
+pub returns-in_err-seen : goal.returns-in_err-seen
+returns-in_err-seen g c =
+    let p = err_from_is_err_and c.from_residual.result c.from_residual.ensures.1 in
+    record { refusal = passed-on _ _ _ _ p.1 p.2 (lost-finish (g.P.Procedure.functions c.args.self.now.procedure) c.args.self.now.store c.args.worker c.args.name _ c.in_err-seen.ensures) }
+
+pub returns : goal.returns
+returns g c =
+    let s = c.in_ok-seen.ensures in
+    record {
+      refusal =
+          rw (c.first_of.ensures, c.is_unfinished.ensures, c.is_root.ensures, c.is_busy.ensures.busy)
+          (finish-decided (g.P.Procedure.functions c.args.self.now.procedure) c.args.self.now.store c.args.worker c.args.name s.0 s.1 c.in_ok-seen.seen s.2 c.is_busy.ensures.rising);
+    }

@@ -1,0 +1,15 @@
+use Rattle.std.proofs.Common.{sym, ◌∙◌, ap}
+use Rattle.std.proofs.lemmas.Result.{err_from_is_err_and}
+use Rattle.sched_core.proofs.Deciding.{passed-on, lost-steal, steal-decided}
+use Rattle.sched_core.proofs.engine.Engine.may_steal.Goals as goal
+
+pub returns-in_err-seen-clause-refusal : goal.returns-in_err-seen-clause-refusal
+returns-in_err-seen-clause-refusal g c =
+    let p = err_from_is_err_and c.from_residual.result c.from_residual.ensures.1 in
+    passed-on _ _ _ _ p.1 p.2 (lost-steal (g.P.Procedure.functions c.args.self.now.procedure) c.args.self.now.store c.args.worker c.args.from c.args.name _ c.in_err-seen.ensures)
+
+pub returns-clause-refusal : goal.returns-clause-refusal
+returns-clause-refusal g c =
+    let s = c.in_ok-seen.ensures in
+    rw (c.first_of.ensures, c.is_ready.ensures, c.is_out_of_reach.ensures, c.number.ensures.value, c.is_busy.ensures.busy)
+    (steal-decided (g.P.Procedure.functions c.args.self.now.procedure) c.args.self.now.store c.args.worker c.args.from c.args.name s.0 s.1 c.in_ok-seen.seen s.2 c.is_busy.ensures.rising)

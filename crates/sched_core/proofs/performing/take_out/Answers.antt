@@ -1,0 +1,38 @@
+use Rattle.std.proofs.Common.{◌≡◌, true, refl, sym, ◌∙◌}
+use Rattle.sched_rules.specs.Changes.{on_tenant, without_frame, without_under}
+use Rattle.sched_core.specs.Judging.{staying_with}
+use Rattle.sched_core.proofs.Going.{begins, then-changed}
+use Rattle.sched_core.proofs.Ending.{as-change}
+use Rattle.sched_core.proofs.Inlets.{parent-found, stays-beside, aborts-child, same-tenant}
+use Rattle.sched_core.proofs.performing.take_out.Goals as goal
+
+pub abort-requires : goal.abort-requires
+abort-requires c =
+    let s = c.requires in
+    let m = s.2 in
+    let above = parent-found s.0.frames c.args.child.serial c.args.parent.serial s.1 m.tree m.found m.under in
+    let w = begins c.args.store.now c.args.child.tenant s.0 m.owner in
+    let w1 = then-changed _ _ _ _ c.remove.new.self (without_frame c.args.child.serial) w c.remove.ensures in
+    let stays = stays-beside s.0.frames c.args.child.serial c.args.parent.serial s.1 above.0 m.tree m.found m.under above.1 in
+    let same = m.same in let there = w1.there in rw (same, there, stays) refl
+
+pub returns-then-abort-clause-left : goal.returns-then-abort-clause-left
+returns-then-abort-clause-left c =
+    let s = c.requires in
+    let m = s.2 in
+    let w = begins c.args.store.now c.args.child.tenant s.0 m.owner in
+    let w1 = then-changed _ _ _ _ c.remove.new.self (without_frame c.args.child.serial) w c.remove.ensures in
+    let aborts : c.abort.new.self ≡ on_tenant c.args.child.tenant (without_under c.args.parent.serial) c.remove.new.self = rw m.same at c.abort.ensures.aborted in
+    let w2 = then-changed _ _ _ _ c.abort.new.self (without_under c.args.parent.serial) w1 aborts in
+    let all = aborts-child s.0.frames c.args.child.serial c.args.parent.serial s.1 m.tree m.found m.under in
+    let same : without_under c.args.parent.serial (without_frame c.args.child.serial s.0) ≡ staying_with c.args.child.serial c.args.parent.serial true s.0 = rw all refl in
+    rw c.if-abort.true (as-change c.args.store.now c.abort.new.self c.args.child.tenant s.0 (staying_with c.args.child.serial c.args.parent.serial true) m.owner (rw same at w2))
+
+pub returns-then-abort-clause-count : goal.returns-then-abort-clause-count
+returns-then-abort-clause-count c tenant owner =
+    let s = c.requires in
+    let m = s.2 in
+    let w = begins c.args.store.now c.args.child.tenant s.0 m.owner in
+    let w1 = then-changed _ _ _ _ c.remove.new.self (without_frame c.args.child.serial) w c.remove.ensures in
+    let own : s.0 ≡ tenant = same-tenant s.0 tenant (sym m.owner ∙ owner) in
+    rw (c.if-abort.true, ← own) (c.abort.ensures.count ∙ rw (m.same, w1.there) refl)

@@ -1,0 +1,41 @@
+use Rattle.std.proofs.Common.{◌≡◌, ◌∙◌, ◌+◌, ◌<◌, ◌≤◌, ◌++◌, [], ◌∷◌, length, take, refl, sym, ap, rules, arith}
+use Rattle.std.proofs.lemmas.List.{take_more}
+use Rattle.std.proofs.lemmas.Grind.{common_steps}
+use Rattle.sched_core.proofs.Stepping.{IsRunning, runs-begin, runs-on, runs-out, fits-on, take-all}
+use Rattle.sched_core.proofs.scheduler.Core.run.Goals as goal
+
+pub loop-step-init : goal.loop-step-init
+loop-step-init g c = let r = c.in_ok-reserve.ensures in record { procedure = refl; room = omega (arith, r.ok); runs = runs-begin _ _ _ }
+
+pub push_reserved-requires : goal.push_reserved-requires
+push_reserved-requires g c = let h = c.loop-step.invariant.room in let k = c.loop-step-test.true in omega (arith, h, k)
+
+pub loop-step-preserved : goal.loop-step-preserved
+loop-step-preserved g c =
+    let i = c.loop-step.invariant in
+    let one = c.step-answer.ensures.one in
+    let more = take_more c.args.steps.now c.loop-step.step-index c.step-item.result c.loop-step-test.true in
+    let p = c.push_reserved.ensures in
+    record {
+      procedure = c.step-answer.ensures.procedure ∙ i.procedure;
+      room = omega (arith, p.len, p.capacity, i.room);
+      runs = rw (more, ← c.step-item.is, p.items) (runs-on _ _ _ _ _ _ c.step-item.result c.step-answer.result _ i.runs (rw i.procedure at one));
+    }
+
+pub returns-clause-headline : goal.returns-clause-headline
+returns-clause-headline g c =
+    let i = c.loop-step.invariant in
+    let all : take c.loop-step.step-index c.args.steps.now ≡ c.args.steps.now = take-all c.args.steps.now c.loop-step.step-index c.loop-step-test.false in
+    let runs = rw (all, c.in_ok-reserve.ensures.items) at i.runs in
+    runs-out (g.P.Procedure.functions c.args.self.now.procedure) c.args.self.now.shared c.args.steps.now c.args.answers.now.items c.loop-step.answers.items c.loop-step.self.shared
+    (rw (← c.self.view_is) c.self.invariant.known) runs
+
+pub returns-clause-fitting : goal.returns-clause-fitting
+returns-clause-fitting g c =
+    let i = c.loop-step.invariant in
+    let all : take c.loop-step.step-index c.args.steps.now ≡ c.args.steps.now = take-all c.args.steps.now c.loop-step.step-index c.loop-step-test.false in
+    let runs = rw (all, c.in_ok-reserve.ensures.items) at i.runs in
+    let procedure = c.args.self.now.procedure in
+    fits-on (g.P.Procedure.functions procedure) (g.P.Procedure.fits procedure) (g.P.Procedure.rooted procedure) c.args.self.now.shared c.args.steps.now c.args.answers.now.items c.loop-step.answers.items c.loop-step.self.shared
+    (record { next = g.met.P.Procedure.next_keeps procedure; inlet = g.met.P.Procedure.inlet_keeps procedure; accept = g.met.P.Procedure.accept_keeps procedure })
+    (rw (← c.self.view_is) c.self.invariant) runs

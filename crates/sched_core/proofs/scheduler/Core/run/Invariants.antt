@@ -1,0 +1,12 @@
+use Rattle.std.proofs.Common.{◌≡◌, ◌+◌, ◌≤◌, length, take, vec_len}
+use Rattle.std.specs.Vec.{vec_capacity}
+use Rattle.sched_rules.specs.Headline.{IsKnown}
+use Rattle.sched_core.proofs.Stepping.{IsRunning}
+use Rattle.sched_core.proofs.scheduler.Core.run.Given as goal
+
+abbrev pub invariant-loop-step : goal.invariant-loop-step
+invariant-loop-step g l = record {
+  procedure : l.self.procedure ≡ l.initial.self.procedure;
+  room : vec_len l.answers + length l.steps ≤ vec_capacity l.answers + l.step-index;
+  runs : IsRunning (g.P.Procedure.functions l.initial.self.procedure) l.initial.self.shared (take l.step-index l.steps) l.initial.answers.items l.answers.items l.self.shared;
+}

@@ -1,0 +1,3 @@
+pub mod Seeing
+pub mod Judging
+pub mod Keeping

@@ -1,0 +1,47 @@
+-- What a step reads of the frame that it names.
+use Rattle.std.specs.Prelude.{◌≡◌, ℕ, true, false, ◌&&◌, ◌==◌, nat_lt, List, [], length, Option, Some, None, if◌then◌else◌}
+use Rattle.frame_table.specs.declared.names.FrameId.{FrameId}
+use Rattle.frame_table.specs.Frames.{Frame, frame_at, has_frame, name_of, parent_of, children_of, IsTree}
+use Rattle.sched_rules.specs.declared.refusal.Refusal.{Refusal}
+use Rattle.sched_rules.specs.declared.refusal.Refusal.TheVariants.{NoTenant, NoFrame}
+use Rattle.sched_rules.specs.declared.act.Then.{Then}
+use Rattle.sched_rules.specs.Trees.{Tenant, has_child, left as left_for}
+use Rattle.sched_rules.specs.Lone.{is_run_by, is_bad_then, is_spawn, segments_for}
+use Rattle.sched_rules.specs.Cores.{Shared, tenant_in}
+use Rattle.sched_core.specs.declared.engine.Seen.{Seen}
+
+-- what a look at a frame that is there tells: its parent's name, its state and what its tenant has left, whose frames are a tree
+pub record IsSeen (shared : Shared) (name : FrameId) (tenant : Tenant) (frame : Frame (List ℕ)) (seen : Seen) : Type 0 where
+  pub owner : tenant_in shared.tenants name.tenant ≡ Some tenant
+  pub found : frame_at tenant.frames name.serial ≡ Some frame
+  pub parent : seen.parent ≡ name_of name.tenant (parent_of frame.path)
+  pub state : seen.state ≡ frame.state
+  pub left : seen.left ≡ left_for tenant
+  pub tree : IsTree tenant.frames
+
+-- why no frame of a tenant has this serial
+abbrev pub missing_in : Option Tenant → ℕ → Option Refusal
+missing_in None serial = Some NoTenant
+missing_in (Some tenant) serial = if has_frame tenant.frames serial then None else Some NoFrame
+
+-- why no frame has this name: its tenant isn't there, or the frame isn't
+abbrev pub missing : Shared → FrameId → Option Refusal
+missing shared name = missing_in (tenant_in shared.tenants name.tenant) name.serial
+
+-- the worker runs the frame, and what comes after the stores of its act can be done with what its tenant has left
+pub record GoesOn (shared : Shared) (name : FrameId) (worker : ℕ) (after : Then) (tenant : Tenant) (frame : Frame (List ℕ)) : Type 0 where
+  pub owner : tenant_in shared.tenants name.tenant ≡ Some tenant
+  pub found : frame_at tenant.frames name.serial ≡ Some frame
+  pub runs : is_run_by worker frame.state ≡ true
+  pub can : is_bad_then (length frame.value) (has_child tenant.frames name.serial) after ≡ false
+  pub node : (is_spawn after && ((left_for tenant).nodes == 0)) ≡ false
+  pub segments : nat_lt (left_for tenant).segments (segments_for frame after) ≡ false
+
+-- a frame that may be taken in by its parent: no frame is under it
+pub record MayBeTakenIn (shared : Shared) (child parent : FrameId) (tenant : Tenant) (frame : Frame (List ℕ)) : Type 0 where
+  pub owner : tenant_in shared.tenants child.tenant ≡ Some tenant
+  pub found : frame_at tenant.frames child.serial ≡ Some frame
+  pub tree : IsTree tenant.frames
+  pub under : parent_of frame.path ≡ Some parent.serial
+  pub same : parent.tenant ≡ child.tenant
+  pub leaf : children_of tenant.frames child.serial ≡ []

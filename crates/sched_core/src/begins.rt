@@ -1,0 +1,86 @@
+//! Admit and Submit: a tenant comes, and a job of it.
+ghost use Rattle.std.specs.Prelude.{◌≡◌};
+ghost use Rattle.sched_rules.specs.Cores.{shared_refusal};
+ghost use Rattle.sched_rules.specs.Headline.{IsKnown};
+ghost use Rattle.sched_rules.specs.Lone.{refusal_in};
+ghost use Rattle.sched_rules.specs.declared.step.StepOf.TheVariants.{Admit as AdmitStep, Submit as SubmitStep};
+ghost use Rattle.sched_laws.specs.Shapes.{AreShaped};
+ghost use Rattle.sched_core.specs.Judging.{IsJudged, IsAdmitted};
+
+use crate::decide::{charge, first_of, is_frame_size};
+use crate::engine::Engine;
+use sched_rules::{Did, DidOf, Procedure, Refusal};
+use tenant_quota::Reserve;
+
+/// The greatest number of a tenant.
+const MOST_TENANT: u64 = 1 << 62;
+
+/// The most jobs of a tenant.
+const MOST_JOBS: usize = 256;
+
+impl<P: Procedure> Engine<P> {
+    /// Whether a tenant of this number may come, with this reservation.
+    pub(crate) fn may_admit(&self, number: u64, reserve: Reserve) -> Result<(), Refusal>
+        ensures refusal { refusal_in result ≡ shared_refusal (P.functions self.now.procedure) self.now.store (AdmitStep number reserve) }
+        ensures known { IsKnown self.now.store }
+    {
+        let newest = self.store.newest();
+        first_of(&[
+            (
+                number == 0 || number <= newest || MOST_TENANT < number,
+                Refusal::OldTenant,
+            ),
+            (self.store.is_full(reserve), Refusal::Full),
+        ])
+    }
+
+    /// Whether a tenant may have a new job, whose root has this size and begins with these words.
+    pub(crate) fn may_submit(&self, number: u64, words: &[u64], size: usize) -> Result<(), Refusal>
+        ensures refusal { refusal_in result ≡ shared_refusal (P.functions self.now.procedure) self.now.store (SubmitStep number words.now size) }
+    {
+        let Some(left) = self.store.left(number) else {
+            return Err(Refusal::NoTenant);
+        };
+        if !is_frame_size(words, size) {
+            return Err(Refusal::BadAct);
+        }
+        first_of(&[
+            (
+                MOST_JOBS <= self.store.job_count(number),
+                Refusal::NoJobsLeft,
+            ),
+            (left.nodes == 0, Refusal::NoNodes),
+            ((left.segments as usize) < charge(size), Refusal::NoSegments),
+        ])
+    }
+
+    /// A tenant comes; only this takes memory.
+    pub(crate) fn admit(&mut self, number: u64, reserve: Reserve) -> Result<Did<P>, Refusal>
+        ensures admitted { IsAdmitted (P.functions self.old.procedure) self.old.store (AdmitStep number reserve) result self.new.store }
+        ensures procedure { self.new.procedure ≡ self.old.procedure }
+    {
+        self.may_admit(number, reserve)?;
+        match self.store.admit(number, reserve) {
+            Ok(()) => Ok(DidOf::Admitted),
+            Err(_) => Err(Refusal::OutOfMemory),
+        }
+    }
+
+    /// A new job of a tenant.
+    pub(crate) fn submit(
+        &mut self,
+        number: u64,
+        words: &[u64],
+        size: usize,
+    ) -> Result<Did<P>, Refusal>
+        requires { AreShaped self.old.store.tenants }
+        ensures judged { IsJudged (P.functions self.old.procedure) self.old.store (SubmitStep number words.now size) result self.new.store }
+        ensures procedure { self.new.procedure ≡ self.old.procedure }
+    {
+        self.may_submit(number, words, size)?;
+        let job = self.store.job_count(number) as u64 + 1;
+        let root = self.store.open(number, None, words, size, 0);
+        self.store.begin_job(number, root.serial);
+        Ok(DidOf::Submitted(job, root))
+    }
+}

@@ -1,0 +1,168 @@
+//! The tests that decide a step, as functions over values: each answers what the definition of its
+//! name does.
+ghost use Rattle.std.specs.Prelude.{◌≡◌, ◌+◌, ◌≤◌, ◌==◌, ◌||◌, not, ℕ, false, List, length};
+ghost use Rattle.cactus_stack.specs.Nodes.{charge as charge_for};
+ghost use Rattle.frame_table.specs.Frames.{Frame};
+ghost use Rattle.sched_rules.specs.Trees.{Tenant, left as left_of, has_child as has_child_of, is_outside as is_outside_of};
+ghost use Rattle.sched_rules.specs.Lone.{unless, is_frame_size as is_frame_size_of, is_ready_at as is_ready_at_of, is_run_by as is_run_by_of, is_computed_by as is_computed_by_of, is_returned as is_returned_of, is_waiting as is_waiting_of, is_bad_then as is_bad_then_of, is_bad_act as is_bad_act_of, is_spawn as is_spawn_of, segments_for as segments_for_of, act_tests};
+
+use cactus_stack::Words;
+use frame_table::State;
+use sched_rules::{Act, Refusal, Then};
+use tenant_quota::Left;
+
+/// The most words of a frame.
+pub const MOST_WORDS: usize = 128;
+
+/// The refusal of the first test that applies, if one does.
+pub fn first_of(tests: &[(bool, Refusal)]) -> Result<(), Refusal>
+    ensures { result ≡ unless tests.now tt }
+{
+    for test in tests {
+        if test.0 {
+            return Err(test.1);
+        }
+    }
+    Ok(())
+}
+
+/// Whether a frame of this size can be opened with these words.
+pub fn is_frame_size(words: &[u64], size: usize) -> bool
+    ensures { result ≡ is_frame_size_of words.now size }
+{
+    1 <= size && size <= MOST_WORDS && words.len() <= size
+}
+
+/// Whether some store is at a place that the words haven't.
+pub fn is_outside(stores: &[(usize, u64)], words: &Words) -> bool
+    ensures { result ≡ is_outside_of stores.now words.now }
+{
+    let places = words.len();
+    for store in stores {
+        if places <= store.0 {
+            return true;
+        }
+    }
+    false
+}
+
+/// Whether a frame in this state is ready at this home.
+pub fn is_ready_at(state: State, home: u8) -> bool
+    ensures { result ≡ is_ready_at_of home state }
+{
+    match state {
+        State::Ready(at) => at == home,
+        State::Running(_) | State::Computing(_) | State::Waiting | State::Returned => false,
+    }
+}
+
+/// Whether a frame in this state isn't there to be stolen from this home, or the thief would steal from itself.
+pub fn is_out_of_reach(state: State, from: u8, worker: u8) -> bool
+    ensures { result ≡ (not (is_ready_at_of from state) || (from == worker)) }
+{
+    !is_ready_at(state, from) || from == worker
+}
+
+/// Whether this worker runs a frame in this state.
+pub fn is_run_by(state: State, worker: u8) -> bool
+    ensures { result ≡ is_run_by_of worker state }
+{
+    match state {
+        State::Running(holder) => holder == worker,
+        State::Ready(_) | State::Computing(_) | State::Waiting | State::Returned => false,
+    }
+}
+
+/// Whether this worker computes a frame in this state.
+pub fn is_computed_by(state: State, worker: u8) -> bool
+    ensures { result ≡ is_computed_by_of worker state }
+{
+    match state {
+        State::Computing(holder) => holder == worker,
+        State::Ready(_) | State::Running(_) | State::Waiting | State::Returned => false,
+    }
+}
+
+/// Whether a frame in this state has returned.
+pub fn is_returned(state: State) -> bool
+    ensures { result ≡ is_returned_of state }
+{
+    matches!(state, State::Returned)
+}
+
+/// Whether a frame in this state, a root or a child, is no returned root.
+pub fn is_unfinished(state: State, is_root: bool) -> bool
+    ensures { result ≡ (not (is_returned_of state) || not is_root) }
+{
+    !is_returned(state) || !is_root
+}
+
+/// Whether a frame in this state waits.
+pub fn is_waiting(state: State) -> bool
+    ensures { result ≡ is_waiting_of state }
+{
+    matches!(state, State::Waiting)
+}
+
+/// Whether what comes after the stores can't be done by a frame of so many words, with a child or none.
+pub fn is_bad_then(words: usize, has_child: bool, after: &Then) -> bool
+    ensures { result ≡ is_bad_then_of words has_child after.now }
+{
+    match after {
+        Then::Grow(more) => *more == 0 || *more > MOST_WORDS.saturating_sub(words),
+        Then::Spawn(given, size) => !is_frame_size(given.as_slice(), *size),
+        Then::Compute => has_child,
+        Then::Go | Then::Wait | Then::Return => false,
+    }
+}
+
+/// Whether an act can't be done on these words, by a frame with a child or none.
+pub fn is_bad_act(words: &Words, has_child: bool, act: &Act) -> bool
+    ensures { result ≡ is_bad_act_of words.now has_child act.now }
+{
+    is_outside(act.stores.as_slice(), words) || is_bad_then(words.len(), has_child, &act.after)
+}
+
+/// Whether a child is opened.
+pub fn is_spawn(after: &Then) -> bool
+    ensures { result ≡ is_spawn_of after.now }
+{
+    matches!(after, Then::Spawn(_, _))
+}
+
+/// The segments that so many words take: a sixteenth, rounded up.
+pub fn charge(words: usize) -> usize
+    requires { words ≤ 128 }
+    ensures { result ≡ charge_for words }
+{
+    (words + 15) / 16
+}
+
+/// How many segments more an act that can be done needs, by a frame of so many words.
+pub fn segments_for(words: usize, after: &Then) -> usize
+    requires { is_bad_then_of words false after.now ≡ false }
+    ensures { (frame : Frame (List ℕ)) → length frame.value ≡ words → result ≡ segments_for_of frame after.now }
+{
+    match after {
+        Then::Grow(more) => charge(words + *more) - charge(words),
+        Then::Spawn(_, size) => charge(*size),
+        Then::Go | Then::Wait | Then::Compute | Then::Return => 0,
+    }
+}
+
+/// Whether a frame of these words, with a child or none, may do this act with what its tenant has left.
+pub fn may_act(words: &Words, has_child: bool, left: Left, act: &Act) -> Result<(), Refusal>
+    ensures { (tenant : Tenant) (frame : Frame (List ℕ)) → frame.value ≡ words.now → has_child_of tenant.frames frame.serial ≡ has_child → left_of tenant ≡ left
+        → result ≡ unless (act_tests tenant frame act.now) tt }
+{
+    if is_bad_act(words, has_child, act) {
+        return Err(Refusal::BadAct);
+    }
+    first_of(&[
+        (is_spawn(&act.after) && left.nodes == 0, Refusal::NoNodes),
+        (
+            (left.segments as usize) < segments_for(words.len(), &act.after),
+            Refusal::NoSegments,
+        ),
+    ])
+}

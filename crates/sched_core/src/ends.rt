@@ -1,0 +1,137 @@
+//! Finish, Spend, Cancel and Leave: a job ends, and so do its frames.
+ghost use Rattle.std.specs.Prelude.{◌≡◌, false, IfOk, IsSome, Some};
+ghost use Rattle.sched_rules.specs.Cores.{shared_refusal};
+ghost use Rattle.sched_rules.specs.Changes.{on_tenant};
+ghost use Rattle.sched_rules.specs.Lone.{refusal_in, ended as ended_at};
+ghost use Rattle.sched_rules.specs.Views.{job_of, named};
+ghost use Rattle.sched_rules.specs.declared.job.Job.TheVariants.{Live as LiveJob};
+ghost use Rattle.sched_rules.specs.declared.step.StepOf.TheVariants.{Finish as FinishStep, Spend as SpendStep, Cancel as CancelStep, Leave as LeaveStep};
+ghost use Rattle.sched_laws.specs.Shapes.{AreShaped};
+ghost use Rattle.sched_store.specs.Ledgers.{is_live};
+ghost use Rattle.sched_core.specs.Judging.{IsJudged};
+
+use crate::decide::{first_of, is_unfinished};
+use crate::engine::{Engine, look, own};
+use frame_table::FrameId;
+use sched_rules::{Did, DidOf, Job, JobWords, Procedure, Refusal, Worker};
+use sched_store::Store;
+
+impl<P: Procedure> Engine<P> {
+    /// Whether the worker may end the job of a returned root.
+    pub(crate) fn may_finish(&self, worker: Worker, name: FrameId) -> Result<(), Refusal>
+        ensures refusal { refusal_in result ≡ shared_refusal (P.functions self.now.procedure) self.now.store (FinishStep worker name) }
+    {
+        let seen = look(&self.store, name)?;
+        first_of(&[
+            (
+                is_unfinished(seen.state, self.store.is_root(name)),
+                Refusal::NotReturned,
+            ),
+            (seen.left.steps == 0, Refusal::NoSteps),
+            (self.store.is_busy(worker), Refusal::Busy),
+        ])
+    }
+
+    /// Whether a frame's job may be given up.
+    pub(crate) fn may_spend(&self, name: FrameId) -> Result<(), Refusal>
+        ensures refusal { refusal_in result ≡ shared_refusal (P.functions self.now.procedure) self.now.store (SpendStep name) }
+    {
+        let seen = look(&self.store, name)?;
+        if self.is_spendable(name, seen) {
+            Ok(())
+        } else {
+            Err(Refusal::NotSpent)
+        }
+    }
+
+    /// The root of a tenant's live job.
+    pub(crate) fn live_root(&self, number: u64, job: u64) -> Result<u64, Refusal>
+        ensures refusal { refusal_in result ≡ shared_refusal (P.functions self.now.procedure) self.now.store (CancelStep number job) }
+        ensures root { IfOk result (λ root. job_of self.now.store number job ≡ Some (LiveJob root)) }
+    {
+        if !self.store.has_tenant(number) {
+            return Err(Refusal::NoTenant);
+        }
+        match self.store.job(number, job) {
+            Some(Job::Live(root)) => Ok(*root),
+            Some(Job::Done(_)) | Some(Job::Spent) | Some(Job::Cancelled) | None => Err(
+                Refusal::NoJob,
+            ),
+        }
+    }
+
+    /// Whether a tenant may leave.
+    pub(crate) fn may_leave(&self, number: u64) -> Result<(), Refusal>
+        ensures refusal { refusal_in result ≡ shared_refusal (P.functions self.now.procedure) self.now.store (LeaveStep number) }
+    {
+        if self.store.has_tenant(number) {
+            Ok(())
+        } else {
+            Err(Refusal::NoTenant)
+        }
+    }
+
+    /// The job of a returned root is done, with the root's words.
+    pub(crate) fn finish(&mut self, worker: Worker, name: FrameId) -> Result<Did<P>, Refusal>
+        requires { AreShaped self.old.store.tenants }
+        ensures judged { IsJudged (P.functions self.old.procedure) self.old.store (FinishStep worker name) result self.new.store }
+        ensures procedure { self.new.procedure ≡ self.old.procedure }
+    {
+        self.may_finish(worker, name)?;
+        let kept = JobWords::of(&own(&self.store, name));
+        let job = self.store.job_under(name.tenant, name.serial) as u64;
+        end_at(&mut self.store, name, Job::Done(kept));
+        self.store.count_step(name.tenant);
+        Ok(DidOf::Finished(job))
+    }
+
+    /// A frame's job is given up.
+    pub(crate) fn spend(&mut self, name: FrameId) -> Result<Did<P>, Refusal>
+        requires { AreShaped self.old.store.tenants }
+        ensures judged { IsJudged (P.functions self.old.procedure) self.old.store (SpendStep name) result self.new.store }
+        ensures procedure { self.new.procedure ≡ self.old.procedure }
+    {
+        self.may_spend(name)?;
+        let root = self.store.root(name);
+        let job = self.store.job_under(root.tenant, root.serial) as u64;
+        end_at(&mut self.store, root, Job::Spent);
+        Ok(DidOf::Spent(job))
+    }
+
+    /// A tenant's job is cancelled.
+    pub(crate) fn cancel(&mut self, number: u64, job: u64) -> Result<Did<P>, Refusal>
+        requires { AreShaped self.old.store.tenants }
+        ensures judged { IsJudged (P.functions self.old.procedure) self.old.store (CancelStep number job) result self.new.store }
+        ensures procedure { self.new.procedure ≡ self.old.procedure }
+    {
+        let serial = self.live_root(number, job)?;
+        let root = FrameId {
+            tenant: number,
+            serial,
+        };
+        end_at(&mut self.store, root, Job::Cancelled);
+        Ok(DidOf::Cancelled)
+    }
+
+    /// A tenant is gone.
+    pub(crate) fn leave(&mut self, number: u64) -> Result<Did<P>, Refusal>
+        ensures judged { IsJudged (P.functions self.old.procedure) self.old.store (LeaveStep number) result self.new.store }
+        ensures procedure { self.new.procedure ≡ self.old.procedure }
+    {
+        self.may_leave(number)?;
+        self.store.leave(number);
+        Ok(DidOf::Left)
+    }
+}
+
+/// The job that lives under this root ends so, and all its frames are removed.
+fn end_at(store: &mut Store, root: FrameId, ended: Job)
+    requires there { IsSome (named store.old root) }
+    requires over { is_live ended ≡ false }
+    requires shaped { AreShaped store.old.tenants }
+    ensures { store.new ≡ on_tenant root.tenant (ended_at root.serial ended) store.old }
+{
+    store.abort(root);
+    store.remove(root);
+    store.end_job(root.tenant, root.serial, ended);
+}

@@ -1,0 +1,61 @@
+//! A procedure and a store: what each step reads before it is decided.
+ghost use Rattle.std.specs.Prelude.{◌≡◌, ℕ, List, Some, None, IsSome, MatchResult};
+ghost use Rattle.frame_table.specs.Frames.{Frame};
+ghost use Rattle.sched_rules.specs.Trees.{Tenant};
+ghost use Rattle.sched_rules.specs.Views.{named};
+ghost use Rattle.sched_store.specs.Reads.{words_under};
+ghost use Rattle.sched_core.specs.Seeing.{IsSeen, missing};
+
+use cactus_stack::Words;
+use frame_table::{FrameId, State};
+use sched_rules::Refusal;
+use sched_store::Store;
+use tenant_quota::Left;
+
+/// A core before its invariant: the procedure, and the store of all tenants.
+#[derive(Drop)]
+pub(crate) struct Engine<P> {
+    pub(crate) procedure: P,
+    pub(crate) store: Store,
+}
+
+/// What a step that names a frame reads of it.
+#[derive(Clone, Copy, Drop)]
+pub(crate) struct Seen {
+    /// The parent's name; a root has none.
+    pub(crate) parent: Option<FrameId>,
+    /// What the frame is doing.
+    pub(crate) state: State,
+    /// What its tenant has left.
+    pub(crate) left: Left,
+}
+
+/// What is there of a frame, or why there is none: its tenant isn't there, or it isn't.
+pub(crate) fn look(store: &Store, name: FrameId) -> Result<Seen, Refusal>
+    ensures { MatchResult result
+        (λ seen. (tenant : Tenant) × (frame : Frame (List ℕ)) × IsSeen store.now name tenant frame seen)
+        (λ refusal. missing store.now name ≡ Some refusal) }
+{
+    let Some(left) = store.left(name.tenant) else {
+        return Err(Refusal::NoTenant);
+    };
+    let Some((parent, state)) = store.find(name) else {
+        return Err(Refusal::NoFrame);
+    };
+    Ok(Seen {
+        parent,
+        state,
+        left,
+    })
+}
+
+/// The words of a frame that is there.
+pub(crate) fn own(store: &Store, name: FrameId) -> Words<'_>
+    requires { IsSome (named store.now name) }
+    ensures { result ≡ words_under store.now name }
+{
+    match store.words(name) {
+        Some(words) => words,
+        None => unreachable!(),
+    }
+}

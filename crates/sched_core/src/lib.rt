@@ -1,0 +1,49 @@
+//! The scheduling core: every step of every tenant, for every lawful procedure.
+//!
+//! A [`Core`] runs a [`Procedure`] for up to 64 tenants. All that happens to it is one [`Step`] after
+//! the other, by [`Core::step`] or a list of them by [`Core::run`]; each is taken, and then [`Did`]
+//! says what it did, or refused by a [`Refusal`], and then nothing changes. [`Core::refusal`] tells
+//! beforehand. A core waits for nobody, holds no pointer into what it keeps, and takes memory only
+//! where it admits a tenant.
+//!
+//! A core stands for a `CoreOf` (`Rattle.sched_rules.specs.Cores`): its procedure, and what its
+//! tenants share: the totals, the greatest number of a tenant so far, and the tenants by rising
+//! number, each with what it reserved, the serials it was given, its steps, its jobs and its frames.
+//! The contract of a step is the definition of one (`IsOneStep`), and that of a list of steps is the
+//! headline (`IsHeadline`): each tenant is what its own taken steps give with all other tenants'
+//! steps removed, and a step is refused only for its own tenant's state or a busy worker. Where the
+//! new roots of taken Submits fit, every frame fits after every step, for every lawful procedure.
+//!
+//! What makes it true: `sched_store` keeps the tenants as one finite map, and each of its calls says
+//! its effect as one equation. `engine` has the procedure beside that store. Each kind of step has two
+//! functions there: one decides, by the tests of the definitions in their order, and `refusal` asks
+//! the same; the other does the change, which can't be refused any more (`moves`: Take and Steal;
+//! `acts` and `performing`: Advance, Answer and Inlet; `begins`: Admit and Submit; `ends`: Finish,
+//! Spend, Cancel and Leave). The invariant (`specs/Keeping.antt`) is that each tenant has its shape,
+//! which every step keeps: a tree by rising serial, no frame under one that computes or has returned,
+//! live jobs and roots one to one, nothing used beyond what is reserved.
+//!
+//! ```text
+//! let mut core = Core::new(alloc, config, Fan)?;
+//! core.step(&Step::<Fan>::Admit(1, reserve))?;
+//! core.step(&Step::<Fan>::Submit(1, GivenWords::two(0, 0), 4))?;
+//! core.step(&Step::<Fan>::Steal(worker, 0, root)) == Ok(DidOf::Took)
+//! core.step(&Step::<Fan>::Take(worker, root)) == Err(Refusal::NotReady)
+//! ```
+#![tactic(auto)]
+
+mod acts;
+mod begins;
+mod decide;
+mod ends;
+mod engine;
+mod moves;
+mod performing;
+mod scheduler;
+mod steps;
+
+pub use sched_rules::{
+    Act, Config, Did, DidOf, GivenWords, InletAct, Job, JobWords, Procedure, Refusal, Step, StepOf,
+    Stores, Then, Worker,
+};
+pub use scheduler::Core;

@@ -1,0 +1,136 @@
+//! Advance, Answer and Inlet, done: what a procedure makes of a frame is stored, and the frame goes on.
+ghost use Rattle.std.specs.Prelude.{◌≡◌, ◌||◌, ◌&&◌, not, ℕ, List, Some};
+ghost use Rattle.frame_table.specs.Frames.{Frame, frame_at};
+ghost use Rattle.sched_rules.specs.Trees.{Tenant, has_child as has_child_in};
+ghost use Rattle.sched_rules.specs.Lone.{does_wait, then_done, aborted_beside};
+ghost use Rattle.sched_rules.specs.Cores.{tenant_in};
+ghost use Rattle.sched_rules.specs.Changes.{on_tenant};
+ghost use Rattle.sched_rules.specs.declared.step.StepOf.TheVariants.{Advance as AdvanceStep, Answer as AnswerStep, Inlet as InletStep};
+ghost use Rattle.sched_laws.specs.Shapes.{AreShaped};
+ghost use Rattle.sched_store.specs.Reads.{frames_in};
+ghost use Rattle.sched_core.specs.Seeing.{GoesOn, MayBeTakenIn};
+ghost use Rattle.sched_core.specs.Judging.{IsJudged, IsCome, staying_with};
+
+use crate::decide::is_waiting;
+use crate::engine::{Engine, own};
+use frame_table::{FrameId, State};
+use sched_rules::{Did, DidOf, InletAct, Procedure, Refusal, Then, Worker};
+use sched_store::Store;
+
+impl<P: Procedure> Engine<P> {
+    /// The worker brings the answer that its frame computes, and runs the frame again.
+    pub(crate) fn answer(
+        &mut self,
+        worker: Worker,
+        name: FrameId,
+        answer: &P::Answer,
+    ) -> Result<Did<P>, Refusal>
+        ensures judged { IsJudged (P.functions self.old.procedure) self.old.store (AnswerStep worker name answer.now) result self.new.store }
+        ensures procedure { self.new.procedure ≡ self.old.procedure }
+    {
+        let stores = self.accepted(worker, name, answer)?;
+        self.store.store_all(name, stores.as_slice());
+        self.store.run(worker, name);
+        self.store.count_step(name.tenant);
+        Ok(DidOf::Answered)
+    }
+
+    /// A running frame does its next act.
+    pub(crate) fn advance(&mut self, worker: Worker, name: FrameId) -> Result<Did<P>, Refusal>
+        requires { AreShaped self.old.store.tenants }
+        ensures judged { IsJudged (P.functions self.old.procedure) self.old.store (AdvanceStep worker name) result self.new.store }
+        ensures procedure { self.new.procedure ≡ self.old.procedure }
+    {
+        let act = self.next_act(worker, name)?;
+        self.store.store_all(name, act.stores.as_slice());
+        self.store.count_step(name.tenant);
+        Ok(self.go_on(worker, name, &act.after))
+    }
+
+    /// What comes after the stores of an act.
+    fn go_on(&mut self, worker: Worker, name: FrameId, after: &Then) -> Did<P>
+        requires { (tenant : Tenant) × (frame : Frame (List ℕ)) × GoesOn self.old.store name worker after.now tenant frame }
+        ensures came { (tenant : Tenant) (frame : Frame (List ℕ)) → GoesOn self.old.store name worker after.now tenant frame
+            → IsCome name.tenant (then_done (P.functions self.old.procedure) tenant worker name frame.path frame.value after.now) self.old.store result self.new.store }
+        ensures procedure { self.new.procedure ≡ self.old.procedure }
+    {
+        match after {
+            Then::Grow(more) => {
+                self.store.grow(name, *more);
+                DidOf::Grew
+            }
+            Then::Spawn(words, size) => DidOf::Spawned(
+                self.store.open(
+                    name.tenant,
+                    Some(name.serial),
+                    words.as_slice(),
+                    *size,
+                    worker.number(),
+                ),
+            ),
+            Then::Go => DidOf::Went,
+            Then::Wait => {
+                if !self.store.has_child(name) {
+                    return DidOf::Went;
+                }
+                self.store.set_state(name, State::Waiting);
+                DidOf::Waited
+            }
+            Then::Compute => {
+                let input = self.procedure.input(&own(&self.store, name));
+                self.store.compute(worker, name);
+                DidOf::Computing(input)
+            }
+            Then::Return => {
+                if self.store.has_child(name) {
+                    self.store.set_state(name, State::Waiting);
+                    return DidOf::Waited;
+                }
+                let is_root = self.store.is_root(name);
+                self.store.set_state(name, State::Returned);
+                DidOf::Returned(is_root)
+            }
+        }
+    }
+
+    /// A returned frame is taken in by its parent, which is woken if it waits for that.
+    pub(crate) fn inlet(&mut self, worker: Worker, name: FrameId) -> Result<Did<P>, Refusal>
+        requires { AreShaped self.old.store.tenants }
+        ensures judged { IsJudged (P.functions self.old.procedure) self.old.store (InletStep worker name) result self.new.store }
+        ensures procedure { self.new.procedure ≡ self.old.procedure }
+    {
+        let (parent, act) = self.inlet_act(worker, name)?;
+        let aborted = take_out(&mut self.store, name, parent, act.abort);
+        let is_woken = is_to_wake(&self.store, parent, &act);
+        self.store.store_all(parent, act.stores.as_slice());
+        self.store.count_step(name.tenant);
+        if !is_woken {
+            return Ok(DidOf::TakenIn(None, aborted));
+        }
+        self.store.set_state(parent, State::Ready(worker.number()));
+        Ok(DidOf::TakenIn(Some(parent), aborted))
+    }
+}
+
+/// Removes a returned frame, and at an abort all other frames below its parent; how many these were.
+fn take_out(store: &mut Store, child: FrameId, parent: FrameId, abort: bool) -> u64
+    requires { (tenant : Tenant) × (frame : Frame (List ℕ)) × MayBeTakenIn store.old child parent tenant frame }
+    ensures left { store.new ≡ on_tenant child.tenant (staying_with child.serial parent.serial abort) store.old }
+    ensures count { (tenant : Tenant) → tenant_in store.old.tenants child.tenant ≡ Some tenant → result ≡ aborted_beside tenant.frames child.serial parent.serial abort }
+{
+    store.remove(child);
+    if abort {
+        return store.abort(parent) as u64;
+    }
+    0
+}
+
+/// Whether a frame waits, and an inlet wakes it: it says so, or no child is left.
+fn is_to_wake(store: &Store, name: FrameId, act: &InletAct) -> bool
+    ensures { result ≡ (does_wait (frame_at (frames_in store.now name.tenant) name.serial) && (act.now.abort || act.now.wake || not (has_child_in (frames_in store.now name.tenant) name.serial))) }
+{
+    match store.find(name) {
+        Some((_, state)) => is_waiting(state) && (act.abort || act.wake || !store.has_child(name)),
+        None => false,
+    }
+}

@@ -1,0 +1,162 @@
+//! The core.
+ghost use Rattle.std.specs.Prelude.{◌≡◌, ◌≢◌, ◌↔◌, ◌++◌, ℕ, List, Result, Err, IfOk, IfSome, IsNone, OnErr, OnOk, is_ok, option_copied, true, false};
+ghost use Rattle.sched_rules.specs.declared.refusal.Refusal.{Refusal as RefusalOf};
+ghost use Rattle.sched_rules.specs.declared.refusal.Refusal.TheVariants.{OutOfMemory};
+ghost use Rattle.sched_rules.specs.declared.step.DidOf.{DidOf};
+ghost use Rattle.sched_rules.specs.Cores.{shared_by_nobody, shared_refusal};
+ghost use Rattle.sched_rules.specs.Headline.{IsOneStep, IsHeadline, IsKnown, is_admission, taken};
+ghost use Rattle.sched_rules.specs.Runs.{only};
+ghost use Rattle.sched_laws.specs.Fitted.{CoreFits, RootFits, RootsFit, origins_of, origins_after};
+ghost use Rattle.sched_rules.specs.Views.{left_of, job_of, frame_of, words_of_frame, live_of, newest_ready_in, ready_count, free_in};
+ghost use Rattle.sched_store.specs.Reads.{IsReadyIn};
+
+use crate::engine::Engine;
+use cactus_stack::Words;
+use frame_table::{FrameId, State};
+use sched_rules::{Config, Did, Job, Procedure, Refusal, Step};
+use sched_store::Store;
+use std::alloc::{AllocError, Global};
+use std::marker::Model;
+use tenant_quota::Left;
+
+/// A scheduling core: a procedure, and the tenants that are there.
+#[derive(Drop)]
+pub struct Core<P> {
+    engine: Engine<P>,
+}
+
+// Clauses see the procedure, and what the tenants share.
+impl<P> Model for Core<P> {
+    ghost use Rattle.sched_rules.specs.Cores.{CoreOf};
+    ghost use Rattle.sched_core.specs.Keeping.{IsKept};
+
+    ghost Value = { CoreOf P };
+
+    ghost view = { λ c. record { procedure = c.engine.procedure; shared = c.engine.store } };
+
+    ghost invariant = { λ c. IsKept c.engine.store };
+}
+
+impl<P: Procedure> Core<P> {
+    /// A core of these totals that runs the procedure, with no tenant. It makes the places of the
+    /// stack and the book: `AllocError` only where a growth was refused.
+    pub fn new(alloc: Global, config: Config, procedure: P) -> Result<Core<P>, AllocError>
+    where
+        P: Drop,
+        ensures empty { IfOk result (λ core. core.shared ≡ shared_by_nobody config) }
+        ensures procedure { IfOk result (λ core. core.procedure ≡ procedure) }
+    {
+        let store = Store::new(alloc, config)?;
+        Ok(Core {
+            engine: Engine { procedure, store },
+        })
+    }
+
+    /// One step: what it did, or why it is refused, and then nothing changes. Only an admission
+    /// takes memory.
+    pub fn step(&mut self, step: &Step<P>) -> Result<Did<P>, Refusal>
+        ensures one { IsOneStep (P.functions self.old.procedure) self.old.shared step.now result self.new.shared }
+        ensures refused { OnErr result (self.new.shared ≡ self.old.shared) }
+        ensures procedure { self.new.procedure ≡ self.old.procedure }
+        ensures memory { is_admission step.now ≡ false → result ≢ Err OutOfMemory }
+        ensures known_before { IsKnown self.old.shared }
+        ensures known { IsKnown self.new.shared }
+
+        // Where the new root of a taken Submit fits, so does every frame, and each job holds what it was asked.
+        ensures fitting { (origins : ℕ → List (List ℕ)) → CoreFits (P.fits self.old.procedure) (P.rooted self.old.procedure) origins self.old.shared
+            → (is_ok result ≡ true → RootFits (P.fits self.old.procedure) (P.rooted self.old.procedure) step.now)
+            → CoreFits (P.fits self.old.procedure) (P.rooted self.old.procedure) (origins_after origins step.now result) self.new.shared }
+    {
+        self.engine.step(step)
+    }
+
+    /// Why a step would be refused, where memory isn't wanting; it takes no step and no memory.
+    pub fn refusal(&self, step: &Step<P>) -> Option<Refusal>
+        ensures { result ≡ shared_refusal (P.functions self.now.procedure) self.now.shared step.now }
+    {
+        self.engine.refusal(step)
+    }
+
+    /// A list of steps, one after the other: one answer each is appended. The vector grows first: where
+    /// that is refused, no step is tried.
+    pub fn run(
+        &mut self,
+        steps: &[Step<P>],
+        answers: &mut Vec<Result<Did<P>, Refusal>>,
+    ) -> Result<(), AllocError>
+        ensures headline { OnOk result ((answered : List (Result (DidOf P.Input) RefusalOf)) × (answers.new.items ≡ answers.old.items ++ answered)
+            × IsHeadline (P.functions self.old.procedure) self.old.shared steps.now answered self.new.shared) }
+        ensures fitting { OnOk result ((answered : List (Result (DidOf P.Input) RefusalOf)) → answers.new.items ≡ answers.old.items ++ answered
+            → (origins : ℕ → List (List ℕ)) → CoreFits (P.fits self.old.procedure) (P.rooted self.old.procedure) origins self.old.shared
+            → RootsFit (P.fits self.old.procedure) (P.rooted self.old.procedure) (taken steps.now answered)
+            → CoreFits (P.fits self.old.procedure) (P.rooted self.old.procedure) (λ number. origins number ++ origins_of (only number (taken steps.now answered))) self.new.shared) }
+        ensures untried { OnErr result ((self.new.shared ≡ self.old.shared) × (answers.new.items ≡ answers.old.items)) }
+        ensures procedure { self.new.procedure ≡ self.old.procedure }
+    {
+        // What a core keeps is known from here on.
+        let _ = &self.engine;
+        answers.reserve(steps.len())?;
+        for step in steps {
+            let answer = self.step(step);
+            answers.push_reserved(answer);
+        }
+        Ok(())
+    }
+
+    /// What a tenant has left; `None` where it isn't there.
+    pub fn left(&self, tenant: u64) -> Option<Left>
+        ensures { result ≡ left_of self.now.shared tenant }
+    {
+        self.engine.store.left(tenant)
+    }
+
+    /// A tenant's job by its number, from 1 on; `None` where there is none.
+    pub fn job(&self, tenant: u64, number: u64) -> Option<&Job>
+        ensures { option_copied result ≡ job_of self.now.shared tenant number }
+    {
+        self.engine.store.job(tenant, number)
+    }
+
+    /// The parent and the state of a frame; `None` where it isn't there. A root has no parent.
+    pub fn frame(&self, name: FrameId) -> Option<(Option<FrameId>, State)>
+        ensures { result ≡ frame_of self.now.shared name }
+    {
+        self.engine.store.find(name)
+    }
+
+    /// The words of a frame; `None` where it isn't there.
+    pub fn words(&self, name: FrameId) -> Option<Words<'_>>
+        ensures { result ≡ words_of_frame self.now.shared name }
+    {
+        self.engine.store.words(name)
+    }
+
+    /// How many frames a tenant has, and how many words they have. It looks at each frame.
+    pub fn live(&self, tenant: u64) -> Option<(usize, usize)>
+        ensures { result ≡ live_of self.now.shared tenant }
+    {
+        self.engine.store.live(tenant)
+    }
+
+    /// A tenant's ready frame of the greatest serial, with its home.
+    pub fn newest_ready(&self, tenant: u64) -> Option<(FrameId, u8)>
+        ensures { result ≡ newest_ready_in self.now.shared tenant }
+    {
+        self.engine.store.newest_ready(tenant)
+    }
+
+    /// A ready frame of some tenant, with its home; `None` exactly where none is ready.
+    pub fn any_ready(&self) -> Option<(FrameId, u8)>
+        ensures found { IfSome result (λ ready. IsReadyIn self.now.shared ready.0 ready.1) }
+        ensures none { IsNone result ↔ (ready_count self.now.shared.tenants ≡ 0) }
+    {
+        self.engine.store.any_ready()
+    }
+
+    /// How many segments are free.
+    pub fn free_segments(&self) -> usize
+        ensures { result ≡ free_in self.now.shared }
+    {
+        self.engine.store.free_segments()
+    }
+}

@@ -1,0 +1,52 @@
+//! Any step: each kind goes to its own function.
+ghost use Rattle.std.specs.Prelude.{◌≡◌, Some};
+ghost use Rattle.sched_rules.specs.Cores.{shared_refusal};
+ghost use Rattle.sched_rules.specs.Headline.{IsOneStep};
+ghost use Rattle.sched_laws.specs.Shapes.{AreShaped};
+
+use crate::engine::Engine;
+use sched_rules::{Did, Procedure, Refusal, Step, StepOf};
+
+impl<P: Procedure> Engine<P> {
+    /// Takes a step, or refuses it.
+    pub(crate) fn step(&mut self, step: &Step<P>) -> Result<Did<P>, Refusal>
+        requires { AreShaped self.old.store.tenants }
+        ensures one { IsOneStep (P.functions self.old.procedure) self.old.store step.now result self.new.store }
+        ensures procedure { self.new.procedure ≡ self.old.procedure }
+    {
+        match step {
+            StepOf::Admit(number, reserve) => self.admit(*number, *reserve),
+            StepOf::Submit(number, words, size) => self.submit(*number, words.as_slice(), *size),
+            StepOf::Take(worker, name) => self.take(*worker, *name),
+            StepOf::Steal(worker, from, name) => self.steal(*worker, *from, *name),
+            StepOf::Advance(worker, name) => self.advance(*worker, *name),
+            StepOf::Answer(worker, name, answer) => self.answer(*worker, *name, answer),
+            StepOf::Inlet(worker, name) => self.inlet(*worker, *name),
+            StepOf::Finish(worker, name) => self.finish(*worker, *name),
+            StepOf::Spend(name) => self.spend(*name),
+            StepOf::Cancel(number, job) => self.cancel(*number, *job),
+            StepOf::Leave(number) => self.leave(*number),
+        }
+    }
+
+    /// Why a step would be refused, where memory isn't wanting.
+    pub(crate) fn refusal(&self, step: &Step<P>) -> Option<Refusal>
+        ensures { result ≡ shared_refusal (P.functions self.now.procedure) self.now.store step.now }
+    {
+        match step {
+            StepOf::Admit(number, reserve) => self.may_admit(*number, *reserve).err(),
+            StepOf::Submit(number, words, size) => {
+                self.may_submit(*number, words.as_slice(), *size).err()
+            }
+            StepOf::Take(worker, name) => self.may_take(*worker, *name).err(),
+            StepOf::Steal(worker, from, name) => self.may_steal(*worker, *from, *name).err(),
+            StepOf::Advance(worker, name) => self.next_act(*worker, *name).err(),
+            StepOf::Answer(worker, name, answer) => self.accepted(*worker, *name, answer).err(),
+            StepOf::Inlet(worker, name) => self.inlet_act(*worker, *name).err(),
+            StepOf::Finish(worker, name) => self.may_finish(*worker, *name).err(),
+            StepOf::Spend(name) => self.may_spend(*name).err(),
+            StepOf::Cancel(number, job) => self.live_root(*number, *job).err(),
+            StepOf::Leave(number) => self.may_leave(*number).err(),
+        }
+    }
+}
