@@ -13,8 +13,9 @@ use crate::decide::{first_of, is_computed_by, is_outside, is_returned, is_run_by
 use crate::engine::{Engine, Seen, look, own};
 use frame_table::{FrameId, State};
 use sched_rules::{Act, InletAct, Procedure, Refusal, Stores, Worker};
+use std::alloc::Allocator;
 
-impl<P: Procedure> Engine<P> {
+impl<P: Procedure, A: Allocator> Engine<P, A> {
     /// The next act of a frame that the worker runs, if it can be done.
     pub(crate) fn next_act(&self, worker: Worker, name: FrameId) -> Result<Act, Refusal>
         ensures refusal { refusal_in result ≡ shared_refusal (P.functions self.now.procedure) self.now.store (AdvanceStep worker name) }

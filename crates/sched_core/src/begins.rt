@@ -10,6 +10,7 @@ ghost use Rattle.sched_core.specs.Judging.{IsJudged, IsAdmitted};
 use crate::decide::{charge, first_of, is_frame_size};
 use crate::engine::Engine;
 use sched_rules::{Did, DidOf, Procedure, Refusal};
+use std::alloc::Allocator;
 use tenant_quota::Reserve;
 
 /// The greatest number of a tenant.
@@ -18,7 +19,7 @@ const MOST_TENANT: u64 = 1 << 62;
 /// The most jobs of a tenant.
 const MOST_JOBS: usize = 256;
 
-impl<P: Procedure> Engine<P> {
+impl<P: Procedure, A: Allocator> Engine<P, A> {
     /// Whether a tenant of this number may come, with this reservation.
     pub(crate) fn may_admit(&self, number: u64, reserve: Reserve) -> Result<(), Refusal>
         ensures refusal { refusal_in result ≡ shared_refusal (P.functions self.now.procedure) self.now.store (AdmitStep number reserve) }
@@ -56,6 +57,8 @@ impl<P: Procedure> Engine<P> {
 
     /// A tenant comes; only this takes memory.
     pub(crate) fn admit(&mut self, number: u64, reserve: Reserve) -> Result<Did<P>, Refusal>
+    where
+        A: Clone,
         ensures admitted { IsAdmitted (P.functions self.old.procedure) self.old.store (AdmitStep number reserve) result self.new.store }
         ensures procedure { self.new.procedure ≡ self.old.procedure }
     {

@@ -15,8 +15,9 @@ use crate::engine::{Engine, look, own};
 use frame_table::FrameId;
 use sched_rules::{Did, DidOf, Job, JobWords, Procedure, Refusal, Worker};
 use sched_store::Store;
+use std::alloc::Allocator;
 
-impl<P: Procedure> Engine<P> {
+impl<P: Procedure, A: Allocator> Engine<P, A> {
     /// Whether the worker may end the job of a returned root.
     pub(crate) fn may_finish(&self, worker: Worker, name: FrameId) -> Result<(), Refusal>
         ensures refusal { refusal_in result ≡ shared_refusal (P.functions self.now.procedure) self.now.store (FinishStep worker name) }
@@ -125,7 +126,7 @@ impl<P: Procedure> Engine<P> {
 }
 
 /// The job that lives under this root ends so, and all its frames are removed.
-fn end_at(store: &mut Store, root: FrameId, ended: Job)
+fn end_at<A: Allocator>(store: &mut Store<A>, root: FrameId, ended: Job)
     requires there { IsSome (named store.old root) }
     requires over { is_live ended ≡ false }
     requires shaped { AreShaped store.old.tenants }

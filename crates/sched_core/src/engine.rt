@@ -10,13 +10,14 @@ use cactus_stack::Words;
 use frame_table::{FrameId, State};
 use sched_rules::Refusal;
 use sched_store::Store;
+use std::alloc::{Allocator, Global};
 use tenant_quota::Left;
 
 /// A core before its invariant: the procedure, and the store of all tenants.
 #[derive(Drop)]
-pub(crate) struct Engine<P> {
+pub(crate) struct Engine<P, A: Allocator = Global> {
     pub(crate) procedure: P,
-    pub(crate) store: Store,
+    pub(crate) store: Store<A>,
 }
 
 /// What a step that names a frame reads of it.
@@ -31,7 +32,7 @@ pub(crate) struct Seen {
 }
 
 /// What is there of a frame, or why there is none: its tenant isn't there, or it isn't.
-pub(crate) fn look(store: &Store, name: FrameId) -> Result<Seen, Refusal>
+pub(crate) fn look<A: Allocator>(store: &Store<A>, name: FrameId) -> Result<Seen, Refusal>
     ensures { MatchResult result
         (λ seen. (tenant : Tenant) × (frame : Frame (List ℕ)) × IsSeen store.now name tenant frame seen)
         (λ refusal. missing store.now name ≡ Some refusal) }
@@ -50,7 +51,7 @@ pub(crate) fn look(store: &Store, name: FrameId) -> Result<Seen, Refusal>
 }
 
 /// The words of a frame that is there.
-pub(crate) fn own(store: &Store, name: FrameId) -> Words<'_>
+pub(crate) fn own<A: Allocator>(store: &Store<A>, name: FrameId) -> Words<'_>
     requires { IsSome (named store.now name) }
     ensures { result ≡ words_under store.now name }
 {

@@ -10,8 +10,9 @@ use crate::decide::{first_of, is_out_of_reach, is_ready_at};
 use crate::engine::{Engine, look};
 use frame_table::FrameId;
 use sched_rules::{Did, DidOf, Procedure, Refusal, Worker};
+use std::alloc::Allocator;
 
-impl<P: Procedure> Engine<P> {
+impl<P: Procedure, A: Allocator> Engine<P, A> {
     /// Whether the worker may run a ready frame of its own.
     pub(crate) fn may_take(&self, worker: Worker, name: FrameId) -> Result<(), Refusal>
         ensures refusal { refusal_in result ≡ shared_refusal (P.functions self.now.procedure) self.now.store (TakeStep worker name) }

@@ -16,8 +16,9 @@ use crate::engine::{Engine, own};
 use frame_table::{FrameId, State};
 use sched_rules::{Did, DidOf, InletAct, Procedure, Refusal, Then, Worker};
 use sched_store::Store;
+use std::alloc::Allocator;
 
-impl<P: Procedure> Engine<P> {
+impl<P: Procedure, A: Allocator> Engine<P, A> {
     /// The worker brings the answer that its frame computes, and runs the frame again.
     pub(crate) fn answer(
         &mut self,
@@ -113,7 +114,7 @@ impl<P: Procedure> Engine<P> {
 }
 
 /// Removes a returned frame, and at an abort all other frames below its parent; how many these were.
-fn take_out(store: &mut Store, child: FrameId, parent: FrameId, abort: bool) -> u64
+fn take_out<A: Allocator>(store: &mut Store<A>, child: FrameId, parent: FrameId, abort: bool) -> u64
     requires { (tenant : Tenant) × (frame : Frame (List ℕ)) × MayBeTakenIn store.old child parent tenant frame }
     ensures left { store.new ≡ on_tenant child.tenant (staying_with child.serial parent.serial abort) store.old }
     ensures count { (tenant : Tenant) → tenant_in store.old.tenants child.tenant ≡ Some tenant → result ≡ aborted_beside tenant.frames child.serial parent.serial abort }
@@ -126,7 +127,7 @@ fn take_out(store: &mut Store, child: FrameId, parent: FrameId, abort: bool) -> 
 }
 
 /// Whether a frame waits, and an inlet wakes it: it says so, or no child is left.
-fn is_to_wake(store: &Store, name: FrameId, act: &InletAct) -> bool
+fn is_to_wake<A: Allocator>(store: &Store<A>, name: FrameId, act: &InletAct) -> bool
     ensures { result ≡ (does_wait (frame_at (frames_in store.now name.tenant) name.serial) && (act.now.abort || act.now.wake || not (has_child_in (frames_in store.now name.tenant) name.serial))) }
 {
     match store.find(name) {

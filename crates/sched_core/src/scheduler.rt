@@ -15,18 +15,18 @@ use cactus_stack::Words;
 use frame_table::{FrameId, State};
 use sched_rules::{Config, Did, Job, Procedure, Refusal, Step};
 use sched_store::Store;
-use std::alloc::{AllocError, Global};
+use std::alloc::{AllocError, Allocator, Global};
 use std::marker::Model;
 use tenant_quota::Left;
 
 /// A scheduling core: a procedure, and the tenants that are there.
 #[derive(Drop)]
-pub struct Core<P> {
-    engine: Engine<P>,
+pub struct Core<P, A: Allocator = Global> {
+    engine: Engine<P, A>,
 }
 
 // Clauses see the procedure, and what the tenants share.
-impl<P> Model for Core<P> {
+impl<P, A: Allocator> Model for Core<P, A> {
     ghost use Rattle.sched_rules.specs.Cores.{CoreOf};
     ghost use Rattle.sched_core.specs.Keeping.{IsKept};
 
@@ -37,12 +37,13 @@ impl<P> Model for Core<P> {
     ghost invariant = { λ c. IsKept c.engine.store };
 }
 
-impl<P: Procedure> Core<P> {
+impl<P: Procedure, A: Allocator> Core<P, A> {
     /// A core of these totals that runs the procedure, with no tenant. It makes the places of the
     /// stack and the book: `AllocError` only where a growth was refused.
-    pub fn new(alloc: Global, config: Config, procedure: P) -> Result<Core<P>, AllocError>
+    pub fn new(alloc: A, config: Config, procedure: P) -> Result<Core<P, A>, AllocError>
     where
         P: Drop,
+        A: Clone,
         ensures empty { IfOk result (λ core. core.shared ≡ shared_by_nobody config) }
         ensures procedure { IfOk result (λ core. core.procedure ≡ procedure) }
     {
@@ -55,6 +56,8 @@ impl<P: Procedure> Core<P> {
     /// One step: what it did, or why it is refused, and then nothing changes. Only an admission
     /// takes memory.
     pub fn step(&mut self, step: &Step<P>) -> Result<Did<P>, Refusal>
+    where
+        A: Clone,
         ensures one { IsOneStep (P.functions self.old.procedure) self.old.shared step.now result self.new.shared }
         ensures refused { OnErr result (self.new.shared ≡ self.old.shared) }
         ensures procedure { self.new.procedure ≡ self.old.procedure }
@@ -82,8 +85,10 @@ impl<P: Procedure> Core<P> {
     pub fn run(
         &mut self,
         steps: &[Step<P>],
-        answers: &mut Vec<Result<Did<P>, Refusal>>,
+        answers: &mut Vec<Result<Did<P>, Refusal>, A>,
     ) -> Result<(), AllocError>
+    where
+        A: Clone,
         ensures headline { OnOk result ((answered : List (Result (DidOf P.Input) RefusalOf)) × (answers.new.items ≡ answers.old.items ++ answered)
             × IsHeadline (P.functions self.old.procedure) self.old.shared steps.now answered self.new.shared) }
         ensures fitting { OnOk result ((answered : List (Result (DidOf P.Input) RefusalOf)) → answers.new.items ≡ answers.old.items ++ answered

@@ -6,10 +6,13 @@ ghost use Rattle.sched_laws.specs.Shapes.{AreShaped};
 
 use crate::engine::Engine;
 use sched_rules::{Did, Procedure, Refusal, Step, StepOf};
+use std::alloc::Allocator;
 
-impl<P: Procedure> Engine<P> {
+impl<P: Procedure, A: Allocator> Engine<P, A> {
     /// Takes a step, or refuses it.
     pub(crate) fn step(&mut self, step: &Step<P>) -> Result<Did<P>, Refusal>
+    where
+        A: Clone,
         requires { AreShaped self.old.store.tenants }
         ensures one { IsOneStep (P.functions self.old.procedure) self.old.store step.now result self.new.store }
         ensures procedure { self.new.procedure ≡ self.old.procedure }

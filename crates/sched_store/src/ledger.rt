@@ -4,7 +4,7 @@ ghost use Rattle.sched_rules.specs.Trees.{is_live_at, job_at, job_under, with_en
 ghost use Rattle.sched_store.specs.Ledgers.{is_live};
 
 use sched_rules::Job;
-use std::alloc::{AllocError, Global};
+use std::alloc::{AllocError, Allocator, Global};
 use std::marker::Model;
 
 /// How many jobs a tenant can have.
@@ -12,13 +12,13 @@ pub(crate) const JOBS: usize = 256;
 
 /// A tenant's jobs, from number 1 on, in the places that were made for all of them.
 #[derive(Drop)]
-pub(crate) struct Ledger {
+pub(crate) struct Ledger<A: Allocator = Global> {
     number: u64,
-    jobs: Vec<Job>,
+    jobs: Vec<Job, A>,
 }
 
 // Clauses see the tenant's number and the list of its jobs.
-impl Model for Ledger {
+impl<A: Allocator> Model for Ledger<A> {
     ghost use Rattle.std.specs.Prelude.{ℕ, ◌≤◌, List, length};
     ghost use Rattle.std.specs.Vec.{vec_capacity};
     ghost use Rattle.sched_rules.specs.declared.job.Job.{Job as JobOf};
@@ -31,9 +31,9 @@ impl Model for Ledger {
     ghost invariant = { λ l. (256 ≤ vec_capacity l.jobs) × (length l.jobs.items ≤ 256) × AreLiveOnce l.jobs.items };
 }
 
-impl Ledger {
+impl<A: Allocator> Ledger<A> {
     /// The ledger of a tenant that has no job yet. It makes places for 256.
-    pub(crate) fn new(alloc: Global, number: u64) -> Result<Ledger, AllocError>
+    pub(crate) fn new(alloc: A, number: u64) -> Result<Ledger<A>, AllocError>
         ensures { IfOk result (λ ledger. ledger ≡ (number, [])) }
     {
         let jobs = Vec::with_capacity(alloc, JOBS)?;

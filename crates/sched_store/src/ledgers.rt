@@ -5,7 +5,7 @@ ghost use Rattle.sched_store.specs.Ledgers.{jobs_of, numbers_of, AreBelow, AreRi
 
 use crate::ledger::Ledger;
 use sched_rules::Job;
-use std::alloc::{AllocError, Global};
+use std::alloc::{AllocError, Allocator, Global};
 use std::marker::Model;
 
 /// How many tenants can be there.
@@ -13,12 +13,12 @@ const TENANTS: usize = 64;
 
 /// The ledgers of all tenants, by rising number, in the places that were made for 64.
 #[derive(Drop)]
-pub(crate) struct Ledgers {
-    all: Vec<Ledger>,
+pub(crate) struct Ledgers<A: Allocator = Global> {
+    all: Vec<Ledger<A>, A>,
 }
 
 // Clauses see the list of numbers and jobs.
-impl Model for Ledgers {
+impl<A: Allocator> Model for Ledgers<A> {
     ghost use Rattle.std.specs.Prelude.{ℕ, ◌≤◌, List, length};
     ghost use Rattle.std.specs.Vec.{vec_capacity};
     ghost use Rattle.sched_rules.specs.declared.job.Job.{Job as JobOf};
@@ -31,9 +31,9 @@ impl Model for Ledgers {
     ghost invariant = { λ l. (64 ≤ vec_capacity l.all) × AreRising (numbers_of l.all.items) };
 }
 
-impl Ledgers {
+impl<A: Allocator> Ledgers<A> {
     /// No ledger, with places for 64.
-    pub(crate) fn new(alloc: Global) -> Result<Ledgers, AllocError>
+    pub(crate) fn new(alloc: A) -> Result<Ledgers<A>, AllocError>
         ensures { IfOk result (λ ledgers. ledgers ≡ []) }
     {
         let all = Vec::with_capacity(alloc, TENANTS)?;
@@ -41,7 +41,7 @@ impl Ledgers {
     }
 
     /// Adds the ledger of a tenant whose number is above all others.
-    pub(crate) fn add(&mut self, ledger: Ledger)
+    pub(crate) fn add(&mut self, ledger: Ledger<A>)
         requires room { length self.old < TENANTS }
         requires above { AreBelow ledger.0 (numbers_of self.old) }
         ensures { self.new ≡ self.old ++ ledger ∷ [] }
@@ -113,7 +113,7 @@ impl Ledgers {
     }
 
     /// A tenant's ledger, if it is there.
-    fn find(&self, number: u64) -> Option<&Ledger>
+    fn find(&self, number: u64) -> Option<&Ledger<A>>
         ensures found { IfSome result (λ ledger. jobs_of self.now number ≡ ledger.now.1) }
         ensures none { IfNone result (jobs_of self.now number ≡ []) }
     {
@@ -131,12 +131,12 @@ impl Ledgers {
 }
 
 /// Where the ledger of this number stands, or would stand.
-fn place_of(ledgers: &[Ledger], number: u64) -> usize
+fn place_of<A: Allocator>(ledgers: &[Ledger<A>], number: u64) -> usize
     requires { AreRising (numbers_of ledgers.now) }
     ensures { result ≡ count_below number (numbers_of ledgers.now) }
 {
     ledgers.partition_point(
-        |ledger: &Ledger| -> bool
+        |ledger: &Ledger<A>| -> bool
             ensures { result ≡ nat_lt ledger.now.0 number }
         { ledger.number() < number },
     )

@@ -14,7 +14,7 @@ use crate::ledgers::Ledgers;
 use cactus_stack::{NodeNo, Stack};
 use frame_table::{FrameId, FrameTable};
 use sched_rules::Config;
-use std::alloc::{AllocError, Global};
+use std::alloc::{AllocError, Allocator, Global};
 use std::marker::Model;
 use tenant_quota::Book;
 
@@ -23,18 +23,18 @@ const PLACES: usize = 33;
 
 /// The tenants of a core, with their frames, jobs and what they have left.
 #[derive(Drop)]
-pub struct Store {
-    alloc: Global,
-    stack: Stack,
-    book: Book,
-    table: FrameTable<NodeNo>,
-    ledgers: Ledgers,
+pub struct Store<A: Allocator = Global> {
+    alloc: A,
+    stack: Stack<A>,
+    book: Book<A>,
+    table: FrameTable<NodeNo, A>,
+    ledgers: Ledgers<A>,
     places: [Option<FrameId>; PLACES],
     newest: u64,
 }
 
 // Clauses see the core that the parts stand for.
-impl Model for Store {
+impl<A: Allocator> Model for Store<A> {
     ghost use Rattle.sched_rules.specs.Cores.{Shared};
 
     ghost Value = { Shared };
@@ -48,17 +48,19 @@ impl Model for Store {
     ghost invariant = { λ s. IsStored (parts_of s) };
 }
 
-impl Store {
+impl<A: Allocator> Store<A> {
     /// A store of these totals with no tenant. Takes memory: `AllocError` only where a growth was
     /// refused.
-    pub fn new(alloc: Global, config: Config) -> Result<Store, AllocError>
+    pub fn new(alloc: A, config: Config) -> Result<Store<A>, AllocError>
+    where
+        A: Clone,
         ensures { IfOk result (λ store. store ≡ shared_by_nobody config) }
     {
         let segments = config.segments();
-        let stack = Stack::new(alloc, segments as usize)?;
-        let book = Book::new(alloc, segments, config.nodes())?;
-        let table = FrameTable::new(alloc)?;
-        let ledgers = Ledgers::new(alloc)?;
+        let stack = Stack::new(alloc.clone()?, segments as usize)?;
+        let book = Book::new(alloc.clone()?, segments, config.nodes())?;
+        let table = FrameTable::new(alloc.clone()?)?;
+        let ledgers = Ledgers::new(alloc.clone()?)?;
         Ok(Store {
             alloc,
             stack,
@@ -72,7 +74,7 @@ impl Store {
 }
 
 /// The node of a frame that is there.
-fn node_of(table: &FrameTable<NodeNo>, name: FrameId) -> NodeNo
+fn node_of<A: Allocator>(table: &FrameTable<NodeNo, A>, name: FrameId) -> NodeNo
     requires { IsTrue (has_frame (frames_of table.now name.tenant) name.serial) }
     ensures { HasValue (frame_at (frames_of table.now name.tenant) name.serial) result }
 {

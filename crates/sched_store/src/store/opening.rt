@@ -11,8 +11,9 @@ ghost use Rattle.sched_store.specs.Reads.{frames_in, serials_in, HasLeft};
 use crate::store::{Store, node_of};
 use cactus_stack::{NodeNo, charge};
 use frame_table::{FrameId, FrameTable};
+use std::alloc::Allocator;
 
-impl Store {
+impl<A: Allocator> Store<A> {
     /// Opens the tenant's next frame, under a parent or as a root: of `size` words, 1 to 128, the
     /// given ones first and then zeros, and ready at this home (0 is the hall).
     pub fn open(
@@ -51,7 +52,11 @@ fn parent_name(tenant: u64, parent: Option<u64>) -> Option<FrameId>
 }
 
 /// The node of a parent, if there is one.
-fn parent_node(table: &FrameTable<NodeNo>, tenant: u64, parent: Option<u64>) -> Option<NodeNo>
+fn parent_node<A: Allocator>(
+    table: &FrameTable<NodeNo, A>,
+    tenant: u64,
+    parent: Option<u64>,
+) -> Option<NodeNo>
     requires { has_parent (frames_of table.now tenant) parent ≡ true }
     ensures { result ≡ node_above (frames_of table.now tenant) parent }
 {

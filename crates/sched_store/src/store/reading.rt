@@ -13,9 +13,10 @@ use crate::store::Store;
 use cactus_stack::{Sight, Words};
 use frame_table::{FrameId, State};
 use sched_rules::{Job, Worker};
+use std::alloc::Allocator;
 use tenant_quota::{Left, Reserve};
 
-impl Store {
+impl<A: Allocator> Store<A> {
     /// Whether a tenant is there.
     pub fn has_tenant(&self, number: u64) -> bool
         ensures there { result ≡ is_some (tenant_in self.now.tenants number) }

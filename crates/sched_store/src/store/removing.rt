@@ -8,8 +8,9 @@ ghost use Rattle.sched_store.specs.Reads.{frames_in};
 
 use crate::store::Store;
 use frame_table::FrameId;
+use std::alloc::Allocator;
 
-impl Store {
+impl<A: Allocator> Store<A> {
     /// Removes a frame that has no child.
     pub fn remove(&mut self, name: FrameId)
         requires there { IsSome (named self.old name) }

@@ -11,20 +11,22 @@ ghost use Rattle.sched_store.specs.Reads.{jobs_in, HasStepLeft};
 use crate::ledger::Ledger;
 use crate::store::Store;
 use sched_rules::Job;
-use std::alloc::AllocError;
+use std::alloc::{AllocError, Allocator};
 use tenant_quota::Reserve;
 
-impl Store {
+impl<A: Allocator> Store<A> {
     /// A new tenant with its reservation, after all others. It makes the places for the tenant's
     /// frames and for 256 jobs: `AllocError` only where a growth was refused.
     pub fn admit(&mut self, number: u64, reserve: Reserve) -> Result<(), AllocError>
+    where
+        A: Clone,
         requires above { self.old.newest < number }
         requires within { number ≤ 2 ^ 62 }
         requires room { is_full_for (reservations_in self.old) reserve ≡ false }
         ensures ok { OnOk result (self.new ≡ with_admitted number reserve self.old) }
         ensures err { OnErr result (self.new ≡ self.old) }
     {
-        let ledger = Ledger::new(self.alloc, number)?;
+        let ledger = Ledger::new(self.alloc.clone()?, number)?;
         self.table.reserve(number, reserve.segments() as usize)?;
         self.ledgers.add(ledger);
         self.newest = number;

@@ -12,8 +12,9 @@ use crate::store::{Store, node_of};
 use cactus_stack::{NodeNo, Stack, growth_charge};
 use frame_table::{FrameId, State};
 use sched_rules::Worker;
+use std::alloc::Allocator;
 
-impl Store {
+impl<A: Allocator> Store<A> {
     /// Stores words at places of a frame that has these places, in order.
     pub fn store_all(&mut self, name: FrameId, stores: &[(usize, u64)])
         requires there { IsSome (named self.old name) }
@@ -70,7 +71,7 @@ impl Store {
 }
 
 /// Stores words at places of a node that has these places, in order.
-fn store_words(stack: &mut Stack, node: NodeNo, stores: &[(usize, u64)])
+fn store_words<A: Allocator>(stack: &mut Stack<A>, node: NodeNo, stores: &[(usize, u64)])
     requires is_open { IsOpen stack.old node }
     requires inside { is_outside stores.now (node_words stack.old node) ≡ false }
     ensures { stack.new ≡ with_words stack.old node (stored stores.now (node_words stack.old node)) }

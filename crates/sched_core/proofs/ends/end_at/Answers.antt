@@ -7,7 +7,7 @@ use Rattle.sched_core.proofs.Ending.{named-there, with-named, with-there, as-cha
 use Rattle.sched_core.proofs.ends.end_at.Goals as goal
 
 pub remove-requires-clause-there : goal.remove-requires-clause-there
-remove-requires-clause-there c =
+remove-requires-clause-there g c =
     let n = named-there c.args.store.now c.args.root c.requires.there in
     let shape = shaped-in c.args.root.tenant c.args.store.now.tenants n.tenant c.requires.shaped n.owner in
     let w = begins c.args.store.now c.args.root.tenant n.tenant n.owner in
@@ -15,7 +15,7 @@ remove-requires-clause-there c =
     with-named _ _ c.args.root _ n.frame w1 (aborted-itself c.args.root.serial n.tenant.frames n.frame shape.tree n.found)
 
 pub remove-requires-clause-leaf : goal.remove-requires-clause-leaf
-remove-requires-clause-leaf c =
+remove-requires-clause-leaf g c =
     let n = named-there c.args.store.now c.args.root c.requires.there in
     let shape = shaped-in c.args.root.tenant c.args.store.now.tenants n.tenant c.requires.shaped n.owner in
     let w = begins c.args.store.now c.args.root.tenant n.tenant n.owner in
@@ -23,7 +23,7 @@ remove-requires-clause-leaf c =
     aborted-childless c.args.store.now c.abort.new.self c.args.root.tenant c.args.root.serial n.tenant shape.tree w1
 
 pub end_job-requires-clause-there : goal.end_job-requires-clause-there
-end_job-requires-clause-there c =
+end_job-requires-clause-there g c =
     let n = named-there c.args.store.now c.args.root c.requires.there in
     let w = begins c.args.store.now c.args.root.tenant n.tenant n.owner in
     let w1 = then-changed _ _ _ _ c.abort.new.self (without_under c.args.root.serial) w c.abort.ensures.aborted in
@@ -31,7 +31,7 @@ end_job-requires-clause-there c =
     with-there _ _ _ _ w2
 
 pub returns : goal.returns
-returns c =
+returns g c =
     let n = named-there c.args.store.now c.args.root c.requires.there in
     let w = begins c.args.store.now c.args.root.tenant n.tenant n.owner in
     let w1 = then-changed _ _ _ _ c.abort.new.self (without_under c.args.root.serial) w c.abort.ensures.aborted in

@@ -7,7 +7,7 @@ use Rattle.sched_core.proofs.Inlets.{parent-found, stays-beside, aborts-child, s
 use Rattle.sched_core.proofs.performing.take_out.Goals as goal
 
 pub abort-requires : goal.abort-requires
-abort-requires c =
+abort-requires g c =
     let s = c.requires in
     let m = s.2 in
     let above = parent-found s.0.frames c.args.child.serial c.args.parent.serial s.1 m.tree m.found m.under in
@@ -17,7 +17,7 @@ abort-requires c =
     let same = m.same in let there = w1.there in rw (same, there, stays) refl
 
 pub returns-then-abort-clause-left : goal.returns-then-abort-clause-left
-returns-then-abort-clause-left c =
+returns-then-abort-clause-left g c =
     let s = c.requires in
     let m = s.2 in
     let w = begins c.args.store.now c.args.child.tenant s.0 m.owner in
@@ -29,7 +29,7 @@ returns-then-abort-clause-left c =
     rw c.if-abort.true (as-change c.args.store.now c.abort.new.self c.args.child.tenant s.0 (staying_with c.args.child.serial c.args.parent.serial true) m.owner (rw same at w2))
 
 pub returns-then-abort-clause-count : goal.returns-then-abort-clause-count
-returns-then-abort-clause-count c tenant owner =
+returns-then-abort-clause-count g c tenant owner =
     let s = c.requires in
     let m = s.2 in
     let w = begins c.args.store.now c.args.child.tenant s.0 m.owner in

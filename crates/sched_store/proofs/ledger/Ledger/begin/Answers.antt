@@ -3,7 +3,7 @@ use Rattle.sched_store.proofs.Jobs.{once-begun}
 use Rattle.sched_store.proofs.ledger.Ledger.begin.Goals as goal
 
 pub invariant_of-self : goal.invariant_of-self
-invariant_of-self c =
+invariant_of-self g c =
     let room = rw (← c.self.view_is) at c.requires.room in
     let fresh = rw (← c.self.view_is) at c.requires.fresh in (
       omega (arith, c.push_reserved.ensures.capacity, c.self.invariant.0),

@@ -9,40 +9,40 @@ use Rattle.sched_store.proofs.Aborting.{has-frame, abort-closes, abort-frees, ab
 use Rattle.sched_store.proofs.store.Store.abort.Goals as goal
 
 pub remove_under-nodes-requires : goal.remove_under-nodes-requires
-remove_under-nodes-requires c =
+remove_under-nodes-requires g c =
     let some = subst (λ (s : Shared). IsSome (named s c.args.name)) (sym c.self.view_is) c.requires in
     has-frame (parts_of c.self.inside) c.self.invariant c.args.name some
 
 pub close_all-requires-clause-are_open : goal.close_all-requires-clause-are_open
-close_all-requires-clause-are_open c = (abort-closes (parts_of c.self.inside) c.args.name c.remove_under-nodes.result.now c.self.invariant c.remove_under-nodes.ensures.values).are_open
+close_all-requires-clause-are_open g c = (abort-closes (parts_of c.self.inside) c.args.name c.remove_under-nodes.result.now c.self.invariant c.remove_under-nodes.ensures.values).are_open
 
 pub close_all-requires-clause-once : goal.close_all-requires-clause-once
-close_all-requires-clause-once c = (abort-closes (parts_of c.self.inside) c.args.name c.remove_under-nodes.result.now c.self.invariant c.remove_under-nodes.ensures.values).once
+close_all-requires-clause-once g c = (abort-closes (parts_of c.self.inside) c.args.name c.remove_under-nodes.result.now c.self.invariant c.remove_under-nodes.ensures.values).once
 
 pub close_all-requires-clause-with_children : goal.close_all-requires-clause-with_children
-close_all-requires-clause-with_children c = (abort-closes (parts_of c.self.inside) c.args.name c.remove_under-nodes.result.now c.self.invariant c.remove_under-nodes.ensures.values).with_children
+close_all-requires-clause-with_children g c = (abort-closes (parts_of c.self.inside) c.args.name c.remove_under-nodes.result.now c.self.invariant c.remove_under-nodes.ensures.values).with_children
 
 pub overflow_sub-freed : goal.overflow_sub-freed
-overflow_sub-freed c =
+overflow_sub-freed g c =
     let some = subst (λ (s : Shared). IsSome (named s c.args.name)) (sym c.self.view_is) c.requires in
     (abort-frees (parts_of c.self.inside) c.close_all.new.self c.args.name c.remove_under-nodes.result.now c.free_count-before.result c.free_count.result c.self.invariant some
     c.remove_under-nodes.ensures.values c.close_all.ensures c.free_count-before.ensures c.free_count.ensures).more
 
 pub overflow_cast-freed : goal.overflow_cast-freed
-overflow_cast-freed c =
+overflow_cast-freed g c =
     let some = subst (λ (s : Shared). IsSome (named s c.args.name)) (sym c.self.view_is) c.requires in
     let few = (abort-frees (parts_of c.self.inside) c.close_all.new.self c.args.name c.remove_under-nodes.result.now c.free_count-before.result c.free_count.result c.self.invariant some
     c.remove_under-nodes.ensures.values c.close_all.ensures c.free_count-before.ensures c.free_count.ensures).few in
     omega (arith, few)
 
 pub give_back-requires : goal.give_back-requires
-give_back-requires c =
+give_back-requires g c =
     let some = subst (λ (s : Shared). IsSome (named s c.args.name)) (sym c.self.view_is) c.requires in
     (abort-frees (parts_of c.self.inside) c.close_all.new.self c.args.name c.remove_under-nodes.result.now c.free_count-before.result c.free_count.result c.self.invariant some
     c.remove_under-nodes.ensures.values c.close_all.ensures c.free_count-before.ensures c.free_count.ensures).charged
 
 pub invariant_of-self : goal.invariant_of-self
-invariant_of-self c =
+invariant_of-self g c =
     let some = subst (λ (s : Shared). IsSome (named s c.args.name)) (sym c.self.view_is) c.requires in
     abort-stored (parts_of c.self.inside) c.close_all.new.self c.remove_under-nodes.follows.lender-at-none c.give_back.new.self c.args.name c.remove_under-nodes.result.now c.free_count-before.result c.free_count.result c.self.invariant some
     (record {
@@ -59,7 +59,7 @@ invariant_of-self c =
     })
 
 pub returns-clause-aborted : goal.returns-clause-aborted
-returns-clause-aborted c =
+returns-clause-aborted g c =
     let some = subst (λ (s : Shared). IsSome (named s c.args.name)) (sym c.self.view_is) c.requires in
     abort-shared (parts_of c.self.inside) c.close_all.new.self c.remove_under-nodes.follows.lender-at-none c.give_back.new.self c.args.name c.remove_under-nodes.result.now c.free_count-before.result c.free_count.result c.self.invariant some
     (record {
@@ -77,6 +77,6 @@ returns-clause-aborted c =
     ∙ ap (on_tenant c.args.name.tenant (without_under c.args.name.serial)) c.self.view_is
 
 pub returns-clause-count : goal.returns-clause-count
-returns-clause-count c =
+returns-clause-count g c =
     abort-count (parts_of c.self.inside) c.self.invariant c.args.name c.remove_under-nodes.result.now c.remove_under-nodes.ensures.values
     ∙ ap (λ (s : Shared). length (frames_under c.args.name.serial (frames_in s c.args.name.tenant))) c.self.view_is

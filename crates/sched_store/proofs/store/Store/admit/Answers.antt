@@ -8,44 +8,44 @@ use Rattle.sched_store.proofs.Admitting.{can-be-admitted, admit-stored, admit-sh
 use Rattle.sched_store.proofs.store.Store.admit.Goals as goal
 
 pub reserve-requires-clause-fresh : goal.reserve-requires-clause-fresh
-reserve-requires-clause-fresh c =
+reserve-requires-clause-fresh g c =
     let newer = subst (λ (s : Shared). s.newest < c.args.number) (sym c.self.view_is) c.requires.above in
     let room = subst (λ (s : Shared). is_full (reservations_in s) c.args.reserve ≡ false) (sym c.self.view_is) c.requires.room in
     (can-be-admitted (parts_of c.self.inside) c.args.number c.args.reserve c.self.invariant newer room).no_places
 
 pub reserve-requires-clause-free : goal.reserve-requires-clause-free
-reserve-requires-clause-free c =
+reserve-requires-clause-free g c =
     let newer = subst (λ (s : Shared). s.newest < c.args.number) (sym c.self.view_is) c.requires.above in
     let room = subst (λ (s : Shared). is_full (reservations_in s) c.args.reserve ≡ false) (sym c.self.view_is) c.requires.room in
     (can-be-admitted (parts_of c.self.inside) c.args.number c.args.reserve c.self.invariant newer room).few_trees
 
 pub add-requires-clause-room : goal.add-requires-clause-room
-add-requires-clause-room c =
+add-requires-clause-room g c =
     let newer = subst (λ (s : Shared). s.newest < c.args.number) (sym c.self.view_is) c.requires.above in
     let room = subst (λ (s : Shared). is_full (reservations_in s) c.args.reserve ≡ false) (sym c.self.view_is) c.requires.room in
     (can-be-admitted (parts_of c.self.inside) c.args.number c.args.reserve c.self.invariant newer room).few_ledgers
 
 pub add-requires-clause-above : goal.add-requires-clause-above
-add-requires-clause-above c =
+add-requires-clause-above g c =
     let newer = subst (λ (s : Shared). s.newest < c.args.number) (sym c.self.view_is) c.requires.above in
     let room = subst (λ (s : Shared). is_full (reservations_in s) c.args.reserve ≡ false) (sym c.self.view_is) c.requires.room in
     let below = (can-be-admitted (parts_of c.self.inside) c.args.number c.args.reserve c.self.invariant newer room).below in
     rw c.in_ok-ledger.ensures below
 
 pub reserve-requires-2 : goal.reserve-requires-2
-reserve-requires-2 c =
+reserve-requires-2 g c =
     let newer = subst (λ (s : Shared). s.newest < c.args.number) (sym c.self.view_is) c.requires.above in
     let room = subst (λ (s : Shared). is_full (reservations_in s) c.args.reserve ≡ false) (sym c.self.view_is) c.requires.room in
     (can-be-admitted (parts_of c.self.inside) c.args.number c.args.reserve c.self.invariant newer room).nobody
 
 pub unwrap-requires : goal.unwrap-requires
-unwrap-requires c =
+unwrap-requires g c =
     let newer = subst (λ (s : Shared). s.newest < c.args.number) (sym c.self.view_is) c.requires.above in
     let room = subst (λ (s : Shared). is_full (reservations_in s) c.args.reserve ≡ false) (sym c.self.view_is) c.requires.room in
     c.reserve-2.ensures.ok.1 (can-be-admitted (parts_of c.self.inside) c.args.number c.args.reserve c.self.invariant newer room).room
 
 pub invariant_of-self-2 : goal.invariant_of-self-2
-invariant_of-self-2 c =
+invariant_of-self-2 g c =
     let newer = subst (λ (s : Shared). s.newest < c.args.number) (sym c.self.view_is) c.requires.above in
     let told = c.in_ok-reserve.ensures in
     rw c.add.ensures (admit-stored (parts_of c.self.inside) c.reserve.new.self c.in_ok-ledger.ledger c.reserve-2.new.self c.args.number c.args.reserve c.self.invariant
@@ -63,7 +63,7 @@ invariant_of-self-2 c =
     }))
 
 pub returns-clause-ok : goal.returns-clause-ok
-returns-clause-ok c =
+returns-clause-ok g c =
     let newer = subst (λ (s : Shared). s.newest < c.args.number) (sym c.self.view_is) c.requires.above in
     let told = c.in_ok-reserve.ensures in
     ap (λ (ls : List Ledger). shared_of (record (parts_of c.self.inside) { book = c.reserve-2.new.self; trees = c.reserve.new.self; ledgers = ls; newest = c.args.number })) c.add.ensures

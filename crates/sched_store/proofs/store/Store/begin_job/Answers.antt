@@ -6,29 +6,29 @@ use Rattle.sched_store.proofs.Tenants.{there-account, ledger-there, jobs-change}
 use Rattle.sched_store.proofs.store.Store.begin_job.Goals as goal
 
 pub begin-requires-clause-there : goal.begin-requires-clause-there
-begin-requires-clause-there c =
+begin-requires-clause-there g c =
     let is = rw (← c.self.view_is) at c.requires.there in
     let own = there-account (parts_of c.self.inside) c.args.tenant is in
     ledger-there c.args.tenant c.self.inside.ledgers c.self.inside.book.accounts own.0 c.self.invariant.ledgers own.1
 
 pub begin-requires-clause-room : goal.begin-requires-clause-room
-begin-requires-clause-room c =
+begin-requires-clause-room g c =
     let room = rw (← c.self.view_is) at c.requires.room in
     rw (jobs-found (parts_of c.self.inside) c.self.invariant c.args.tenant) at room
 
 pub begin-requires-clause-fresh : goal.begin-requires-clause-fresh
-begin-requires-clause-fresh c =
+begin-requires-clause-fresh g c =
     let fresh = rw (← c.self.view_is) at c.requires.fresh in
     rw (jobs-found (parts_of c.self.inside) c.self.invariant c.args.tenant) at fresh
 
 pub invariant_of-self : goal.invariant_of-self
-invariant_of-self c =
+invariant_of-self g c =
     let is = rw (← c.self.view_is) at c.requires.there in
     let own = there-account (parts_of c.self.inside) c.args.tenant is in
     (jobs-change (parts_of c.self.inside) c.args.tenant own.0 (λ jobs. jobs ++ Live c.args.root ∷ []) c.begin.new.self c.self.invariant own.1 c.begin.ensures).stored
 
 pub returns : goal.returns
-returns c =
+returns g c =
     let is = rw (← c.self.view_is) at c.requires.there in
     let own = there-account (parts_of c.self.inside) c.args.tenant is in
     rw (← c.self.view_is) (jobs-change (parts_of c.self.inside) c.args.tenant own.0 (λ jobs. jobs ++ Live c.args.root ∷ []) c.begin.new.self c.self.invariant own.1 c.begin.ensures).shared

@@ -4,25 +4,25 @@ use Rattle.sched_store.proofs.Tenants.{left-account, book-left, count-step}
 use Rattle.sched_store.proofs.store.Store.count_step.Goals as goal
 
 pub tick-requires : goal.tick-requires
-tick-requires c =
+tick-requires g c =
     let left = rw (← c.self.view_is) at c.requires in
     let own = left-account (parts_of c.self.inside) c.self.invariant c.args.tenant (λ left. 1 ≤ left.steps) left in
     rw own.1.0 refl
 
 pub unwrap-requires : goal.unwrap-requires
-unwrap-requires c =
+unwrap-requires g c =
     let left = rw (← c.self.view_is) at c.requires in
     c.tick.ensures.ok.1 (book-left (parts_of c.self.inside) c.self.invariant c.args.tenant (λ left. 1 ≤ left.steps) left)
 
 pub invariant_of-self : goal.invariant_of-self
-invariant_of-self c =
+invariant_of-self g c =
     let left = rw (← c.self.view_is) at c.requires in
     let own = left-account (parts_of c.self.inside) c.self.invariant c.args.tenant (λ left. 1 ≤ left.steps) left in
     let ticks = rw c.unwrap.ensures at c.tick.ensures.ticks in
     (count-step (parts_of c.self.inside) c.tick.new.self c.args.tenant own.0 c.self.invariant own.1.0 c.tick.ensures.sound ticks c.tick.ensures.sum).stored
 
 pub returns : goal.returns
-returns c =
+returns g c =
     let left = rw (← c.self.view_is) at c.requires in
     let own = left-account (parts_of c.self.inside) c.self.invariant c.args.tenant (λ left. 1 ≤ left.steps) left in
     let ticks = rw c.unwrap.ensures at c.tick.ensures.ticks in

@@ -7,6 +7,6 @@ use Rattle.sched_store.proofs.Showing.{child-shown}
 use Rattle.sched_store.proofs.store.Store.has_child.Goals as goal
 
 pub returns : goal.returns
-returns c =
+returns g c =
     child-shown (parts_of c.self.inside) c.self.invariant c.args.name c.has_child.result c.has_child.ensures.child
     ∙ ap (λ (s : Shared). has_child (frames_in s c.args.name.tenant) c.args.name.serial) c.self.view_is

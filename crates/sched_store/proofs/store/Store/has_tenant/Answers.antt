@@ -10,12 +10,12 @@ some-left None = refl
 some-left (Some account) = refl
 
 pub returns-clause-there : goal.returns-clause-there
-returns-clause-there c =
+returns-clause-there g c =
     rw (← c.self.view_is, c.is_some.ensures, c.left.ensures.left)
     (some-left (account_of c.args.number c.self.inside.book.accounts) ∙ sym (tenant-there (parts_of c.self.inside) c.args.number))
 
 pub returns-clause-known : goal.returns-clause-known
-returns-clause-known c = rw (← c.self.view_is) (known-found (parts_of c.self.inside) c.self.invariant)
+returns-clause-known g c = rw (← c.self.view_is) (known-found (parts_of c.self.inside) c.self.invariant)
 
 pub returns-clause-rising : goal.returns-clause-rising
-returns-clause-rising c = rw (← c.self.view_is) (rising-found (parts_of c.self.inside) c.self.invariant)
+returns-clause-rising g c = rw (← c.self.view_is) (rising-found (parts_of c.self.inside) c.self.invariant)

@@ -5,18 +5,18 @@ use Rattle.sched_store.proofs.Holders.{busy-place, busy-nothing}
 use Rattle.sched_store.proofs.store.Store.is_busy.Goals as goal
 
 pub returns-in-Some-clause-busy : goal.returns-in-Some-clause-busy
-returns-in-Some-clause-busy c =
+returns-in-Some-clause-busy g c =
     let place = rw c.number-number.ensures.value at c.in-Some.is in
     let busy = busy-place (parts_of c.self.inside) c.self.invariant c.args.worker c.in-Some.name place in
     rw (← c.self.view_is) (let held = rw (← c.self.view_is) at c.is_held_by.ensures in held ∙ busy)
 
 pub returns-in-Some-clause-rising : goal.returns-in-Some-clause-rising
-returns-in-Some-clause-rising c = rw (← c.self.view_is) (rising-found (parts_of c.self.inside) c.self.invariant)
+returns-in-Some-clause-rising g c = rw (← c.self.view_is) (rising-found (parts_of c.self.inside) c.self.invariant)
 
 pub returns-in-None-clause-busy : goal.returns-in-None-clause-busy
-returns-in-None-clause-busy c =
+returns-in-None-clause-busy g c =
     let place = rw c.number-number.ensures.value at c.in-None.is in
     rw (← c.self.view_is) (busy-nothing (parts_of c.self.inside) c.self.invariant c.args.worker place)
 
 pub returns-in-None-clause-rising : goal.returns-in-None-clause-rising
-returns-in-None-clause-rising c = rw (← c.self.view_is) (rising-found (parts_of c.self.inside) c.self.invariant)
+returns-in-None-clause-rising g c = rw (← c.self.view_is) (rising-found (parts_of c.self.inside) c.self.invariant)

@@ -12,12 +12,12 @@ use Rattle.sched_store.proofs.Showing.{root-shown}
 use Rattle.sched_store.proofs.store.Store.is_root.Goals as goal
 
 pub unreachable-requires : goal.unreachable-requires
-unreachable-requires c =
+unreachable-requires g c =
     let some = subst (λ (s : Shared). IsSome (named s c.args.name)) (sym c.self.view_is) c.requires in
     there-not-missing (parts_of c.self.inside) c.self.invariant c.args.name some c.in-None.ensures.entry
 
 pub returns : goal.returns
-returns c =
+returns g c =
     unnot c.is_none.result c.in-Some.entry.parent (sym c.is_none.ensures)
     ∙ root-shown (parts_of c.self.inside) c.self.invariant c.args.name c.in-Some.entry c.in-Some.ensures.entry
     ∙ ap (λ (s : Shared). is_root (path_of (named s c.args.name))) c.self.view_is

@@ -4,4 +4,4 @@ use Rattle.sched_store.proofs.Lookups.{job-found}
 use Rattle.sched_store.proofs.store.Store.job.Goals as goal
 
 pub returns : goal.returns
-returns c = rw (← c.self.view_is) (c.job.ensures ∙ sym (job-found (parts_of c.self.inside) c.self.invariant c.args.tenant c.args.number))
+returns g c = rw (← c.self.view_is) (c.job.ensures ∙ sym (job-found (parts_of c.self.inside) c.self.invariant c.args.tenant c.args.number))

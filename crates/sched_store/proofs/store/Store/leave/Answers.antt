@@ -9,37 +9,37 @@ use Rattle.sched_store.proofs.Leaving.{has-places, leave-closes, leave-stored, l
 use Rattle.sched_store.proofs.store.Store.leave.Goals as goal
 
 pub remove_all-nodes-requires : goal.remove_all-nodes-requires
-remove_all-nodes-requires c =
+remove_all-nodes-requires g c =
     let a = there-account (parts_of c.self.inside) c.args.tenant (subst (λ (s : Shared). IsSome (tenant_in s.tenants c.args.tenant)) (sym c.self.view_is) c.requires) in
     has-places (parts_of c.self.inside) c.self.invariant c.args.tenant a.0 a.1
 
 pub close_all-requires-clause-are_open : goal.close_all-requires-clause-are_open
-close_all-requires-clause-are_open c = (leave-closes (parts_of c.self.inside) c.args.tenant c.remove_all-nodes.result.now c.self.invariant c.remove_all-nodes.ensures.values).are_open
+close_all-requires-clause-are_open g c = (leave-closes (parts_of c.self.inside) c.args.tenant c.remove_all-nodes.result.now c.self.invariant c.remove_all-nodes.ensures.values).are_open
 
 pub close_all-requires-clause-once : goal.close_all-requires-clause-once
-close_all-requires-clause-once c = (leave-closes (parts_of c.self.inside) c.args.tenant c.remove_all-nodes.result.now c.self.invariant c.remove_all-nodes.ensures.values).once
+close_all-requires-clause-once g c = (leave-closes (parts_of c.self.inside) c.args.tenant c.remove_all-nodes.result.now c.self.invariant c.remove_all-nodes.ensures.values).once
 
 pub close_all-requires-clause-with_children : goal.close_all-requires-clause-with_children
-close_all-requires-clause-with_children c = (leave-closes (parts_of c.self.inside) c.args.tenant c.remove_all-nodes.result.now c.self.invariant c.remove_all-nodes.ensures.values).with_children
+close_all-requires-clause-with_children g c = (leave-closes (parts_of c.self.inside) c.args.tenant c.remove_all-nodes.result.now c.self.invariant c.remove_all-nodes.ensures.values).with_children
 
 pub release-requires-clause-there : goal.release-requires-clause-there
-release-requires-clause-there c =
+release-requires-clause-there g c =
     let a = there-account (parts_of c.self.inside) c.args.tenant (subst (λ (s : Shared). IsSome (tenant_in s.tenants c.args.tenant)) (sym c.self.view_is) c.requires) in
     let some = has-places (parts_of c.self.inside) c.self.invariant c.args.tenant a.0 a.1 in
     rw (c.remove_all-nodes.follows.holds-at-none.1.places c.args.tenant) some
 
 pub remove-requires : goal.remove-requires
-remove-requires c =
+remove-requires g c =
     let a = there-account (parts_of c.self.inside) c.args.tenant (subst (λ (s : Shared). IsSome (tenant_in s.tenants c.args.tenant)) (sym c.self.view_is) c.requires) in
     ledger-there c.args.tenant c.self.inside.ledgers c.self.inside.book.accounts a.0 c.self.invariant.ledgers a.1
 
 pub release-requires-2 : goal.release-requires-2
-release-requires-2 c =
+release-requires-2 g c =
     let a = there-account (parts_of c.self.inside) c.args.tenant (subst (λ (s : Shared). IsSome (tenant_in s.tenants c.args.tenant)) (sym c.self.view_is) c.requires) in
     rw a.1 refl
 
 pub invariant_of-self : goal.invariant_of-self
-invariant_of-self c =
+invariant_of-self g c =
     let a = there-account (parts_of c.self.inside) c.args.tenant (subst (λ (s : Shared). IsSome (tenant_in s.tenants c.args.tenant)) (sym c.self.view_is) c.requires) in
     let emptied = c.remove_all-nodes.follows.holds-at-none in
     let released : Releases c.self.inside.book c.release-2.new.self c.args.tenant a.0 = subst (λ (o : Option Account). IfSome o (Releases c.self.inside.book c.release-2.new.self c.args.tenant)) a.1 c.release-2.ensures.releases in
@@ -60,7 +60,7 @@ invariant_of-self c =
     })
 
 pub returns : goal.returns
-returns c =
+returns g c =
     let a = there-account (parts_of c.self.inside) c.args.tenant (subst (λ (s : Shared). IsSome (tenant_in s.tenants c.args.tenant)) (sym c.self.view_is) c.requires) in
     let emptied = c.remove_all-nodes.follows.holds-at-none in
     let released : Releases c.self.inside.book c.release-2.new.self c.args.tenant a.0 = subst (λ (o : Option Account). IfSome o (Releases c.self.inside.book c.release-2.new.self c.args.tenant)) a.1 c.release-2.ensures.releases in

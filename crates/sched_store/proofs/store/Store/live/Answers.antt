@@ -11,10 +11,10 @@ use Rattle.sched_store.proofs.Counting.{words-few, live-found}
 use Rattle.sched_store.proofs.store.Store.live.Goals as goal
 
 pub loop-name-init : goal.loop-name-init
-loop-name-init c = omega arith
+loop-name-init g c = omega arith
 
 pub overflow_add-words : goal.overflow_add-words
-overflow_add-words c =
+overflow_add-words g c =
     let f : FrameId → ℕ = λ name. length (words_under c.args.self.now name) in
     let few = words-few (parts_of c.self.inside) c.self.invariant c.args.tenant in
     let same : sum_by f (names_of c.args.tenant (frames_of c.self.inside.table c.args.tenant)) ≤ 65536 = subst (λ (s : Shared). sum_by (λ (name : FrameId). length (words_under s name)) (names_of c.args.tenant (frames_of c.self.inside.table c.args.tenant)) ≤ 65536) c.self.view_is few in
@@ -25,7 +25,7 @@ overflow_add-words c =
     omega (arith, same, initial, step, invariant, word)
 
 pub loop-name-preserved : goal.loop-name-preserved
-loop-name-preserved c =
+loop-name-preserved g c =
     let f : FrameId → ℕ = λ name. length (words_under c.args.self.now name) in
     let step = ap (sum_by f) c.in-Some.ensures.steps ∙ sum_by-cons f c.in-Some.name c.next.new.self in
     let invariant = c.loop-name.invariant in
@@ -33,7 +33,7 @@ loop-name-preserved c =
     omega (arith, step, invariant, word)
 
 pub returns : goal.returns
-returns c =
+returns g c =
     let parts = parts_of c.self.inside in
     let there : is_some (tenant_in c.args.self.now.tenants c.args.tenant) ≡ true = sym c.has_tenant.ensures.there ∙ c.if-not-has_tenant.false in
     let some = subst (λ (s : Shared). is_some (tenant_in s.tenants c.args.tenant) ≡ true) (sym c.self.view_is) there in

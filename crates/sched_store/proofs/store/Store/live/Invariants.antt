@@ -3,4 +3,4 @@ use Rattle.sched_store.specs.Reads.{words_under}
 use Rattle.sched_store.proofs.store.Store.live.Given as goal
 
 abbrev pub invariant-loop-name : goal.invariant-loop-name
-invariant-loop-name l = l.words + sum_by (λ name. length (words_under l.self name)) l.name-iterator ≡ sum_by (λ name. length (words_under l.self name)) l.initial.name-iterator
+invariant-loop-name g l = l.words + sum_by (λ name. length (words_under l.self name)) l.name-iterator ≡ sum_by (λ name. length (words_under l.self name)) l.initial.name-iterator

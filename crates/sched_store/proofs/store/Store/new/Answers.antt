@@ -3,7 +3,7 @@ use Rattle.sched_store.proofs.Founding.{new-stored}
 use Rattle.sched_store.proofs.store.Store.new.Goals as goal
 
 pub invariant_of-result : goal.invariant_of-result
-invariant_of-result c =
+invariant_of-result g c =
     new-stored c.in_ok-stack.stack c.in_ok-table.table c.in_ok-ledgers.ledgers c.in_ok-book.book _ c.segments-segments.result c.nodes.result
     (record {
       stack = c.in_ok-stack.ensures;

@@ -3,7 +3,7 @@ use Rattle.sched_store.proofs.Lookups.{known-found, rising-found}
 use Rattle.sched_store.proofs.store.Store.newest.Goals as goal
 
 pub returns-clause-known : goal.returns-clause-known
-returns-clause-known c = rw (← c.self.view_is) (known-found (parts_of c.self.inside) c.self.invariant)
+returns-clause-known g c = rw (← c.self.view_is) (known-found (parts_of c.self.inside) c.self.invariant)
 
 pub returns-clause-rising : goal.returns-clause-rising
-returns-clause-rising c = rw (← c.self.view_is) (rising-found (parts_of c.self.inside) c.self.invariant)
+returns-clause-rising g c = rw (← c.self.view_is) (rising-found (parts_of c.self.inside) c.self.invariant)

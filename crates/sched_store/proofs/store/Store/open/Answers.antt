@@ -9,53 +9,53 @@ use Rattle.sched_store.proofs.Opening.{open-step}
 use Rattle.sched_store.proofs.store.Store.open.Goals as goal
 
 pub parent_node-above-requires : goal.parent_node-above-requires
-parent_node-above-requires c =
+parent_node-above-requires g c =
     let parent = (let there = rw (← c.self.view_is) at c.requires.parent in parent-found (parts_of c.self.inside) c.self.invariant c.args.tenant c.args.parent there) in
     parent
 
 pub open-requires-clause-parent_is_open : goal.open-requires-clause-parent_is_open
-open-requires-clause-parent_is_open c =
+open-requires-clause-parent_is_open g c =
     let parent = (let there = rw (← c.self.view_is) at c.requires.parent in parent-found (parts_of c.self.inside) c.self.invariant c.args.tenant c.args.parent there) in
     parent-open (parts_of c.self.inside) c.self.invariant c.args.tenant c.args.parent c.parent_node-above.result parent c.parent_node-above.ensures
 
 pub unwrap-node-requires : goal.unwrap-node-requires
-unwrap-node-requires c =
+unwrap-node-requires g c =
     let left = rw (← c.self.view_is) at c.requires.left in
     let free = has-free (parts_of c.self.inside) c.self.invariant c.args.tenant (charge c.args.size) 1 left in
     not-refused c.open.result (λ refused. let short = c.open.ensures.refused.0 refused in omega (arith, short, free))
 
 pub add-requires-clause-above : goal.add-requires-clause-above
-add-requires-clause-above c =
+add-requires-clause-above g c =
     let left = rw (← c.self.view_is) at c.requires.left in
     let own = left-account (parts_of c.self.inside) c.self.invariant c.args.tenant (λ l. (charge c.args.size ≤ l.segments) × (1 ≤ l.nodes)) left in
     let serial = (let next = rw (← c.self.view_is) at c.next_serial-serial.ensures in next ∙ ap (λ n. n + 1) (serials-found (parts_of c.self.inside) c.args.tenant own.0 own.1.0)) in
     rw serial (c.self.invariant.accounts c.args.tenant own.0 own.1.0).serials
 
 pub add-requires-clause-parent : goal.add-requires-clause-parent
-add-requires-clause-parent c =
+add-requires-clause-parent g c =
     let parent = (let there = rw (← c.self.view_is) at c.requires.parent in parent-found (parts_of c.self.inside) c.self.invariant c.args.tenant c.args.parent there) in
     parent-in (frames_of c.self.inside.table c.args.tenant) c.args.tenant c.args.parent c.parent_name.result parent c.parent_name.ensures
 
 pub add-requires-clause-room : goal.add-requires-clause-room
-add-requires-clause-room c =
+add-requires-clause-room g c =
     let left = rw (← c.self.view_is) at c.requires.left in
     let own = left-account (parts_of c.self.inside) c.self.invariant c.args.tenant (λ l. (charge c.args.size ≤ l.segments) × (1 ≤ l.nodes)) left in
     let size = size-some c.args.words.now c.args.size c.requires.size in
     place-left (parts_of c.self.inside) c.self.invariant c.args.tenant c.args.size own.0 own.1.0 size.0 own.1.1.0
 
 pub charge-requires-2 : goal.charge-requires-2
-charge-requires-2 c =
+charge-requires-2 g c =
     let left = rw (← c.self.view_is) at c.requires.left in
     let own = left-account (parts_of c.self.inside) c.self.invariant c.args.tenant (λ l. (charge c.args.size ≤ l.segments) × (1 ≤ l.nodes)) left in
     rw own.1.0 refl
 
 pub unwrap-requires : goal.unwrap-requires
-unwrap-requires c =
+unwrap-requires g c =
     let left = rw (← c.self.view_is) at c.requires.left in
     c.charge-2.ensures.ok.1 (rw c.charge.ensures (book-left (parts_of c.self.inside) c.self.invariant c.args.tenant (λ l. (charge c.args.size ≤ l.segments) × (1 ≤ l.nodes)) left))
 
 pub invariant_of-self : goal.invariant_of-self
-invariant_of-self c =
+invariant_of-self g c =
     let left = rw (← c.self.view_is) at c.requires.left in
     let own = left-account (parts_of c.self.inside) c.self.invariant c.args.tenant (λ l. (charge c.args.size ≤ l.segments) × (1 ≤ l.nodes)) left in
     let parent = (let there = rw (← c.self.view_is) at c.requires.parent in parent-found (parts_of c.self.inside) c.self.invariant c.args.tenant c.args.parent there) in
@@ -84,10 +84,10 @@ invariant_of-self c =
     step.stored
 
 pub returns-clause-name : goal.returns-clause-name
-returns-clause-name c = (let next = c.next_serial-serial.ensures in ap (λ n. record { tenant = c.args.tenant; serial = n }) next)
+returns-clause-name g c = (let next = c.next_serial-serial.ensures in ap (λ n. record { tenant = c.args.tenant; serial = n }) next)
 
 pub returns-clause-opened : goal.returns-clause-opened
-returns-clause-opened c =
+returns-clause-opened g c =
     let left = rw (← c.self.view_is) at c.requires.left in
     let own = left-account (parts_of c.self.inside) c.self.invariant c.args.tenant (λ l. (charge c.args.size ≤ l.segments) × (1 ≤ l.nodes)) left in
     let parent = (let there = rw (← c.self.view_is) at c.requires.parent in parent-found (parts_of c.self.inside) c.self.invariant c.args.tenant c.args.parent there) in

@@ -13,41 +13,41 @@ use Rattle.sched_store.proofs.Leaves.{no-children, leaf-node, has-value, leaf-fr
 use Rattle.sched_store.proofs.store.Store.remove.Goals as goal
 
 pub remove-node-requires-clause-there : goal.remove-node-requires-clause-there
-remove-node-requires-clause-there c =
+remove-node-requires-clause-there g c =
     let some = subst (λ (s : Shared). IsSome (named s c.args.name)) (sym c.self.view_is) c.requires.there in
     has-frame (parts_of c.self.inside) c.self.invariant c.args.name some
 
 pub remove-node-requires-clause-leaf : goal.remove-node-requires-clause-leaf
-remove-node-requires-clause-leaf c =
+remove-node-requires-clause-leaf g c =
     let leaf = subst (λ (s : Shared). has_child (frames_in s c.args.name.tenant) c.args.name.serial ≡ false) (sym c.self.view_is) c.requires.leaf in
     no-children (parts_of c.self.inside) c.self.invariant c.args.name leaf
 
 pub close-requires-clause-is_open : goal.close-requires-clause-is_open
-close-requires-clause-is_open c =
+close-requires-clause-is_open g c =
     let f = has-value (frame_at (frames_of c.self.inside.table c.args.name.tenant) c.args.name.serial) c.remove-node.result c.remove-node.ensures.value in
     subst (λ (n : ℕ). IsOpen c.self.inside.stack n) f.2 (c.self.invariant.frames_nodes.nodes_of_frames c.args.name.tenant c.args.name.serial f.0 f.1).is_open
 
 pub close-requires-clause-no_child : goal.close-requires-clause-no_child
-close-requires-clause-no_child c =
+close-requires-clause-no_child g c =
     let leaf = subst (λ (s : Shared). has_child (frames_in s c.args.name.tenant) c.args.name.serial ≡ false) (sym c.self.view_is) c.requires.leaf in
     let f = has-value (frame_at (frames_of c.self.inside.table c.args.name.tenant) c.args.name.serial) c.remove-node.result c.remove-node.ensures.value in
     let none = leaf-node (parts_of c.self.inside) c.args.name f.0 c.self.invariant f.1 (no-children (parts_of c.self.inside) c.self.invariant c.args.name leaf) in
     subst (λ (n : ℕ). HasNoChild c.self.inside.stack n) f.2 none
 
 pub overflow_sub-freed : goal.overflow_sub-freed
-overflow_sub-freed c =
+overflow_sub-freed g c =
     let some = subst (λ (s : Shared). IsSome (named s c.args.name)) (sym c.self.view_is) c.requires.there in
     (leaf-frees (parts_of c.self.inside) c.close.new.self c.args.name c.remove-node.result c.free_count-before.result c.free_count.result c.self.invariant some
     c.remove-node.ensures.value c.close.ensures c.free_count-before.ensures c.free_count.ensures).more
 
 pub give_back-requires : goal.give_back-requires
-give_back-requires c =
+give_back-requires g c =
     let some = subst (λ (s : Shared). IsSome (named s c.args.name)) (sym c.self.view_is) c.requires.there in
     (leaf-frees (parts_of c.self.inside) c.close.new.self c.args.name c.remove-node.result c.free_count-before.result c.free_count.result c.self.invariant some
     c.remove-node.ensures.value c.close.ensures c.free_count-before.ensures c.free_count.ensures).charged
 
 pub invariant_of-self : goal.invariant_of-self
-invariant_of-self c =
+invariant_of-self g c =
     let some = subst (λ (s : Shared). IsSome (named s c.args.name)) (sym c.self.view_is) c.requires.there in
     let leaf = subst (λ (s : Shared). has_child (frames_in s c.args.name.tenant) c.args.name.serial ≡ false) (sym c.self.view_is) c.requires.leaf in
     remove-stored (parts_of c.self.inside) c.close.new.self c.remove-node.new.self c.give_back.new.self c.args.name c.remove-node.result c.free_count-before.result c.free_count.result c.self.invariant some
@@ -66,7 +66,7 @@ invariant_of-self c =
     })
 
 pub returns : goal.returns
-returns c =
+returns g c =
     let some = subst (λ (s : Shared). IsSome (named s c.args.name)) (sym c.self.view_is) c.requires.there in
     let leaf = subst (λ (s : Shared). has_child (frames_in s c.args.name.tenant) c.args.name.serial ≡ false) (sym c.self.view_is) c.requires.leaf in
     remove-shared (parts_of c.self.inside) c.close.new.self c.remove-node.new.self c.give_back.new.self c.args.name c.remove-node.result c.free_count-before.result c.free_count.result c.self.invariant some

@@ -10,12 +10,12 @@ use Rattle.sched_store.proofs.Showing.{path-shown}
 use Rattle.sched_store.proofs.store.Store.root.Goals as goal
 
 pub root-requires : goal.root-requires
-root-requires c =
+root-requires g c =
     let some = subst (λ (s : Shared). IsSome (named s c.args.name)) (sym c.self.view_is) c.requires in
     has-frame (parts_of c.self.inside) c.self.invariant c.args.name some
 
 pub returns : goal.returns
-returns c =
+returns g c =
     let some = subst (λ (s : Shared). IsSome (named s c.args.name)) (sym c.self.view_is) c.requires in
     let path = sym (path-shown (parts_of c.self.inside) c.self.invariant c.args.name some) ∙ ap (λ (s : Shared). path_of (named s c.args.name)) c.self.view_is in
     c.root.ensures ∙ ap (λ (p : List ℕ). made p) path

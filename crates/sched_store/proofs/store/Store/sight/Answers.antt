@@ -7,14 +7,14 @@ use Rattle.sched_store.proofs.Seeing.{sight-found, entry-open, there-not-missing
 use Rattle.sched_store.proofs.store.Store.sight.Goals as goal
 
 pub sight-requires : goal.sight-requires
-sight-requires c = entry-open (parts_of c.self.inside) c.self.invariant c.args.name c.in-Some.entry c.in-Some.ensures.entry
+sight-requires g c = entry-open (parts_of c.self.inside) c.self.invariant c.args.name c.in-Some.entry c.in-Some.ensures.entry
 
 pub unreachable-requires : goal.unreachable-requires
-unreachable-requires c =
+unreachable-requires g c =
     let some = subst (λ (s : Shared). IsSome (named s c.args.name)) (sym c.self.view_is) c.requires in
     there-not-missing (parts_of c.self.inside) c.self.invariant c.args.name some c.in-None.ensures.entry
 
 pub returns : goal.returns
-returns c =
+returns g c =
     sight-found (parts_of c.self.inside) c.self.invariant c.args.name c.in-Some.entry c.sight.result c.in-Some.ensures.entry c.sight.ensures
     ∙ ap (λ (s : Shared). sight_of s c.args.name) c.self.view_is

@@ -4,7 +4,7 @@ use Rattle.sched_rules.specs.Trees.{stored, is_outside}
 use Rattle.sched_store.proofs.store.writing.store_words.Given as goal
 
 abbrev pub invariant-loop-at : goal.invariant-loop-at
-invariant-loop-at l = record {
+invariant-loop-at g l = record {
   is_open : IsOpen l.stack l.node;
   inside : is_outside (drop l.at-index l.stores) (node_words l.stack l.node) ≡ false;
   so_far : with_words l.stack l.node (stored (drop l.at-index l.stores) (node_words l.stack l.node)) ≡ with_words l.fn.stack l.node (stored l.stores (node_words l.fn.stack l.node));
