@@ -31,7 +31,7 @@ use Rattle.jamboree_rules.proofs.Answers.{accept-keeps, root-fits, root-value}
 use Rattle.jamboree_laws.specs.Replies.{AreRootWords, IsSearch, AreSearches, IsReplyTo, HoldsReply, AreReplies, AreAllSound}
 
 -- the new root of a search fits
-search-fits : (step : StepOf LeafAnswer) → IsSearch step → RootFits AreFitting IsRoot step
+pub search-fits : (step : StepOf LeafAnswer) → IsSearch step → RootFits AreFitting IsRoot step
 search-fits (Admit number quota) is = tt
 search-fits (Submit number words size) is =
     let root = root-fits is.0.own is.0.opp is.0.depth is.0.apart is.0.shallow in
@@ -46,7 +46,7 @@ search-fits (Spend name) is = tt
 search-fits (Cancel number job) is = tt
 search-fits (Leave number) is = tt
 
-searches-fit : (steps : List (StepOf LeafAnswer)) → AreSearches steps → RootsFit AreFitting IsRoot steps
+pub searches-fit : (steps : List (StepOf LeafAnswer)) → AreSearches steps → RootsFit AreFitting IsRoot steps
 searches-fit [] are = tt
 searches-fit (step ∷ steps) are = (search-fits step are.0, searches-fit steps are.1)
 

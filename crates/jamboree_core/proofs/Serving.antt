@@ -1,0 +1,82 @@
+-- Cores of searches: what follows from each frame fitting and each job holding what it was asked.
+use Rattle.std.proofs.Common.{◌≡◌, ℕ, ◌<◌, List, [], ◌∷◌, ◌++◌, Option, Some, None, Result, refl}
+use Rattle.tenant_quota.specs.Quota.{Quota}
+use Rattle.sched_rules.specs.declared.refusal.Refusal.{Refusal}
+use Rattle.sched_rules.specs.declared.step.StepOf.{StepOf}
+use Rattle.sched_rules.specs.declared.step.DidOf.{DidOf}
+use Rattle.sched_rules.specs.declared.step.StepOf.TheVariants.{Admit, Submit, Take, Steal, Advance, Answer, Inlet, Finish, Spend, Cancel, Leave}
+use Rattle.sched_rules.specs.Trees.{Tenant}
+use Rattle.sched_rules.specs.Runs.{only}
+use Rattle.sched_rules.specs.Cores.{Shared, shared_by_nobody, tenant_in}
+use Rattle.sched_rules.specs.Headline.{IsKnown, IsHeadline, taken}
+use Rattle.sched_rules.proofs.Tenants.{tenant_in-new}
+use Rattle.sched_laws.specs.Fitted.{TenantFits, CoreFits, submits, origins_of}
+use Rattle.sched_laws.proofs.FitAnswers.{nobody-fits}
+use Rattle.jamboree_rules.specs.declared.leaf.Leaf.{Leaf}
+use Rattle.jamboree_rules.specs.declared.leaf.LeafAnswer.{LeafAnswer}
+use Rattle.jamboree_rules.specs.Fits.{AreFitting, IsRoot}
+use Rattle.jamboree_laws.specs.Replies.{IsSearch, AreSearches, AreReplies, AreAllSound}
+use Rattle.jamboree_laws.proofs.Replying.{replies-held, all-sound}
+use Rattle.jamboree_core.specs.Searching.{AreAllRootWords, TenantSearches, ServesSearches, CoreSearches, HoldsReplies}
+
+pub nobody-searches : (totals : Quota) → CoreSearches (λ number. []) (shared_by_nobody totals)
+nobody-searches totals = record { fits = nobody-fits AreFitting IsRoot totals; asked = λ number. tt }
+
+pub tenant-replies : (origins : List (List ℕ)) (tenant : Tenant) → TenantSearches origins tenant → AreReplies origins tenant.jobs
+tenant-replies origins tenant searches = replies-held tenant.frames origins tenant.jobs searches.fits.jobs
+
+pub tenant-sound : (origins : List (List ℕ)) (tenant : Tenant) → TenantSearches origins tenant → AreAllSound tenant.frames tenant.frames
+tenant-sound origins tenant searches = all-sound tenant.frames tenant.frames searches.fits.frames
+
+pub core-tenant : (origins : ℕ → List (List ℕ)) (shared : Shared) (number : ℕ) (tenant : Tenant) → CoreSearches origins shared → tenant_in shared.tenants number ≡ Some tenant → TenantSearches (origins number) tenant
+core-tenant origins shared number tenant core at = record { fits = core.fits.tenants number tenant at; asked = core.asked number }
+
+pub core-serves : (origins : ℕ → List (List ℕ)) (shared : Shared) (number : ℕ) → CoreSearches origins shared → ServesSearches (tenant_in shared.tenants number)
+core-serves origins shared number core = by (tenant_in shared.tenants number) refl
+  where
+    by : (own : Option Tenant) → tenant_in shared.tenants number ≡ own → ServesSearches own
+    by None at = tt
+    by (Some tenant) at = (origins number, core-tenant origins shared number tenant core at)
+
+pub core-replies : (origins : ℕ → List (List ℕ)) (shared : Shared) → CoreSearches origins shared → HoldsReplies origins shared
+core-replies origins shared core = record {
+  replies = λ number tenant at. tenant-replies (origins number) tenant (core-tenant origins shared number tenant core at);
+  sound = λ number tenant at. tenant-sound (origins number) tenant (core-tenant origins shared number tenant core at);
+}
+
+-- a core of tenants of searches
+pub core-whole : (origins : ℕ → List (List ℕ)) (shared : Shared) →
+    ((number : ℕ) (tenant : Tenant) → tenant_in shared.tenants number ≡ Some tenant → TenantSearches (origins number) tenant) →
+    ((number : ℕ) → tenant_in shared.tenants number ≡ None → origins number ≡ []) → IsKnown shared → CoreSearches origins shared
+core-whole origins shared each none known = record {
+  fits = record {
+    tenants = λ number tenant at. (each number tenant at).fits;
+    unused = λ number new. none number (tenant_in-new shared.newest number shared.tenants new known);
+  };
+  asked = λ number. by number (tenant_in shared.tenants number) refl;
+}
+  where
+    by : (number : ℕ) (own : Option Tenant) → tenant_in shared.tenants number ≡ own → AreAllRootWords (origins number)
+    by number None at = rw (none number at) tt
+    by number (Some tenant) at = (each number tenant at).asked
+
+-- the words of searches
+pub searches-asked : {A : Type 0} (steps : List (StepOf A)) → AreSearches steps → AreAllRootWords (origins_of steps)
+searches-asked [] are = tt
+searches-asked (step ∷ steps) are = asked-append (submits step) (origins_of steps) (step-asked step are.0) (searches-asked steps are.1)
+  where
+    step-asked : {A : Type 0} (step : StepOf A) → IsSearch step → AreAllRootWords (submits step)
+    step-asked (Admit number quota) is = tt
+    step-asked (Submit number words size) is = (is.0, tt)
+    step-asked (Take worker name) is = tt
+    step-asked (Steal worker from name) is = tt
+    step-asked (Advance worker name) is = tt
+    step-asked (Answer worker name answer) is = tt
+    step-asked (Inlet worker name) is = tt
+    step-asked (Finish worker name) is = tt
+    step-asked (Spend name) is = tt
+    step-asked (Cancel number job) is = tt
+    step-asked (Leave number) is = tt
+    asked-append : (xs ys : List (List ℕ)) → AreAllRootWords xs → AreAllRootWords ys → AreAllRootWords (xs ++ ys)
+    asked-append [] ys some more = more
+    asked-append (x ∷ xs) ys some more = (some.0, asked-append xs ys some.1 more)

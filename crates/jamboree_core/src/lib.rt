@@ -1,0 +1,4 @@
+//! Searches on a running core.
+#![tactic(auto)]
+
+pub mod laws;
