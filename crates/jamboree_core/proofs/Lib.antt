@@ -1,2 +1,3 @@
 pub mod Serving
 pub mod JournalLemmas
+pub mod OutcomeLemmas
