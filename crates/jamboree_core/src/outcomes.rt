@@ -9,6 +9,7 @@ ghost use Rattle.jamboree_core.specs.Outcomes.{IsOfSearch, IsOutcomeOf, IsOutcom
 use jamboree::{Jamboree, Reply};
 use sched_core::Core;
 use sched_rules::Job;
+use std::alloc::Allocator;
 
 /// What has become of a job: it lives, or has ended in one of three ways.
 #[derive(Clone, Copy, Debug, PartialEq, Eq)]
@@ -40,7 +41,7 @@ impl Outcome {
 
 /// What has become of a tenant's job by its number, from 1 on; `None` where there is no such tenant
 /// or job. Where it is done, the reply is to the board and the depth that its Submit asked for.
-pub fn outcome_of(core: &Core<Jamboree>, tenant: u64, job: u64) -> Option<Outcome>
+pub fn outcome_of<A: Allocator>(core: &Core<Jamboree, A>, tenant: u64, job: u64) -> Option<Outcome>
     requires { ServesSearches (tenant_in core.now.shared.tenants tenant) }
     ensures is { IsOutcomeIn (job_of core.now.shared tenant job) result }
     ensures asked { (origins : List (List ℕ)) (owner : Tenant) → tenant_in core.now.shared.tenants tenant ≡ Some owner → TenantSearches origins owner

@@ -13,12 +13,12 @@ ghost use Rattle.jamboree_core.specs.Searching.{CoreSearches, IsHeadlineInFull};
 use jamboree::Jamboree;
 use sched_core::Core;
 use sched_rules::{Did, Refusal, Step};
-use std::alloc::AllocError;
+use std::alloc::{AllocError, Allocator};
 
 /// One step of a core of searches: what it did, or why it is refused, and then nothing changes. Only
 /// an admission takes memory. Where a taken Submit asks for a search, the core's jobs stay searches.
-pub fn step_search(
-    core: &mut Core<Jamboree>,
+pub fn step_search<A: Allocator + Clone>(
+    core: &mut Core<Jamboree, A>,
     step: &Step<Jamboree>,
 ) -> Result<Did<Jamboree>, Refusal>
     ensures one { IsOneStep (jamboree core.old.procedure.grain) core.old.shared step.now result core.new.shared }
@@ -35,10 +35,10 @@ pub fn step_search(
 
 /// A list of steps of a core of searches, one after the other: one answer each is appended. The
 /// vector grows first: where that is refused, no step is tried.
-pub fn run_searches(
-    core: &mut Core<Jamboree>,
+pub fn run_searches<A: Allocator + Clone>(
+    core: &mut Core<Jamboree, A>,
     steps: &[Step<Jamboree>],
-    answers: &mut Vec<Result<Did<Jamboree>, Refusal>>,
+    answers: &mut Vec<Result<Did<Jamboree>, Refusal>, A>,
 ) -> Result<(), AllocError>
     ensures headline { OnOk result ((answered : List (Result (DidOf Leaf) RefusalOf)) × (answers.new.items ≡ answers.old.items ++ answered)
         × IsHeadlineInFull core.old.procedure.grain core.old.shared steps.now answered core.new.shared) }
