@@ -1,11 +1,8 @@
 -- A done job kept a returned root, which holds what it was asked.
-use Rattle.std.proofs.Common.{◌≡◌, ℕ, ◌<◌, ◌≤◌, List, [], ◌∷◌, take, get_or, Some, Result, refl, ap, sym, ◌∙◌, subst, arith}
+use Rattle.std.proofs.Common.{◌≡◌, ℕ, ◌<◌, List, [], ◌∷◌, get_or, Some, Result, refl, ap, sym, ◌∙◌, arith}
 use Rattle.std.proofs.lemmas.List.{get_or-take}
 use Rattle.tenant_quota.specs.Quota.{Quota}
-use Rattle.cactus_stack.specs.Nodes.{padded}
 use Rattle.frame_table.specs.Frames.{Frame as TreeFrame, children_of, values_of}
-use Rattle.othello_board.specs.Words.{cells_of}
-use Rattle.othello_eval.specs.Minimax.{minimax, best_choice}
 use Rattle.sched_rules.specs.declared.job.Job.{Job}
 use Rattle.sched_rules.specs.declared.job.Job.TheVariants.{Live, Done, Spent as SpentJob, Cancelled as CancelledJob}
 use Rattle.sched_rules.specs.declared.refusal.Refusal.{Refusal}
@@ -13,7 +10,7 @@ use Rattle.sched_rules.specs.declared.step.StepOf.{StepOf}
 use Rattle.sched_rules.specs.declared.step.StepOf.TheVariants.{Admit, Submit, Take, Steal, Advance, Answer, Inlet, Finish, Spend, Cancel, Leave}
 use Rattle.sched_rules.specs.declared.step.DidOf.{DidOf}
 use Rattle.sched_rules.specs.Trees.{Tree, Tenant, kept_words}
-use Rattle.sched_rules.specs.Laws.{Neither, HasReturned, mark_of, EachFits, EveryFrameFits}
+use Rattle.sched_rules.specs.Laws.{HasReturned, mark_of, EachFits}
 use Rattle.sched_rules.specs.Runs.{only}
 use Rattle.sched_rules.specs.Cores.{shared_by_nobody, tenant_in}
 use Rattle.sched_rules.specs.Headline.{AreAnswersTo, after_answers, taken}
@@ -21,17 +18,16 @@ use Rattle.sched_laws.specs.Fitted.{JobsFit, TenantFits, RootFits, RootsFit, ori
 use Rattle.sched_laws.proofs.FitAnswers.{run-fits, nobody-fits}
 use Rattle.jamboree_rules.specs.declared.leaf.Leaf.{Leaf}
 use Rattle.jamboree_rules.specs.declared.leaf.LeafAnswer.{LeafAnswer}
-use Rattle.jamboree_rules.specs.Frames.{Frame, coded, board, value}
-use Rattle.jamboree_rules.specs.Places.{root_words, frame_size, frame_of, score_of}
+use Rattle.jamboree_rules.specs.Places.{frame_of, score_of}
 use Rattle.jamboree_rules.specs.Fits.{AreFitting, IsRoot}
 use Rattle.jamboree_rules.specs.Procedure.{jamboree}
 use Rattle.jamboree_rules.proofs.Keeping.{next-keeps, inlet-keeps}
 use Rattle.jamboree_rules.proofs.Soundness.{fits-sound}
 use Rattle.jamboree_rules.proofs.Answers.{accept-keeps, root-fits, root-value}
-use Rattle.jamboree_laws.specs.Replies.{AreRootWords, IsSearch, AreSearches, IsReplyTo, HoldsReply, AreReplies, AreAllSound}
+use Rattle.jamboree_laws.specs.Replies.{IsSearch, AreSearches, IsReplyTo, AreReplies, AreAllSound}
 
 -- the new root of a search fits
-search-fits : (step : StepOf LeafAnswer) → IsSearch step → RootFits AreFitting IsRoot step
+pub search-fits : (step : StepOf LeafAnswer) → IsSearch step → RootFits AreFitting IsRoot step
 search-fits (Admit number quota) is = tt
 search-fits (Submit number words size) is =
     let root = root-fits is.0.own is.0.opp is.0.depth is.0.apart is.0.shallow in
@@ -46,7 +42,7 @@ search-fits (Spend name) is = tt
 search-fits (Cancel number job) is = tt
 search-fits (Leave number) is = tt
 
-searches-fit : (steps : List (StepOf LeafAnswer)) → AreSearches steps → RootsFit AreFitting IsRoot steps
+pub searches-fit : (steps : List (StepOf LeafAnswer)) → AreSearches steps → RootsFit AreFitting IsRoot steps
 searches-fit [] are = tt
 searches-fit (step ∷ steps) are = (search-fits step are.0, searches-fit steps are.1)
 

@@ -1,0 +1,149 @@
+-- Journals: what a tenant of searches comes to by its own taken steps, and how a journal grows.
+use Rattle.std.proofs.Common.{◌≡◌, ◌≢◌, ℕ, inl, inr, List, [], ◌∷◌, ◌++◌, Option, Some, None, Result, Ok, Err, refl, ap, sym, ◌∙◌, subst, append_assoc, append-nil}
+use Rattle.std.proofs.lemmas.Bool.{cases_Bool}
+use Rattle.tenant_quota.specs.Quota.{Quota}
+use Rattle.sched_rules.specs.declared.refusal.Refusal.{Refusal}
+use Rattle.sched_rules.specs.declared.refusal.Refusal.TheVariants.{OldTenant}
+use Rattle.sched_rules.specs.declared.step.StepOf.{StepOf}
+use Rattle.sched_rules.specs.declared.step.DidOf.{DidOf}
+use Rattle.sched_rules.specs.declared.step.DidOf.TheVariants.{Admitted}
+use Rattle.sched_rules.specs.declared.step.StepOf.TheVariants.{Admit}
+use Rattle.sched_rules.specs.Functions.{Functions}
+use Rattle.sched_rules.specs.Trees.{Tenant, admitted_with}
+use Rattle.sched_rules.specs.Lone.{Outcome, lone}
+use Rattle.sched_rules.specs.Runs.{tenant_of, state_after, alone_from}
+use Rattle.sched_rules.specs.Cores.{Shared, tenant_in, shared_with}
+use Rattle.sched_rules.specs.Headline.{is_admission, IsKnown, IsOneStep}
+use Rattle.sched_rules.proofs.Tenants.{tenant_in-with_outcome, tenant_in_other-with_outcome}
+use Rattle.sched_rules.proofs.Isolation.{there, step-taken, shared-after-taken}
+use Rattle.sched_laws.specs.Fitted.{submits, origins_of}
+use Rattle.sched_laws.proofs.Shaped.{LeftShaped}
+use Rattle.sched_laws.proofs.Answers.{lone-shaped}
+use Rattle.sched_laws.proofs.Levels.{IsLawful}
+use Rattle.sched_laws.proofs.Fits.{LeftFits}
+use Rattle.sched_laws.proofs.FitAnswers.{step-fits, admission}
+use Rattle.jamboree_rules.specs.declared.leaf.Leaf.{Leaf}
+use Rattle.jamboree_rules.specs.declared.leaf.LeafAnswer.{LeafAnswer}
+use Rattle.jamboree_rules.specs.Fits.{AreFitting, IsRoot}
+use Rattle.jamboree_rules.specs.Procedure.{jamboree}
+use Rattle.jamboree_rules.proofs.Keeping.{next-keeps, inlet-keeps}
+use Rattle.jamboree_rules.proofs.Answers.{accept-keeps}
+use Rattle.jamboree_laws.specs.Replies.{IsSearch, AreSearches}
+use Rattle.jamboree_laws.proofs.Replying.{search-fits}
+use Rattle.jamboree_core.specs.Searching.{TenantSearches}
+use Rattle.jamboree_core.specs.Journals.{StaysTaken, AreTakenFrom, IsJournalOf}
+use Rattle.jamboree_core.proofs.Serving.{searches-asked}
+
+abbrev Came : Type 0
+Came = Result (Outcome Leaf) Refusal
+
+-- Jamboree keeps frames fitting
+pub lawful : (grain : ℕ) → IsLawful (jamboree grain) AreFitting IsRoot
+lawful grain = record { next = next-keeps (jamboree grain) grain refl; inlet = inlet-keeps (jamboree grain) refl; accept = accept-keeps (jamboree grain) refl refl refl refl }
+
+-- from nothing only an admission is taken, and it leaves a tenant without jobs
+begun-fits : (grain : ℕ) (step : StepOf LeafAnswer) (outcome : Outcome Leaf) → lone (jamboree grain) None step ≡ Ok outcome → LeftFits AreFitting IsRoot (submits step) outcome.0
+begun-fits grain step outcome is = elim (cases_Bool (is_admission step)) [
+  | inr other ↦ absurd (there (jamboree grain) None step outcome other is refl)
+  | inl admits ↦ (let a = admission step admits in
+      let P : StepOf LeafAnswer → Type 0 = λ st. LeftFits AreFitting IsRoot (submits st) outcome.0 in
+      subst P (sym a.2) (begun a.0 a.1 (ap (lone (jamboree grain) None) (sym a.2) ∙ is)))
+]
+  where
+    begun : (number : ℕ) (quota : Quota) → lone (jamboree grain) None (Admit number quota) ≡ Ok outcome → LeftFits AreFitting IsRoot [] outcome.0
+    begun number quota taken =
+        let both : ◌≡◌ {A = Came} (Ok (Some (admitted_with quota), Admitted)) (Ok outcome) = taken in
+        let own : ◌≡◌ {A = Outcome Leaf} (Some (admitted_with quota), Admitted) outcome = cc in
+        let P : Outcome Leaf → Type 0 = λ o. LeftFits AreFitting IsRoot [] o.0 in
+        subst P own (record { frames = tt; jobs = tt })
+
+-- a tenant of searches after one of its own steps; where it wasn't there, no words were submitted
+lone-fits : (grain : ℕ) (origins : List (List ℕ)) (before : Option Tenant) (step : StepOf LeafAnswer) (outcome : Outcome Leaf) → IsSearch step → lone (jamboree grain) before step ≡ Ok outcome →
+    (before ≡ None → origins ≡ []) → LeftShaped before → LeftFits AreFitting IsRoot origins before → LeftFits AreFitting IsRoot (origins ++ submits step) outcome.0
+lone-fits grain origins (Some tenant) step outcome search is none shaped fits =
+    step-fits (jamboree grain) AreFitting IsRoot origins tenant step outcome (lawful grain) shaped fits (search-fits step search) is
+lone-fits grain origins None step outcome search is none shaped fits = rw (none refl) (begun-fits grain step outcome is)
+
+-- a tenant of searches after a list of its own steps, each of which was taken
+abbrev KeepsFitting : ℕ → List (StepOf LeafAnswer) → Type 0
+KeepsFitting grain steps =
+    (origins : List (List ℕ)) (before : Option Tenant) → AreTakenFrom (jamboree grain) before steps → (before ≡ None → origins ≡ []) → LeftShaped before → LeftFits AreFitting IsRoot origins before →
+    LeftFits AreFitting IsRoot (origins ++ origins_of steps) (alone_from (jamboree grain) before steps)
+
+fits-on : (grain : ℕ) (step : StepOf LeafAnswer) (steps : List (StepOf LeafAnswer)) → IsSearch step → KeepsFitting grain steps → KeepsFitting grain (step ∷ steps)
+fits-on grain step steps search rest origins before taken none shaped fits = by (lone (jamboree grain) before step) refl taken
+  where
+    by : (came : Came) → lone (jamboree grain) before step ≡ came → StaysTaken came × AreTakenFrom (jamboree grain) (state_after before came) steps →
+        LeftFits AreFitting IsRoot (origins ++ (submits step ++ origins_of steps)) (alone_from (jamboree grain) (state_after before came) steps)
+    by (Err refusal) e t = absurd t.0
+    by (Ok (None, did)) e t = absurd t.0
+    by (Ok (Some tenant, did)) e t =
+        let P : List (List ℕ) → Type 0 = λ os. LeftFits AreFitting IsRoot os (alone_from (jamboree grain) (Some tenant) steps) in
+        subst P (append_assoc origins (submits step) (origins_of steps)) (rest (origins ++ submits step) (Some tenant) t.1 (λ is. absurd cc)
+        (lone-shaped (jamboree grain) before step (Some tenant, did) e shaped) (lone-fits grain origins before step (Some tenant, did) search e none shaped fits))
+
+alone-fits : (grain : ℕ) (steps : List (StepOf LeafAnswer)) → AreSearches steps → KeepsFitting grain steps
+alone-fits grain [] searches = λ origins before taken none shaped fits. let P : List (List ℕ) → Type 0 = λ os. LeftFits AreFitting IsRoot os before in subst P (sym (append-nil origins)) fits
+alone-fits grain (step ∷ steps) searches = fits-on grain step steps searches.0 (alone-fits grain steps searches.1)
+
+pub journal-searches : (grain : ℕ) (journal : List (StepOf LeafAnswer)) (tenant : Tenant) → IsJournalOf (jamboree grain) journal tenant → AreSearches journal → TenantSearches (origins_of journal) tenant
+journal-searches grain journal tenant is searches =
+    let P : Option Tenant → Type 0 = λ own. LeftFits AreFitting IsRoot (origins_of journal) own in
+    record {
+      fits = subst P is.comes (alone-fits grain journal searches [] None is.taken (λ none. refl) tt tt);
+      asked = searches-asked journal searches;
+    }
+
+-- a journal that goes on with a taken step, after which its tenant is still there
+stays : {I : Type 0} (came : Result (Outcome I) Refusal) (outcome : Outcome I) (next : Tenant) → came ≡ Ok outcome → outcome.0 ≡ Some next → StaysTaken came
+stays {I} came outcome next is left =
+    let P : Result (Outcome I) Refusal → Type 0 = λ c. StaysTaken c in
+    let there : StaysTaken {I = I} (Ok (Some next, outcome.1)) = tt in
+    let Q : Option Tenant → Type 0 = λ own. StaysTaken {I = I} (Ok (own, outcome.1)) in
+    subst P (sym is) (subst Q (sym left) there)
+
+longer : {I A : Type 0} (functions : Functions I A) (before : Option Tenant) (steps : List (StepOf A)) (tenant next : Tenant) (step : StepOf A) (outcome : Outcome I) →
+    AreTakenFrom functions before steps → alone_from functions before steps ≡ Some tenant → lone functions (Some tenant) step ≡ Ok outcome → outcome.0 ≡ Some next →
+    AreTakenFrom functions before (steps ++ step ∷ []) × (alone_from functions before (steps ++ step ∷ []) ≡ Some next)
+longer functions before [] tenant next step outcome taken comes is left =
+    let own : lone functions before step ≡ Ok outcome = ap (λ (o : Option Tenant). lone functions o step) comes ∙ is in
+    ((stays (lone functions before step) outcome next own left, tt), ap (state_after before) own ∙ left)
+longer functions before (first ∷ steps) tenant next step outcome taken comes is left =
+    let rest = longer functions (state_after before (lone functions before first)) steps tenant next step outcome taken.1 comes is left in
+    ((taken.0, rest.0), rest.1)
+
+pub journal-goes-on : {I A : Type 0} (functions : Functions I A) (before : Shared) (step : StepOf A) (did : DidOf I) (after : Shared) (journal : List (StepOf A)) (tenant next : Tenant) →
+    IsKnown before → IsOneStep functions before step (Ok did) after → tenant_in before.tenants (tenant_of step) ≡ Some tenant → tenant_in after.tenants (tenant_of step) ≡ Some next →
+    IsJournalOf functions journal tenant → IsJournalOf functions (journal ++ step ∷ []) next
+journal-goes-on functions before step did after journal tenant next known one at at_after is =
+    let t = step-taken functions before step did known one.answered in
+    let after_is : after ≡ shared_with before step t.outcome.0 = one.left ∙ shared-after-taken functions before step did t in
+    let left : t.outcome.0 ≡ Some next = sym (tenant_in-with_outcome (tenant_of step) t.outcome.0 before.tenants) ∙ ap (λ (s : Shared). tenant_in s.tenants (tenant_of step)) (sym after_is) ∙ at_after in
+    let own : lone functions (Some tenant) step ≡ Ok t.outcome = ap (λ (o : Option Tenant). lone functions o step) (sym at) ∙ t.own in
+    let on = longer functions None journal tenant next step t.outcome is.taken is.comes own left in
+    record { taken = on.0; comes = on.1 }
+
+-- an admission begins a journal
+pub journal-begins : {I A : Type 0} (functions : Functions I A) (before : Shared) (number : ℕ) (quota : Quota) (did : DidOf I) (after : Shared) → IsKnown before →
+    IsOneStep {A = A} functions before (Admit number quota) (Ok did) after →
+    (tenant_in after.tenants number ≡ Some (admitted_with quota)) × IsJournalOf {A = A} functions (Admit number quota ∷ []) (admitted_with quota)
+journal-begins {I} {A} functions before number quota did after known one =
+    let step : StepOf A = Admit number quota in
+    let t = step-taken functions before step did known one.answered in
+    let after_is : after ≡ shared_with before step t.outcome.0 = one.left ∙ shared-after-taken functions before step did t in
+    let found = ap (λ (s : Shared). tenant_in s.tenants number) after_is ∙ tenant_in-with_outcome number t.outcome.0 before.tenants in
+    (found ∙ admitted-left functions (tenant_in before.tenants number) number quota t.outcome t.own, record { taken = (tt, tt); comes = refl })
+  where
+    admitted-left : (functions : Functions I A) (own : Option Tenant) (number : ℕ) (quota : Quota) (outcome : Outcome I) → lone {A = A} functions own (Admit number quota) ≡ Ok outcome → outcome.0 ≡ Some (admitted_with quota)
+    admitted-left functions None number quota outcome is =
+        let both : ◌≡◌ {A = Result (Outcome I) Refusal} (Ok (Some (admitted_with quota), Admitted)) (Ok outcome) = is in
+        let own : ◌≡◌ {A = Outcome I} outcome (Some (admitted_with quota), Admitted) = cc in ap (λ (o : Outcome I). o.0) own
+    admitted-left functions (Some tenant) number quota outcome is = let e : ◌≡◌ {A = Result (Outcome I) Refusal} (Err OldTenant) (Ok outcome) = is in absurd cc
+
+-- a step changes its own tenant alone
+pub others-stay : {I A : Type 0} (functions : Functions I A) (before : Shared) (step : StepOf A) (answer : Result (DidOf I) Refusal) (after : Shared) (number : ℕ) → IsKnown before →
+    IsOneStep functions before step answer after → tenant_of step ≢ number → tenant_in after.tenants number ≡ tenant_in before.tenants number
+others-stay functions before step (Err refusal) after number known one other = ap (λ (s : Shared). tenant_in s.tenants number) one.left
+others-stay functions before step (Ok did) after number known one other =
+    let t = step-taken functions before step did known one.answered in
+    ap (λ (s : Shared). tenant_in s.tenants number) (one.left ∙ shared-after-taken functions before step did t) ∙ tenant_in_other-with_outcome number (tenant_of step) t.outcome.0 before.tenants other

@@ -1,0 +1,3 @@
+pub mod Serving
+pub mod JournalLemmas
+pub mod OutcomeLemmas

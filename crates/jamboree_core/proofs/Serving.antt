@@ -1,0 +1,127 @@
+-- Cores of searches: what follows from each frame fitting and each job holding what it was asked.
+use Rattle.std.proofs.Common.{◌≡◌, ℕ, inl, inr, true, eqb, List, [], ◌∷◌, ◌++◌, Option, Some, None, Result, Ok, Err, refl}
+use Rattle.std.specs.Prelude.{is_ok, OnOk}
+use Rattle.std.proofs.lemmas.Bool.{cases_Bool}
+use Rattle.tenant_quota.specs.Quota.{Quota}
+use Rattle.sched_rules.specs.declared.refusal.Refusal.{Refusal}
+use Rattle.sched_rules.specs.declared.step.StepOf.{StepOf}
+use Rattle.sched_rules.specs.declared.step.DidOf.{DidOf}
+use Rattle.sched_rules.specs.declared.step.StepOf.TheVariants.{Admit, Submit, Take, Steal, Advance, Answer, Inlet, Finish, Spend, Cancel, Leave}
+use Rattle.sched_rules.specs.Trees.{Tenant}
+use Rattle.sched_rules.specs.Runs.{tenant_of, only}
+use Rattle.sched_rules.specs.Cores.{Shared, shared_by_nobody, tenant_in}
+use Rattle.sched_rules.specs.Headline.{IsKnown, IsHeadline, taken}
+use Rattle.sched_rules.proofs.Tenants.{tenant_in-new}
+use Rattle.sched_laws.specs.Fitted.{CoreFits, RootsFit, submits, origins_of, origins_after}
+use Rattle.sched_laws.proofs.FitAnswers.{nobody-fits}
+use Rattle.jamboree_rules.specs.declared.leaf.Leaf.{Leaf}
+use Rattle.jamboree_rules.specs.declared.leaf.LeafAnswer.{LeafAnswer}
+use Rattle.jamboree_rules.specs.Fits.{AreFitting, IsRoot}
+use Rattle.jamboree_rules.specs.Procedure.{jamboree}
+use Rattle.jamboree_laws.specs.Replies.{IsSearch, AreSearches, AreReplies, AreAllSound}
+use Rattle.jamboree_laws.proofs.Replying.{replies-held, all-sound, searches-fit}
+use Rattle.jamboree_core.specs.Searching.{AreAllRootWords, TenantSearches, ServesSearches, CoreSearches, HoldsReplies, submitted_to, IsHeadlineInFull}
+
+pub nobody-searches : (totals : Quota) → CoreSearches (λ number. []) (shared_by_nobody totals)
+nobody-searches totals = record { fits = nobody-fits AreFitting IsRoot totals; asked = λ number. tt }
+
+pub tenant-replies : (origins : List (List ℕ)) (tenant : Tenant) → TenantSearches origins tenant → AreReplies origins tenant.jobs
+tenant-replies origins tenant searches = replies-held tenant.frames origins tenant.jobs searches.fits.jobs
+
+pub tenant-sound : (origins : List (List ℕ)) (tenant : Tenant) → TenantSearches origins tenant → AreAllSound tenant.frames tenant.frames
+tenant-sound origins tenant searches = all-sound tenant.frames tenant.frames searches.fits.frames
+
+pub core-tenant : (origins : ℕ → List (List ℕ)) (shared : Shared) (number : ℕ) (tenant : Tenant) → CoreSearches origins shared → tenant_in shared.tenants number ≡ Some tenant → TenantSearches (origins number) tenant
+core-tenant origins shared number tenant core at = record { fits = core.fits.tenants number tenant at; asked = core.asked number }
+
+pub core-serves : (origins : ℕ → List (List ℕ)) (shared : Shared) (number : ℕ) → CoreSearches origins shared → ServesSearches (tenant_in shared.tenants number)
+core-serves origins shared number core = by (tenant_in shared.tenants number) refl
+  where
+    by : (own : Option Tenant) → tenant_in shared.tenants number ≡ own → ServesSearches own
+    by None at = tt
+    by (Some tenant) at = (origins number, core-tenant origins shared number tenant core at)
+
+pub core-replies : (origins : ℕ → List (List ℕ)) (shared : Shared) → CoreSearches origins shared → HoldsReplies origins shared
+core-replies origins shared core = record {
+  replies = λ number tenant at. tenant-replies (origins number) tenant (core-tenant origins shared number tenant core at);
+  sound = λ number tenant at. tenant-sound (origins number) tenant (core-tenant origins shared number tenant core at);
+}
+
+-- a core of tenants of searches
+pub core-whole : (origins : ℕ → List (List ℕ)) (shared : Shared) →
+    ((number : ℕ) (tenant : Tenant) → tenant_in shared.tenants number ≡ Some tenant → TenantSearches (origins number) tenant) →
+    ((number : ℕ) → tenant_in shared.tenants number ≡ None → origins number ≡ []) → IsKnown shared → CoreSearches origins shared
+core-whole origins shared each none known = record {
+  fits = record {
+    tenants = λ number tenant at. (each number tenant at).fits;
+    unused = λ number new. none number (tenant_in-new shared.newest number shared.tenants new known);
+  };
+  asked = λ number. by number (tenant_in shared.tenants number) refl;
+}
+  where
+    by : (number : ℕ) (own : Option Tenant) → tenant_in shared.tenants number ≡ own → AreAllRootWords (origins number)
+    by number None at = rw (none number at) tt
+    by number (Some tenant) at = (each number tenant at).asked
+
+-- the words of searches
+asked-append : (xs ys : List (List ℕ)) → AreAllRootWords xs → AreAllRootWords ys → AreAllRootWords (xs ++ ys)
+asked-append [] ys some more = more
+asked-append (x ∷ xs) ys some more = (some.0, asked-append xs ys some.1 more)
+
+step-asked : {A : Type 0} (step : StepOf A) → IsSearch step → AreAllRootWords (submits step)
+step-asked (Admit number quota) is = tt
+step-asked (Submit number words size) is = (is.0, tt)
+step-asked (Take worker name) is = tt
+step-asked (Steal worker from name) is = tt
+step-asked (Advance worker name) is = tt
+step-asked (Answer worker name answer) is = tt
+step-asked (Inlet worker name) is = tt
+step-asked (Finish worker name) is = tt
+step-asked (Spend name) is = tt
+step-asked (Cancel number job) is = tt
+step-asked (Leave number) is = tt
+
+pub searches-asked : {A : Type 0} (steps : List (StepOf A)) → AreSearches steps → AreAllRootWords (origins_of steps)
+searches-asked [] are = tt
+searches-asked (step ∷ steps) are = asked-append (submits step) (origins_of steps) (step-asked step are.0) (searches-asked steps are.1)
+
+-- the words under each number after a step and after a list
+pub after-asked : {I A : Type 0} (origins : ℕ → List (List ℕ)) (step : StepOf A) (answer : Result (DidOf I) Refusal) → ((number : ℕ) → AreAllRootWords (origins number)) → (is_ok answer ≡ true → IsSearch step) →
+    (number : ℕ) → AreAllRootWords (origins_after origins step answer number)
+after-asked origins step (Err refusal) asked search number = asked number
+after-asked origins step (Ok did) asked search number = elim (cases_Bool (eqb (tenant_of step) number)) [
+  | inl own ↦ rw own (asked-append (origins number) (submits step) (asked number) (step-asked step (search refl)))
+  | inr other ↦ rw other (asked number)
+]
+
+-- those of one tenant's steps
+only-searches : {A : Type 0} (number : ℕ) (steps : List (StepOf A)) → AreSearches steps → AreSearches (only number steps)
+only-searches number [] are = tt
+only-searches number (step ∷ steps) are = elim (cases_Bool (eqb (tenant_of step) number)) [
+  | inl own ↦ rw own (are.0, only-searches number steps are.1)
+  | inr other ↦ rw other (only-searches number steps are.1)
+]
+
+searches-after-run : (origins : ℕ → List (List ℕ)) (before after : Shared) (steps : List (StepOf LeafAnswer)) → CoreSearches origins before → AreSearches steps →
+    CoreFits AreFitting IsRoot (submitted_to origins steps) after → CoreSearches (submitted_to origins steps) after
+searches-after-run origins before after steps core searches fits = record {
+  fits = fits;
+  asked = λ number. asked-append (origins number) (origins_of (only number steps)) (core.asked number) (searches-asked (only number steps) (only-searches number steps searches));
+}
+
+-- the headline in full, from what a run says
+pub headline-in-full : (grain : ℕ) (before : Shared) (steps : List (StepOf LeafAnswer)) (answered : List (Result (DidOf Leaf) Refusal)) (after : Shared) → IsHeadline (jamboree grain) before steps answered after →
+    ((origins : ℕ → List (List ℕ)) → CoreFits AreFitting IsRoot origins before → RootsFit AreFitting IsRoot (taken steps answered) → CoreFits AreFitting IsRoot (submitted_to origins (taken steps answered)) after) →
+    IsHeadlineInFull grain before steps answered after
+headline-in-full grain before steps answered after tenants fitting = record {
+  tenants = tenants;
+  searches = λ origins core search. kept origins core search;
+  replies = λ origins core search. core-replies (submitted_to origins (taken steps answered)) after (kept origins core search);
+}
+  where
+    kept : (origins : ℕ → List (List ℕ)) → CoreSearches origins before → AreSearches (taken steps answered) → CoreSearches (submitted_to origins (taken steps answered)) after
+    kept origins core search = searches-after-run origins before after (taken steps answered) core search (fitting origins core.fits (searches-fit (taken steps answered) search))
+
+pub both-ok : {T E P Q R : Type 0} (r : Result T E) → OnOk r P → OnOk r Q → (P → Q → R) → OnOk r R
+both-ok (Ok value) p q make = make p q
+both-ok (Err error) p q make = tt

@@ -1,0 +1,8 @@
+use Rattle.jamboree_core.proofs.Serving.{tenant-replies, tenant-sound}
+use Rattle.jamboree_core.proofs.laws.what_a_tenant_of_searches_holds.Goals as goal
+
+pub returns-clause-replies : goal.returns-clause-replies
+returns-clause-replies c origins tenant searches = tenant-replies origins tenant searches
+
+pub returns-clause-sound : goal.returns-clause-sound
+returns-clause-sound c origins tenant searches = tenant-sound origins tenant searches

@@ -1,0 +1,17 @@
+use Rattle.std.proofs.Common.{refl, ◌∙◌, ap}
+use Rattle.std.specs.Prelude.{ℕ, List, slice_index}
+use Rattle.jamboree_core.proofs.outcomes.Outcome.of.Goals as goal
+
+pub returns-in-Done : goal.returns-in-Done
+returns-in-Done c =
+    let same = c.as_slice.ensures.words in
+    let e = c.read.ensures in
+    rw c.in-Done.is (
+      c.read.result,
+      refl,
+      record {
+        own = e.own ∙ ap (λ (ws : List ℕ). slice_index ws 0) same;
+        opp = e.opp ∙ ap (λ (ws : List ℕ). slice_index ws 1) same;
+        depth = e.depth ∙ ap (λ (ws : List ℕ). slice_index ws 2) same;
+      },
+    )

@@ -1,0 +1,3 @@
+pub mod Searching
+pub mod Journals
+pub mod Outcomes

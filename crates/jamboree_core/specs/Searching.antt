@@ -1,0 +1,58 @@
+-- Cores whose jobs are searches, and what they have come to: the headline in full.
+use Rattle.std.specs.Prelude.{◌≡◌, ℕ, ◌-◌, ◌==◌, List, [], ◌∷◌, ◌++◌, Option, Some, None, Result, if◌then◌else◌}
+use Rattle.sched_rules.specs.declared.refusal.Refusal.{Refusal}
+use Rattle.sched_rules.specs.declared.step.StepOf.{StepOf}
+use Rattle.sched_rules.specs.declared.step.DidOf.{DidOf}
+use Rattle.sched_rules.specs.Trees.{Tenant}
+use Rattle.sched_rules.specs.Runs.{only}
+use Rattle.sched_rules.specs.Cores.{Shared, tenant_in}
+use Rattle.sched_rules.specs.Headline.{IsHeadline, taken}
+use Rattle.sched_laws.specs.Fitted.{TenantFits, CoreFits, origins_of}
+use Rattle.jamboree_rules.specs.declared.leaf.Leaf.{Leaf}
+use Rattle.jamboree_rules.specs.declared.leaf.LeafAnswer.{LeafAnswer}
+use Rattle.jamboree_rules.specs.Fits.{AreFitting, IsRoot}
+use Rattle.jamboree_rules.specs.Procedure.{jamboree}
+use Rattle.jamboree_laws.specs.Replies.{AreRootWords, AreSearches, AreReplies, AreAllSound}
+
+-- each of these is the words of a search
+abbrev pub AreAllRootWords : List (List ℕ) → Type 0
+AreAllRootWords [] = Unit {0}
+AreAllRootWords (origin ∷ origins) = AreRootWords origin × AreAllRootWords origins
+
+-- a tenant's jobs are searches, submitted with these words in order: every frame fits, and each job holds what it was asked
+pub record TenantSearches (origins : List (List ℕ)) (tenant : Tenant) : Type 0 where
+  pub fits : TenantFits AreFitting IsRoot origins tenant
+  pub asked : AreAllRootWords origins
+
+-- a tenant, if it is there, has searches alone, whatever they were submitted with
+abbrev pub ServesSearches : Option Tenant → Type 0
+ServesSearches None = Unit {0}
+ServesSearches (Some tenant) = (origins : List (List ℕ)) × TenantSearches origins tenant
+
+-- the jobs of a core's tenants are searches, submitted with the words under each number; a number that wasn't taken has none
+pub record CoreSearches (origins : ℕ → List (List ℕ)) (shared : Shared) : Type 0 where
+  pub fits : CoreFits AreFitting IsRoot origins shared
+  pub asked : (number : ℕ) → AreAllRootWords (origins number)
+
+-- the words under each number after a list of taken steps
+abbrev pub submitted_to : {A : Type 0} → (ℕ → List (List ℕ)) → List (StepOf A) → ℕ → List (List ℕ)
+submitted_to origins steps number = origins number ++ origins_of (only number steps)
+
+-- what a core has come to: each job that is done holds the minimax value and the best choice of what it was submitted with, in
+-- order, and every frame is sound
+pub record HoldsReplies (origins : ℕ → List (List ℕ)) (shared : Shared) : Type 0 where
+  pub replies : (number : ℕ) (tenant : Tenant) → tenant_in shared.tenants number ≡ Some tenant → AreReplies (origins number) tenant.jobs
+  pub sound : (number : ℕ) (tenant : Tenant) → tenant_in shared.tenants number ≡ Some tenant → AreAllSound tenant.frames tenant.frames
+
+-- the headline in full, for a list of steps on a core that runs Jamboree with this grain: no tenant is disturbed, and a step is
+-- refused only for its own tenant's state or a busy worker; and where the core's jobs are searches, and so are those that the
+-- list's taken steps submit, they still are, and each completed reply is the minimax value
+pub record IsHeadlineInFull (grain : ℕ) (before : Shared) (steps : List (StepOf LeafAnswer)) (answers : List (Result (DidOf Leaf) Refusal)) (after : Shared) : Type 0 where
+  pub tenants : IsHeadline (jamboree grain) before steps answers after
+  pub searches : (origins : ℕ → List (List ℕ)) → CoreSearches origins before → AreSearches (taken steps answers) → CoreSearches (submitted_to origins (taken steps answers)) after
+  pub replies : (origins : ℕ → List (List ℕ)) → CoreSearches origins before → AreSearches (taken steps answers) → HoldsReplies (submitted_to origins (taken steps answers)) after
+
+-- the words of the job with this number, from 1 on
+abbrev pub origin_at : List (List ℕ) → ℕ → Option (List ℕ)
+origin_at [] number = None
+origin_at (origin ∷ origins) number = if number == 1 then Some origin else origin_at origins (number - 1)

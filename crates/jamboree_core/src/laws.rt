@@ -1,0 +1,65 @@
+//! What cores and tenants of searches keep, and what they hold.
+ghost use Rattle.std.specs.Prelude.{◌≡◌, ◌≢◌, ℕ, ◌<◌, List, [], ◌∷◌, ◌++◌, Some, Result, Ok};
+ghost use Rattle.tenant_quota.specs.Quota.{Quota};
+ghost use Rattle.sched_rules.specs.declared.refusal.Refusal.{Refusal};
+ghost use Rattle.sched_rules.specs.declared.step.StepOf.{StepOf};
+ghost use Rattle.sched_rules.specs.declared.step.StepOf.TheVariants.{Admit};
+ghost use Rattle.sched_rules.specs.declared.step.DidOf.{DidOf};
+ghost use Rattle.sched_rules.specs.Trees.{Tenant, admitted_with};
+ghost use Rattle.sched_rules.specs.Runs.{tenant_of};
+ghost use Rattle.sched_rules.specs.Cores.{Shared, shared_by_nobody, tenant_in};
+ghost use Rattle.sched_rules.specs.Headline.{IsOneStep, IsKnown};
+ghost use Rattle.sched_laws.specs.Fitted.{origins_of};
+ghost use Rattle.jamboree_rules.specs.declared.leaf.Leaf.{Leaf};
+ghost use Rattle.jamboree_rules.specs.declared.leaf.LeafAnswer.{LeafAnswer};
+ghost use Rattle.jamboree_rules.specs.Procedure.{jamboree};
+ghost use Rattle.jamboree_laws.specs.Replies.{AreSearches, AreReplies, AreAllSound};
+ghost use Rattle.jamboree_core.specs.Searching.{TenantSearches, ServesSearches, CoreSearches, HoldsReplies};
+ghost use Rattle.jamboree_core.specs.Journals.{IsJournalOf};
+
+/// A new core's jobs are searches: it has none.
+pub fn a_new_core_has_no_searches()
+    ensures { (totals : Quota) → CoreSearches (λ number. []) (shared_by_nobody totals) }
+{}
+
+/// Where a tenant's jobs are searches, each that is done holds the minimax value and the best choice
+/// of what it was submitted with, in order, and every frame is sound.
+pub fn what_a_tenant_of_searches_holds()
+    ensures replies { (origins : List (List ℕ)) (tenant : Tenant) → TenantSearches origins tenant → AreReplies origins tenant.jobs }
+    ensures sound { (origins : List (List ℕ)) (tenant : Tenant) → TenantSearches origins tenant → AreAllSound tenant.frames tenant.frames }
+{}
+
+/// Where a core's jobs are searches, so are each tenant's; and what is submitted under numbers of
+/// tenants that aren't there, but were, is of no account.
+pub fn what_a_core_of_searches_holds()
+    ensures replies { (origins : ℕ → List (List ℕ)) (shared : Shared) → CoreSearches origins shared → HoldsReplies origins shared }
+    ensures tenant { (origins : ℕ → List (List ℕ)) (shared : Shared) (number : ℕ) (tenant : Tenant) →
+        CoreSearches origins shared → tenant_in shared.tenants number ≡ Some tenant → TenantSearches (origins number) tenant }
+    ensures serves { (origins : ℕ → List (List ℕ)) (shared : Shared) (number : ℕ) → CoreSearches origins shared → ServesSearches (tenant_in shared.tenants number) }
+    ensures whole { (origins : ℕ → List (List ℕ)) (shared : Shared) →
+        ((number : ℕ) (tenant : Tenant) → tenant_in shared.tenants number ≡ Some tenant → TenantSearches (origins number) tenant) →
+        ((number : ℕ) → tenant_in shared.tenants number ≡ None → origins number ≡ []) → IsKnown shared → CoreSearches origins shared }
+{}
+
+/// Where each step of a tenant's journal that submits a job asks for a search, the tenant's jobs are
+/// searches, the k-th that of the k-th Submit.
+pub fn a_journal_of_searches()
+    ensures searches { (grain : ℕ) (journal : List (StepOf LeafAnswer)) (tenant : Tenant) →
+        IsJournalOf (jamboree grain) journal tenant → AreSearches journal → TenantSearches (origins_of journal) tenant }
+    ensures replies { (grain : ℕ) (journal : List (StepOf LeafAnswer)) (tenant : Tenant) →
+        IsJournalOf (jamboree grain) journal tenant → AreSearches journal → AreReplies (origins_of journal) tenant.jobs }
+{}
+
+/// Journals along the steps of a core: an admission begins its tenant's; a taken step of a tenant that
+/// stays goes on with its tenant's; and no step changes another tenant, so neither its journal.
+pub fn how_journals_grow()
+    ensures begins { (grain : ℕ) (before : Shared) (number : ℕ) (quota : Quota) (did : DidOf Leaf) (after : Shared) →
+        IsKnown before → IsOneStep {A = LeafAnswer} (jamboree grain) before (Admit number quota) (Ok did) after →
+        (tenant_in after.tenants number ≡ Some (admitted_with quota)) × IsJournalOf {A = LeafAnswer} (jamboree grain) (Admit number quota ∷ []) (admitted_with quota) }
+    ensures goes_on { (grain : ℕ) (before : Shared) (step : StepOf LeafAnswer) (did : DidOf Leaf) (after : Shared) (journal : List (StepOf LeafAnswer)) (tenant next : Tenant) →
+        IsKnown before → IsOneStep (jamboree grain) before step (Ok did) after →
+        tenant_in before.tenants (tenant_of step) ≡ Some tenant → tenant_in after.tenants (tenant_of step) ≡ Some next →
+        IsJournalOf (jamboree grain) journal tenant → IsJournalOf (jamboree grain) (journal ++ step ∷ []) next }
+    ensures others { (grain : ℕ) (before : Shared) (step : StepOf LeafAnswer) (answer : Result (DidOf Leaf) Refusal) (after : Shared) (number : ℕ) →
+        IsKnown before → IsOneStep (jamboree grain) before step answer after → tenant_of step ≢ number → tenant_in after.tenants number ≡ tenant_in before.tenants number }
+{}

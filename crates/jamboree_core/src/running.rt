@@ -1,0 +1,49 @@
+//! Steps of a core of searches, one by one and in lists.
+ghost use Rattle.std.specs.Prelude.{◌≡◌, ◌≢◌, ◌++◌, ℕ, List, Result, Err, OnErr, OnOk, is_ok, true, false};
+ghost use Rattle.sched_rules.specs.declared.refusal.Refusal.{Refusal as RefusalOf};
+ghost use Rattle.sched_rules.specs.declared.refusal.Refusal.TheVariants.{OutOfMemory};
+ghost use Rattle.sched_rules.specs.declared.step.DidOf.{DidOf};
+ghost use Rattle.sched_rules.specs.Headline.{IsOneStep, IsKnown, is_admission};
+ghost use Rattle.sched_laws.specs.Fitted.{origins_after};
+ghost use Rattle.jamboree_rules.specs.declared.leaf.Leaf.{Leaf};
+ghost use Rattle.jamboree_rules.specs.Procedure.{jamboree};
+ghost use Rattle.jamboree_laws.specs.Replies.{IsSearch};
+ghost use Rattle.jamboree_core.specs.Searching.{CoreSearches, IsHeadlineInFull};
+
+use jamboree::Jamboree;
+use sched_core::Core;
+use sched_rules::{Did, Refusal, Step};
+use std::alloc::{AllocError, Allocator};
+
+/// One step of a core of searches: what it did, or why it is refused, and then nothing changes. Only
+/// an admission takes memory. Where a taken Submit asks for a search, the core's jobs stay searches.
+pub fn step_search<A: Allocator + Clone>(
+    core: &mut Core<Jamboree, A>,
+    step: &Step<Jamboree>,
+) -> Result<Did<Jamboree>, Refusal>
+    ensures one { IsOneStep (jamboree core.old.procedure.grain) core.old.shared step.now result core.new.shared }
+    ensures refused { OnErr result (core.new.shared ≡ core.old.shared) }
+    ensures procedure { core.new.procedure ≡ core.old.procedure }
+    ensures memory { is_admission step.now ≡ false → result ≢ Err OutOfMemory }
+    ensures known_before { IsKnown core.old.shared }
+    ensures known { IsKnown core.new.shared }
+    ensures searching { (origins : ℕ → List (List ℕ)) → CoreSearches origins core.old.shared → (is_ok result ≡ true → IsSearch step.now)
+        → CoreSearches (origins_after origins step.now result) core.new.shared }
+{
+    core.step(step)
+}
+
+/// A list of steps of a core of searches, one after the other: one answer each is appended. The
+/// vector grows first: where that is refused, no step is tried.
+pub fn run_searches<A: Allocator + Clone>(
+    core: &mut Core<Jamboree, A>,
+    steps: &[Step<Jamboree>],
+    answers: &mut Vec<Result<Did<Jamboree>, Refusal>, A>,
+) -> Result<(), AllocError>
+    ensures headline { OnOk result ((answered : List (Result (DidOf Leaf) RefusalOf)) × (answers.new.items ≡ answers.old.items ++ answered)
+        × IsHeadlineInFull core.old.procedure.grain core.old.shared steps.now answered core.new.shared) }
+    ensures untried { OnErr result ((core.new.shared ≡ core.old.shared) × (answers.new.items ≡ answers.old.items)) }
+    ensures procedure { core.new.procedure ≡ core.old.procedure }
+{
+    core.run(steps, answers)
+}
