@@ -1,0 +1,3 @@
+pub mod Tasks
+pub mod Turns
+pub mod Rows

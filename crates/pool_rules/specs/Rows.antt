@@ -1,0 +1,19 @@
+-- Two frames, and four tasks, on which the definitions are tried.
+use Rattle.std.specs.Prelude.{ℕ, List, [], ◌∷◌}
+use Rattle.frame_table.specs.declared.names.FrameId.{FrameId}
+use Rattle.pool_rules.specs.declared.task.Task.{Task}
+
+-- tenant 1's first frame, and its second
+abbrev pub root : FrameId
+root = record { tenant = 1; serial = 1 }
+
+abbrev pub child : FrameId
+child = record { tenant = 1; serial = 2 }
+
+-- the task of a frame, at a home
+abbrev pub task : FrameId → ℕ → Task
+task frame home = record { frame = frame; home = home }
+
+-- the oldest first
+abbrev pub four_tasks : List Task
+four_tasks = task root 1 ∷ task root 2 ∷ task child 1 ∷ task root 0 ∷ []

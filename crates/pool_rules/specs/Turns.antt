@@ -1,0 +1,115 @@
+-- The turn of a worker: the table of what it offers, and of what it holds after each answer.
+-- (Cilk 5.4 Reference Manual: work stealing, inlets.)
+use Rattle.std.specs.Prelude.{ℕ, Bool, true, false, ◌==◌, Option, Some, None, Result, Ok, Err, if◌then◌else◌}
+use Rattle.frame_table.specs.declared.names.FrameId.{FrameId}
+use Rattle.sched_rules.specs.declared.refusal.Refusal.{Refusal}
+use Rattle.sched_rules.specs.declared.refusal.Refusal.TheVariants.{NoSegments, NoNodes, NoSteps, BadAct, NotSpent}
+use Rattle.sched_rules.specs.declared.step.StepOf.{StepOf}
+use Rattle.sched_rules.specs.declared.step.StepOf.TheVariants.{Take, Steal, Advance, Answer, Inlet, Finish as FinishRoot, Spend}
+use Rattle.sched_rules.specs.declared.step.DidOf.{DidOf}
+use Rattle.sched_rules.specs.declared.step.DidOf.TheVariants.{Admitted, Submitted, Took, Went, Grew, Spawned, Waited, Computing as IsComputing, Returned, Answered, TakenIn, Finished, Spent, Cancelled, Left}
+use Rattle.jamboree_rules.specs.declared.leaf.Leaf.{Leaf}
+use Rattle.jamboree_rules.specs.declared.leaf.LeafAnswer.{LeafAnswer}
+use Rattle.pool_rules.specs.declared.task.Task.{Task}
+use Rattle.pool_rules.specs.declared.turn.Deed.{Deed}
+use Rattle.pool_rules.specs.declared.turn.Deed.TheVariants.{Get, Run, Bring, TakeIn, Finish}
+use Rattle.pool_rules.specs.declared.turn.Holding.{Holding}
+use Rattle.pool_rules.specs.declared.turn.Holding.TheVariants.{Nothing, Next, Computing, Short}
+use Rattle.pool_rules.specs.declared.turn.Turn.{Turn}
+
+-- the frame that a deed is about
+abbrev pub frame_of : Deed → FrameId
+frame_of (Get task) = task.frame
+frame_of (Run frame) = frame
+frame_of (Bring frame answer) = frame
+frame_of (TakeIn frame) = frame
+frame_of (Finish frame) = frame
+
+-- the step for a deed: a task of the worker's own is taken, another's stolen from its home; a running frame advances; an answer
+-- is brought; a returned frame is taken in, and a returned root finished
+abbrev pub step_of : ℕ → Deed → StepOf LeafAnswer
+step_of worker (Get task) = if task.home == worker then Take worker task.frame else Steal worker task.home task.frame
+step_of worker (Run frame) = Advance worker frame
+step_of worker (Bring frame answer) = Answer worker frame answer
+step_of worker (TakeIn frame) = Inlet worker frame
+step_of worker (Finish frame) = FinishRoot worker frame
+
+-- what a worker offers: nothing without a frame and while it computes; the step of its deed; and after a step that was refused for
+-- want of quota, to spend the frame's job
+abbrev pub offered : ℕ → Holding → Option (StepOf LeafAnswer)
+offered worker Nothing = None
+offered worker (Next deed) = Some (step_of worker deed)
+offered worker (Computing frame leaf) = None
+offered worker (Short deed) = Some (Spend (frame_of deed))
+
+-- what a worker holds after what a step on a frame did: a frame that it got, that went on, grew, opened a child or has its answer
+-- runs; one that waits is let go; one that computes is computed; one that has returned is taken in, or finished where it is a root;
+-- and with the frame taken in, its job finished or spent, the worker is without one
+abbrev pub held_after : FrameId → DidOf Leaf → Holding
+held_after frame Admitted = Nothing
+held_after frame (Submitted job root) = Nothing
+held_after frame Took = Next (Run frame)
+held_after frame Went = Next (Run frame)
+held_after frame Grew = Next (Run frame)
+held_after frame (Spawned child) = Next (Run frame)
+held_after frame Waited = Nothing
+held_after frame (IsComputing leaf) = Computing frame leaf
+held_after frame (Returned false) = Next (TakeIn frame)
+held_after frame (Returned true) = Next (Finish frame)
+held_after frame Answered = Next (Run frame)
+held_after frame (TakenIn woken aborted) = Nothing
+held_after frame (Finished job) = Nothing
+held_after frame (Spent job) = Nothing
+held_after frame Cancelled = Nothing
+held_after frame Left = Nothing
+
+-- the frame that became ready by what a step did: a child that was opened, a parent that was woken
+abbrev pub readied : DidOf Leaf → Option FrameId
+readied Admitted = None
+readied (Submitted job root) = None
+readied Took = None
+readied Went = None
+readied Grew = None
+readied (Spawned child) = Some child
+readied Waited = None
+readied (IsComputing leaf) = None
+readied (Returned root) = None
+readied Answered = None
+readied (TakenIn woken aborted) = woken
+readied (Finished job) = None
+readied (Spent job) = None
+readied Cancelled = None
+readied Left = None
+
+-- its task: its home is the worker that did the step
+abbrev pub task_at : ℕ → Option FrameId → Option Task
+task_at worker None = None
+task_at worker (Some frame) = Some (record { frame = frame; home = worker })
+
+-- whether a refusal says that something is wanting: segments, nodes, steps, or an act that can be done
+abbrev pub is_short : Refusal → Bool
+is_short NoSegments = true
+is_short NoNodes = true
+is_short NoSteps = true
+is_short BadAct = true
+is_short _ = false
+
+-- whether a refusal says that the frame's job may go on
+abbrev pub may_go_on : Refusal → Bool
+may_go_on NotSpent = true
+may_go_on _ = false
+
+-- a turn that leaves a worker so, without a task
+abbrev pub turn : Holding → Turn
+turn holding = record { holding = holding; task = None }
+
+-- a worker's turn: what it holds after the answer to what it offered, and the task that it pushes. A deed that was refused for want
+-- of something is kept while its job is offered to be spent; where that is refused, as the job may go on, the deed comes again; any
+-- other refusal leaves the worker without a frame
+abbrev pub turn_after : ℕ → Holding → Result (DidOf Leaf) Refusal → Turn
+turn_after worker Nothing answer = turn Nothing
+turn_after worker (Next deed) (Ok did) = record { holding = held_after (frame_of deed) did; task = task_at worker (readied did) }
+turn_after worker (Next deed) (Err refusal) = turn (if is_short refusal then Short deed else Nothing)
+turn_after worker (Computing frame leaf) answer = turn (Computing frame leaf)
+turn_after worker (Short deed) (Ok did) = turn Nothing
+turn_after worker (Short deed) (Err refusal) = turn (if may_go_on refusal then Next deed else Nothing)

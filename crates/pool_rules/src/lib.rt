@@ -1,0 +1,37 @@
+//! What a worker of a pool does next, and the tasks that workers share: values alone, no thread.
+//!
+//! A worker of a pool has a frame or is without one. What it holds is a [`Holding`]; from that follows
+//! the step that it offers to the hall, and from the hall's answer what it holds next and whether its
+//! step made a frame ready, which is then a [`Task`] of its own ([`Holding::turned`]). The table of
+//! that is `specs/Turns.antt`, read aloud: a task is taken or stolen, a running frame advances, one
+//! that computes is computed outside the hall's lock and its answer brought, one that has returned is
+//! taken in by its parent or, as a root, finished. A step that is refused for want of quota is followed
+//! by the offer to give its job up, and where the job may go on, by the same step; any other refusal
+//! leaves the worker without a frame, as its frame was aborted, spent, cancelled or left.
+//!
+//! A [`TaskList`] stands for the tasks in the order in which they were pushed, the room that it took
+//! at its start, and how many tasks were pushed and taken (`specs/Tasks.antt`). Its invariant is that
+//! what was pushed is what was taken and what is there. A worker takes its own newest task, else the
+//! oldest. A [`Computations`] counts the computations of a pool. [`rows`] computes worked examples.
+//!
+//! ```text
+//! // worker 2's frame opened a child: the frame goes on, and the child is a task
+//! let turn = Holding::Next(Deed::Run(root)).turned(worker, Ok(DidOf::Spawned(child)));
+//! turn == Turn { holding: Holding::Next(Deed::Run(root)), task: Some(Task { frame: child, home: 2 }) }
+//! ```
+#![tactic(auto)]
+
+mod count;
+mod list;
+pub mod rows;
+mod table;
+mod task;
+mod turn;
+
+pub use count::Computations;
+pub use list::{Counts, TaskList};
+pub use task::Task;
+pub use turn::{Deed, Holding, Turn};
+
+#[cfg(test)]
+mod tests;

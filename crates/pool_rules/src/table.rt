@@ -1,0 +1,84 @@
+//! The table of the worker's turn, row by row.
+ghost use Rattle.std.specs.Prelude.{◌≡◌, Ok, Err};
+ghost use Rattle.pool_rules.specs.declared.turn.Holding.TheVariants.{Next, Short};
+ghost use Rattle.pool_rules.specs.Turns.{held_after, readied, task_at, is_short, turn, turn_after};
+
+use crate::task::Task;
+use crate::turn::{Deed, Holding, Turn};
+use frame_table::FrameId;
+use jamboree_rules::Leaf;
+use sched_rules::{DidOf, Refusal, Worker};
+
+/// A turn that makes no task.
+pub(crate) fn without_task(holding: Holding) -> Turn
+    ensures { result ≡ turn holding }
+{
+    Turn {
+        holding,
+        task: None,
+    }
+}
+
+/// The turn after the answer to the step of a deed.
+pub(crate) fn done(worker: Worker, deed: Deed, answer: Result<DidOf<Leaf>, Refusal>) -> Turn
+    ensures { result ≡ turn_after worker (Next deed) answer }
+{
+    match answer {
+        Ok(did) => Turn {
+            holding: held_after(deed.frame(), did),
+            task: readied(did).map(|frame| Task {
+                frame,
+                home: worker.number(),
+            }),
+        },
+        Err(refusal) => without_task(refused(deed, refusal)),
+    }
+}
+
+/// What a worker holds whose deed was refused.
+fn refused(deed: Deed, refusal: Refusal) -> Holding
+    ensures { turn result ≡ turn_after 0 (Next deed) (Err refusal) }
+{
+    match refusal {
+        Refusal::NoSegments | Refusal::NoNodes | Refusal::NoSteps | Refusal::BadAct => {
+            Holding::Short(deed)
+        }
+        _ => Holding::Nothing,
+    }
+}
+
+/// What a worker holds after the answer to its offer to spend a job.
+pub(crate) fn spent(deed: Deed, answer: Result<DidOf<Leaf>, Refusal>) -> Holding
+    ensures { turn result ≡ turn_after 0 (Short deed) answer }
+{
+    match answer {
+        Err(Refusal::NotSpent) => Holding::Next(deed),
+        _ => Holding::Nothing,
+    }
+}
+
+/// What a worker holds after what a step on a frame did.
+fn held_after(frame: FrameId, did: DidOf<Leaf>) -> Holding
+    ensures { result ≡ held_after frame did }
+{
+    match did {
+        DidOf::Took | DidOf::Went | DidOf::Grew | DidOf::Spawned(_) | DidOf::Answered => {
+            Holding::Next(Deed::Run(frame))
+        }
+        DidOf::Computing(leaf) => Holding::Computing(frame, leaf),
+        DidOf::Returned(false) => Holding::Next(Deed::TakeIn(frame)),
+        DidOf::Returned(true) => Holding::Next(Deed::Finish(frame)),
+        _ => Holding::Nothing,
+    }
+}
+
+/// The frame that became ready by what a step did.
+fn readied(did: DidOf<Leaf>) -> Option<FrameId>
+    ensures { result ≡ readied did }
+{
+    match did {
+        DidOf::Spawned(child) => Some(child),
+        DidOf::TakenIn(woken, _) => woken,
+        _ => None,
+    }
+}

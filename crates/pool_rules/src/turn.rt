@@ -1,0 +1,115 @@
+//! The turn of a worker: what it holds, and from what the hall answered to what it does next.
+//!
+//! The table is `specs/Turns.antt`: which step a worker offers for what it is about to do, what it
+//! holds after each answer, and which frame became ready by its step.
+ghost use Rattle.std.specs.Prelude.{◌≡◌};
+
+use crate::table::{done, spent, without_task};
+use crate::task::Task;
+use frame_table::FrameId;
+use jamboree_rules::{Leaf, LeafAnswer};
+use sched_rules::{DidOf, Refusal, StepOf, Worker};
+
+/// What a worker does next with a frame, by one step of the hall.
+#[derive(Clone, Copy, Debug, PartialEq, Eq)]
+pub enum Deed {
+    /// To get the frame of a task: it is taken where its home is the worker, else stolen.
+    Get(Task),
+    /// To advance the frame that it runs.
+    Run(FrameId),
+    /// To bring the answer that it computed for the frame.
+    Bring(FrameId, LeafAnswer),
+    /// To have the returned frame taken in by its parent.
+    TakeIn(FrameId),
+    /// To end the job of the returned root.
+    Finish(FrameId),
+}
+
+/// What a worker holds.
+#[derive(Clone, Copy, Debug, PartialEq, Eq)]
+pub enum Holding {
+    /// No frame.
+    Nothing,
+    /// A frame, and what it does with it next.
+    Next(Deed),
+    /// A frame that it computes outside the hall's lock, and what from.
+    Computing(FrameId, Leaf),
+    /// A frame whose step was refused for want of quota, or as its act can't be done: it offers to
+    /// give its job up, and where that is refused, the step again.
+    Short(Deed),
+}
+
+/// What a worker's turn leaves.
+#[derive(Clone, Copy, Debug, PartialEq, Eq)]
+pub struct Turn {
+    /// What it holds now.
+    pub holding: Holding,
+    /// The frame that became ready by its step, if one did.
+    pub task: Option<Task>,
+}
+
+impl Deed {
+    ghost use Rattle.std.specs.Prelude.{◌≡◌};
+    ghost use Rattle.pool_rules.specs.Turns.{frame_of, step_of};
+
+    /// The frame that it is about.
+    pub fn frame(&self) -> FrameId
+        ensures { result ≡ frame_of self.now }
+    {
+        match self {
+            Deed::Get(task) => task.frame,
+            Deed::Run(frame) => *frame,
+            Deed::Bring(frame, _) => *frame,
+            Deed::TakeIn(frame) => *frame,
+            Deed::Finish(frame) => *frame,
+        }
+    }
+
+    /// The step that a worker offers for it.
+    pub fn step(&self, worker: Worker) -> StepOf<LeafAnswer>
+        ensures { result ≡ step_of worker self.now }
+    {
+        match self {
+            Deed::Get(task) => {
+                if task.home == worker.number() {
+                    StepOf::Take(worker, task.frame)
+                } else {
+                    StepOf::Steal(worker, task.home, task.frame)
+                }
+            }
+            Deed::Run(frame) => StepOf::Advance(worker, *frame),
+            Deed::Bring(frame, answer) => StepOf::Answer(worker, *frame, *answer),
+            Deed::TakeIn(frame) => StepOf::Inlet(worker, *frame),
+            Deed::Finish(frame) => StepOf::Finish(worker, *frame),
+        }
+    }
+}
+
+impl Holding {
+    ghost use Rattle.std.specs.Prelude.{◌≡◌};
+    ghost use Rattle.pool_rules.specs.Turns.{offered, turn_after};
+
+    /// The step that a worker offers with what it holds; None where it holds nothing, or computes.
+    pub fn step(&self, worker: Worker) -> Option<StepOf<LeafAnswer>>
+        ensures { result ≡ offered worker self.now }
+    {
+        match self {
+            Holding::Nothing => None,
+            Holding::Next(deed) => Some(deed.step(worker)),
+            Holding::Computing(_, _) => None,
+            Holding::Short(deed) => Some(StepOf::Spend(deed.frame())),
+        }
+    }
+
+    /// What a worker holds after the answer to the step that it offered, and the task that it made.
+    pub fn turned(self, worker: Worker, answer: Result<DidOf<Leaf>, Refusal>) -> Turn
+        ensures { result ≡ turn_after worker self answer }
+    {
+        match self {
+            Holding::Nothing => without_task(Holding::Nothing),
+            Holding::Next(deed) => done(worker, deed, answer),
+            Holding::Computing(frame, leaf) => without_task(Holding::Computing(frame, leaf)),
+            Holding::Short(deed) => without_task(spent(deed, answer)),
+        }
+    }
+}
