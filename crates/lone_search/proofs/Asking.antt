@@ -22,7 +22,9 @@ use Rattle.jamboree_rules.specs.Fits.{AreFitting, IsRoot, IsKeptRoot}
 use Rattle.othello_board.specs.Words.{cells, cells_of}
 use Rattle.jamboree.specs.declared.reply.Reply.{Reply}
 use Rattle.jamboree.specs.Replies.{board_of}
-use Rattle.lone_search.specs.Asked.{HasAsked, Keeps, IsReplyTo}
+use Rattle.jamboree_laws.specs.Replies.{IsReplyTo}
+use Rattle.jamboree_laws.proofs.Replying.{replies-held}
+use Rattle.lone_search.specs.Asked.{HasAsked, Keeps, IsReplyFor}
 
 -- a core with no tenant was asked nothing
 pub nothing-asked : (totals : Quota) (shared : Shared) → shared ≡ shared_by_nobody totals → HasAsked [] shared
@@ -64,62 +66,36 @@ step-keeps before after step answer none fitting asked has =
       fits = fitting has.origins has.fits (λ ok. no-root AreFitting IsRoot step none);
     }
 
--- a Submit, taken or not
-pub submit-asks : {I A : Type 0} (before after : Shared) (words : List ℕ) (size : ℕ) (step : StepOf A) (answer : Result (DidOf I) Refusal) → step ≡ Submit 1 words size → RootFits AreFitting IsRoot step → StepFits before step answer after →
-    HasAsked [] before → HasAsked (if is_ok answer then words ∷ [] else []) after
-submit-asks before after words size step answer is root fitting has =
-    record {
-      origins = origins_after has.origins step answer;
-      are = added (is_ok answer) (has.origins 1) has.are;
-      fits = fitting has.origins has.fits (λ ok. root);
-    }
-  where
-    added : (b : Bool) (xs : List (List ℕ)) → xs ≡ [] → (if (b && eqb (tenant_of step) 1) then xs ++ submits step else xs) ≡ (if b then words ∷ [] else [])
-    added true xs e = rw (is, e) refl
-    added false xs e = e
+-- the one job of a tenant, where it is done
+module _ (tree : Tree) (words kept : List ℕ) where
+  alone : (jobs : List Job) → JobsFit AreFitting IsRoot tree (words ∷ []) jobs → job_at jobs 1 ≡ Some (Done kept) → jobs ≡ Done kept ∷ []
+  alone [] fit at = absurd fit
+  alone (job ∷ []) fit at =
+      let same : job ≡ Done kept = cc in ap (λ j. j ∷ []) same
+  alone (job ∷ other ∷ jobs) fit at = absurd fit.1
 
--- the one job of a tenant
-job-held : (tree : Tree) (words kept : List ℕ) (jobs : List Job) → JobsFit AreFitting IsRoot tree (words ∷ []) jobs → job_at jobs 1 ≡ Some (Done kept) → JobFits AreFitting IsRoot tree words (Done kept)
-job-held tree words kept [] fit at = absurd fit
-job-held tree words kept (job ∷ jobs) fit at =
-    let P : Job → Type 0 = λ j. JobFits AreFitting IsRoot tree words j in
-    let same : job ≡ Done kept = cc in
-    subst P same fit.0
+-- what is known of a done job of a core that was asked these words: it kept a returned root, and answers them
+pub record IsDone (words kept : List ℕ) : Type 0 where
+  pub root : IsKeptRoot kept
+  pub reply : IsReplyTo words kept
 
--- a done job kept a root that fitted, had returned, and belongs to the words that were asked
-pub job-done : (words kept : List ℕ) (shared : Shared) → HasAsked (words ∷ []) shared → job_of shared 1 1 ≡ Some (Done kept) → JobFits AreFitting IsRoot [] words (Done kept)
+pub job-done : (words kept : List ℕ) (shared : Shared) → HasAsked (words ∷ []) shared → job_of shared 1 1 ≡ Some (Done kept) → IsDone words kept
 job-done words kept shared has at = by (tenant_in shared.tenants 1) refl at
   where
-    by : (found : Option Tenant) → tenant_in shared.tenants 1 ≡ found → option_and_then (λ (tenant : Tenant). job_at tenant.jobs 1) found ≡ Some (Done kept) → JobFits AreFitting IsRoot [] words (Done kept)
+    told : (tenant : Tenant) → JobsFit AreFitting IsRoot tenant.frames (words ∷ []) tenant.jobs → job_at tenant.jobs 1 ≡ Some (Done kept) → IsDone words kept
+    told tenant fit e =
+        let held : JobsFit AreFitting IsRoot tenant.frames (words ∷ []) (Done kept ∷ []) = rw (alone tenant.frames words kept tenant.jobs fit e) at fit in
+        let job = held.0 in
+        record {
+          root = record { origin = words; whole = job.0; kept = job.1; fits = job.2; rooted = job.3 };
+          reply = (replies-held tenant.frames (words ∷ []) (Done kept ∷ []) held).0;
+        }
+    by : (found : Option Tenant) → tenant_in shared.tenants 1 ≡ found → option_and_then (λ (tenant : Tenant). job_at tenant.jobs 1) found ≡ Some (Done kept) → IsDone words kept
     by None is e = absurd cc
     by (Some tenant) is e =
         let fit : JobsFit AreFitting IsRoot tenant.frames (has.origins 1) tenant.jobs = (has.fits.tenants 1 tenant is).jobs in
-        job-held tenant.frames words kept tenant.jobs (rw has.are at fit) e
-
--- what it kept is that of a returned root
-pub job-kept : (words kept : List ℕ) → JobFits AreFitting IsRoot [] words (Done kept) → IsKeptRoot kept
-job-kept words kept held = record { origin = words; whole = held.0; kept = held.1; fits = held.2; rooted = held.3 }
-
--- the word at a place that a job keeps
-kept-at : (all words : List ℕ) (i : ℕ) → i < 12 → kept_words all ≡ words → get_or words i 0 ≡ get_or all i 0
-kept-at all words i within kept = ap (λ (ws : List ℕ). get_or ws i 0) (sym kept) ∙ get_or-take 12 all i 0 within
-
--- its board and depth are those that were asked
-pub kept-own : (words kept : List ℕ) → JobFits AreFitting IsRoot [] words (Done kept) → slice_index kept 0 ≡ slice_index words 0
-kept-own words kept held =
-    let own : (frame_of held.0).own ≡ (frame_of words).own = held.3.own_is in
-    kept-at held.0 kept 0 (omega arith) held.1 ∙ own
-
-pub kept-opp : (words kept : List ℕ) → JobFits AreFitting IsRoot [] words (Done kept) → slice_index kept 1 ≡ slice_index words 1
-kept-opp words kept held =
-    let opp : (frame_of held.0).opp ≡ (frame_of words).opp = held.3.opp_is in
-    kept-at held.0 kept 1 (omega arith) held.1 ∙ opp
-
-pub kept-depth : (words kept : List ℕ) → JobFits AreFitting IsRoot [] words (Done kept) → slice_index kept 2 ≡ slice_index words 2
-kept-depth words kept held =
-    let depth : (frame_of held.0).depth ≡ (frame_of words).depth = held.3.depth_is in
-    kept-at held.0 kept 2 (omega arith) held.1 ∙ depth
+        told tenant (rw has.are at fit) e
 
 -- the board of a reply to the words of a root
-pub reply-cells : (own opp depth : ℕ) (r : Reply) → IsReplyTo (root_words own opp depth) r → cells (board_of r) ≡ cells_of own opp
+pub reply-cells : (own opp depth : ℕ) (r : Reply) → IsReplyFor (root_words own opp depth) r → cells (board_of r) ≡ cells_of own opp
 reply-cells own opp depth r to = ap₂ cells_of to.own to.opp

@@ -17,7 +17,7 @@ abbrev pub Keeps : Shared → Shared → Type 0
 Keeps before after = (asked : List (List ℕ)) → HasAsked asked before → HasAsked asked after
 
 -- the reply is to the board and the depth of these words
-pub record IsReplyTo (words : List ℕ) (reply : Reply) : Type 0 where
+pub record IsReplyFor (words : List ℕ) (reply : Reply) : Type 0 where
   pub own : (board_of reply).own ≡ slice_index words 0
   pub opp : (board_of reply).opp ≡ slice_index words 1
   pub depth : depth_of reply ≡ slice_index words 2

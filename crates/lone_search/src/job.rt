@@ -1,12 +1,12 @@
 //! The one job of a core: how it is asked, and its reply.
 ghost use Rattle.std.specs.Prelude.{◌≡◌, ◌≤◌, [], ◌∷◌, ℕ, List, IfOk, IfSome, if◌then◌else◌};
 ghost use Rattle.jamboree_rules.specs.Places.{root_words};
-ghost use Rattle.lone_search.specs.Asked.{HasAsked, IsReplyTo, Keeps};
+ghost use Rattle.lone_search.specs.Asked.{HasAsked, IsReplyFor, Keeps};
 
 use jamboree::{Jamboree, Reply, root_words};
 use position_text::Position;
 use sched_core::{Core, GivenWords, Job, Refusal, StepOf};
-use std::alloc::AllocError;
+use std::alloc::{AllocError, Allocator};
 use tenant_quota::Reserve;
 
 /// The core's only tenant.
@@ -19,7 +19,7 @@ const JOB: u64 = 1;
 const ROOT_SIZE: usize = 12;
 
 /// The tenant comes, where there is memory for its places.
-pub(crate) fn admit(core: &mut Core<Jamboree>, reserve: Reserve) -> Result<(), AllocError>
+pub(crate) fn admit<A: Allocator + Clone>(core: &mut Core<Jamboree, A>, reserve: Reserve) -> Result<(), AllocError>
     ensures { Keeps core.old.shared core.new.shared }
 {
     match core.step(&StepOf::Admit(TENANT, reserve)) {
@@ -29,7 +29,7 @@ pub(crate) fn admit(core: &mut Core<Jamboree>, reserve: Reserve) -> Result<(), A
 }
 
 /// The job comes; whether it does.
-pub(crate) fn submit(core: &mut Core<Jamboree>, position: &Position, depth: u8) -> bool
+pub(crate) fn submit<A: Allocator + Clone>(core: &mut Core<Jamboree, A>, position: &Position, depth: u8) -> bool
     requires { depth ≤ 12 }
     ensures { HasAsked [] core.old.shared
         → HasAsked (if result then root_words position.now.board.own position.now.board.opp depth ∷ [] else []) core.new.shared }
@@ -41,9 +41,9 @@ pub(crate) fn submit(core: &mut Core<Jamboree>, position: &Position, depth: u8) 
 }
 
 /// The job's reply, if it is done.
-pub(crate) fn reply(core: &Core<Jamboree>) -> Option<Reply>
+pub(crate) fn reply<A: Allocator>(core: &Core<Jamboree, A>) -> Option<Reply>
     requires { (words : List ℕ) × HasAsked (words ∷ []) core.now.shared }
-    ensures { (words : List ℕ) → HasAsked (words ∷ []) core.now.shared → IfSome result (IsReplyTo words) }
+    ensures { (words : List ℕ) → HasAsked (words ∷ []) core.now.shared → IfSome result (IsReplyFor words) }
 {
     match core.job(TENANT, JOB) {
         Some(Job::Done(words)) => Some(Reply::read(words.as_slice())),

@@ -11,7 +11,7 @@ use leaf_search::search_full;
 use othello_moves::Choice;
 use position_text::Position;
 use sched_core::{Config, Core};
-use std::alloc::{AllocError, Global};
+use std::alloc::{AllocError, Allocator};
 use tenant_quota::Reserve;
 
 /// The segments of the core, all of them the tenant's.
@@ -36,8 +36,8 @@ pub struct Searched {
 /// Frames of a remaining depth of at most `grain`, 0 to 6, are searched serially; what is found doesn't depend on it.
 ///
 /// It fails only where a growth was refused: the core's own or that of its tenant's admission.
-pub fn solve_by_core(
-    alloc: Global,
+pub fn solve_by_core<A: Allocator + Clone>(
+    alloc: A,
     position: &Position,
     depth: u8,
     grain: u8,
@@ -54,8 +54,8 @@ pub fn solve_by_core(
 }
 
 /// The same in a core that has no tenant yet, by one that reserves so much of it.
-pub(crate) fn search_in(
-    core: &mut Core<Jamboree>,
+pub(crate) fn search_in<A: Allocator + Clone>(
+    core: &mut Core<Jamboree, A>,
     reserve: Reserve,
     position: &Position,
     depth: u8,

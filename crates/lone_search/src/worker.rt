@@ -12,6 +12,7 @@ use crate::job::TENANT;
 use frame_table::FrameId;
 use jamboree::{Jamboree, Leaf, LeafAnswer};
 use sched_core::{Core, Did, DidOf, Refusal, Step, StepOf, Worker};
+use std::alloc::Allocator;
 
 /// The worker's number.
 const WORKER: u8 = 1;
@@ -29,7 +30,7 @@ enum Next {
 
 /// Works until the job has ended or can't go on, for at most so many turns. Each turn but the last takes one of the
 /// tenant's steps at least.
-pub(crate) fn work(core: &mut Core<Jamboree>, turns: u32)
+pub(crate) fn work<A: Allocator + Clone>(core: &mut Core<Jamboree, A>, turns: u32)
     ensures { Keeps core.old.shared core.new.shared }
 {
     let Some(worker) = Worker::new(WORKER) else {
@@ -46,7 +47,7 @@ pub(crate) fn work(core: &mut Core<Jamboree>, turns: u32)
 }
 
 /// Takes a step that submits no job, if it isn't refused.
-fn offer(core: &mut Core<Jamboree>, step: &Step<Jamboree>) -> Result<Did<Jamboree>, Refusal>
+fn offer<A: Allocator + Clone>(core: &mut Core<Jamboree, A>, step: &Step<Jamboree>) -> Result<Did<Jamboree>, Refusal>
     requires { submits step.now ≡ [] }
     ensures { Keeps core.old.shared core.new.shared }
 {
@@ -54,7 +55,7 @@ fn offer(core: &mut Core<Jamboree>, step: &Step<Jamboree>) -> Result<Did<Jambore
 }
 
 /// Takes the ready frame of the greatest serial: by Take where it is the worker's own, else by Steal.
-fn pick(core: &mut Core<Jamboree>, worker: Worker) -> Next
+fn pick<A: Allocator + Clone>(core: &mut Core<Jamboree, A>, worker: Worker) -> Next
     ensures { Keeps core.old.shared core.new.shared }
 {
     let Some((frame, home)) = core.newest_ready(TENANT) else {
@@ -72,7 +73,7 @@ fn pick(core: &mut Core<Jamboree>, worker: Worker) -> Next
 }
 
 /// Advances the frame that the worker runs.
-fn advance(core: &mut Core<Jamboree>, worker: Worker, frame: FrameId) -> Next
+fn advance<A: Allocator + Clone>(core: &mut Core<Jamboree, A>, worker: Worker, frame: FrameId) -> Next
     ensures { Keeps core.old.shared core.new.shared }
 {
     match offer(core, &StepOf::Advance(worker, frame)) {
@@ -82,7 +83,7 @@ fn advance(core: &mut Core<Jamboree>, worker: Worker, frame: FrameId) -> Next
 }
 
 /// Goes on after what an Advance did.
-fn go_on(core: &mut Core<Jamboree>, worker: Worker, frame: FrameId, did: Did<Jamboree>) -> Next
+fn go_on<A: Allocator + Clone>(core: &mut Core<Jamboree, A>, worker: Worker, frame: FrameId, did: Did<Jamboree>) -> Next
     ensures { Keeps core.old.shared core.new.shared }
 {
     match did {
@@ -95,7 +96,7 @@ fn go_on(core: &mut Core<Jamboree>, worker: Worker, frame: FrameId, did: Did<Jam
 }
 
 /// Computes what the frame asks for, and brings the answer.
-fn compute(core: &mut Core<Jamboree>, worker: Worker, frame: FrameId, leaf: Leaf) -> Next
+fn compute<A: Allocator + Clone>(core: &mut Core<Jamboree, A>, worker: Worker, frame: FrameId, leaf: Leaf) -> Next
     ensures { Keeps core.old.shared core.new.shared }
 {
     let answer = LeafAnswer::compute(leaf);
@@ -106,7 +107,7 @@ fn compute(core: &mut Core<Jamboree>, worker: Worker, frame: FrameId, leaf: Leaf
 }
 
 /// Ends the job of a root that has returned, or has its parent take in a child that has.
-fn come_back(core: &mut Core<Jamboree>, worker: Worker, frame: FrameId, is_root: bool) -> Next
+fn come_back<A: Allocator + Clone>(core: &mut Core<Jamboree, A>, worker: Worker, frame: FrameId, is_root: bool) -> Next
     ensures { Keeps core.old.shared core.new.shared }
 {
     let step = if is_root {
@@ -122,7 +123,7 @@ fn come_back(core: &mut Core<Jamboree>, worker: Worker, frame: FrameId, is_root:
 }
 
 /// Gives up the frame's job, if it is spent.
-fn give_up(core: &mut Core<Jamboree>, frame: FrameId) -> Next
+fn give_up<A: Allocator + Clone>(core: &mut Core<Jamboree, A>, frame: FrameId) -> Next
     ensures { Keeps core.old.shared core.new.shared }
 {
     let _ = offer(core, &StepOf::Spend(frame));

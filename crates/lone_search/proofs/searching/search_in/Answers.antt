@@ -15,16 +15,16 @@ asked words b empty admitted submitted worked none admits submits taken works =
     let before = submits (admits [] none) in works (words ∷ []) (rw taken at before)
 
 pub reply-requires : goal.reply-requires
-reply-requires c =
+reply-requires g c =
     (_, asked _ _ _ _ _ _ c.requires.empty c.admit.ensures c.submit.ensures c.if-not-submit.false c.work.ensures)
 
 pub returns-in-Some-clause-value : goal.returns-in-Some-clause-value
-returns-in-Some-clause-value c =
+returns-in-Some-clause-value g c =
     let to = c.in-Some.ensures _ (asked _ _ _ _ _ _ c.requires.empty c.admit.ensures c.submit.ensures c.if-not-submit.false c.work.ensures) in
     let fits : SFits w32 c.value.result = search rules in
     to_z-of_z w32 c.value.result fits ∙ c.value.ensures ∙ ap₂ minimax to.depth (reply-cells _ _ _ c.in-Some.reply to)
 
 pub returns-in-Some-clause-choice : goal.returns-in-Some-clause-choice
-returns-in-Some-clause-choice c =
+returns-in-Some-clause-choice g c =
     let to = c.in-Some.ensures _ (asked _ _ _ _ _ _ c.requires.empty c.admit.ensures c.submit.ensures c.if-not-submit.false c.work.ensures) in
     c.choice.ensures ∙ ap₂ best_choice to.depth (reply-cells _ _ _ c.in-Some.reply to)
