@@ -1,8 +1,6 @@
 -- What was asked stays asked, and a done job answers it.
-use Rattle.std.proofs.Common.{◌≡◌, ℕ, ◌<◌, Bool, true, false, ◌&&◌, eqb, List, [], ◌∷◌, ◌++◌, take, get_or, Option, Some, None, Result, Ok, Err, refl, ap, ap₂, sym, ◌∙◌, subst, arith, append-nil}
-use Rattle.std.specs.Prelude.{is_ok, if◌then◌else◌, slice_index, option_and_then}
-use Rattle.std.proofs.lemmas.List.{get_or-take}
-use Rattle.frame_table.specs.Frames.{Frame}
+use Rattle.std.proofs.Common.{◌≡◌, ℕ, Bool, true, false, ◌&&◌, eqb, List, [], ◌∷◌, ◌++◌, Option, Some, None, Result, refl, ap, ap₂, sym, ◌∙◌, subst, append-nil}
+use Rattle.std.specs.Prelude.{is_ok, if◌then◌else◌, option_and_then}
 use Rattle.tenant_quota.specs.Quota.{Quota}
 use Rattle.sched_rules.specs.declared.job.Job.{Job}
 use Rattle.sched_rules.specs.declared.job.Job.TheVariants.{Done}
@@ -10,14 +8,14 @@ use Rattle.sched_rules.specs.declared.refusal.Refusal.{Refusal}
 use Rattle.sched_rules.specs.declared.step.StepOf.{StepOf}
 use Rattle.sched_rules.specs.declared.step.StepOf.TheVariants.{Admit, Submit, Take, Steal, Advance, Answer, Inlet, Finish, Spend, Cancel, Leave}
 use Rattle.sched_rules.specs.declared.step.DidOf.{DidOf}
-use Rattle.sched_rules.specs.Laws.{Fitting, Rooting, HasReturned}
+use Rattle.sched_rules.specs.Laws.{Fitting, Rooting}
 use Rattle.sched_rules.specs.Runs.{tenant_of}
-use Rattle.sched_rules.specs.Trees.{Tree, Tenant, job_at, kept_words}
+use Rattle.sched_rules.specs.Trees.{Tree, Tenant, job_at}
 use Rattle.sched_rules.specs.Cores.{Shared, shared_by_nobody, tenant_in}
 use Rattle.sched_rules.specs.Views.{job_of}
-use Rattle.sched_laws.specs.Fitted.{CoreFits, TenantFits, JobsFit, JobFits, RootFits, submits, origins_after}
+use Rattle.sched_laws.specs.Fitted.{CoreFits, JobsFit, RootFits, submits, origins_after}
 use Rattle.sched_laws.proofs.FitAnswers.{nobody-fits}
-use Rattle.jamboree_rules.specs.Places.{frame_of, root_words}
+use Rattle.jamboree_rules.specs.Places.{root_words}
 use Rattle.jamboree_rules.specs.Fits.{AreFitting, IsRoot, IsKeptRoot}
 use Rattle.othello_board.specs.Words.{cells, cells_of}
 use Rattle.jamboree.specs.declared.reply.Reply.{Reply}
@@ -90,6 +88,7 @@ job-done words kept shared has at = by (tenant_in shared.tenants 1) refl at
           root = record { origin = words; whole = job.0; kept = job.1; fits = job.2; rooted = job.3 };
           reply = (replies-held tenant.frames (words ∷ []) (Done kept ∷ []) held).0;
         }
+
     by : (found : Option Tenant) → tenant_in shared.tenants 1 ≡ found → option_and_then (λ (tenant : Tenant). job_at tenant.jobs 1) found ≡ Some (Done kept) → IsDone words kept
     by None is e = absurd cc
     by (Some tenant) is e =

@@ -19,7 +19,10 @@ const JOB: u64 = 1;
 const ROOT_SIZE: usize = 12;
 
 /// The tenant comes, where there is memory for its places.
-pub(crate) fn admit<A: Allocator + Clone>(core: &mut Core<Jamboree, A>, reserve: Reserve) -> Result<(), AllocError>
+pub(crate) fn admit<A: Allocator + Clone>(
+    core: &mut Core<Jamboree, A>,
+    reserve: Reserve,
+) -> Result<(), AllocError>
     ensures { Keeps core.old.shared core.new.shared }
 {
     match core.step(&StepOf::Admit(TENANT, reserve)) {
@@ -29,7 +32,11 @@ pub(crate) fn admit<A: Allocator + Clone>(core: &mut Core<Jamboree, A>, reserve:
 }
 
 /// The job comes; whether it does.
-pub(crate) fn submit<A: Allocator + Clone>(core: &mut Core<Jamboree, A>, position: &Position, depth: u8) -> bool
+pub(crate) fn submit<A: Allocator + Clone>(
+    core: &mut Core<Jamboree, A>,
+    position: &Position,
+    depth: u8,
+) -> bool
     requires { depth ≤ 12 }
     ensures { HasAsked [] core.old.shared
         → HasAsked (if result then root_words position.now.board.own position.now.board.opp depth ∷ [] else []) core.new.shared }

@@ -23,3 +23,5 @@ mod worker;
 
 pub use searching::{Searched, solve_by_core};
 
+#[cfg(test)]
+mod tests;

@@ -49,8 +49,20 @@ pub fn solve_by_core<A: Allocator + Clone>(
 {
     let config = Config::new(SEGMENTS, NODES).unwrap();
     let reserve = Reserve::new(SEGMENTS, NODES).unwrap();
-    let mut core = Core::new(alloc, config, Jamboree { grain })?;
+    let mut core = empty_core(alloc, config, grain)?;
     search_in(&mut core, reserve, position, depth)
+}
+
+/// A core of these totals with no tenant.
+pub(crate) fn empty_core<A: Allocator + Clone>(
+    alloc: A,
+    config: Config,
+    grain: u8,
+) -> Result<Core<Jamboree, A>, AllocError>
+    requires { grain ≤ 6 }
+    ensures { IfOk result (λ core. HasAsked [] core.shared) }
+{
+    Core::new(alloc, config, Jamboree { grain })
 }
 
 /// The same in a core that has no tenant yet, by one that reserves so much of it.

@@ -47,7 +47,10 @@ pub(crate) fn work<A: Allocator + Clone>(core: &mut Core<Jamboree, A>, turns: u3
 }
 
 /// Takes a step that submits no job, if it isn't refused.
-fn offer<A: Allocator + Clone>(core: &mut Core<Jamboree, A>, step: &Step<Jamboree>) -> Result<Did<Jamboree>, Refusal>
+fn offer<A: Allocator + Clone>(
+    core: &mut Core<Jamboree, A>,
+    step: &Step<Jamboree>,
+) -> Result<Did<Jamboree>, Refusal>
     requires { submits step.now ≡ [] }
     ensures { Keeps core.old.shared core.new.shared }
 {
@@ -73,7 +76,11 @@ fn pick<A: Allocator + Clone>(core: &mut Core<Jamboree, A>, worker: Worker) -> N
 }
 
 /// Advances the frame that the worker runs.
-fn advance<A: Allocator + Clone>(core: &mut Core<Jamboree, A>, worker: Worker, frame: FrameId) -> Next
+fn advance<A: Allocator + Clone>(
+    core: &mut Core<Jamboree, A>,
+    worker: Worker,
+    frame: FrameId,
+) -> Next
     ensures { Keeps core.old.shared core.new.shared }
 {
     match offer(core, &StepOf::Advance(worker, frame)) {
@@ -83,7 +90,12 @@ fn advance<A: Allocator + Clone>(core: &mut Core<Jamboree, A>, worker: Worker, f
 }
 
 /// Goes on after what an Advance did.
-fn go_on<A: Allocator + Clone>(core: &mut Core<Jamboree, A>, worker: Worker, frame: FrameId, did: Did<Jamboree>) -> Next
+fn go_on<A: Allocator + Clone>(
+    core: &mut Core<Jamboree, A>,
+    worker: Worker,
+    frame: FrameId,
+    did: Did<Jamboree>,
+) -> Next
     ensures { Keeps core.old.shared core.new.shared }
 {
     match did {
@@ -96,7 +108,12 @@ fn go_on<A: Allocator + Clone>(core: &mut Core<Jamboree, A>, worker: Worker, fra
 }
 
 /// Computes what the frame asks for, and brings the answer.
-fn compute<A: Allocator + Clone>(core: &mut Core<Jamboree, A>, worker: Worker, frame: FrameId, leaf: Leaf) -> Next
+fn compute<A: Allocator + Clone>(
+    core: &mut Core<Jamboree, A>,
+    worker: Worker,
+    frame: FrameId,
+    leaf: Leaf,
+) -> Next
     ensures { Keeps core.old.shared core.new.shared }
 {
     let answer = LeafAnswer::compute(leaf);
@@ -107,7 +124,12 @@ fn compute<A: Allocator + Clone>(core: &mut Core<Jamboree, A>, worker: Worker, f
 }
 
 /// Ends the job of a root that has returned, or has its parent take in a child that has.
-fn come_back<A: Allocator + Clone>(core: &mut Core<Jamboree, A>, worker: Worker, frame: FrameId, is_root: bool) -> Next
+fn come_back<A: Allocator + Clone>(
+    core: &mut Core<Jamboree, A>,
+    worker: Worker,
+    frame: FrameId,
+    is_root: bool,
+) -> Next
     ensures { Keeps core.old.shared core.new.shared }
 {
     let step = if is_root {
