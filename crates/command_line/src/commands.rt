@@ -1,0 +1,169 @@
+//! The commands as `clap` has them, with what help says of each.
+ghost use Rattle.std.specs.Prelude.{◌≡◌, IfOk, codes, false};
+ghost use Rattle.clap.specs.Words.{app_of, found_of, new_app, rows_of, rule_of, shape_of, with_rule};
+ghost use Rattle.clap.specs.declared.builder.command.Command.TheViews.{out-Command};
+ghost use Rattle.command_line.specs.CommandLine.{is_set, program, serve_shape, solve_shape};
+ghost use Rattle.command_line.specs.Settings.{number_rule};
+
+use crate::settings::{GRAIN, NODES, PORT, SEGMENTS, SESSIONS, Setting, WORKERS};
+use clap::{Arg, ArgAction, ArgMatches, Command};
+use std::alloc::{AllocError, Global};
+
+/// Whether a command was given a flag.
+pub(crate) fn flag_in(given: &ArgMatches<'_>, flag: &str) -> bool
+    ensures { result ≡ is_set flag.now (rows_of (found_of given.now)) }
+{
+    match given.get_str(flag) {
+        Some(value) => value == "true",
+        None => false,
+    }
+}
+
+/// The program's commands.
+pub(crate) fn othello_command<'a>(alloc: Global) -> Result<Command<'a>, AllocError>
+    ensures { IfOk result (λ command. app_of command ≡ program) }
+{
+    let solve = solve_command(alloc)?;
+    let serve = serve_command(alloc)?;
+    Command::new(alloc, "othello")
+        .version(VERSION)
+        .about(
+            "Othello analysis: the minimax value of a position, and the first move that attains it",
+        )
+        .subcommand_required(true)
+        .subcommand(solve)?
+        .subcommand(serve)
+}
+
+/// An option with a number, under its word.
+fn number_arg<'a>(
+    alloc: Global,
+    setting: Setting,
+    value: &'static str,
+    required: bool,
+    help: &'static str,
+) -> Arg<'a>
+    ensures rule { rule_of result ≡ number_rule setting.name.now required }
+    ensures local { result.global ≡ false }
+{
+    Arg::new(alloc, setting.name)
+        .long(setting.name)
+        .value_name(value)
+        .required(required)
+        .help(help)
+}
+
+/// The command `solve`.
+fn solve_command<'a>(alloc: Global) -> Result<Command<'a>, AllocError>
+    ensures shape { IfOk result (λ command. shape_of command ≡ solve_shape) }
+    ensures local { IfOk result (λ command. (out-Command command).has_globals ≡ false) }
+{
+    let grain = number_arg(alloc, GRAIN, "g", false, GRAIN_HELP);
+    let visited = Arg::new(alloc, "visited")
+        .long("visited")
+        .action(ArgAction::SetTrue)
+        .help("answers by one serial search, and adds the number of positions that it entered");
+    Command::new(alloc, "solve")
+        .about("answers lines `depth position` from standard input by lines `value move`")
+        .after_help(SOLVE_HELP)
+        .arg(grain)?
+        .arg(visited)
+}
+
+/// The command `serve`.
+fn serve_command<'a>(alloc: Global) -> Result<Command<'a>, AllocError>
+    ensures shape { IfOk result (λ command. shape_of command ≡ serve_shape) }
+    ensures local { IfOk result (λ command. (out-Command command).has_globals ≡ false) }
+{
+    let command = bare_serve(alloc);
+    let command = with_number(alloc, command, SESSIONS, "k", true, SESSIONS_HELP)?;
+    let command = with_number(alloc, command, PORT, "p", false, PORT_HELP)?;
+    let command = with_number(alloc, command, WORKERS, "w", false, WORKERS_HELP)?;
+    let command = with_number(alloc, command, SEGMENTS, "s", false, SEGMENTS_HELP)?;
+    let command = with_number(alloc, command, NODES, "n", false, NODES_HELP)?;
+    with_number(alloc, command, GRAIN, "g", false, GRAIN_HELP)
+}
+
+/// The command `serve` before it has options.
+fn bare_serve<'a>(alloc: Global) -> Command<'a>
+    ensures app { app_of result ≡ new_app (codes "serve") }
+    ensures local { (out-Command result).has_globals ≡ false }
+{
+    Command::new(alloc, "serve")
+        .about("serves sessions of many tenants over TCP on 127.0.0.1, with one pool of workers")
+        .after_help(SERVE_HELP)
+}
+
+/// A command with one more option that has a number.
+fn with_number<'a>(
+    alloc: Global,
+    command: Command<'a>,
+    setting: Setting,
+    value: &'static str,
+    required: bool,
+    help: &'static str,
+) -> Result<Command<'a>, AllocError>
+    requires { (out-Command command).has_globals ≡ false }
+    ensures app { IfOk result (λ c. app_of c ≡ with_rule (app_of command.entry) (number_rule setting.name.now required)) }
+    ensures local { IfOk result (λ c. (out-Command c).has_globals ≡ false) }
+{
+    command.arg(number_arg(alloc, setting, value, required, help))
+}
+
+/// The program's version.
+const VERSION: &str = "0.1.0";
+
+/// What help says of `--grain`.
+const GRAIN_HELP: &str = "the depth that one worker searches alone, 0 to 6 [default: 2]";
+
+/// What help says of the options of `serve`.
+const SESSIONS_HELP: &str = "how many sessions to serve before the program ends, 1 to 1000";
+
+const PORT_HELP: &str = "the port, 0 to 65535; at 0 the system chooses one [default: 0]";
+
+const WORKERS_HELP: &str = "the workers of the pool, 1 to 32 [default: 4]";
+
+const SEGMENTS_HELP: &str = "the segments of all tenants together, 1 to 65536 [default: 4096]";
+
+const NODES_HELP: &str = "the nodes of all tenants together, 1 to 4194304 [default: 65536]";
+
+/// What a line of `solve` is, and what answers it.
+const SOLVE_HELP: &str = "A line is `depth position`, and is answered as soon as it is complete.
+  depth     a number from 0 to 12, in plies
+  position  64 cells from a1 to h8, row by row from the top, a space, and the side to move;
+            X, x and * are a black disc, O and o a white one, - and . an empty cell
+
+An answer is `value move`.
+  value     seen by the side to move, from -128000 to 128000: 2000 for each disc more in a finished game
+  move      a1 to h8, pass, or - where there is none (depth 0, or a finished game)
+
+A faulty line is answered by ERR and the number of its first fault.
+  22  over 128 bytes            21  no space after the depth
+  23  the depth is no number    27  the depth is over 12
+  24  the position hasn't 66 bytes
+  25  a byte spells no cell     26  no space and side after the cells
+  19  no memory for the search
+";
+
+/// What a session is, and what answers its lines.
+const SERVE_HELP: &str =
+    "The program writes `listening 127.0.0.1:port` first, and `ended k` when k sessions have ended.
+A connection is a session. Each line is answered by one line, in order:
+  HELLO s n         WELCOME s n     reserves s segments (1 to 4096) and n nodes (1 to 65536)
+  ASK d position    JOB k           asks for a position, d plies deep (`othello solve --help`)
+  GET k             PENDING k, DONE k value move, SPENT k or CANCELLED k
+  WAIT k            as GET, once the job has ended
+  CANCEL k          CANCELLED k     ends a job
+  QUOTA             QUOTA s n t     the segments, nodes and steps that are left
+  LIVE              LIVE f w        the frames that are open, and their words
+  BYE               BYE             ends the session
+
+A faulty line is answered by ERR and a number, and the session goes on.
+  22  over 128 bytes             21  unknown word, or wrong number of words
+  28  no HELLO yet               29  HELLO again
+  23  no number, or HELLO outside the limits
+  27  the depth is over 12       24, 25, 26  the position, as in `solve`
+  14  no room for the tenant     10, 11  no segments or nodes are left
+  13  256 jobs were asked        17  no such job
+  19  no memory for the tenant
+";
