@@ -230,14 +230,14 @@ advance-goes functions shared worker name tenant frame seen act runs answer is s
 
 -- Answer, by its tests
 pub answer-told : {I A : Type 0} (functions : Functions I A) (shared : Shared) (worker : ℕ) (name : FrameId) (answer : A) (tenant : Tenant) (frame : Frame (List ℕ)) (seen : Seen)
-    (computes other outside : Bool) (refusal : Refusal) →
+    (computes other outside : Bool) (told : Result (Unit {0}) Refusal) →
     IsSeen shared name tenant frame seen → computes ≡ is_computed_by worker seen.state →
     other ≡ not (functions.same (functions.asked answer) (functions.input (words_under shared name))) →
     outside ≡ is_outside (functions.accept (words_under shared name) answer) (words_under shared name) →
-    Err refusal ≡ unless ((not computes, NotComputing) ∷ (other, Mismatch) ∷ (seen.left.steps == 0, NoSteps) ∷ (outside, BadAct) ∷ []) (tt {0}) →
-    shared_refusal functions shared (Answer worker name answer) ≡ Some refusal
-answer-told functions shared worker name answer tenant frame seen computes other outside refusal is c o u told =
-    sym (answer-decided functions shared worker name answer tenant frame seen is) ∙ rw (← c, ← o, ← u) (sym (ap refusal_in told))
+    told ≡ unless ((not computes, NotComputing) ∷ (other, Mismatch) ∷ (seen.left.steps == 0, NoSteps) ∷ (outside, BadAct) ∷ []) (tt {0}) →
+    refusal_in told ≡ shared_refusal functions shared (Answer worker name answer)
+answer-told functions shared worker name answer tenant frame seen computes other outside told is c o u same =
+    ap refusal_in same ∙ rw (c, o, u) (answer-decided functions shared worker name answer tenant frame seen is)
 
 -- a test that applies is a refusal
 applies-is : (tests : List (Bool × Refusal)) → is_err (unless tests (tt {0})) ≡ applies tests

@@ -2,17 +2,18 @@
 ghost use Rattle.std.specs.Prelude.{◌≡◌, false, true, IfOk, IsSome, Some, ℕ, List, not};
 ghost use Rattle.frame_table.specs.Frames.{Frame, name_of, parent_of};
 ghost use Rattle.sched_rules.specs.Cores.{shared_refusal};
-ghost use Rattle.sched_rules.specs.Trees.{Tenant, left as left_for, is_outside as is_outside_of};
-ghost use Rattle.sched_rules.specs.Lone.{refusal_in, is_spendable as is_spendable_of, is_bad_inlet as is_bad_inlet_of};
+ghost use Rattle.sched_rules.specs.Trees.{Tenant, left as left_for, has_child as has_child_in, is_outside as is_outside_of};
+ghost use Rattle.sched_rules.specs.Lone.{refusal_in, is_spendable as is_spendable_of, is_bad_inlet as is_bad_inlet_of, is_bad_then as is_bad_then_of};
 ghost use Rattle.sched_rules.specs.Views.{named, frame_of};
 ghost use Rattle.sched_rules.specs.declared.step.StepOf.TheVariants.{Advance as AdvanceStep, Answer as AnswerStep, Inlet as InletStep};
-ghost use Rattle.sched_store.specs.Reads.{sight_of, words_under, is_busy_among};
+ghost use Rattle.sched_store.specs.Reads.{sight_of, words_under, frames_in, is_busy_among};
 ghost use Rattle.sched_core.specs.Seeing.{IsSeen};
 
 use crate::decide::{first_of, is_computed_by, is_outside, is_returned, is_run_by, may_act};
-use crate::engine::{Engine, Seen, look, own};
+use crate::engine::{Engine, Seen, look_in, own};
 use frame_table::{FrameId, State};
-use sched_rules::{Act, InletAct, Procedure, Refusal, Stores, Worker};
+use sched_rules::{Act, InletAct, Procedure, Refusal, Stores, Then, Worker};
+use sched_store::Store;
 use std::alloc::Allocator;
 
 impl<P: Procedure, A: Allocator> Engine<P, A> {
@@ -21,14 +22,15 @@ impl<P: Procedure, A: Allocator> Engine<P, A> {
         ensures refusal { refusal_in result ≡ shared_refusal (P.functions self.now.procedure) self.now.store (AdvanceStep worker name) }
         ensures act { IfOk result (λ act. act ≡ (P.functions self.now.procedure).next (sight_of self.now.store name)) }
     {
-        let seen = look(&self.store, name)?;
+        let found = look_in(&self.store, name)?;
+        let seen = found.seen;
         first_of(&[
             (!is_run_by(seen.state, worker.number()), Refusal::NotRunning),
             (seen.left.steps == 0, Refusal::NoSteps),
         ])?;
-        let act = self.procedure.next(&self.store.sight(name));
-        let words = own(&self.store, name);
-        may_act(&words, self.store.has_child(name), seen.left, &act)?;
+        let act = self.procedure.next(&found.sight);
+        let has_child = has_child_for(&self.store, name, &act.after);
+        may_act(&found.words, has_child, seen.left, &act)?;
         Ok(act)
     }
 
@@ -42,20 +44,20 @@ impl<P: Procedure, A: Allocator> Engine<P, A> {
         ensures refusal { refusal_in result ≡ shared_refusal (P.functions self.now.procedure) self.now.store (AnswerStep worker name answer.now) }
         ensures stores { IfOk result (λ stores. stores ≡ (P.functions self.now.procedure).accept (words_under self.now.store name) answer.now) }
     {
-        let seen = look(&self.store, name)?;
-        let words = own(&self.store, name);
-        let stores = self.procedure.accept(&words, answer);
+        let found = look_in(&self.store, name)?;
+        let seen = found.seen;
+        let stores = self.procedure.accept(&found.words, answer);
         first_of(&[
             (
                 !is_computed_by(seen.state, worker.number()),
                 Refusal::NotComputing,
             ),
             (
-                self.procedure.asked(answer) != self.procedure.input(&words),
+                self.procedure.asked(answer) != self.procedure.input(&found.words),
                 Refusal::Mismatch,
             ),
             (seen.left.steps == 0, Refusal::NoSteps),
-            (is_outside(stores.as_slice(), &words), Refusal::BadAct),
+            (is_outside(stores.as_slice(), &found.words), Refusal::BadAct),
         ])?;
         Ok(stores)
     }
@@ -70,7 +72,8 @@ impl<P: Procedure, A: Allocator> Engine<P, A> {
         ensures parent { IfOk result (λ found. (frame : Frame (List ℕ)) → named self.now.store name ≡ Some frame → name_of name.tenant (parent_of frame.path) ≡ Some found.0) }
         ensures act { IfOk result (λ found. found.1 ≡ (P.functions self.now.procedure).inlet (words_under self.now.store found.0) (words_under self.now.store name)) }
     {
-        let seen = look(&self.store, name)?;
+        let found = look_in(&self.store, name)?;
+        let seen = found.seen;
         let Some(parent) = seen.parent else {
             return Err(Refusal::NotReturned);
         };
@@ -79,7 +82,7 @@ impl<P: Procedure, A: Allocator> Engine<P, A> {
             (seen.left.steps == 0, Refusal::NoSteps),
         ])?;
         let above = own(&self.store, parent);
-        let act = self.procedure.inlet(&above, &own(&self.store, name));
+        let act = self.procedure.inlet(&above, &found.words);
         first_of(&[
             (is_outside(act.stores.as_slice(), &above), Refusal::BadAct),
             (self.store.is_busy(worker), Refusal::Busy),
@@ -100,7 +103,8 @@ impl<P: Procedure, A: Allocator> Engine<P, A> {
             State::Running(_) => {
                 let act = self.procedure.next(&self.store.sight(name));
                 let words = own(&self.store, name);
-                may_act(&words, self.store.has_child(name), seen.left, &act).is_err()
+                let has_child = has_child_for(&self.store, name, &act.after);
+                may_act(&words, has_child, seen.left, &act).is_err()
             }
             State::Returned => self.is_bad_inlet(name, seen),
             State::Ready(_) | State::Computing(_) | State::Waiting => false,
@@ -121,5 +125,15 @@ impl<P: Procedure, A: Allocator> Engine<P, A> {
             }
             None => false,
         }
+    }
+}
+
+/// Whether a frame has a child, where what it does next asks for that: only a frame with none computes.
+fn has_child_for<A: Allocator>(store: &Store<A>, name: FrameId, after: &Then) -> bool
+    ensures { (words : ℕ) → is_bad_then_of words (has_child_in (frames_in store.now name.tenant) name.serial) after.now ≡ is_bad_then_of words result after.now }
+{
+    match after {
+        Then::Compute => store.has_child(name),
+        Then::Grow(_) | Then::Spawn(_, _) | Then::Go | Then::Wait | Then::Return => false,
     }
 }

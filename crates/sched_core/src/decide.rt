@@ -150,9 +150,11 @@ pub fn segments_for(words: usize, after: &Then) -> usize
     }
 }
 
-/// Whether a frame of these words, with a child or none, may do this act with what its tenant has left.
+/// Whether a frame of these words, with a child or none (which is asked only of one that computes), may
+/// do this act with what its tenant has left.
 pub fn may_act(words: &Words, has_child: bool, left: Left, act: &Act) -> Result<(), Refusal>
-    ensures { (tenant : Tenant) (frame : Frame (List ℕ)) → frame.value ≡ words.now → has_child_of tenant.frames frame.serial ≡ has_child → left_of tenant ≡ left
+    ensures { (tenant : Tenant) (frame : Frame (List ℕ)) → frame.value ≡ words.now
+        → is_bad_then_of (length words.now) (has_child_of tenant.frames frame.serial) act.now.after ≡ is_bad_then_of (length words.now) has_child act.now.after → left_of tenant ≡ left
         → result ≡ unless (act_tests tenant frame act.now) tt }
 {
     if is_bad_act(words, has_child, act) {

@@ -1,15 +1,15 @@
 //! A procedure and a store: what each step reads before it is decided.
-ghost use Rattle.std.specs.Prelude.{◌≡◌, ℕ, List, Some, None, IsSome, MatchResult};
+ghost use Rattle.std.specs.Prelude.{◌≡◌, ℕ, List, Some, None, IsSome, IfOk, MatchResult};
 ghost use Rattle.frame_table.specs.Frames.{Frame};
 ghost use Rattle.sched_rules.specs.Trees.{Tenant};
 ghost use Rattle.sched_rules.specs.Views.{named};
-ghost use Rattle.sched_store.specs.Reads.{words_under};
+ghost use Rattle.sched_store.specs.Reads.{words_under, sight_of};
 ghost use Rattle.sched_core.specs.Seeing.{IsSeen, missing};
 
-use cactus_stack::Words;
+use cactus_stack::{Sight, Words};
 use frame_table::{FrameId, State};
 use sched_rules::Refusal;
-use sched_store::Store;
+use sched_store::{Sighted, Store};
 use std::alloc::{Allocator, Global};
 use tenant_quota::Left;
 
@@ -31,6 +31,17 @@ pub(crate) struct Seen {
     pub(crate) left: Left,
 }
 
+/// What a step reads that asks the procedure about a frame.
+#[derive(Drop)]
+pub(crate) struct Found<'a> {
+    /// The frame as any step sees it.
+    pub(crate) seen: Seen,
+    /// Its words.
+    pub(crate) words: Words<'a>,
+    /// Its own words, its parent's, and so on to its root's.
+    pub(crate) sight: Sight<'a>,
+}
+
 /// What is there of a frame, or why there is none: its tenant isn't there, or it isn't.
 pub(crate) fn look<A: Allocator>(store: &Store<A>, name: FrameId) -> Result<Seen, Refusal>
     ensures { MatchResult result
@@ -48,6 +59,34 @@ pub(crate) fn look<A: Allocator>(store: &Store<A>, name: FrameId) -> Result<Seen
         state,
         left,
     })
+}
+
+/// The same with the frame's words and what it sees, by one look-up.
+pub(crate) fn look_in<A: Allocator>(store: &Store<A>, name: FrameId) -> Result<Found<'_>, Refusal>
+    ensures frame { MatchResult result
+        (λ found. (tenant : Tenant) × (frame : Frame (List ℕ)) × IsSeen store.now name tenant frame found.seen)
+        (λ refusal. missing store.now name ≡ Some refusal) }
+    ensures words { IfOk result (λ found. found.words ≡ words_under store.now name) }
+    ensures sight { IfOk result (λ found. found.sight ≡ sight_of store.now name) }
+{
+    let Some(left) = store.left(name.tenant) else {
+        return Err(Refusal::NoTenant);
+    };
+    let Some(sighted) = store.look_up(name) else {
+        return Err(Refusal::NoFrame);
+    };
+    let Sighted {
+        parent,
+        state,
+        words,
+        sight,
+    } = sighted;
+    let seen = Seen {
+        parent,
+        state,
+        left,
+    };
+    Ok(Found { seen, words, sight })
 }
 
 /// The words of a frame that is there.

@@ -1,6 +1,7 @@
 -- The jobs of one tenant: found by number, begun and ended.
-use Rattle.std.proofs.Common.{◌≡◌, ◌≢◌, ℕ, zero, suc, ◌<◌, ◌≤◌, ◌+◌, ◌-◌, false, List, [], ◌∷◌, ◌++◌, length, get_or, Some, None, refl, ap, sym, subst, ◌∙◌, arith, inl, inr}
+use Rattle.std.proofs.Common.{◌≡◌, ◌≢◌, ℕ, zero, suc, ◌<◌, ◌≤◌, ◌+◌, ◌-◌, true, false, List, [], ◌∷◌, ◌++◌, length, get_or, drop, Some, None, refl, ap, sym, subst, ◌∙◌, arith, inl, inr}
 use Rattle.std.proofs.Math.ListN.{set}
+use Rattle.std.proofs.Math.Bool.{or-true}
 use Rattle.std.proofs.lemmas.Bool.{cases_Bool, false≢true, true≢false, ne_eqb, or_parts, or_from}
 use Rattle.sched_rules.specs.declared.job.Job.{Job}
 use Rattle.sched_rules.specs.declared.job.Job.TheVariants.{Live, Done, Spent, Cancelled}
@@ -50,6 +51,27 @@ number_from-range first root (job ∷ jobs) =
       | inl live ↦ rw live (omega arith)
       | inr other ↦ rw other (omega (arith, number_from-range (first + 1) root jobs))
     ]
+
+live-there : (root at : ℕ) (jobs : Jobs) (d : Job) → at < length jobs → is_live_at root (get_or jobs at d) ≡ true → is_live_in root jobs ≡ true
+live-there root at [] d within live = absurd (omega arith)
+live-there root zero (job ∷ jobs) d within live = rw live refl
+live-there root (suc at) (job ∷ jobs) d within live = rw (live-there root at jobs d (omega arith) live) (or-true (is_live_at root job))
+
+-- a job that lives under a root is the one that is found, as there is no other
+pub number_from-there : (first at root : ℕ) (jobs : Jobs) (d : Job) → AreLiveOnce jobs → at < length jobs → is_live_at root (get_or jobs at d) ≡ true → number_from first root jobs ≡ first + at
+number_from-there first at root [] d once within live = absurd (omega arith)
+number_from-there first zero root (job ∷ jobs) d once within live = rw live (omega arith)
+number_from-there first (suc at) root (job ∷ jobs) d once within live =
+    elim (cases_Bool (is_live_at root job)) [
+      | inl first_lives ↦ absurd (true≢false (sym (live-there root at jobs d (omega arith) live) ∙ once.0 root first_lives))
+      | inr other ↦ rw other (number_from-there (first + 1) at root jobs d once.1 (omega arith) live ∙ omega arith)
+    ]
+
+-- none from a place on lives under a root, where none after it does
+pub none-from : (root at : ℕ) (jobs : Jobs) (d : Job) → at < length jobs → is_live_at root (get_or jobs at d) ≡ false → is_live_in root (drop (at + 1) jobs) ≡ false → is_live_in root (drop at jobs) ≡ false
+none-from root at [] d within other none = absurd (omega arith)
+none-from root zero (job ∷ jobs) d within other none = or_from (is_live_at root job) (is_live_in root jobs) other none
+none-from root (suc at) (job ∷ jobs) d within other none = let next : suc at + 1 ≡ suc (at + 1) = omega arith in none-from root at jobs d (omega arith) other (rw next at none)
 
 -- ending a job
 

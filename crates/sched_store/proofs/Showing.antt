@@ -12,10 +12,10 @@ use Rattle.frame_table.specs.Tables.{frames_of}
 use Rattle.frame_table.specs.TreeLaws.{map_value, map_values}
 use Rattle.frame_table.proofs.TreeLaws.{found-path, placed, IsPlaced}
 use Rattle.frame_table.proofs.TreeValues.{children_of-map_values}
-use Rattle.sched_rules.specs.Trees.{is_root, has_child}
+use Rattle.sched_rules.specs.Trees.{is_root, has_child, words_of}
 use Rattle.sched_rules.specs.Views.{words_of_frame, named}
 use Rattle.sched_store.specs.Parts.{Parts, shared_of}
-use Rattle.sched_store.specs.Reads.{path_of, frames_in}
+use Rattle.sched_store.specs.Reads.{path_of, frames_in, words_under}
 use Rattle.sched_store.specs.Stored.{IsStored, frame_in}
 use Rattle.sched_store.proofs.Lookups.{named-found, frames-found}
 use Rattle.sched_store.proofs.Frames.{found, nothing-found}
@@ -27,6 +27,12 @@ words-shown parts stored name entry words is own =
     let value : entry.value ≡ f.frame.value = ap (λ (e : Entry ℕ). e.value) f.is in
     ap (λ (ws : List ℕ). Some ws) (own ∙ ap (node_words parts.nodes) value)
     ∙ sym (ap (λ (o : Option (Frame (List ℕ))). option_map (λ (frame : Frame (List ℕ)). frame.value) o) f.named)
+
+pub own-words-shown : (parts : Parts) → IsStored parts → (name : FrameId) (entry : Entry ℕ) (words : List ℕ) → Some entry ≡ entry_of name.tenant (frame_in parts.trees name.tenant name.serial) → words ≡ node_words parts.nodes entry.value → words ≡ words_under (shared_of parts) name
+own-words-shown parts stored name entry words is own =
+    let f = found parts stored name entry is in
+    let value : entry.value ≡ f.frame.value = ap (λ (e : Entry ℕ). e.value) f.is in
+    own ∙ ap (node_words parts.nodes) value ∙ sym (ap words_of f.named)
 
 pub no-words-shown : (parts : Parts) → IsStored parts → (name : FrameId) → None ≡ entry_of name.tenant (frame_in parts.trees name.tenant name.serial) → None ≡ words_of_frame (shared_of parts) name
 no-words-shown parts stored name is = sym (ap (λ (o : Option (Frame (List ℕ))). option_map (λ (frame : Frame (List ℕ)). frame.value) o) (nothing-found parts stored name is))

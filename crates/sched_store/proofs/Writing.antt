@@ -10,6 +10,8 @@ use Rattle.tenant_quota.proofs.Edits.{AllEntries-map, sum_by-le_with}
 use Rattle.frame_table.specs.declared.names.FrameId.{FrameId}
 use Rattle.frame_table.specs.Frames.{Frame, HasValue}
 use Rattle.frame_table.specs.TreeLaws.{map_value}
+use Rattle.sched_rules.specs.Changes.{on_tenant}
+use Rattle.sched_rules.specs.Lone.{holding}
 use Rattle.sched_rules.specs.Trees.{words_of, stored}
 use Rattle.sched_rules.specs.Views.{named}
 use Rattle.sched_store.specs.Parts.{Parts, shared_of}
@@ -19,6 +21,7 @@ use Rattle.sched_store.proofs.Lookups.{named-found}
 use Rattle.sched_store.proofs.Frames.{there-frame}
 use Rattle.sched_store.proofs.Holders.{frame-account}
 use Rattle.sched_store.proofs.Tenants.{left-account}
+use Rattle.sched_store.proofs.Nodes.{words-stay}
 use Rattle.sched_store.proofs.Steps.{changed-same}
 use Rattle.sched_store.proofs.Words.{ChargesWords, WordsSet, words-set}
 
@@ -75,6 +78,15 @@ stores-set old nodes name node stores is_stored has is =
     let P : List ℕ → Type 0 = λ ws. WordsSet old nodes old.book name (stored stores ws) in
     subst P (sym has.words) (words-set old nodes old.book name has.frame (stored stores words) (λ a. a) own.0 is_stored has.there at_frame
     (rw len (is_stored.sized.some node has.is_open)) (rw len (is_stored.sized.most node has.is_open)) charges)
+
+-- no store changes nothing
+pub nothing-stored : (parts : Parts) (name : FrameId) → IsStored parts → IsSome (named (shared_of parts) name) → shared_of parts ≡ on_tenant name.tenant (holding name.serial (words_under (shared_of parts) name)) (shared_of parts)
+nothing-stored parts name is_stored is =
+    let f = there-frame parts is_stored name is in
+    let value : HasValue (frame_in parts.trees name.tenant name.serial) f.0.value = let there = f.1 in rw there refl in
+    let has = has-node parts is_stored name f.0.value is value in
+    (stores-set parts parts.nodes name f.0.value [] is_stored has (sym (words-stay parts.nodes f.0.value has.is_open))).shared
+
 
 -- a segment that a tenant has left is free
 

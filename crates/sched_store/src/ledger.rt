@@ -70,13 +70,14 @@ impl<A: Allocator> Ledger<A> {
         }
     }
 
-    /// The number of the job that lives under this root; 0 where there is none.
+    /// The number of the job that lives under this root; 0 where there is none. It looks from the
+    /// newest on, as most jobs that live are new.
     pub(crate) fn under(&self, root: u64) -> usize
         ensures number { result ≡ job_under root self.now.1 }
         ensures within { result ≤ length self.now.1 }
     {
-        for (at, job) in self.jobs.iter().enumerate() {
-            if lives_under(job, root) {
+        for at in (0..self.jobs.len()).rev() {
+            if lives_under(&self.jobs[at], root) {
                 return at + 1;
             }
         }

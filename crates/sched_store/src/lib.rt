@@ -33,3 +33,4 @@ mod ledgers;
 mod store;
 
 pub use store::Store;
+pub use store::reading::Sighted;

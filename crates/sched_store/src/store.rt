@@ -5,7 +5,7 @@ ghost use Rattle.frame_table.specs.Tables.{frames_of};
 ghost use Rattle.sched_rules.specs.Cores.{shared_by_nobody};
 
 mod opening;
-mod reading;
+pub(crate) mod reading;
 mod removing;
 mod tenants;
 mod writing;

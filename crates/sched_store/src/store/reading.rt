@@ -1,6 +1,6 @@
 //! The calls that only read: the tests by which steps are decided, and what a core shows. Each is
 //! total or asks for a frame that is there; none takes memory.
-ghost use Rattle.std.specs.Prelude.{◌≡◌, ◌↔◌, ◌+◌, ◌≤◌, ◌^◌, ℕ, [], length, is_some, IfSome, IsSome, IsNone, Some, option_copied};
+ghost use Rattle.std.specs.Prelude.{◌≡◌, ◌↔◌, ◌+◌, ◌≤◌, ◌^◌, ℕ, [], length, is_some, IfSome, IsSome, IsNone, Some, option_copied, option_map};
 ghost use Rattle.frame_table.specs.declared.names.State.TheVariants.{Ready};
 ghost use Rattle.frame_table.specs.Frames.{root_of, IsTree};
 ghost use Rattle.sched_rules.specs.Trees.{is_held_by, has_child as has_child_in, is_root as is_root_path, job_under as number_under};
@@ -15,6 +15,19 @@ use frame_table::{FrameId, State};
 use sched_rules::{Job, Worker};
 use std::alloc::Allocator;
 use tenant_quota::{Left, Reserve};
+
+/// A frame that was looked up: what it is doing, its words, and what it sees.
+#[derive(Drop)]
+pub struct Sighted<'a> {
+    /// The parent's name; a root has none.
+    pub parent: Option<FrameId>,
+    /// What the frame is doing.
+    pub state: State,
+    /// Its words.
+    pub words: Words<'a>,
+    /// Its own words, its parent's, and so on to its root's.
+    pub sight: Sight<'a>,
+}
 
 impl<A: Allocator> Store<A> {
     /// Whether a tenant is there.
@@ -79,6 +92,24 @@ impl<A: Allocator> Store<A> {
     {
         match self.table.find(name) {
             Some(entry) => Some((entry.parent, entry.state)),
+            None => None,
+        }
+    }
+
+    /// A frame with its words and its sight, by one look-up; `None` where it isn't there.
+    pub fn look_up(&self, name: FrameId) -> Option<Sighted<'_>>
+        ensures frame { option_map (λ found. (found.parent, found.state)) result ≡ frame_of self.now name }
+        ensures words { IfSome result (λ found. found.words ≡ words_under self.now name) }
+        ensures sight { IfSome result (λ found. found.sight ≡ sight_of self.now name) }
+        ensures tree { IsTree (frames_in self.now name.tenant) }
+    {
+        match self.table.find(name) {
+            Some(entry) => Some(Sighted {
+                parent: entry.parent,
+                state: entry.state,
+                words: self.stack.own(entry.value),
+                sight: self.stack.sight(entry.value),
+            }),
             None => None,
         }
     }

@@ -21,7 +21,11 @@ impl<A: Allocator> Store<A> {
         requires inside { is_outside stores.now (words_under self.old name) ≡ false }
         ensures { self.new ≡ on_tenant name.tenant (holding name.serial (stored stores.now (words_under self.old name))) self.old }
     {
-        let node = node_of(&self.table, name);
+        let table = &self.table;
+        if stores.is_empty() {
+            return;
+        }
+        let node = node_of(table, name);
         store_words(&mut self.stack, node, stores);
     }
 

@@ -1,6 +1,6 @@
-use Rattle.std.proofs.Common.{◌≡◌, ◌+◌, drop}
-use Rattle.sched_rules.specs.Trees.{job_under, number_from}
+use Rattle.std.proofs.Common.{◌≡◌, false, drop}
+use Rattle.sched_store.specs.Ledgers.{is_live_in}
 use Rattle.sched_store.proofs.ledger.Ledger.under.Given as goal
 
 abbrev pub invariant-loop-at : goal.invariant-loop-at
-invariant-loop-at g l = number_from (l.at + 1) l.root (drop l.at l.self.1) ≡ job_under l.root l.self.1
+invariant-loop-at g l = is_live_in l.root (drop l.at l.self-inside.jobs.items) ≡ false

@@ -1,6 +1,9 @@
+use Rattle.std.proofs.Common.{◌≡◌, [], sym, ◌∙◌}
+use Rattle.std.proofs.lemmas.Bool.{eqb-true}
+use Rattle.std.proofs.lemmas.List.{nil_from_length}
 use Rattle.sched_store.specs.Inside.{parts_of}
 use Rattle.sched_store.proofs.Frames.{there-has}
-use Rattle.sched_store.proofs.Writing.{has-node, stores-set}
+use Rattle.sched_store.proofs.Writing.{has-node, stores-set, nothing-stored}
 use Rattle.sched_store.proofs.store.Store.store_all.Goals as goal
 
 pub node_of-node-requires : goal.node_of-node-requires
@@ -30,3 +33,9 @@ returns g c =
     let is = rw (← c.self.view_is) at c.requires.there in
     let has = has-node (parts_of c.self.inside) c.self.invariant c.args.name c.node_of-node.result is c.node_of-node.ensures in
     rw (← c.self.view_is) (stores-set (parts_of c.self.inside) c.store_words.new.stack c.args.name c.node_of-node.result c.args.stores.now c.self.invariant has c.store_words.ensures).shared
+
+pub returns-then-is_empty : goal.returns-then-is_empty
+returns-then-is_empty g c =
+    let is = rw (← c.self.view_is) at c.requires.there in
+    let none : c.args.stores.now ≡ [] = nil_from_length c.args.stores.now (eqb-true _ _ (sym c.is_empty.ensures ∙ c.if-is_empty.true)) in
+    rw none (rw (← c.self.view_is) (nothing-stored (parts_of c.self.inside) c.args.name c.self.invariant is))
