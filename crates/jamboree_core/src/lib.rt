@@ -1,4 +1,35 @@
-//! Searches on a running core.
+//! Searches on a running core: the headline in full.
+//!
+//! A core that runs [`Jamboree`](jamboree::Jamboree) serves many tenants, each of whom asks for
+//! searches ([`submit`]). `sched_core` says of every list of steps, for every procedure, that no
+//! tenant is disturbed and that frames keep fitting; `jamboree_laws` says what a fitting search has
+//! come to. Here both are said of one call: after [`run_searches`], or [`step_search`] by
+//! [`step_search`], each tenant is what its own taken steps give, a step is refused only for its own
+//! tenant's state or a busy worker, and every completed reply is the minimax value to its depth,
+//! whatever was spawned, stolen, aborted or answered too late. [`outcome_of`] reads what has become
+//! of a job; where it is done, its [`Reply`](jamboree::Reply) is to the board and the depth that the
+//! job's own Submit asked for.
+//!
+//! What is carried from call to call is that a core's jobs are searches (`CoreSearches` of
+//! `specs/Searching.antt`): its frames fit, and job k of a tenant holds what the k-th of the words
+//! submitted under its number asked. A new core's are, since it has none; and where each Submit asks
+//! for a search, a step keeps it. [`laws`] has what follows from it, and the same for one tenant by
+//! its journal, the list of its own steps that were taken (`specs/Journals.antt`).
+//!
+//! ```text
+//! // the opening to depth 2, computed by worker 3: seven steps, all taken, and word 8 is that of -4
+//! let steps = [
+//!     StepOf::Admit(7, reserve),
+//!     submit(7, &position, 2),
+//!     StepOf::Steal(worker, 0, root),
+//!     StepOf::Advance(worker, root),
+//!     StepOf::Answer(worker, root, LeafAnswer::compute(leaf)),
+//!     StepOf::Advance(worker, root),
+//!     StepOf::Finish(worker, root),
+//! ];
+//! run_searches(&mut core, &steps, &mut answers)?;
+//! outcome_of(&core, 7, 1) == Some(Outcome::Done(reply))
+//! ```
 #![tactic(auto)]
 
 mod asking;
@@ -9,3 +40,6 @@ mod running;
 pub use asking::submit;
 pub use outcomes::{Outcome, outcome_of};
 pub use running::{run_searches, step_search};
+
+#[cfg(test)]
+mod tests;
