@@ -1,0 +1,3 @@
+pub mod Using
+pub mod Lists
+pub mod Halls

@@ -1,0 +1,219 @@
+-- Each taken step of a tenant uses one of what it may do, so a journal stays within its places.
+use Rattle.std.proofs.Common.{◌≡◌, ℕ, ◌+◌, ◌*◌, ◌≤◌, inl, inr, Bool, false, true, not, ◌||◌, ◌&&◌, eqb, List, [], ◌∷◌, ◌++◌, length, Option, Some, None, Result, Ok, Err, refl, subst, ap, sym, ◌∙◌, arith, length-append}
+use Rattle.std.proofs.lemmas.Bool.{cases_Bool, eqb-true}
+use Rattle.tenant_quota.specs.Quota.{Quota}
+use Rattle.frame_table.specs.declared.names.FrameId.{FrameId}
+use Rattle.frame_table.specs.Frames.{Frame, frame_at, parent_of, root_of, path_in}
+use Rattle.sched_rules.specs.declared.act.InletAct.{InletAct}
+use Rattle.sched_rules.specs.declared.act.Then.{Then}
+use Rattle.sched_rules.specs.declared.act.Then.TheVariants.{Grow, Spawn, Go, Wait, Compute, Return}
+use Rattle.sched_rules.specs.declared.job.Job.{Job}
+use Rattle.sched_rules.specs.declared.job.Job.TheVariants.{Live, Done, Spent as SpentJob, Cancelled as CancelledJob}
+use Rattle.sched_rules.specs.declared.refusal.Refusal.{Refusal}
+use Rattle.sched_rules.specs.declared.refusal.Refusal.TheVariants.{NotSpent, OldTenant, NotReturned, NoJob}
+use Rattle.sched_rules.specs.declared.step.StepOf.{StepOf}
+use Rattle.sched_rules.specs.declared.step.StepOf.TheVariants.{Admit, Submit, Take, Steal, Advance, Answer, Inlet, Finish, Spend, Cancel, Leave}
+use Rattle.sched_rules.specs.declared.step.DidOf.TheVariants.{Cancelled, Left}
+use Rattle.sched_rules.specs.Functions.{Functions}
+use Rattle.sched_rules.specs.Trees.{Tree, Tenant, admitted_with, words_in, has_child, is_root, job_at, is_live_at, with_ended}
+use Rattle.sched_rules.specs.Lone.{Outcome, unless, lone, lone_step, counted, holding, submit_tests, submitted, take_tests, steal_tests, taken_by, act_of, advance_tests, then_done, advanced, answer_tests, answered, inlet_tests, does_wait, staying, taken_in, inlet_under, finish_tests, finished, is_spendable, spent, cancelled, ended}
+use Rattle.sched_rules.specs.Runs.{state_after, alone_from}
+use Rattle.sched_laws.specs.Ended.{HasEnded}
+use Rattle.sched_laws.specs.Shapes.{IsShaped, AreRootsLive, live_count}
+use Rattle.sched_laws.proofs.Shaped.{LeftShaped, unless-passed, frame-found, step-shaped, admitted-shaped}
+use Rattle.sched_laws.proofs.Answers.{lone-shaped}
+use Rattle.sched_laws.proofs.Parts.{length-with_ended}
+use Rattle.sched_laws.proofs.Consequences.{live-root, root-above}
+use Rattle.jamboree_core.specs.Journals.{StaysTaken, AreTakenFrom, IsJournalOf}
+use Rattle.hall.specs.Journals.{goes_on}
+use Rattle.hall.specs.Uses.{ended_count, uses}
+
+-- a tenant, if it stays, has used one more, and reserves what it did; and it does stay where the step goes on
+abbrev pub HasUsed : Bool → Tenant → Option Tenant → Type 0
+HasUsed goes tenant None = goes ≡ false
+HasUsed goes tenant (Some after) = (uses tenant + 1 ≤ uses after) × (after.reserve ≡ tenant.reserve)
+
+-- one more job, which lives
+ended-append : (root : ℕ) (jobs : List Job) → ended_count (jobs ++ Live root ∷ []) ≡ ended_count jobs
+ended-append root [] = refl
+ended-append root (Live s ∷ jobs) = ended-append root jobs
+ended-append root (Done words ∷ jobs) = ap (λ (n : ℕ). n + 1) (ended-append root jobs)
+ended-append root (SpentJob ∷ jobs) = ap (λ (n : ℕ). n + 1) (ended-append root jobs)
+ended-append root (CancelledJob ∷ jobs) = ap (λ (n : ℕ). n + 1) (ended-append root jobs)
+
+-- the jobs under a root have ended
+end-counts : (end : Job) (jobs : List Job) → HasEnded end → ended_count (end ∷ jobs) ≡ ended_count jobs + 1
+end-counts (Live root) jobs has = absurd has
+end-counts (Done words) jobs has = refl
+end-counts SpentJob jobs has = refl
+end-counts CancelledJob jobs has = refl
+
+ended-more : (root : ℕ) (end : Job) (jobs : List Job) → HasEnded end → ended_count (with_ended root end jobs) ≡ ended_count jobs + live_count root jobs
+ended-more root end [] has = omega arith
+ended-more root end (Live s ∷ jobs) has =
+    let rest = ended-more root end jobs has in
+    elim (cases_Bool (eqb s root)) [
+      | inl same ↦ rw same (end-counts end (with_ended root end jobs) has ∙ omega (arith, rest))
+      | inr other ↦ rw other rest
+    ]
+ended-more root end (Done words ∷ jobs) has = (let rest = ended-more root end jobs has in omega (arith, rest))
+ended-more root end (SpentJob ∷ jobs) has = (let rest = ended-more root end jobs has in omega (arith, rest))
+ended-more root end (CancelledJob ∷ jobs) has = (let rest = ended-more root end jobs has in omega (arith, rest))
+
+-- one job lives under the root of a frame
+one-lives : (jobs : List Job) (xs : Tree) (root : ℕ) → AreRootsLive jobs xs → path_in xs root ≡ root ∷ [] → live_count root jobs ≡ 1
+one-lives jobs [] root roots at = absurd cc
+one-lives jobs (x ∷ xs) root roots at = elim (cases_Bool (eqb x.serial root)) [
+  | inl same ↦ (let path : x.path ≡ root ∷ [] = rw same at at in
+      ap (λ (n : ℕ). live_count n jobs) (sym (eqb-true x.serial root same)) ∙ roots.0 (ap is_root path))
+  | inr other ↦ one-lives jobs xs root roots.1 (rw other at at)
+]
+
+-- a tenant whose job under a root ended
+job-ended : (root : ℕ) (end : Job) (tenant : Tenant) → HasEnded end → IsShaped tenant → path_in tenant.frames root ≡ root ∷ [] → HasUsed true tenant (Some (ended root end tenant))
+job-ended root end tenant has shape at =
+    let one = one-lives tenant.jobs tenant.frames root shape.roots at in
+    let more = ended-more root end tenant.jobs has in
+    let same = length-with_ended root end tenant.jobs in
+    (omega (arith, one, more, same), refl)
+
+came-used : {I : Type 0} (goes : Bool) (tenant : Tenant) (effect outcome : Outcome I) → effect ≡ outcome → HasUsed goes tenant effect.0 → HasUsed goes tenant outcome.0
+came-used {I} goes tenant effect outcome is has = let P : Outcome I → Type 0 = λ o. HasUsed goes tenant o.0 in subst P is has
+
+refused-used : {I : Type 0} (goes : Bool) (tenant : Tenant) (refusal : Refusal) (outcome : Outcome I) → ◌≡◌ {A = Result (Outcome I) Refusal} (Err refusal) (Ok outcome) → HasUsed goes tenant outcome.0
+refused-used goes tenant refusal outcome e = absurd cc
+
+-- a counted step
+ticked : (tenant : Tenant) → uses tenant + 1 ≤ uses (counted tenant)
+ticked tenant = omega arith
+
+then-used : {I A : Type 0} (functions : Functions I A) (tenant t : Tenant) (worker : ℕ) (name : FrameId) (path words : List ℕ) (after : Then) →
+    uses t ≡ uses (counted tenant) → t.reserve ≡ tenant.reserve → HasUsed true tenant (then_done functions t worker name path words after).0
+then-used functions tenant t worker name path words (Grow more) u r = (omega (arith, u), r)
+then-used functions tenant t worker name path words (Spawn given size) u r = (omega (arith, u), r)
+then-used functions tenant t worker name path words Go u r = (omega (arith, u), r)
+then-used functions tenant t worker name path words Wait u r = elim (cases_Bool (has_child t.frames name.serial)) [ inl some ↦ rw some (omega (arith, u), r) | inr none ↦ rw none (omega (arith, u), r) ]
+then-used functions tenant t worker name path words Compute u r = (omega (arith, u), r)
+then-used functions tenant t worker name path words Return u r = elim (cases_Bool (has_child t.frames name.serial)) [ inl some ↦ rw some (omega (arith, u), r) | inr none ↦ rw none (omega (arith, u), r) ]
+
+inlet-used : (I : Type 0) (tenant : Tenant) (worker : ℕ) (name : FrameId) (parent : ℕ) (act : InletAct) → HasUsed true tenant (taken_in {I = I} tenant worker name parent act).0
+inlet-used I tenant worker name parent act =
+    let frames = staying tenant.frames name.serial parent act.abort in
+    elim (cases_Bool (does_wait (frame_at frames parent) && (act.abort || act.wake || not (has_child frames parent)))) [ inl woken ↦ rw woken (ticked tenant, refl) | inr sleeps ↦ rw sleeps (ticked tenant, refl) ]
+
+cancel-used : {I : Type 0} (tenant : Tenant) (number : ℕ) (job : Option Job) (outcome : Outcome I) → IsShaped tenant → job_at tenant.jobs number ≡ job → cancelled tenant job ≡ Ok outcome → HasUsed true tenant outcome.0
+cancel-used tenant number None outcome shape at is = refused-used true tenant NoJob outcome is
+cancel-used {I} tenant number (Some (Live root)) outcome shape at is =
+    let e : ◌≡◌ {A = Result (Outcome I) Refusal} (Ok (Some (ended root CancelledJob tenant), Cancelled)) (Ok outcome) = is in
+    let pair : ◌≡◌ {A = Outcome I} (Some (ended root CancelledJob tenant), Cancelled) outcome = cc in
+    came-used true tenant (Some (ended root CancelledJob tenant), Cancelled) outcome pair (job-ended root CancelledJob tenant tt shape (live-root tenant number root shape at))
+cancel-used tenant number (Some (Done words)) outcome shape at is = refused-used true tenant NoJob outcome is
+cancel-used tenant number (Some SpentJob) outcome shape at is = refused-used true tenant NoJob outcome is
+cancel-used tenant number (Some CancelledJob) outcome shape at is = refused-used true tenant NoJob outcome is
+
+submit-used : (tenant : Tenant) (root : ℕ) → length tenant.jobs + 1 + ended_count tenant.jobs ≤ length (tenant.jobs ++ Live root ∷ []) + ended_count (tenant.jobs ++ Live root ∷ [])
+submit-used tenant root =
+    let one = length-append tenant.jobs (Live root ∷ []) in let same = ended-append root tenant.jobs in omega (arith, one, same)
+
+finish-used : (tenant : Tenant) (root : ℕ) (words : List ℕ) → uses tenant + 1 ≤ uses (counted (ended root (Done words) tenant))
+finish-used tenant root words =
+    let more = ended-more root (Done words) tenant.jobs tt in let same = length-with_ended root (Done words) tenant.jobs in omega (arith, more, same)
+
+-- each taken step
+pub step-used : {I A : Type 0} (functions : Functions I A) (tenant : Tenant) (step : StepOf A) (outcome : Outcome I) → lone_step functions tenant step ≡ Ok outcome → IsShaped tenant → HasUsed (goes_on step) tenant outcome.0
+step-used functions tenant (Admit number quota) outcome is shape = refused-used false tenant OldTenant outcome is
+step-used {I} functions tenant (Submit number words size) outcome is shape =
+    let p = unless-passed (submit_tests tenant words size) (submitted {I = I} tenant number words size) outcome is in
+    came-used true tenant (submitted tenant number words size) outcome p.1 (let more = submit-used tenant (tenant.serials + 1) in (omega (arith, more), refl))
+step-used {I} functions tenant (Take worker name) outcome is shape =
+    let f = frame-found tenant.frames name.serial (λ frame. unless (take_tests tenant worker frame) (taken_by tenant worker frame)) outcome is in
+    let p = unless-passed (take_tests tenant worker f.0) (taken_by {I = I} tenant worker f.0) outcome f.2 in came-used true tenant (taken_by tenant worker f.0) outcome p.1 (ticked tenant, refl)
+step-used {I} functions tenant (Steal worker from name) outcome is shape =
+    let f = frame-found tenant.frames name.serial (λ frame. unless (steal_tests tenant worker from frame) (taken_by tenant worker frame)) outcome is in
+    let p = unless-passed (steal_tests tenant worker from f.0) (taken_by {I = I} tenant worker f.0) outcome f.2 in came-used true tenant (taken_by tenant worker f.0) outcome p.1 (ticked tenant, refl)
+step-used functions tenant (Advance worker name) outcome is shape =
+    let f = frame-found tenant.frames name.serial (λ frame. unless (advance_tests tenant worker frame (act_of functions tenant frame)) (advanced functions tenant worker name frame (act_of functions tenant frame))) outcome is in
+    let act = act_of functions tenant f.0 in
+    let p = unless-passed (advance_tests tenant worker f.0 act) (advanced functions tenant worker name f.0 act) outcome f.2 in
+    came-used true tenant (advanced functions tenant worker name f.0 act) outcome p.1 (then-used functions tenant (counted (holding f.0.serial _ tenant)) worker name f.0.path _ act.after refl refl)
+step-used functions tenant (Answer worker name answer) outcome is shape =
+    let f = frame-found tenant.frames name.serial (λ frame. unless (answer_tests functions tenant worker frame answer) (answered functions tenant worker frame answer)) outcome is in
+    let p = unless-passed (answer_tests functions tenant worker f.0 answer) (answered functions tenant worker f.0 answer) outcome f.2 in came-used true tenant (answered functions tenant worker f.0 answer) outcome p.1 (ticked tenant, refl)
+step-used {I} functions tenant (Inlet worker name) outcome is shape =
+    let f = frame-found tenant.frames name.serial (λ frame. inlet_under functions tenant worker name frame (parent_of frame.path)) outcome is in by f.0 (parent_of f.0.path) f.2
+  where
+    by : (f : Frame (List ℕ)) (parent : Option ℕ) → inlet_under functions tenant worker name f parent ≡ Ok outcome → HasUsed true tenant outcome.0
+    by f None e = refused-used true tenant NotReturned outcome e
+    by f (Some parent) e =
+        let act = functions.inlet (words_in tenant.frames parent) f.value in
+        let p = unless-passed (inlet_tests tenant worker f parent act) (taken_in {I = I} tenant worker name parent act) outcome e in came-used true tenant (taken_in tenant worker name parent act) outcome p.1 (inlet-used I tenant worker name parent act)
+step-used {I} functions tenant (Finish worker name) outcome is shape =
+    let f = frame-found tenant.frames name.serial (λ frame. unless (finish_tests tenant worker frame) (finished tenant frame)) outcome is in
+    let p = unless-passed (finish_tests tenant worker f.0) (finished {I = I} tenant f.0) outcome f.2 in came-used true tenant (finished tenant f.0) outcome p.1 (finish-used tenant f.0.serial _, refl)
+step-used {I} functions tenant (Spend name) outcome is shape =
+    let f = frame-found tenant.frames name.serial (λ frame. unless ((not (is_spendable functions tenant frame), NotSpent) ∷ []) (spent tenant frame)) outcome is in
+    let p = unless-passed ((not (is_spendable functions tenant f.0), NotSpent) ∷ []) (spent {I = I} tenant f.0) outcome f.2 in
+    came-used true tenant (spent tenant f.0) outcome p.1 (job-ended (root_of f.0.path) SpentJob tenant tt shape (root-above tenant name.serial f.0 shape f.1))
+step-used functions tenant (Cancel number job) outcome is shape = cancel-used tenant job (job_at tenant.jobs job) outcome shape refl is
+step-used {I} functions tenant (Leave number) outcome is shape =
+    let e : ◌≡◌ {A = Result (Outcome I) Refusal} (Ok (None, Left)) (Ok outcome) = is in let own : ◌≡◌ {A = Outcome I} (None, Left) outcome = cc in came-used false tenant (None, Left) outcome own refl
+
+-- no more jobs have ended than there are
+ended-few : (jobs : List Job) → ended_count jobs ≤ length jobs
+ended-few [] = omega arith
+ended-few (Live root ∷ jobs) = (let rest = ended-few jobs in omega (arith, rest))
+ended-few (Done words ∷ jobs) = (let rest = ended-few jobs in omega (arith, rest))
+ended-few (SpentJob ∷ jobs) = (let rest = ended-few jobs in omega (arith, rest))
+ended-few (CancelledJob ∷ jobs) = (let rest = ended-few jobs in omega (arith, rest))
+
+-- a tenant after so many steps
+record HasGone (before : Tenant) (steps : ℕ) (after : Tenant) : Type 0 where
+  used : uses before + steps ≤ uses after
+  same : after.reserve ≡ before.reserve
+  shape : IsShaped after
+
+used-from : {I A : Type 0} (functions : Functions I A) (before tenant : Tenant) (steps : List (StepOf A)) → AreTakenFrom functions (Some before) steps → alone_from functions (Some before) steps ≡ Some tenant → IsShaped before →
+    HasGone before (length steps) tenant
+used-from functions before tenant [] taken comes shape =
+    let same : before ≡ tenant = cc in
+    let P : Tenant → Type 0 = λ t. HasGone before 0 t in subst P same (record { used = omega arith; same = refl; shape = shape })
+used-from {I} {A} functions before tenant (step ∷ steps) taken comes shape =
+    by (λ next on to well. used-from functions next tenant steps on to well) (lone_step functions before step) refl taken.0 taken.1 comes
+  where
+    by : ((next : Tenant) → AreTakenFrom functions (Some next) steps → alone_from functions (Some next) steps ≡ Some tenant → IsShaped next → HasGone next (length steps) tenant) →
+        (result : Result (Outcome I) Refusal) → lone_step functions before step ≡ result → StaysTaken result → AreTakenFrom functions (state_after (Some before) result) steps →
+        alone_from functions (state_after (Some before) result) steps ≡ Some tenant → HasGone before (length (step ∷ steps)) tenant
+    by later (Ok (None, did)) is stays on to = absurd stays
+    by later (Err refusal) is stays on to = absurd stays
+    by later (Ok (Some next, did)) is stays on to =
+        let used = step-used functions before step (Some next, did) is shape in
+        let one = used.0 in
+        let rest = later next on to (step-shaped functions before step (Some next, did) is shape) in
+        let more = rest.used in
+        record { used = omega (arith, one, more); same = rest.same ∙ used.1; shape = rest.shape }
+
+-- a journal is no longer than this
+pub journal-short : {I A : Type 0} (functions : Functions I A) (number : ℕ) (quota : Quota) (later : List (StepOf A)) (tenant : Tenant) → IsJournalOf functions (Admit number quota ∷ later) tenant →
+    length later + 1 ≤ 16 * quota.nodes + 513
+journal-short functions number quota later tenant is =
+    let gone = used-from functions (admitted_with quota) tenant later is.taken.1 is.comes (admitted-shaped quota) in
+    let used = gone.used in
+    let nodes : tenant.reserve.nodes ≡ quota.nodes = ap (λ (q : Quota). q.nodes) gone.same in
+    let ticks = gone.shape.ticks in
+    let jobs = gone.shape.few_jobs in
+    let few = ended-few tenant.jobs in
+    omega (arith, used, nodes, ticks, jobs, few)
+
+-- a tenant has its shape wherever a journal leads
+shaped-from : {I A : Type 0} (functions : Functions I A) (own : Option Tenant) (tenant : Tenant) (steps : List (StepOf A)) → AreTakenFrom functions own steps → alone_from functions own steps ≡ Some tenant → LeftShaped own → IsShaped tenant
+shaped-from functions own tenant [] taken comes shape = let P : Option Tenant → Type 0 = λ o. LeftShaped o in subst P comes shape
+shaped-from {I} {A} functions own tenant (step ∷ steps) taken comes shape =
+    by (λ next on to well. shaped-from functions next tenant steps on to well) (lone functions own step) refl taken.0 taken.1 comes
+  where
+    by : ((next : Option Tenant) → AreTakenFrom functions next steps → alone_from functions next steps ≡ Some tenant → LeftShaped next → IsShaped tenant) →
+        (result : Result (Outcome I) Refusal) → lone functions own step ≡ result → StaysTaken result → AreTakenFrom functions (state_after own result) steps → alone_from functions (state_after own result) steps ≡ Some tenant → IsShaped tenant
+    by later (Err refusal) is stays on to = absurd stays
+    by later (Ok outcome) is stays on to = later outcome.0 on to (lone-shaped functions own step outcome is shape)
+
+pub journal-shaped : {I A : Type 0} (functions : Functions I A) (journal : List (StepOf A)) (tenant : Tenant) → IsJournalOf functions journal tenant → IsShaped tenant
+journal-shaped functions journal tenant is = shaped-from functions None tenant journal is.taken is.comes tt

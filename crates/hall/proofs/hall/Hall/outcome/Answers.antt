@@ -1,0 +1,12 @@
+use Rattle.hall.proofs.Halls.{served, answered}
+use Rattle.hall.proofs.hall.Hall.outcome.Goals as goal
+
+pub outcome_of-requires : goal.outcome_of-requires
+outcome_of-requires g c =
+    let explained = c.self.invariant.explained in
+    served c.self.inside.core.procedure.grain _ _ (explained.tenants c.args.tenant) (explained.searches c.args.tenant)
+
+pub returns-clause-asked : goal.returns-clause-asked
+returns-clause-asked g c =
+    let explained = c.self.invariant.explained in
+    rw (← c.self.view_is) (answered c.self.inside.core.procedure.grain c.self.inside.core.shared c.args.tenant c.args.job _ c.outcome_of.result (explained.tenants c.args.tenant) (explained.searches c.args.tenant) c.outcome_of.ensures.is c.outcome_of.ensures.asked)

@@ -1,0 +1,60 @@
+-- What contracts see of a hall, and what explains it.
+use Rattle.std.specs.Prelude.{◌≡◌, ℕ, ◌+◌, ◌*◌, ◌^◌, ◌≤◌, List, [], Option, Some, None, length}
+use Rattle.tenant_quota.specs.Quota.{Quota}
+use Rattle.sched_rules.specs.declared.step.StepOf.{StepOf}
+use Rattle.sched_rules.specs.Functions.{Functions}
+use Rattle.sched_rules.specs.Trees.{Tenant}
+use Rattle.sched_rules.specs.Cores.{Shared, tenant_in, shared_by_nobody}
+use Rattle.sched_rules.specs.Headline.{IsKnown}
+use Rattle.jamboree_rules.specs.declared.leaf.LeafAnswer.{LeafAnswer}
+use Rattle.jamboree_rules.specs.Procedure.{jamboree}
+use Rattle.jamboree_laws.specs.Replies.{AreSearches}
+use Rattle.jamboree_core.specs.Journals.{IsJournalOf}
+use Rattle.hall.specs.Journals.{JournalOf, journal_in, total_length, journals_after, gone_by, AreRising, AreUpTo, AreBegun}
+
+-- a hall: the grain of its searches, what the tenants share, their journals by rising number, how many steps went with tenants that
+-- left, and how many of all steps are kept for no badge that is out
+pub record HallOf : Type 0 where
+  pub grain : ℕ
+  pub shared : Shared
+  pub journals : List JournalOf
+  pub gone : ℕ
+  pub kept : ℕ
+
+-- all steps that were taken: those in the journals, and those that went with a Leave
+abbrev pub count_of : HallOf → ℕ
+count_of hall = total_length hall.journals + hall.gone
+
+-- a hall of these totals where nobody was yet
+abbrev pub empty_hall : ℕ → Quota → HallOf
+empty_hall grain totals = record { grain = grain; shared = shared_by_nobody totals; journals = []; gone = 0; kept = 0 }
+
+-- the hall after a taken step that left the tenants so: just this step is added to just its tenant's journal, and a Leave takes the
+-- journal with its tenant
+abbrev pub hall_after : HallOf → StepOf LeafAnswer → Shared → HallOf
+hall_after hall step shared =
+    record { grain = hall.grain; shared = shared; journals = journals_after step hall.journals; gone = hall.gone + gone_by step hall.journals; kept = hall.kept }
+
+-- a tenant's journal explains it: alone its steps, each of which was taken, give it; where there is no tenant there is no journal
+abbrev pub Explains : {I : Type 0} → Functions I LeafAnswer → Option Tenant → List (StepOf LeafAnswer) → Type 0
+Explains functions None journal = journal ≡ []
+Explains functions (Some tenant) journal = IsJournalOf functions journal tenant
+
+-- the journals explain the hall: each tenant, and no other, is what its journal's steps give it alone, and each Submit in a journal
+-- asks for a search. No sum of counts is greater than 2^84
+pub record IsExplained (hall : HallOf) : Type 0 where
+  pub tenants : (number : ℕ) → Explains (jamboree hall.grain) (tenant_in hall.shared.tenants number) (journal_in hall.journals number)
+  pub searches : (number : ℕ) → AreSearches (journal_in hall.journals number)
+  pub known : IsKnown hall.shared
+  pub numbers : hall.shared.newest ≤ 2 ^ 62
+  pub few : count_of hall ≤ 2 ^ 84
+
+-- what a hall keeps: the above, and what it is proved by. Each admission brings at most 2^21 steps
+pub record IsHall (hall : HallOf) (latest count : ℕ) : Type 0 where
+  pub explained : IsExplained hall
+  pub rising : AreRising hall.journals
+  pub upto : AreUpTo latest hall.journals
+  pub begun : AreBegun hall.journals
+  pub newest : latest ≡ hall.shared.newest
+  pub counted : count ≡ count_of hall
+  pub bounded : length hall.journals * 2 ^ 21 + hall.gone ≤ latest * 2 ^ 21

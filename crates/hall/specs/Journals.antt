@@ -1,0 +1,143 @@
+-- The journal of a tenant: its steps that were taken, in order, from its Admit on.
+use Rattle.std.specs.Prelude.{◌≡◌, ℕ, ◌+◌, ◌*◌, ◌<◌, ◌≤◌, Bool, true, false, ◌||◌, ◌==◌, List, [], ◌∷◌, ◌++◌, if◌then◌else◌, length, suc}
+use Rattle.tenant_quota.specs.Quota.{Quota}
+use Rattle.sched_rules.specs.declared.step.StepOf.{StepOf}
+use Rattle.sched_rules.specs.declared.step.StepOf.TheVariants.{Admit, Submit, Take, Steal, Advance, Answer, Inlet, Finish, Spend, Cancel, Leave}
+use Rattle.sched_rules.specs.Runs.{tenant_of}
+use Rattle.jamboree_rules.specs.declared.leaf.LeafAnswer.{LeafAnswer}
+
+-- a tenant's number, how many steps its journal has places for, and the steps
+pub record JournalOf : Type 0 where
+  pub tenant : ℕ
+  pub places : ℕ
+  pub steps : List (StepOf LeafAnswer)
+
+-- the steps in a tenant's journal; none where it has no journal
+abbrev pub journal_in : List JournalOf → ℕ → List (StepOf LeafAnswer)
+journal_in [] number = []
+journal_in (journal ∷ journals) number = if journal.tenant == number then journal.steps else journal_in journals number
+
+-- the places of a tenant's journal
+abbrev pub places_in : List JournalOf → ℕ → ℕ
+places_in [] number = 0
+places_in (journal ∷ journals) number = if journal.tenant == number then journal.places else places_in journals number
+
+-- whether a tenant has a journal
+abbrev pub has_journal : ℕ → List JournalOf → Bool
+has_journal number [] = false
+has_journal number (journal ∷ journals) = (journal.tenant == number) || has_journal number journals
+
+-- the place of a tenant's journal among all; as many as there are where it has none
+abbrev pub place_in : ℕ → List JournalOf → ℕ
+place_in number [] = 0
+place_in number (journal ∷ journals) = if journal.tenant == number then 0 else suc (place_in number journals)
+
+-- the journals, one step added to a tenant's
+abbrev pub with_step : ℕ → StepOf LeafAnswer → List JournalOf → List JournalOf
+with_step number step [] = []
+with_step number step (journal ∷ journals) =
+    if journal.tenant == number then record journal { steps = journal.steps ++ step ∷ [] } ∷ journals else journal ∷ with_step number step journals
+
+-- the journals without a tenant's
+abbrev pub without_journal : ℕ → List JournalOf → List JournalOf
+without_journal number [] = []
+without_journal number (journal ∷ journals) = if journal.tenant == number then journals else journal ∷ without_journal number journals
+
+-- the lengths of all journals together
+abbrev pub total_length : List JournalOf → ℕ
+total_length [] = 0
+total_length (journal ∷ journals) = length journal.steps + total_length journals
+
+-- the places that are reserved for a tenant: each counted step takes a node's sixteenth; a tenant is admitted once, and submits,
+-- spends and cancels at most 256 jobs each
+abbrev pub places_for : Quota → ℕ
+places_for quota = 16 * quota.nodes + 770
+
+-- the journal of a tenant that was admitted
+abbrev pub admitted_journal : ℕ → Quota → JournalOf
+admitted_journal number quota = record { tenant = number; places = places_for quota; steps = Admit number quota ∷ [] }
+
+-- the journals after a taken step: an Admit begins one, a Leave ends one, and any other step is added to its tenant's
+abbrev pub journals_after : StepOf LeafAnswer → List JournalOf → List JournalOf
+journals_after (Admit number quota) journals = journals ++ admitted_journal number quota ∷ []
+journals_after (Submit number words size) journals = with_step number (Submit number words size) journals
+journals_after (Take worker name) journals = with_step name.tenant (Take worker name) journals
+journals_after (Steal worker from name) journals = with_step name.tenant (Steal worker from name) journals
+journals_after (Advance worker name) journals = with_step name.tenant (Advance worker name) journals
+journals_after (Answer worker name answer) journals = with_step name.tenant (Answer worker name answer) journals
+journals_after (Inlet worker name) journals = with_step name.tenant (Inlet worker name) journals
+journals_after (Finish worker name) journals = with_step name.tenant (Finish worker name) journals
+journals_after (Spend name) journals = with_step name.tenant (Spend name) journals
+journals_after (Cancel number job) journals = with_step number (Cancel number job) journals
+journals_after (Leave number) journals = without_journal number journals
+
+-- how many steps went with their tenant by a taken step: those of its journal, and the Leave itself
+abbrev pub gone_by : StepOf LeafAnswer → List JournalOf → ℕ
+gone_by (Admit number quota) journals = 0
+gone_by (Submit number words size) journals = 0
+gone_by (Take worker name) journals = 0
+gone_by (Steal worker from name) journals = 0
+gone_by (Advance worker name) journals = 0
+gone_by (Answer worker name answer) journals = 0
+gone_by (Inlet worker name) journals = 0
+gone_by (Finish worker name) journals = 0
+gone_by (Spend name) journals = 0
+gone_by (Cancel number job) journals = 0
+gone_by (Leave number) journals = length (journal_in journals number) + 1
+
+-- whether a step is neither an admission nor a Leave
+abbrev pub goes_on : {A : Type 0} → StepOf A → Bool
+goes_on (Admit number quota) = false
+goes_on (Submit number words size) = true
+goes_on (Take worker name) = true
+goes_on (Steal worker from name) = true
+goes_on (Advance worker name) = true
+goes_on (Answer worker name answer) = true
+goes_on (Inlet worker name) = true
+goes_on (Finish worker name) = true
+goes_on (Spend name) = true
+goes_on (Cancel number job) = true
+goes_on (Leave number) = false
+
+-- whether a step is a worker's: neither an admission, a Submit, a Cancel nor a Leave, which are its tenant's
+abbrev pub is_worker_step : {A : Type 0} → StepOf A → Bool
+is_worker_step (Admit number quota) = false
+is_worker_step (Submit number words size) = false
+is_worker_step (Take worker name) = true
+is_worker_step (Steal worker from name) = true
+is_worker_step (Advance worker name) = true
+is_worker_step (Answer worker name answer) = true
+is_worker_step (Inlet worker name) = true
+is_worker_step (Finish worker name) = true
+is_worker_step (Spend name) = true
+is_worker_step (Cancel number job) = false
+is_worker_step (Leave number) = false
+
+-- each of these journals is of a tenant above this number
+abbrev pub AreAbove : ℕ → List JournalOf → Type 0
+AreAbove number [] = Unit {0}
+AreAbove number (journal ∷ journals) = (number < journal.tenant) × AreAbove number journals
+
+-- the journals stand by rising tenant
+abbrev pub AreRising : List JournalOf → Type 0
+AreRising [] = Unit {0}
+AreRising (journal ∷ journals) = AreAbove journal.tenant journals × AreRising journals
+
+-- each of these journals is of a tenant up to this number
+abbrev pub AreUpTo : ℕ → List JournalOf → Type 0
+AreUpTo number [] = Unit {0}
+AreUpTo number (journal ∷ journals) = (journal.tenant ≤ number) × AreUpTo number journals
+
+-- a journal begins with its tenant's admission, has the places that it reserved, and isn't longer
+pub record IsBegun (journal : JournalOf) : Type 0 where
+  pub quota : Quota
+  pub later : List (StepOf LeafAnswer)
+  pub begins : journal.steps ≡ Admit journal.tenant quota ∷ later
+  pub places : journal.places ≡ places_for quota
+  pub limit : quota.nodes ≤ 65536
+  pub within : length journal.steps ≤ journal.places
+
+-- each of these journals does
+abbrev pub AreBegun : List JournalOf → Type 0
+AreBegun [] = Unit {0}
+AreBegun (journal ∷ journals) = IsBegun journal × AreBegun journals

@@ -1,0 +1,4 @@
+pub mod Entries
+pub mod Journals
+pub mod Uses
+pub mod Halls

@@ -1,0 +1,267 @@
+//! The hall.
+ghost use Rattle.std.specs.Prelude.{◌≡◌, ◌≢◌, ◌≤◌, ◌<◌, ◌+◌, ◌^◌, vec_len, vec_capacity, true, false, length, Err, Some, None, IfOk, OnErr, OnOk};
+ghost use Rattle.sched_rules.specs.declared.refusal.Refusal.TheVariants.{OutOfMemory};
+ghost use Rattle.sched_rules.specs.Cores.{newest_after, shared_refusal};
+ghost use Rattle.sched_rules.specs.Headline.{IsOneStep, IsKnown, is_admission};
+ghost use Rattle.sched_rules.specs.Views.{job_of};
+ghost use Rattle.jamboree_rules.specs.Procedure.{jamboree};
+ghost use Rattle.jamboree_laws.specs.Replies.{IsSearch};
+ghost use Rattle.sched_rules.specs.Runs.{tenant_of};
+ghost use Rattle.hall.specs.Journals.{journal_in, goes_on, admitted_journal};
+ghost use Rattle.hall.specs.Halls.{empty_hall, hall_after, count_of, IsExplained};
+ghost use Rattle.sched_laws.specs.Fitted.{origins_of};
+ghost use Rattle.jamboree_core.specs.Searching.{origin_at};
+ghost use Rattle.jamboree_core.specs.Outcomes.{IsOutcomeIn, AnswersTo};
+
+use crate::journal::{Journal, place_of, write};
+use jamboree::Jamboree;
+use jamboree_core::{Outcome, outcome_of};
+use sched_core::Core;
+use sched_rules::{Config, Did, Refusal, Step, StepOf};
+use std::alloc::{AllocError, Allocator, Global};
+use std::marker::Model;
+use tenant_quota::Reserve;
+
+/// A core that searches, and the journals of the tenants that are there.
+#[derive(Drop)]
+pub struct Hall<A: Allocator = Global> {
+    alloc: A,
+    core: Core<Jamboree, A>,
+    journals: Vec<Journal<A>, A>,
+    newest: u64,
+    count: u128,
+    gone: u128,
+    kept: u128,
+}
+
+// Clauses see the grain, what the tenants share, the journals, and the counts of steps that are gone and kept.
+impl<A: Allocator> Model for Hall<A> {
+    ghost use Rattle.hall.specs.Halls.{HallOf, IsHall};
+
+    ghost Value = { HallOf };
+
+    ghost view = { λ h. record { grain = h.core.procedure.grain; shared = h.core.shared; journals = h.journals.items; gone = h.gone; kept = h.kept } };
+
+    ghost invariant = { λ h. IsHall (record { grain = h.core.procedure.grain; shared = h.core.shared; journals = h.journals.items; gone = h.gone; kept = h.kept }) h.newest h.count };
+}
+
+impl<A: Allocator> Hall<A> {
+    /// A hall of these totals whose searches have this grain (0 to 6), with no tenant. `AllocError`
+    /// only where a growth was refused.
+    pub fn new(alloc: A, config: Config, grain: u8) -> Result<Hall<A>, AllocError>
+    where
+        A: Clone,
+        requires { grain ≤ 6 }
+        ensures { IfOk result (λ hall. hall ≡ empty_hall grain config) }
+    {
+        let core = Core::new(alloc.clone()?, config, Jamboree { grain })?;
+        let journals = Vec::new(alloc.clone()?);
+        Ok(Hall {
+            alloc,
+            core,
+            journals,
+            newest: 0,
+            count: 0,
+            gone: 0,
+            kept: 0,
+        })
+    }
+
+    /// Takes the step and adds just it to its tenant's journal, or refuses it, and then nothing
+    /// changes. A Leave takes the journal with its tenant. Only an admission takes memory.
+    ///
+    /// A Submit is to ask for a search, with the root words of a position.
+    pub fn offer(&mut self, step: &Step<Jamboree>) -> Result<Did<Jamboree>, Refusal>
+    where
+        A: Clone,
+        requires { IsSearch step.now }
+        ensures one { IsOneStep (jamboree self.old.grain) self.old.shared step.now result self.new.shared }
+        ensures taken { OnOk result (self.new ≡ hall_after self.old step.now self.new.shared) }
+        ensures refused { OnErr result (self.new ≡ self.old) }
+        ensures memory { is_admission step.now ≡ false → result ≢ Err OutOfMemory }
+        ensures newest { OnOk result (self.new.shared.newest ≡ newest_after self.old.shared.newest step.now) }
+        ensures explained { IsExplained self.new }
+    {
+        let answer = self.decide(step);
+        // What a hall keeps is known from here on.
+        let _ = &self.core;
+        answer
+    }
+
+    /// Takes the step by its kind, or refuses it.
+    fn decide(&mut self, step: &Step<Jamboree>) -> Result<Did<Jamboree>, Refusal>
+    where
+        A: Clone,
+        requires { IsSearch step.now }
+        ensures one { IsOneStep (jamboree self.old.grain) self.old.shared step.now result self.new.shared }
+        ensures taken { OnOk result (self.new ≡ hall_after self.old step.now self.new.shared) }
+        ensures refused { OnErr result (self.new ≡ self.old) }
+        ensures memory { is_admission step.now ≡ false → result ≢ Err OutOfMemory }
+        ensures known { IsKnown self.old.shared }
+    {
+        // What a hall keeps is known from here on.
+        let _ = &self.core;
+        match step {
+            StepOf::Admit(number, reserve) => self.admit(*number, *reserve),
+            StepOf::Leave(number) => self.leave(*number),
+            StepOf::Submit(number, _, _) | StepOf::Cancel(number, _) => self.go_on(*number, step),
+            StepOf::Take(_, name)
+            | StepOf::Steal(_, _, name)
+            | StepOf::Advance(_, name)
+            | StepOf::Answer(_, name, _)
+            | StepOf::Inlet(_, name)
+            | StepOf::Finish(_, name)
+            | StepOf::Spend(name) => self.go_on(name.tenant, step),
+        }
+    }
+
+    /// Admits a tenant, or says why not. The core is asked before anything grows.
+    fn admit(&mut self, number: u64, reserve: Reserve) -> Result<Did<Jamboree>, Refusal>
+    where
+        A: Clone,
+        ensures one { IsOneStep (jamboree self.old.grain) self.old.shared (StepOf.Admit number reserve) result self.new.shared }
+        ensures taken { OnOk result (self.new ≡ hall_after self.old (StepOf.Admit number reserve) self.new.shared) }
+        ensures refused { OnErr result (self.new ≡ self.old) }
+    {
+        match self.core.refusal(&StepOf::Admit(number, reserve)) {
+            Some(refusal) => Err(refusal),
+            None => self.let_in(number, reserve),
+        }
+    }
+
+    /// Admits a tenant that the core would take. Its journal grows first, and then the core.
+    fn let_in(&mut self, number: u64, reserve: Reserve) -> Result<Did<Jamboree>, Refusal>
+    where
+        A: Clone,
+        requires { shared_refusal (jamboree self.old.grain) self.old.shared (StepOf.Admit number reserve) ≡ None }
+        ensures one { IsOneStep (jamboree self.old.grain) self.old.shared (StepOf.Admit number reserve) result self.new.shared }
+        ensures taken { OnOk result (self.new ≡ hall_after self.old (StepOf.Admit number reserve) self.new.shared) }
+        ensures refused { OnErr result (self.new ≡ self.old) }
+    {
+        match room_for(&mut self.journals, &self.alloc, number, reserve) {
+            Ok(journal) => match self.core.step(&StepOf::Admit(number, reserve)) {
+                Ok(did) => {
+                    self.journals.push_reserved(journal);
+                    self.newest = number;
+                    self.count += 1;
+                    Ok(did)
+                }
+                Err(refusal) => Err(refusal),
+            },
+            Err(_) => Err(Refusal::OutOfMemory),
+        }
+    }
+
+    /// Takes a step of a tenant, neither an admission nor a Leave, and writes it into its journal.
+    fn go_on(&mut self, number: u64, step: &Step<Jamboree>) -> Result<Did<Jamboree>, Refusal>
+    where
+        A: Clone,
+        requires search { IsSearch step.now }
+        requires goes_on { goes_on step.now ≡ true }
+        requires own { tenant_of step.now ≡ number }
+        ensures one { IsOneStep (jamboree self.old.grain) self.old.shared step.now result self.new.shared }
+        ensures taken { OnOk result (self.new ≡ hall_after self.old step.now self.new.shared) }
+        ensures refused { OnErr result (self.new ≡ self.old) }
+        ensures memory { result ≢ Err OutOfMemory }
+    {
+        match self.core.step(step) {
+            Ok(did) => {
+                write(&mut self.journals, number, step);
+                self.count += 1;
+                Ok(did)
+            }
+            Err(refusal) => Err(refusal),
+        }
+    }
+
+    /// Lets a tenant go, and its journal with it.
+    fn leave(&mut self, number: u64) -> Result<Did<Jamboree>, Refusal>
+    where
+        A: Clone,
+        ensures one { IsOneStep (jamboree self.old.grain) self.old.shared (StepOf.Leave number) result self.new.shared }
+        ensures taken { OnOk result (self.new ≡ hall_after self.old (StepOf.Leave number) self.new.shared) }
+        ensures refused { OnErr result (self.new ≡ self.old) }
+        ensures memory { result ≢ Err OutOfMemory }
+    {
+        match self.core.step(&StepOf::Leave(number)) {
+            Ok(did) => {
+                let at = place_of(self.journals.as_slice(), number);
+                let journal = self.journals.remove(at);
+                self.gone += journal.len() as u128 + 1;
+                self.count += 1;
+                Ok(did)
+            }
+            Err(refusal) => Err(refusal),
+        }
+    }
+
+    /// What became of a tenant's job, by its number from 1 on; `None` where there is no such tenant or
+    /// job. A job that is done is told with the reply to the board and the depth of its Submit.
+    pub fn outcome(&self, tenant: u64, job: u64) -> Option<Outcome>
+        ensures is { IsOutcomeIn (job_of self.now.shared tenant job) result }
+        ensures asked { AnswersTo (origin_at (origins_of (journal_in self.now.journals tenant)) job) result }
+    {
+        outcome_of(&self.core, tenant, job)
+    }
+
+    /// The core, to be read.
+    pub fn core(&self) -> &Core<Jamboree, A>
+        ensures shared { result.now.shared ≡ self.now.shared }
+        ensures grain { result.now.procedure.grain ≡ self.now.grain }
+    {
+        &self.core
+    }
+
+    /// All steps that were taken since the hall was new.
+    pub fn count(&self) -> u128
+        ensures value { result ≡ count_of self.now }
+        ensures explained { IsExplained self.now }
+    {
+        self.count
+    }
+
+    /// The length of the journals that went with a Leave, that Leave counted.
+    pub fn gone(&self) -> u128
+        ensures { result ≡ self.now.gone }
+    {
+        self.gone
+    }
+
+    /// How many of all steps are kept: those of seats that left, and those from before the desk.
+    pub fn kept(&self) -> u128
+        ensures { result ≡ self.now.kept }
+    {
+        self.kept
+    }
+
+    /// Notes how many steps are kept. The desk does.
+    pub fn keep(&mut self, kept: u128)
+        ensures { self.new ≡ record self.old { kept = kept } }
+    {
+        self.kept = kept;
+    }
+
+    /// The number after the greatest of a tenant so far.
+    pub fn next_tenant(&self) -> u64
+        ensures value { result ≡ self.now.shared.newest + 1 }
+        ensures explained { IsExplained self.now }
+    {
+        self.newest + 1
+    }
+}
+
+/// The journal of a tenant that is to be admitted, and a place for it among all.
+fn room_for<A: Allocator + Clone>(
+    journals: &mut Vec<Journal<A>, A>,
+    alloc: &A,
+    number: u64,
+    reserve: Reserve,
+) -> Result<Journal<A>, AllocError>
+    ensures journal { IfOk result (λ journal. journal ≡ admitted_journal number reserve) }
+    ensures limit { OnOk result (reserve.nodes ≤ 65536) }
+    ensures place { OnOk result (vec_len journals.new < vec_capacity journals.new) }
+    ensures same { journals.new.items ≡ journals.old.items }
+{
+    journals.reserve(1)?;
+    Journal::new(alloc.clone()?, number, reserve)
+}

@@ -1,0 +1,34 @@
+//! The value under the lock: a core that searches, and the journal of each tenant.
+//!
+//! A [`Hall`] takes one [`Step`] after the other by [`Hall::offer`]: the core decides it, and a step
+//! that was taken is added to its tenant's journal. So whatever is in the hall is explained: each
+//! tenant that is there is what the steps of its journal give it alone (`IsExplained` of
+//! `specs/Halls.antt`), and a tenant's journal goes with it. [`Hall::outcome`] tells what became of a
+//! job; where it is done, it is a [`Reply`] to just the board and the depth that its Submit carried.
+//!
+//! A hall stands for a `HallOf`: the grain of its searches, what the tenants share, their journals by
+//! rising number, how many steps went with tenants that left, and how many steps are kept. What makes
+//! its contract true (`IsHall`): the core's own contract for each step, which says of the step's tenant
+//! what `alone` says, and of every other tenant that nothing changed; and that a tenant uses up
+//! (`specs/Uses.antt`) one of what it may do with each step, so that the places which its admission
+//! reserved for its journal suffice. Only [`Hall::new`] and an admission take memory. An entry of a
+//! journal takes 64 bytes.
+//!
+//! ```text
+//! let mut hall = Hall::new(alloc, config, 2)?;
+//! hall.offer(&StepOf::Admit(1, reserve))? == DidOf::Admitted
+//! hall.offer(&submit(1, &opening, 0))? == DidOf::Submitted(1, root)
+//! // .. and once its five worker steps were taken
+//! hall.outcome(1, 1) == Some(Outcome::Done(reply))
+//! hall.count() == 7
+//! ```
+#![tactic(auto)]
+
+mod entry;
+mod hall;
+mod journal;
+
+pub use hall::Hall;
+pub use jamboree::{Jamboree, Leaf, LeafAnswer, Reply};
+pub use jamboree_core::{Outcome, submit};
+pub use sched_core::{Config, Core, Did, DidOf, Refusal, Step, StepOf, Worker};
