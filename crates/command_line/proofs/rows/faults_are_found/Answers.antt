@@ -1,6 +1,6 @@
 use Rattle.std.proofs.Common.{refl}
 use Rattle.clap.proofs.OnLiterals.{clap_on_literals}
-use Rattle.othello_server.proofs.rows.faults_are_found.Goals as goal
+use Rattle.command_line.proofs.rows.faults_are_found.Goals as goal
 
 pub returns : goal.returns
 unfolding clap_on_literals

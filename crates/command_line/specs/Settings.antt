@@ -1,0 +1,33 @@
+-- The options of the commands that have a number for their value.
+use Rattle.std.specs.Prelude.{ℕ, Bool, ◌&&◌, Option, Some, None, List, if◌then◌else◌, nat_le, option_and_then}
+use Rattle.std.specs.Option.{option_map_or}
+use Rattle.clap.specs.Words.{Row, Rule, Text, first_of, new_rule}
+use Rattle.line_words.specs.Words.{number_of}
+use Rattle.command_line.specs.declared.settings.Setting.{Setting}
+
+-- an option with a number: its word, its least and its greatest value, and its default, if it has one
+pub record NumberOption : Type 0 where
+  pub name : Text
+  pub least : ℕ
+  pub most : ℕ
+  pub default : Option ℕ
+
+-- what the program keeps of one
+abbrev pub setting_of : Setting → NumberOption
+setting_of s = record { name = s.name.now; least = s.least; most = s.most; default = s.default }
+
+-- the number, where it is within the limits
+abbrev pub within : NumberOption → ℕ → Option ℕ
+within option n = if nat_le option.least n && nat_le n option.most then Some n else None
+
+-- the number that the words give an option, or its default
+abbrev pub number_asked : NumberOption → List Row → Option ℕ
+number_asked option rows = option_map_or number_of (first_of option.name rows) option.default
+
+-- the same, where it is within the limits
+abbrev pub value_asked : NumberOption → List Row → Option ℕ
+value_asked option rows = option_and_then (within option) (number_asked option rows)
+
+-- what `clap` knows of such an option: its word, and that it has a value
+abbrev pub number_rule : Text → Bool → Rule
+number_rule name required = record (new_rule name) { long = Some name; value_names = 1; required = required }

@@ -1,0 +1,23 @@
+//! The words of the command line: what `othello` is asked to do.
+//!
+//! Words stand for [`Options`], or for a fault ([`WordsFault`]). Which values the words give is `clap`'s own
+//! definition; what they ask for is `specs/CommandLine.antt`: each option has the value that the words give it, or
+//! its default, and a value outside its limits is refused. [`Options::read`] is proved to read just that.
+//!
+//! ```text
+//! let words = ["othello", "solve", "--grain", "0"];
+//! Options::read(alloc, &words)    // Solve { grain: 0, visited: false }
+//! ```
+#![tactic(auto)]
+
+mod commands;
+mod faults;
+mod options;
+pub mod rows;
+mod settings;
+
+pub use faults::WordsFault;
+pub use options::Options;
+
+#[cfg(test)]
+mod tests;

@@ -1,0 +1,112 @@
+//! What the words ask for.
+ghost use Rattle.std.specs.Prelude.{◌≡◌, [], map, IfErr, IfOk, None, OnErr, OnOk, Some};
+ghost use Rattle.clap.specs.Words.{fault_of, found_of, kind_of, rows_of, subcommand_rows_of};
+ghost use Rattle.clap.specs.declared.error.kind.ErrorKind.TheVariants.{ValueValidation};
+ghost use Rattle.command_line.specs.CommandLine.{IsWithinLimits, asked_of, command_asked, options_asked, program, solve_asked};
+ghost use Rattle.command_line.specs.Faults.{IsOutside, IsRefusal};
+
+use crate::commands::{flag_in, othello_command};
+use crate::faults::WordsFault;
+use crate::settings::{GRAIN, Missing};
+use clap::error::ErrorKind;
+use clap::{ArgMatches, Error};
+use std::alloc::{AllocError, Global};
+use std::convert::AsStr;
+
+/// What the program is asked to do.
+#[derive(Clone, Copy, Debug, PartialEq, Eq)]
+pub enum Options {
+    /// To answer the lines of standard input.
+    Solve {
+        /// The depth that the worker searches alone, 0 to 6.
+        grain: u8,
+        /// Whether each answer also tells how many positions one serial search entered.
+        visited: bool,
+    },
+}
+
+impl Options {
+    /// What the words ask for, the program's name first.
+    ///
+    /// At Ok each option has the value that the words give it, or its default, and is within its limits. The words
+    /// are refused only for a fault that they have: one of the kinds that `clap` finds, or a value that is no number
+    /// of 1 to 8 digits within the limits of its option.
+    pub fn read<S: AsStr>(alloc: Global, words: &[S]) -> Result<Options, WordsFault>
+        ensures read { IfOk result (λ options. options_asked (map S.text words.now) ≡ Some options) }
+        ensures within { IfOk result IsWithinLimits }
+        ensures faultless { OnOk result (fault_of program (map S.text words.now) ≡ []) }
+        ensures refused { IfErr result (IsRefusal (map S.text words.now)) }
+    {
+        let command = match othello_command(alloc) {
+            Ok(command) => command,
+            Err(AllocError) => return Err(WordsFault::OutOfMemory),
+        };
+        match command.try_get_matches_from(words) {
+            Ok(matches) => match options_of(&matches) {
+                Ok(options) => Ok(options),
+                Err(missing) => Err(outside(alloc, missing)),
+            },
+            Err(error) if error.kind() == ErrorKind::OutOfMemory => Err(WordsFault::OutOfMemory),
+            Err(error) => Err(WordsFault::Refused(error)),
+        }
+    }
+}
+
+/// What a command, and what was given to it, ask for. It is refused where an option has no value within its limits.
+fn options_of(matches: &ArgMatches<'_>) -> Result<Options, Missing>
+    ensures asked { IfOk result (λ options. asked_of (subcommand_rows_of matches.now) ≡ Some options) }
+    ensures within { IfOk result IsWithinLimits }
+    ensures none { OnErr result (asked_of (subcommand_rows_of matches.now) ≡ None) }
+{
+    match matches.subcommand() {
+        Some((name, given)) => options_given(name, given),
+        None => Err(Missing::Command),
+    }
+}
+
+/// What the command of this name asks for.
+fn options_given(name: &str, given: &ArgMatches<'_>) -> Result<Options, Missing>
+    ensures asked { IfOk result (λ options. command_asked (name.now, rows_of (found_of given.now)) ≡ Some options) }
+    ensures within { IfOk result IsWithinLimits }
+    ensures none { OnErr result (command_asked (name.now, rows_of (found_of given.now)) ≡ None) }
+{
+    if name == "solve" {
+        solve_of(given)
+    } else {
+        Err(Missing::Command)
+    }
+}
+
+/// The options of `solve`.
+fn solve_of(given: &ArgMatches<'_>) -> Result<Options, Missing>
+    ensures asked { IfOk result (λ options. solve_asked (rows_of (found_of given.now)) ≡ Some options) }
+    ensures within { IfOk result IsWithinLimits }
+    ensures none { OnErr result (solve_asked (rows_of (found_of given.now)) ≡ None) }
+{
+    let grain = GRAIN.value_in(given)?;
+    Ok(Options::Solve {
+        grain: grain as u8,
+        visited: flag_in(given, "visited"),
+    })
+}
+
+/// The refusal of a value that is no number within the limits of its option.
+fn outside(alloc: Global, missing: Missing) -> WordsFault
+    ensures { IsOutside result }
+{
+    match outside_error(alloc, missing) {
+        Ok(error) => WordsFault::Refused(error),
+        Err(AllocError) => WordsFault::OutOfMemory,
+    }
+}
+
+/// What is said of it.
+fn outside_error(alloc: Global, missing: Missing) -> Result<Error, AllocError>
+    ensures { IfOk result (λ error. kind_of error ≡ ValueValidation) }
+{
+    let text = match missing {
+        Missing::Value(setting) => format!(in alloc; "{setting}")?,
+        Missing::Command => format!(in alloc; "the command solve is needed")?,
+    };
+    othello_command(alloc)?.error(ErrorKind::ValueValidation, text.as_str())
+}

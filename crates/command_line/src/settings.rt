@@ -1,0 +1,76 @@
+//! The options of the commands that have a number for their value, and their limits.
+ghost use Rattle.std.specs.Prelude.{◌≡◌, ◌≤◌, IfOk, OnErr};
+ghost use Rattle.clap.specs.Words.{found_of, rows_of};
+
+use clap::ArgMatches;
+use line_words::number_of;
+use std::fmt::{self, Display};
+
+/// An option of a command that has a number for its value.
+#[derive(Clone, Copy)]
+pub(crate) struct Setting {
+    /// Its word, without the two hyphens.
+    pub name: &'static str,
+    /// The least value.
+    pub least: u32,
+    /// The greatest value.
+    pub most: u32,
+    /// The value where the words give none.
+    pub default: Option<u32>,
+}
+
+/// What is said of a value outside its limits.
+impl Display for Setting {
+    fn fmt<W: fmt::Write>(&self, f: &mut fmt::Formatter<W>) -> fmt::Result {
+        write!(
+            f,
+            "--{} takes a number from {} to {}",
+            self.name, self.least, self.most
+        )
+    }
+}
+
+/// What the words lack.
+#[derive(Clone, Copy)]
+pub(crate) enum Missing {
+    /// A command.
+    Command,
+    /// A number within its limits for this option.
+    Value(Setting),
+}
+
+impl Setting {
+    ghost use Rattle.command_line.specs.Settings.{number_asked, setting_of, value_asked};
+
+    /// The value that the words of a command give it, or its default. It is refused where it is no number of 1 to 8
+    /// digits within the limits, or where there is none.
+    pub fn value_in(&self, given: &ArgMatches<'_>) -> Result<u32, Missing>
+        ensures value { IfOk result (λ n. value_asked (setting_of self.now) (rows_of (found_of given.now)) ≡ Some n) }
+        ensures none { OnErr result (value_asked (setting_of self.now) (rows_of (found_of given.now)) ≡ None) }
+        ensures least { IfOk result (λ n. self.now.least ≤ n) }
+        ensures most { IfOk result (λ n. n ≤ self.now.most) }
+    {
+        match self.number_in(given) {
+            Some(number) if self.least <= number && number <= self.most => Ok(number),
+            _ => Err(Missing::Value(*self)),
+        }
+    }
+
+    /// The number that the words of a command give it, or its default, within the limits or not.
+    fn number_in(&self, given: &ArgMatches<'_>) -> Option<u32>
+        ensures { result ≡ number_asked (setting_of self.now) (rows_of (found_of given.now)) }
+    {
+        match given.get_str(self.name) {
+            Some(text) => number_of(text.as_bytes()),
+            None => self.default,
+        }
+    }
+}
+
+/// The depth that one worker searches alone.
+pub(crate) const GRAIN: Setting = Setting {
+    name: "grain",
+    least: 0,
+    most: 6,
+    default: Some(2),
+};
