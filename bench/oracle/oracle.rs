@@ -3,8 +3,11 @@
 //! It shares no code with the crates: a board is 8 rows of 8 letters, the players are letters, and the
 //! value of a position is the recursion of its definition, without windows.
 //!
-//!     oracle solve              answers lines `depth position` from standard input
-//!     oracle positions N SEED   writes N lines with positions from random games, depth 1 to 3
+//!     oracle solve                   answers lines `depth position` from standard input
+//!     oracle positions N SEED MOST   writes N lines with positions from random games, depth 0 to MOST, but none
+//!                                    below which plain recursion enters more than 200,000 positions
+//!     oracle middle N SEED DEPTH     writes N lines with positions after 20 to 39 plies of random games, all of
+//!                                    this depth
 use std::io::{self, BufRead, Write};
 
 type Board = [[char; 8]; 8];
@@ -154,10 +157,34 @@ fn opening() -> Board {
     board
 }
 
-/// One position from a random game, after a random number of plies.
-fn position(random: &mut Random) -> String {
+/// The most positions that plain recursion may enter.
+const MOST_ENTERED: usize = 200_000;
+
+/// Whether plain recursion enters at most so many positions that are left, which it takes off.
+fn is_within(board: &Board, player: char, depth: u32, left: &mut usize) -> bool {
+    if *left == 0 {
+        return false;
+    }
+    *left -= 1;
+    let moves = legal(board, player);
+    if depth == 0 || (moves.is_empty() && legal(board, other(player)).is_empty()) {
+        return true;
+    }
+    if moves.is_empty() {
+        return is_within(board, other(player), depth - 1, left);
+    }
+    moves.into_iter().all(|(row, column)| is_within(&played(board, player, row, column), other(player), depth - 1, left))
+}
+
+/// Whether plain recursion enters few enough positions.
+fn is_affordable(board: &Board, player: char, depth: u32) -> bool {
+    let mut left = MOST_ENTERED;
+    is_within(board, player, depth, &mut left)
+}
+
+/// A random game after so many plies, or where it ended before: the board and the player to move.
+fn game(random: &mut Random, plies: usize) -> (Board, char) {
     let (mut board, mut player) = (opening(), 'X');
-    let plies = random.below(60);
     for _ in 0..plies {
         let moves = legal(&board, player);
         if !moves.is_empty() {
@@ -168,17 +195,37 @@ fn position(random: &mut Random) -> String {
         }
         player = other(player);
     }
-    format!("{} {}", 1 + random.below(3), text(&board, player))
+    (board, player)
+}
+
+/// One position from a random game, after a random number of plies, with a depth of at most `most`.
+fn position(random: &mut Random, most: u32) -> String {
+    let plies = random.below(60);
+    let (board, player) = game(random, plies);
+    let mut depth = random.below(most as usize + 1) as u32;
+    while !is_affordable(&board, player, depth) {
+        depth -= 1;
+    }
+    format!("{depth} {}", text(&board, player))
+}
+
+/// One position from the middle of a random game, with this depth.
+fn middle(random: &mut Random, depth: u32) -> String {
+    let plies = 20 + random.below(20);
+    let (board, player) = game(random, plies);
+    format!("{depth} {}", text(&board, player))
 }
 
 fn main() {
     let words: Vec<String> = std::env::args().collect();
     let mut out = io::BufWriter::new(io::stdout().lock());
-    if words.get(1).map(String::as_str) == Some("positions") {
+    let command = words.get(1).map(String::as_str);
+    if command == Some("positions") || command == Some("middle") {
         let count: usize = words[2].parse().expect("a count");
         let mut random = Random(words[3].parse().expect("a seed"));
+        let depth: u32 = words[4].parse().expect("a depth");
         for _ in 0..count {
-            let line = position(&mut random);
+            let line = if command == Some("middle") { middle(&mut random, depth) } else { position(&mut random, depth) };
             writeln!(out, "{line}").unwrap();
         }
         return;

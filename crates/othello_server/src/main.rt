@@ -1,9 +1,9 @@
 //! `othello`: answers Othello positions with their minimax value and the first move that attains it.
 //!
 //! `othello solve` reads lines `depth position` and writes for each a line `value move`, as soon as the line is
-//! complete. The lines are the work of `solve_engine`, whose contract says what is written of what is read. Here are
-//! the words of the command line ([`options`]) and what is done with them ([`running`]): [`running::run`] goes from
-//! the words and the three streams to the exit status.
+//! complete. The words of the command line are read by `command_line`, and the lines are the work of `solve_engine`,
+//! whose contract says what is written of what is read. Here is what is done with the words: [`running::run`] goes from
+//! them and the three streams to the exit status.
 //!
 //! ```text
 //! $ printf '1 ---------------------------OX------XO--------------------------- X\n' | othello solve
@@ -11,8 +11,6 @@
 //! ```
 #![tactic(auto)]
 
-mod options;
-pub mod rows;
 mod running;
 
 use line_io::{FromReader, FromWriter};

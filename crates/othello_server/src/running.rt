@@ -1,12 +1,12 @@
 //! What the program does, over any streams: from the words of the command line to the exit status.
-ghost use Rattle.std.specs.Prelude.{◌≡◌, map, Ok, Result};
+ghost use Rattle.std.specs.Prelude.{◌≡◌, ◌≤◌, map, Ok, Result};
 ghost use Rattle.line_io.specs.declared.faults.LineFault.{LineFault};
-ghost use Rattle.othello_server.specs.declared.options.Options.{Options};
-ghost use Rattle.othello_server.specs.declared.options.WordsFault.{WordsFault};
-ghost use Rattle.othello_server.specs.Statuses.{status_of};
+ghost use Rattle.command_line.specs.declared.options.Options.{Options};
+ghost use Rattle.command_line.specs.declared.faults.WordsFault.{WordsFault};
+ghost use Rattle.command_line.specs.Faults.{status_of};
 ghost use Rattle.othello_server.specs.Running.{IsAnsweredRun, IsFollowed, IsReadOf, status_of_run};
 
-use crate::options::{Options, WordsFault};
+use command_line::{Options, WordsFault};
 use line_io::{FromReader, FromWriter, LineFault, Sink, Source, write_text};
 use solve_engine::{solve, solve_visited};
 use std::alloc::Global;
@@ -61,18 +61,23 @@ pub fn run<T: AsStr, S: Input, K: Output, E: Sink>(
         × IsFollowed S.gives K.takes source.old sink.old source.new sink.new asked result }
 {
     match Options::read(alloc, words) {
-        Ok(Options::Solve { visited }) => answer(visited, source, sink, errors),
+        Ok(Options::Solve { grain, visited }) => {
+            answer(alloc, grain, visited, source, sink, errors)
+        }
         Err(fault) => refuse(&fault, sink, errors),
     }
 }
 
 /// Answers the lines of the input. An output that nobody reads any more ends the program without a word.
 fn answer<S: Input, K: Output, E: Sink>(
+    alloc: Global,
+    grain: u8,
     visited: bool,
     source: &mut S,
     sink: &mut K,
     errors: &mut E,
 ) -> u8
+    requires { grain ≤ 6 }
     ensures { (r : Result (Unit {0}) LineFault) × IsAnsweredRun S.gives K.takes source.old sink.old source.new sink.new visited r × (result ≡ status_of_run r) }
 {
     if source.is_typed() {
@@ -81,7 +86,7 @@ fn answer<S: Input, K: Output, E: Sink>(
     let result = if visited {
         solve_visited(source, sink)
     } else {
-        solve(source, sink)
+        solve(alloc, source, sink, grain)
     };
     match result {
         Ok(()) => DONE,

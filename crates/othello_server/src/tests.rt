@@ -1,5 +1,4 @@
 //! The exit statuses, and where each text goes.
-use crate::options::Options;
 use crate::running::{Input, Output, run};
 use line_io::{FromWriter, ReadFailed, Sink, Source, WriteFailed};
 use std::test::Fail;
@@ -71,6 +70,7 @@ fn each_text_has_its_place_and_status(rt: HostRuntime) -> Result<(), Fail> {
     let alloc = rt.alloc();
     for (words, status, output, error) in [
         (["othello", "solve", "--"].as_slice(), 0, "-4 d3\n", ""),
+        (&["othello", "solve", "--grain", "0"], 0, "-4 d3\n", ""),
         (&["othello", "solve", "--visited"], 0, "-4 d3 15\n", ""),
         (&["othello", "--version"], 0, "othello 0.1.0\n", ""),
         (
@@ -162,13 +162,4 @@ fn streams_that_fail(rt: HostRuntime) -> Result<(), Fail> {
     );
     assert_eq!(rt; found, 2, "refused words that can't be explained");
     Ok(())
-}
-
-#[test]
-fn words_are_read(rt: HostRuntime) {
-    let alloc = rt.alloc();
-    let plain = Options::read(alloc, &["othello", "solve"]).ok();
-    assert_eq!(rt; plain, Some(Options::Solve { visited: false }));
-    let counted = Options::read(alloc, &["othello", "solve", "--visited"]).ok();
-    assert_eq!(rt; counted, Some(Options::Solve { visited: true }));
 }

@@ -1,2 +1,3 @@
 pub mod PositionLemmas
 pub mod FaultLemmas
+pub mod RefusalLemmas

@@ -1,5 +1,5 @@
 -- What `solve` answers to a line, and to a whole input.
-use Rattle.std.specs.Prelude.{ℕ, ◌≡◌, ◌==◌, Bool, true, false, if◌then◌else◌, nat_le, List, map, length, Option, Some, None, Result}
+use Rattle.std.specs.Prelude.{ℕ, ◌≡◌, ◌==◌, Bool, true, false, if◌then◌else◌, nat_le, List, [], ◌∷◌, ◌++◌, map, length, Option, Some, None, Result}
 use Rattle.othello_board.specs.declared.cells.Cell.{Cell}
 use Rattle.othello_eval.specs.Minimax.{minimax, best_choice}
 use Rattle.position_text.specs.declared.positions.Side.{Side}
@@ -8,7 +8,8 @@ use Rattle.position_text.specs.Readings.{marks_of, mover_of, seen_by}
 use Rattle.line_io.specs.Lines.{LineText, Whole, TooLong, lines_of}
 use Rattle.line_io.specs.declared.faults.LineFault.{LineFault}
 use Rattle.line_io.specs.Streams.{ReadAnswer, WriteAnswer}
-use Rattle.line_io.specs.Runs.{Run, answers_to}
+use Rattle.line_io.specs.Writes.{with_end}
+use Rattle.line_io.specs.Runs.{Run, FunctionRun, answers_to}
 use Rattle.line_words.specs.Words.{split_at_space, number_of}
 use Rattle.line_words.specs.Texts.{value_text, visited_text, error_text}
 
@@ -54,18 +55,40 @@ solved depth board = value_text (minimax depth board) (best_choice depth board)
 abbrev pub solved_with_count : ℕ → ℕ → List Cell → List ℕ
 solved_with_count count depth board = visited_text (minimax depth board) (best_choice depth board) count
 
--- with a count or without
-abbrev pub reply_of : Bool → ℕ → ℕ → List Cell → List ℕ
-reply_of true count = solved_with_count count
-reply_of false count = solved
+-- what is replied where it is known whether a growth was refused: ERR 19 where one was
+abbrev pub solved_unless : Bool → ℕ → List Cell → List ℕ
+solved_unless true depth board = error_text 19
+solved_unless false depth board = solved depth board
 
--- what `solve` answers to a line
+-- what `solve` answers to a line, and what it answers where a growth was refused; a line with a fault asks for no memory
 abbrev pub solve_line : LineText → List ℕ
 solve_line line = answer_to solved line
+
+abbrev pub solve_line_unless : Bool → LineText → List ℕ
+solve_line_unless refused line = answer_to (solved_unless refused) line
+
+-- some text that `solve` may answer to a line
+abbrev pub IsSolvedLine : LineText → List ℕ → Type 0
+IsSolvedLine line text = (refused : Bool) × (text ≡ solve_line_unless refused line)
 
 -- what `solve` writes for an input: for each of its lines the answer and LF
 abbrev pub solve_out : List ℕ → List ℕ
 solve_out bytes = answers_to solve_line (lines_of bytes)
+
+-- the same for lines of which some met a refused growth: true stands for each line that did, in order, and a line behind
+-- the end of the list met none
+abbrev pub answers_unless : List Bool → List LineText → List ℕ
+answers_unless refused [] = []
+answers_unless [] (line ∷ lines) = with_end (solve_line line) ++ answers_unless [] lines
+answers_unless (flag ∷ refused) (line ∷ lines) = with_end (solve_line_unless flag line) ++ answers_unless refused lines
+
+abbrev pub solve_out_unless : List Bool → List ℕ → List ℕ
+solve_out_unless refused bytes = answers_unless refused (lines_of bytes)
+
+-- what `solve` does with an input: some growths were refused, and what is written is the answers to the lines due, ERR 19 to those
+-- that met one
+abbrev pub SolvedRun : {S K : Type 0} → (S → ReadAnswer → S → Type 0) → (K → WriteAnswer → K → Type 0) → S → K → S → K → Result (Unit {0}) LineFault → Type 0
+SolvedRun gives takes source sink source' sink' r = (refused : List Bool) × FunctionRun gives takes (solve_out_unless refused) source sink source' sink' r
 
 -- with `--visited` each answer has a third word, a number of positions
 abbrev pub IsVisitedLine : LineText → List ℕ → Type 0

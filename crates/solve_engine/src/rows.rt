@@ -1,7 +1,7 @@
 //! The definitions of lines and answers, tried on small inputs: each contract is computed from the definitions alone.
-ghost use Rattle.std.specs.Prelude.{◌≡◌, [], ◌∷◌, ◌++◌, codes};
+ghost use Rattle.std.specs.Prelude.{◌≡◌, ℕ, true, List, [], ◌∷◌, ◌++◌, codes};
 ghost use Rattle.line_io.specs.Lines.{TooLong, Whole};
-ghost use Rattle.solve_engine.specs.Solving.{solve_line, solve_out};
+ghost use Rattle.solve_engine.specs.Solving.{solve_line, solve_out, solve_out_unless};
 
 /// The opening two plies deep: d3, at -4. White answers it best by c3.
 pub fn opening_at_depth_2()
@@ -24,4 +24,12 @@ pub fn faults_come_in_order()
     ensures cell { solve_line (Whole (codes "1 ----------Z----------------OX------XO---------------------------,X")) ≡ codes "ERR 25" }
     ensures space { solve_line (Whole (codes "1 ---------------------------OX------XO---------------------------,X")) ≡ codes "ERR 26" }
     ensures side { solve_line (Whole (codes "1 ---------------------------OX------XO--------------------------- Q")) ≡ codes "ERR 26" }
+{}
+
+/// Where no growth was refused, what is written is `solve_out`. A line whose growth was refused is `ERR 19`, but for one
+/// that has a fault of its own; lines after it are answered.
+pub fn refused_growths()
+    ensures none { (bytes : List ℕ) → solve_out_unless [] bytes ≡ solve_out bytes }
+    ensures some { solve_out_unless (true ∷ true ∷ []) (codes "opening" ++ 10 ∷ codes "1 XO-------------------------------------------------------------- O" ++ 10 ∷ codes "1 XO-------------------------------------------------------------- O")
+        ≡ codes "ERR 21" ++ 10 ∷ codes "ERR 19" ++ 10 ∷ codes "-124 pass" ++ 10 ∷ [] }
 {}

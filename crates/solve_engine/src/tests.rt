@@ -2,6 +2,7 @@
 use crate::{solve, solve_bytes, solve_visited};
 use arrayvec::ArrayVec;
 use line_io::{FromReader, FromWriter, LineFault, ReadFailed, Sink, Source, WriteFailed};
+use linked_list_allocator::LocalHeap;
 use std::test::Fail;
 
 /// Lines, and the answers that they get.
@@ -66,10 +67,12 @@ aaaaaaaaaaaaaaaaaaaaaaaaaaaaaaaaaaaaaaaaaaaaaaaaaaaaaaaaaaaaaaaaaaaaaaaaaaaaaaaa
 #[test]
 fn lines_get_their_answers(rt: HostRuntime) -> Result<(), Fail> {
     for (lines, answers) in ROWS {
-        let mut source = FromReader { reader: lines };
-        let mut sink = FromWriter::new(Vec::new(rt.alloc()));
-        solve_bytes(&mut source, &mut sink)?;
-        assert_eq!(rt; sink.writer.as_slice(), answers);
+        for grain in [0, 2, 6] {
+            let mut source = FromReader { reader: lines };
+            let mut sink = FromWriter::new(Vec::new(rt.alloc()));
+            solve_bytes(rt.alloc(), &mut source, &mut sink, grain)?;
+            assert_eq!(rt; sink.writer.as_slice(), answers);
+        }
     }
     Ok(())
 }
@@ -157,11 +160,83 @@ fn readers_and_writers_fail_at_each_call(rt: HostRuntime) {
             bytes: ArrayVec::new(),
             calls: writes,
         };
-        assert_eq!(rt; solve(&mut source, &mut sink), result);
+        assert_eq!(rt; solve(rt.alloc(), &mut source, &mut sink, 0), result);
         assert_eq!(rt;
             sink.bytes.as_slice(),
             answers,
             "{reads} reads and {writes} writes"
         );
     }
+}
+
+/// The bytes of a heap in which a core has room.
+const ROOM: usize = 1 << 22;
+
+/// The bytes that somebody else takes of it, so that a core has none.
+const CROWD: usize = ROOM - 4096;
+
+/// Gives the opening at depth 1 three times, a line a call. Before the first and the third somebody takes nearly all of
+/// the heap, and before the second gives it back.
+#[derive(Drop)]
+struct Crowded<'a> {
+    heap: &'a LocalHeap,
+    crowd: Option<Vec<u8, &'a LocalHeap>>,
+    calls: usize,
+}
+
+impl Source for Crowded<'_> {
+    ghost gives = { λ _ _ _. Unit {0} };
+
+    fn fill(&mut self, block: &mut [u8]) -> Result<usize, ReadFailed> {
+        self.crowd = match self.calls {
+            0 | 2 => Vec::with_capacity(self.heap, CROWD).ok(),
+            _ => None,
+        };
+        if self.calls >= 3 {
+            return Ok(0);
+        }
+        self.calls += 1;
+        let line = b"1 ---------------------------OX------XO--------------------------- X\n";
+        let count = line.len().min(block.len());
+        block[..count].copy_from_slice(&line[..count]);
+        Ok(count)
+    }
+}
+
+/// A line whose growth is refused is answered by ERR 19, and the lines after it are answered.
+#[test]
+fn refused_growths_are_told(rt: HostRuntime) -> Result<(), Fail> {
+    let heap = LocalHeap::new(rt.alloc(), ROOM)?;
+    let mut source = Crowded {
+        heap: &heap,
+        crowd: None,
+        calls: 0,
+    };
+    let mut sink = FromWriter::new(Vec::new(rt.alloc()));
+    assert_eq!(rt; solve(&heap, &mut source, &mut sink, 2), Ok(()));
+    assert_eq!(rt;
+        sink.writer.as_slice(),
+        b"ERR 19\n-3 d3\nERR 19\n".as_slice()
+    );
+    drop(source);
+    assert_eq!(rt; heap.used(), 0);
+    Ok(())
+}
+
+/// Faults come before the memory of a search is asked for.
+#[test]
+fn faults_ask_for_no_memory(rt: HostRuntime) -> Result<(), Fail> {
+    let heap = LocalHeap::new(rt.alloc(), 0)?;
+    let lines =
+        b"x Z\n13 Z\n1 Z\n5 ---------------------------------------------------------------- X\n";
+    let mut source = FromReader {
+        reader: lines.as_slice(),
+    };
+    let mut sink = FromWriter::new(Vec::new(rt.alloc()));
+    solve_bytes(&heap, &mut source, &mut sink, 2)?;
+    assert_eq!(rt;
+        sink.writer.as_slice(),
+        b"ERR 23\nERR 27\nERR 24\nERR 19\n".as_slice()
+    );
+    Ok(())
 }

@@ -1,16 +1,15 @@
-use Rattle.std.proofs.Common.{List, ℕ, Result, Ok, Err}
+use Rattle.std.proofs.Common.{Result, Ok, Err}
 use Rattle.std.specs.Prelude.{OnOk}
 use Rattle.line_io.specs.declared.faults.LineFault.{LineFault}
 use Rattle.line_io.specs.Streams.{ReadAnswer, WriteAnswer}
-use Rattle.line_io.specs.Runs.{FunctionRun}
-use Rattle.solve_engine.specs.Solving.{solve_out}
+use Rattle.solve_engine.specs.Solving.{solve_out_unless, SolvedRun}
 use Rattle.solve_engine.proofs.solving.solve_bytes.Goals as goal
 
 -- what follows from a run that ended well
-at_ok : {S K : Type 0} (gives : S → ReadAnswer → S → Type 0) (takes : K → WriteAnswer → K → Type 0) (s : S) (k : K) (s' : S) (k' : K) (P : Type 0) (r : Result (Unit {0}) LineFault) → (FunctionRun gives takes solve_out s k s' k' (Ok tt) → P) → FunctionRun gives takes solve_out s k s' k' r → OnOk r P
+at_ok : {S K : Type 0} (gives : S → ReadAnswer → S → Type 0) (takes : K → WriteAnswer → K → Type 0) (s : S) (k : K) (s' : S) (k' : K) (P : Type 0) (r : Result (Unit {0}) LineFault) → (SolvedRun gives takes s k s' k' (Ok tt) → P) → SolvedRun gives takes s k s' k' r → OnOk r P
 at_ok gives takes s k s' k' P (Ok u) step run = step run
 at_ok gives takes s k s' k' P (Err fault) step run = tt
 
 pub returns-clause-known : goal.returns-clause-known
 returns-clause-known g c =
-    at_ok _ _ _ _ _ _ _ c.solve-result.result (λ run bytes held left holds. c.known_runs_are_exact.ensures solve_out _ _ _ _ bytes held left holds run) c.solve-result.ensures
+    at_ok _ _ _ _ _ _ _ c.solve-result.result (λ run bytes held left holds. (run.0, c.known_runs_are_exact.ensures (solve_out_unless run.0) _ _ _ _ bytes held left holds run.1)) c.solve-result.ensures

@@ -1,0 +1,24 @@
+use Rattle.std.proofs.Common.{ap, ap₂, sym, ◌∙◌, true, false, rules, w32}
+use Rattle.std.proofs.lemmas.Int.{to_z-of_z}
+use mir.Val.{SFits}
+use Rattle.line_words.specs.Texts.{value_text}
+use Rattle.solve_engine.specs.Solving.{solved_unless}
+use Rattle.solve_engine.proofs.solving.solve_line.Goals as goal
+
+pub returns-in-Ok-solve_by_core-clause-text : goal.returns-in-Ok-solve_by_core-clause-text
+returns-in-Ok-solve_by_core-clause-text g c =
+    let found = c.in-Ok-solve_by_core in
+    let fits : SFits w32 found.found.value = search rules in (
+      false,
+      c.value_text.ensures.text
+          ∙ ap (λ v. value_text v found.found.choice) (to_z-of_z w32 found.found.value fits)
+          ∙ ap₂ value_text found.ensures.value found.ensures.choice
+          ∙ sym (c.in-Ok.ensures.ok (solved_unless false)),
+    )
+
+pub returns-in-Err-solve_by_core-clause-text : goal.returns-in-Err-solve_by_core-clause-text
+returns-in-Err-solve_by_core-clause-text g c = (true, c.error_text.ensures.text ∙ sym (c.in-Ok.ensures.ok (solved_unless true)))
+
+pub returns-in-Err-clause-text : goal.returns-in-Err-clause-text
+returns-in-Err-clause-text g c =
+    (false, c.error_text-in-Err.ensures.text ∙ sym (c.in-Err.ensures.err (solved_unless false)))
