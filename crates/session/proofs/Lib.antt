@@ -1,0 +1,3 @@
+pub mod PositionLemmas
+pub mod Served
+pub mod TrueCalls

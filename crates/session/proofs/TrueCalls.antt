@@ -1,0 +1,41 @@
+-- Sessions over an office that keeps its asks.
+use Rattle.std.proofs.Common.{List, [], ◌∷◌, ap, subst, Result}
+use Rattle.line_io.specs.Leads.{Leads}
+use Rattle.line_io.specs.Streams.{ReadAnswer, WriteAnswer}
+use Rattle.session.specs.declared.faults.End.{End}
+use Rattle.session.specs.declared.faults.SessionFault.{SessionFault}
+use Rattle.session.specs.Calls.{Call, Reply}
+use Rattle.session.specs.Sessions.{Called, Session, calls_for}
+use Rattle.session.specs.Asks.{Asked, asks_after, KeepsAsks, AllTrue, TrueSession}
+
+-- calls through which the asks are led are true
+all_true : (asks : List Asked) (made : List (Call × Reply)) (asks' : List Asked) → Leads (Called KeepsAsks) asks made asks' → AllTrue asks made
+all_true asks [] asks' h = tt
+all_true asks (made ∷ more) asks' h = (h.1.1, all_true (asks_after asks made.0 made.1) more asks' (subst (λ z. Leads (Called KeepsAsks) z more asks') h.1.0 h.2))
+
+module _ {O : Type 0} (does : O → Call → Reply → O → Type 0) (asks : O → List Asked) (keeps : (from : O) (call : Call) (reply : Reply) (to : O) → does from call reply to → KeepsAsks (asks from) call reply (asks to)) where
+  -- a chain of calls, seen by the asks of its states
+  asks-led : (from : O) (made : List (Call × Reply)) (to : O) → Leads (Called does) from made to → Leads (Called KeepsAsks) (asks from) made (asks to)
+  asks-led from [] to h = ap asks h
+  asks-led from (made ∷ more) to h = (asks h.0, keeps from made.0 made.1 h.0 h.1, asks-led h.0 more to h.2)
+
+  -- a session, seen by the asks of its office
+  pub true_session : {S K : Type 0} (gives : S → ReadAnswer → S → Type 0) (takes : K → WriteAnswer → K → Type 0) (s : S) (k : K) (o : O) (s' : S) (k' : K) (o' : O) (r : Result End SessionFault) → Session gives takes does s k o s' k' o' r → TrueSession gives takes s k (asks o) s' k' (asks o') r
+  true_session gives takes s k o s' k' o' r x =
+      let led = asks-led o (calls_for x.answered x.replies) o' x.made in
+      record {
+        session = record {
+          blocks = x.blocks;
+          last = x.last;
+          answered = x.answered;
+          replies = x.replies;
+          pieces = x.pieces;
+          reads = x.reads;
+          ends = x.ends;
+          lines = x.lines;
+          made = led;
+          writes = x.writes;
+          written = x.written;
+        };
+        all_true = all_true (asks o) (calls_for x.answered x.replies) (asks o') led;
+      }

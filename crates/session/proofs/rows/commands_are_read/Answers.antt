@@ -1,0 +1,19 @@
+use Rattle.std.proofs.Common.{refl}
+use Rattle.std.specs.Fmt.{digits}
+use Rattle.othello_board.specs.Rules.{squares}
+use Rattle.session.proofs.rows.commands_are_read.Goals as goal
+
+pub returns : goal.returns
+unfolding digits squares
+returns c = record {
+  hello = refl;
+  ask = refl;
+  get = refl;
+  zero = refl;
+  wait = refl;
+  cancel = refl;
+  quota = refl;
+  live = refl;
+  bye = refl;
+  early_bye = refl;
+}

@@ -1,0 +1,25 @@
+use Rattle.std.proofs.Common.{refl}
+use Rattle.std.specs.Fmt.{digits}
+use Rattle.othello_board.specs.Rules.{squares}
+use Rattle.session.proofs.rows.faults_come_in_order.Goals as goal
+
+pub returns : goal.returns
+unfolding digits squares
+returns c = record {
+  before_hello = refl;
+  before_numbers = refl;
+  again = refl;
+  no_number = refl;
+  nine_digits = refl;
+  no_segment = refl;
+  many_segments = refl;
+  no_node = refl;
+  many_nodes = refl;
+  most = refl;
+  no_depth = refl;
+  deep = refl;
+  short = refl;
+  spaces = refl;
+  cell = refl;
+  side = refl;
+}

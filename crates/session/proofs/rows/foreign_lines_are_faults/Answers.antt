@@ -1,0 +1,17 @@
+use Rattle.std.proofs.Common.{refl}
+use Rattle.std.specs.Fmt.{digits}
+use Rattle.othello_board.specs.Rules.{squares}
+use Rattle.session.proofs.rows.foreign_lines_are_faults.Goals as goal
+
+pub returns : goal.returns
+unfolding digits squares
+returns c = record {
+  long = refl;
+  empty = refl;
+  small_letters = refl;
+  no_argument = refl;
+  one_more = refl;
+  no_position = refl;
+  three_amounts = refl;
+  longest = refl;
+}

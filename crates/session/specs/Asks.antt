@@ -1,0 +1,85 @@
+-- An office that keeps what its tenant asked for, and shows the values of just that.
+use Rattle.std.specs.Prelude.{◌≡◌, ℕ, ◌+◌, ◌-◌, ◌==◌, List, [], ◌∷◌, ◌++◌, length, Option, Some, None, Result, if◌then◌else◌}
+use Rattle.othello_board.specs.declared.cells.Cell.{Cell}
+use Rattle.othello_eval.specs.Minimax.{minimax, best_choice}
+use Rattle.line_io.specs.Streams.{ReadAnswer, WriteAnswer}
+use Rattle.session.specs.declared.faults.End.{End}
+use Rattle.session.specs.declared.faults.SessionFault.{SessionFault}
+use Rattle.session.specs.declared.outcome.Finding.{Finding}
+use Rattle.session.specs.declared.outcome.Outcome.{Outcome}
+use Rattle.session.specs.declared.outcome.Outcome.TheVariants.{Pending, Done, Spent, Cancelled}
+use Rattle.session.specs.Calls.{Call, Hello, Ask, Get, Wait, Cancel, AskQuota, AskLive, Leave, Reply, Welcome, Job, Told, Ended, Rest, Alive, Gone, Refused}
+use Rattle.session.specs.Sessions.{Session, calls_for}
+
+-- a board, and the depth to which its value was asked for
+pub record Asked : Type 0 where
+  pub board : List Cell
+  pub depth : ℕ
+
+-- the asks, and this call too where it is one
+abbrev pub with_ask : List Asked → Call → List Asked
+with_ask asks (Hello quota) = asks
+with_ask asks (Ask depth board side) = asks ++ record { board = board; depth = depth } ∷ []
+with_ask asks (Get job) = asks
+with_ask asks (Wait job) = asks
+with_ask asks (Cancel job) = asks
+with_ask asks AskQuota = asks
+with_ask asks AskLive = asks
+with_ask asks Leave = asks
+
+-- the asks that were answered by JOB, after one more call and its reply: a new tenant has none, and one
+-- that has left
+abbrev pub asks_after : List Asked → Call → Reply → List Asked
+asks_after asks call (Welcome quota) = []
+asks_after asks call (Job number) = with_ask asks call
+asks_after asks call (Told job outcome) = asks
+asks_after asks call (Ended job) = asks
+asks_after asks call (Rest left) = asks
+asks_after asks call (Alive live) = asks
+asks_after asks call Gone = []
+asks_after asks call (Refused number) = asks
+
+-- what was asked as the job of this number, from 1 on
+abbrev pub asked_at : List Asked → ℕ → Option Asked
+asked_at [] job = None
+asked_at (asked ∷ later) job = if job == 1 then Some asked else asked_at later (job - 1)
+
+-- a value and a move are the minimax value and the best choice of what was asked as this job
+pub record IsFound (asks : List Asked) (job : ℕ) (finding : Finding) : Type 0 where
+  pub asked : Asked
+  pub is : asked_at asks job ≡ Some asked
+  pub value : finding.value ≡ minimax asked.depth asked.board
+  pub choice : finding.choice ≡ best_choice asked.depth asked.board
+
+-- a job that is shown as done is shown with what was found for it
+abbrev pub ShowsFound : List Asked → ℕ → Outcome → Type 0
+ShowsFound asks job Pending = Unit {0}
+ShowsFound asks job (Done finding) = IsFound asks job finding
+ShowsFound asks job Spent = Unit {0}
+ShowsFound asks job Cancelled = Unit {0}
+
+-- what a reply to a call says of the asks before it: a new job has the next number, a done one its finding
+abbrev pub SaysTrue : List Asked → Reply → Type 0
+SaysTrue asks (Welcome quota) = Unit {0}
+SaysTrue asks (Job number) = number ≡ length asks + 1
+SaysTrue asks (Told job outcome) = ShowsFound asks job outcome
+SaysTrue asks (Ended job) = Unit {0}
+SaysTrue asks (Rest left) = Unit {0}
+SaysTrue asks (Alive live) = Unit {0}
+SaysTrue asks Gone = Unit {0}
+SaysTrue asks (Refused number) = Unit {0}
+
+-- what a call of such an office may reply, by its asks before and after it
+abbrev pub KeepsAsks : List Asked → Call → Reply → List Asked → Type 0
+KeepsAsks asks call reply asks' = (asks' ≡ asks_after asks call reply) × SaysTrue asks reply
+
+-- of these calls, in order, each ASK that is answered by JOB gets the next number, and each DONE shows the minimax value and the best
+-- choice of what was asked by the ASK that was answered by JOB and its number
+abbrev pub AllTrue : List Asked → List (Call × Reply) → Type 0
+AllTrue asks [] = Unit {0}
+AllTrue asks (made ∷ more) = SaysTrue asks made.1 × AllTrue (asks_after asks made.0 made.1) more
+
+-- a session over an office that keeps its asks, seen by them
+pub record TrueSession {S K : Type 0} (gives : S → ReadAnswer → S → Type 0) (takes : K → WriteAnswer → K → Type 0) (source : S) (sink : K) (asks : List Asked) (source' : S) (sink' : K) (asks' : List Asked) (r : Result End SessionFault) : Type 0 where
+  pub session : Session gives takes KeepsAsks source sink asks source' sink' asks' r
+  pub all_true : AllTrue asks (calls_for session.answered session.replies)

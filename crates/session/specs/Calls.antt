@@ -1,0 +1,38 @@
+-- What a session asks of its office, and what the office replies.
+use Rattle.std.specs.Prelude.{ℕ, List, Result, Ok, Err}
+use Rattle.othello_board.specs.declared.cells.Cell.{Cell}
+use Rattle.position_text.specs.declared.positions.Side.{Side}
+use Rattle.tenant_quota.specs.Quota.{Quota}
+use Rattle.tenant_quota.specs.declared.account.Left.{Left}
+use Rattle.sched_rules.specs.declared.refusal.Refusal.{Refusal}
+use Rattle.sched_rules.specs.Refusals.{number_of}
+use Rattle.session.specs.declared.outcome.Outcome.{Outcome}
+use Rattle.session.specs.declared.outcome.Live.{Live}
+
+-- a call of the office
+pub data Call : Type 0 where
+  Hello : (quota : Quota) → Call
+  Ask : (depth : ℕ) (board : List Cell) (side : Side) → Call
+  Get : (job : ℕ) → Call
+  Wait : (job : ℕ) → Call
+  Cancel : (job : ℕ) → Call
+  AskQuota : Call
+  AskLive : Call
+  Leave : Call
+
+-- a reply of the office: what was reserved, the number of a new job, how a job stands, that a job is cancelled, what is left,
+-- what is alive, that the tenant is gone, or the number of a refusal
+pub data Reply : Type 0 where
+  Welcome : (quota : Quota) → Reply
+  Job : (number : ℕ) → Reply
+  Told : (job : ℕ) (outcome : Outcome) → Reply
+  Ended : (job : ℕ) → Reply
+  Rest : (left : Left) → Reply
+  Alive : (live : Live) → Reply
+  Gone : Reply
+  Refused : (number : ℕ) → Reply
+
+-- the reply that a call's result is
+abbrev pub reply_of : {X : Type 0} → (X → Reply) → Result X Refusal → Reply
+reply_of said (Ok x) = said x
+reply_of said (Err refusal) = Refused (number_of refusal)

@@ -1,0 +1,9 @@
+pub mod Forms
+pub mod Calls
+pub mod Requests
+pub mod Turns
+pub mod Sessions
+pub mod Asks
+pub mod Rows
+pub mod Views
+pub mod Ends

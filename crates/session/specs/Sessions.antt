@@ -1,0 +1,91 @@
+-- A whole session: what was read, the calls of the office, and what was written.
+use Rattle.std.specs.Prelude.{◌≡◌, ℕ, List, ◌++◌, map, Bool, true, false, Result, Ok, Err}
+use Rattle.std.specs.List.{concat}
+use Rattle.line_io.specs.declared.faults.LineFault.{LineFault}
+use Rattle.line_io.specs.declared.faults.LineFault.TheVariants.{Read as read_fault, Write as write_fault}
+use Rattle.line_io.specs.declared.faults.WriteFailed.{WriteFailed}
+use Rattle.line_io.specs.declared.talking.TalkEnd.{TalkEnd}
+use Rattle.line_io.specs.declared.talking.TalkEnd.TheVariants.{Line as by_line, Input as by_input}
+use Rattle.line_io.specs.Lines.{LineText, lines_of}
+use Rattle.line_io.specs.Leads.{Leads, IsPrefixOf}
+use Rattle.line_io.specs.Streams.{ReadAnswer, Gave, WriteAnswer}
+use Rattle.line_io.specs.Writes.{writes_of, written_texts, IsCutShort}
+use Rattle.line_io.specs.Runs.{bytes_due, write_result}
+use Rattle.line_io.specs.Talks.{upto, IsTalkEnd}
+use Rattle.line_words.specs.Texts.{error_text}
+use Rattle.session.specs.declared.faults.SessionFault.{SessionFault}
+use Rattle.session.specs.declared.faults.SessionFault.TheVariants.{Read, Write}
+use Rattle.session.specs.declared.faults.End.{End}
+use Rattle.session.specs.declared.faults.End.TheVariants.{Bye, EndOfInput}
+use Rattle.session.specs.Calls.{Call, Leave, Reply, Gone}
+use Rattle.session.specs.Forms.{is_bye}
+use Rattle.session.specs.Requests.{Request, Fault, Makes, Ends}
+use Rattle.session.specs.Turns.{turns, calls_in, turn_text, reply_text, seated_after}
+
+-- the lines of a session: those of the bytes up to a line BYE, that one too
+abbrev pub session_lines : List ℕ → List LineText
+session_lines bytes = upto is_bye (lines_of bytes)
+
+-- the calls made of the office for these lines, each with its reply
+abbrev pub calls_for : List LineText → List Reply → List (Call × Reply)
+calls_for lines replies = calls_in false (turns false lines replies)
+
+-- the answers to these lines
+abbrev pub texts_for : List LineText → List Reply → List (List ℕ)
+texts_for lines replies = map turn_text (turns false lines replies)
+
+-- the calls made of the office for an input, and what is written for it, where the office replies this
+abbrev pub calls : List ℕ → List Reply → List (Call × Reply)
+calls bytes replies = calls_for (session_lines bytes) replies
+
+abbrev pub out : List ℕ → List Reply → List ℕ
+out bytes replies = written_texts (texts_for (session_lines bytes) replies)
+
+-- one call and its reply
+abbrev pub Called : {O : Type 0} → (O → Call → Reply → O → Type 0) → O → Call × Reply → O → Type 0
+Called does from made to = does from made.0 made.1 to
+
+-- a tenant that is there leaves, and else nothing is asked
+abbrev pub LeavesIf : {O : Type 0} → (O → Call → Reply → O → Type 0) → Bool → O → O → Type 0
+LeavesIf does true from to = does from Leave Gone to
+LeavesIf does false from to = from ≡ to
+
+-- what is done for one request: the office before, whether a tenant is there, the text, and both after it
+abbrev pub Turned : {O : Type 0} → (O → Call → Reply → O → Type 0) → Request → O → Bool → List ℕ → O → Bool → Type 0
+Turned does (Fault number) from seated text to seated' = (from ≡ to) × (seated' ≡ seated) × (text ≡ error_text number)
+Turned does (Makes call) from seated text to seated' =
+    (reply : Reply) × does from call reply to × (seated' ≡ seated_after seated reply) × (text ≡ reply_text reply)
+Turned does Ends from seated text to seated' = LeavesIf does seated from to × (seated' ≡ false) × (text ≡ reply_text Gone)
+
+-- how a session ended, as the end of its talk
+abbrev pub talk_result : Result End SessionFault → Result TalkEnd LineFault
+talk_result (Ok Bye) = Ok by_line
+talk_result (Ok EndOfInput) = Ok by_input
+talk_result (Err Read) = Err read_fault
+talk_result (Err Write) = Err write_fault
+
+-- the lines that are answered of those that were read: all, and after a failed write the first of them
+abbrev pub IsAnsweredOf : Result End SessionFault → List LineText → List LineText → Type 0
+IsAnsweredOf (Ok _) answered lines = answered ≡ lines
+IsAnsweredOf (Err Read) answered lines = answered ≡ lines
+IsAnsweredOf (Err Write) answered lines = IsPrefixOf answered lines
+
+-- all of these texts are written, each with LF; after a failed write all but a rest of the last
+abbrev pub IsWrittenOf : Result (Unit {0}) WriteFailed → List ℕ → List (List ℕ) → Type 0
+IsWrittenOf (Ok _) bytes texts = bytes ≡ written_texts texts
+IsWrittenOf (Err _) bytes texts = (rest : List ℕ) × (bytes ++ rest ≡ written_texts texts) × IsCutShort texts rest
+
+-- these blocks were read, these lines of them answered, with these replies of the office, and these pieces written. At fault 1 the
+-- bytes after the last LF are no line. At fault 2 the last of the answered lines is the one whose answer wasn't written
+pub record Session {S K O : Type 0} (gives : S → ReadAnswer → S → Type 0) (takes : K → WriteAnswer → K → Type 0) (does : O → Call → Reply → O → Type 0) (source : S) (sink : K) (office : O) (source' : S) (sink' : K) (office' : O) (r : Result End SessionFault) : Type 0 where
+  pub blocks : List (List ℕ)
+  pub last : List ReadAnswer
+  pub answered : List LineText
+  pub replies : List Reply
+  pub pieces : List (List ℕ)
+  pub reads : Leads gives source (map Gave blocks ++ last) source'
+  pub ends : IsTalkEnd is_bye (talk_result r) (concat blocks) last
+  pub lines : IsAnsweredOf r answered (session_lines (bytes_due (talk_result r) (concat blocks)))
+  pub made : Leads (Called does) office (calls_for answered replies) office'
+  pub writes : Leads takes sink (writes_of pieces (write_result (talk_result r))) sink'
+  pub written : IsWrittenOf (write_result (talk_result r)) (concat pieces) (texts_for answered replies)

@@ -1,0 +1,90 @@
+-- What comes of the lines of a session, one after another: calls of the office and texts, as functions of the lines and of the
+-- office's replies.
+use Rattle.std.specs.Prelude.{ℕ, List, [], ◌∷◌, ◌++◌, Bool, true, false, codes, decimal}
+use Rattle.line_io.specs.Lines.{LineText}
+use Rattle.line_words.specs.Texts.{value_text, error_text}
+use Rattle.session.specs.declared.outcome.Outcome.{Outcome}
+use Rattle.session.specs.declared.outcome.Outcome.TheVariants.{Pending, Done, Spent, Cancelled}
+use Rattle.session.specs.Calls.{Call, Leave, Reply, Welcome, Job, Told, Ended, Rest, Alive, Gone, Refused}
+use Rattle.session.specs.Requests.{Request, Fault, Makes, Ends, request}
+
+-- what came of a line: a fault, a call with its reply, or the end of the session
+pub data Turn : Type 0 where
+  Faulted : (number : ℕ) → Turn
+  Made : (call : Call) (reply : Reply) → Turn
+  Closed : Turn
+
+-- the next of the replies: each call takes one. The number 0 is no office's
+abbrev pub next_reply : List Reply → Reply
+next_reply [] = Refused 0
+next_reply (r ∷ rs) = r
+
+abbrev pub later_replies : List Reply → List Reply
+later_replies [] = []
+later_replies (r ∷ rs) = rs
+
+-- whether a tenant is there after a reply: it comes by a taken HELLO alone
+abbrev pub seated_after : Bool → Reply → Bool
+seated_after seated (Welcome quota) = true
+seated_after seated (Job number) = seated
+seated_after seated (Told job outcome) = seated
+seated_after seated (Ended job) = seated
+seated_after seated (Rest left) = seated
+seated_after seated (Alive live) = seated
+seated_after seated Gone = false
+seated_after seated (Refused number) = seated
+
+-- by what a line asks for
+abbrev pub by_request : {X : Type 0} → Request → (ℕ → X) → (Call → X) → (Unit {0} → X) → X
+by_request (Fault number) fault call end = fault number
+by_request (Makes made) fault call end = call made
+by_request Ends fault call end = end tt
+
+-- what comes of these lines, where a tenant is there or not, and the office replies this
+abbrev pub turns : Bool → List LineText → List Reply → List Turn
+turns seated [] replies = []
+turns seated (line ∷ lines) replies =
+    by_request (request seated line)
+    (λ number. Faulted number ∷ turns seated lines replies)
+    (λ call. Made call (next_reply replies) ∷ turns (seated_after seated (next_reply replies)) lines (later_replies replies))
+    (λ _. Closed ∷ turns false lines replies)
+
+-- a tenant that is there leaves
+abbrev pub leaving : Bool → List (Call × Reply)
+leaving true = (Leave, Gone) ∷ []
+leaving false = []
+
+-- the calls of these turns with their replies, in order: a tenant leaves at a line BYE, and where the session ends without one
+abbrev pub calls_in : Bool → List Turn → List (Call × Reply)
+calls_in seated [] = leaving seated
+calls_in seated (Faulted number ∷ more) = calls_in seated more
+calls_in seated (Made call reply ∷ more) = (call, reply) ∷ calls_in (seated_after seated reply) more
+calls_in seated (Closed ∷ more) = leaving seated ++ calls_in false more
+
+-- two numbers and a space between them
+abbrev pub pair_text : ℕ → ℕ → List ℕ
+pair_text first second = decimal first ++ codes " " ++ decimal second
+
+-- how a job stands
+abbrev pub outcome_text : ℕ → Outcome → List ℕ
+outcome_text job Pending = codes "PENDING " ++ decimal job
+outcome_text job (Done finding) = codes "DONE " ++ decimal job ++ codes " " ++ value_text finding.value finding.choice
+outcome_text job Spent = codes "SPENT " ++ decimal job
+outcome_text job Cancelled = codes "CANCELLED " ++ decimal job
+
+-- a reply
+abbrev pub reply_text : Reply → List ℕ
+reply_text (Welcome quota) = codes "WELCOME " ++ pair_text quota.segments quota.nodes
+reply_text (Job number) = codes "JOB " ++ decimal number
+reply_text (Told job outcome) = outcome_text job outcome
+reply_text (Ended job) = codes "CANCELLED " ++ decimal job
+reply_text (Rest left) = codes "QUOTA " ++ pair_text left.segments left.nodes ++ codes " " ++ decimal left.steps
+reply_text (Alive live) = codes "LIVE " ++ pair_text live.frames live.words
+reply_text Gone = codes "BYE"
+reply_text (Refused number) = error_text number
+
+-- what a line is answered
+abbrev pub turn_text : Turn → List ℕ
+turn_text (Faulted number) = error_text number
+turn_text (Made call reply) = reply_text reply
+turn_text Closed = codes "BYE"

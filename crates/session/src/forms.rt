@@ -1,0 +1,83 @@
+//! The words of a line: a command, and its arguments.
+ghost use Rattle.std.specs.Prelude.{◌≡◌, option_map};
+ghost use Rattle.session.specs.Forms.{form_of, bare_form, form_of_one, form_of_two};
+ghost use Rattle.session.specs.Views.{form_seen};
+
+use line_words::{number_of, split_at_space};
+
+/// A command with its arguments. A number is none where its word is no number.
+#[derive(Clone, Copy)]
+pub(crate) enum Form<'a> {
+    /// Segments and nodes to reserve.
+    Hello(Option<u32>, Option<u32>),
+    /// A depth, and a position's text.
+    Ask(Option<u32>, &'a [u8]),
+    /// A job.
+    Get(Option<u32>),
+    /// A job.
+    Wait(Option<u32>),
+    /// A job.
+    Cancel(Option<u32>),
+    /// What is left is asked for.
+    Quota,
+    /// What is alive is asked for.
+    Live,
+    /// The session ends.
+    Bye,
+}
+
+/// A line of one word.
+fn bare_form<'a>(word: &[u8]) -> Option<Form<'a>>
+    ensures { option_map form_seen result ≡ bare_form word.now }
+{
+    if word == b"QUOTA".as_slice() {
+        Some(Form::Quota)
+    } else if word == b"LIVE".as_slice() {
+        Some(Form::Live)
+    } else if word == b"BYE".as_slice() {
+        Some(Form::Bye)
+    } else {
+        None
+    }
+}
+
+/// A line of two words.
+fn form_of_one<'a>(word: &[u8], argument: &[u8]) -> Option<Form<'a>>
+    ensures { option_map form_seen result ≡ form_of_one word.now argument.now }
+{
+    if word == b"GET".as_slice() {
+        Some(Form::Get(number_of(argument)))
+    } else if word == b"WAIT".as_slice() {
+        Some(Form::Wait(number_of(argument)))
+    } else if word == b"CANCEL".as_slice() {
+        Some(Form::Cancel(number_of(argument)))
+    } else {
+        None
+    }
+}
+
+/// A line of three words or more.
+fn form_of_two<'a>(word: &[u8], first: &[u8], second: &'a [u8]) -> Option<Form<'a>>
+    ensures { option_map form_seen result ≡ form_of_two word.now first.now second.now }
+{
+    if word == b"ASK".as_slice() {
+        Some(Form::Ask(number_of(first), second))
+    } else if word == b"HELLO".as_slice() && split_at_space(second).is_none() {
+        Some(Form::Hello(number_of(first), number_of(second)))
+    } else {
+        None
+    }
+}
+
+/// What a line says; none where its word is unknown or has another number of arguments.
+pub(crate) fn form_of(line: &[u8]) -> Option<Form<'_>>
+    ensures { option_map form_seen result ≡ form_of line.now }
+{
+    let Some((word, rest)) = split_at_space(line) else {
+        return bare_form(line);
+    };
+    match split_at_space(rest) {
+        None => form_of_one(word, rest),
+        Some((first, second)) => form_of_two(word, first, second),
+    }
+}

@@ -1,0 +1,20 @@
+//! What follows for sessions over an office that keeps its asks: a law, which is the contract of a function that does nothing.
+ghost use Rattle.std.specs.Prelude.{List, Result};
+ghost use Rattle.session.specs.declared.faults.End.{End};
+ghost use Rattle.session.specs.declared.faults.SessionFault.{SessionFault};
+ghost use Rattle.session.specs.Asks.{Asked, KeepsAsks, TrueSession};
+ghost use Rattle.session.specs.Calls.{Call, Reply};
+ghost use Rattle.session.specs.Sessions.{Session};
+
+use crate::office::Office;
+use line_io::{Sink, Source};
+
+/// Where each call of an office keeps its asks, each DONE line of a session bears the minimax value and the best choice
+/// of what was asked by the ASK line that was answered by JOB and its number.
+pub fn each_done_line_is_true<S: Source, K: Sink, O: Office>()
+    ensures { (asks : O → List Asked)
+        → ((from : O) (call : Call) (reply : Reply) (to : O) → O.does from call reply to → KeepsAsks (asks from) call reply (asks to))
+        → (source source' : S) (sink sink' : K) (office office' : O) (r : Result End SessionFault)
+        → Session S.gives K.takes O.does source sink office source' sink' office' r
+        → TrueSession S.gives K.takes source sink (asks office) source' sink' (asks office') r }
+{}

@@ -1,0 +1,46 @@
+//! Sessions: lines in, calls of an office and answers out.
+//!
+//! A session is a talk in lines of at most 128 bytes with one tenant of a desk. A line is a command of one word with
+//! its arguments, parted by single spaces (`specs/Forms.antt`), and comes to a fault, to one call of the office, or to
+//! the end of the session (`specs/Requests.antt`). Each line is answered by one line, as soon as it is complete, before
+//! more is read: a fault by `ERR` and its number, a call by what the office replied.
+//!
+//! What a session did is told by two functions of the lines that it read and of the office's replies in order
+//! (`specs/Turns.antt`): the calls that it made, and the bytes that it wrote. [`serve_lines`] has them in its contract
+//! (`Session`, `specs/Sessions.antt`), over any source of bytes, any sink and any [`Office`], of which a body learns
+//! only by a call: so no call, no reply and no end can be made up. The invariant is whether a tenant is there: it comes by
+//! a HELLO that was taken, and has left when the session is over, however it ended. Nothing here takes memory but the
+//! office.
+//!
+//! For an office that keeps what its tenant asked for, and shows the values of just that (`specs/Asks.antt`), each
+//! `DONE` line bears the minimax value and the best choice of what the `ASK` line of its number asked for
+//! ([`each_done_line_is_true`]).
+//!
+//! ```text
+//! let lines = b"HELLO 4 8\nASK 0 ---------------------------OX------XO--------------------------- X\nWAIT 1\nQUOTA\n";
+//! let mut source = FromReader { reader: lines.as_slice() };
+//! let mut sink = FromWriter::new(Vec::new(alloc));
+//! serve_lines(&rt, &mut source, &mut sink, &mut office)?;     // the writer has WELCOME 4 8, JOB 1, DONE 1 0 - and QUOTA 4 7 123
+//! ```
+#![tactic(auto)]
+
+mod faults;
+mod forms;
+mod laws;
+mod office;
+mod outcome;
+mod question;
+mod requests;
+pub mod rows;
+mod serving;
+mod texts;
+mod turns;
+
+pub use faults::{End, SessionFault};
+pub use laws::each_done_line_is_true;
+pub use office::Office;
+pub use outcome::{Finding, Live, Outcome};
+pub use serving::serve_lines;
+
+#[cfg(test)]
+mod tests;

@@ -1,0 +1,52 @@
+//! What a session asks of.
+ghost use Rattle.std.specs.Prelude.{◌≡◌, ◌≤◌, Bool, true};
+ghost use Rattle.othello_board.specs.Words.{cells};
+ghost use Rattle.session.specs.Calls.{Call, Hello, Ask, Get, Wait, Cancel, AskQuota, AskLive, Leave, Reply, Welcome, Job, Told, Ended, Rest, Alive, Gone, reply_of};
+
+use crate::outcome::{Live, Outcome};
+use position_text::Position;
+use sched_rules::Refusal;
+use tenant_quota::{Left, Reserve};
+
+/// The desk's calls for one tenant. Each refusal is the scheduling core's.
+pub trait Office {
+    /// What a call may do and reply, and the states before and after it.
+    ghost does: { Self → Call → Reply → Self → Type 0 };
+
+    /// Whether what is known of the office's type allows that a tenant leaves: as a rule it does.
+    ghost ready: { Bool } = { true };
+
+    /// Reserves segments and nodes for a new tenant.
+    fn hello(&mut self, reserve: Reserve) -> Result<(), Refusal>
+        ensures { does self.old (Hello reserve) (reply_of (λ _. Welcome reserve) result) self.new };
+
+    /// Asks for the value of a position to a depth in plies, and gives the number of the job.
+    fn ask(&mut self, position: &Position, depth: u8) -> Result<u64, Refusal>
+        requires { depth ≤ 12 }
+        ensures { does self.old (Ask depth (cells position.now.board) position.now.side) (reply_of Job result) self.new };
+
+    /// How a job stands.
+    fn get(&mut self, job: u64) -> Result<Outcome, Refusal>
+        ensures { does self.old (Get job) (reply_of (Told job) result) self.new };
+
+    /// The same, once the job has ended.
+    fn wait(&mut self, job: u64) -> Result<Outcome, Refusal>
+        ensures { does self.old (Wait job) (reply_of (Told job) result) self.new };
+
+    /// Cancels a job that hasn't ended.
+    fn cancel(&mut self, job: u64) -> Result<(), Refusal>
+        ensures { does self.old (Cancel job) (reply_of (λ _. Ended job) result) self.new };
+
+    /// What the tenant has left.
+    fn quota(&mut self) -> Result<Left, Refusal>
+        ensures { does self.old AskQuota (reply_of Rest result) self.new };
+
+    /// What the tenant has alive.
+    fn live(&mut self) -> Result<Live, Refusal>
+        ensures { does self.old AskLive (reply_of Alive result) self.new };
+
+    /// Gives up the tenant, its jobs and its reservation.
+    fn leave(&mut self)
+        requires { ready ≡ true }
+        ensures { does self.old Leave Gone self.new };
+}

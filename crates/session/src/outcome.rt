@@ -1,0 +1,33 @@
+//! What an office tells of a job, and of what its tenant has.
+use othello_moves::Choice;
+
+/// How a job stands.
+#[derive(Clone, Copy, Debug, PartialEq, Eq)]
+pub enum Outcome {
+    /// It hasn't ended.
+    Pending,
+    /// It has ended with a value.
+    Done(Finding),
+    /// It has used up its tenant's reservation.
+    Spent,
+    /// It was cancelled.
+    Cancelled,
+}
+
+/// The value of a position to a depth, and the move that attains it.
+#[derive(Clone, Copy, Debug, PartialEq, Eq)]
+pub struct Finding {
+    /// The value, from -128,000 to 128,000, seen by the side to move.
+    pub value: i32,
+    /// The move; none at depth 0 and where the game is over.
+    pub choice: Option<Choice>,
+}
+
+/// What a tenant has alive.
+#[derive(Clone, Copy, Debug, PartialEq, Eq)]
+pub struct Live {
+    /// The number of its frames.
+    pub frames: u64,
+    /// The number of their words, of 64 bits each.
+    pub words: u64,
+}

@@ -1,0 +1,97 @@
+//! The definitions of requests and sessions, tried on worked lines: each contract is computed from the definitions alone.
+//! LF is 10, CR is 13.
+ghost use Rattle.std.specs.Prelude.{◌≡◌, [], ◌∷◌, ◌++◌, replicate, codes, pos, None, true, false};
+ghost use Rattle.line_io.specs.Lines.{Whole, TooLong};
+ghost use Rattle.position_text.specs.declared.positions.Side.TheVariants.{Black};
+ghost use Rattle.session.specs.declared.outcome.Outcome.TheVariants.{Done, Spent};
+ghost use Rattle.session.specs.Calls.{Hello, Ask, Get, Wait, Cancel, AskQuota, AskLive, Leave, Welcome, Job, Told, Rest, Alive, Gone, Refused};
+ghost use Rattle.session.specs.Requests.{Fault, Makes, Ends, request};
+ghost use Rattle.session.specs.Sessions.{calls, out};
+ghost use Rattle.session.specs.Rows.{opening_board};
+
+/// Each command, where a tenant is there, and HELLO where none is. Numbers may begin with zeros.
+pub fn commands_are_read()
+    ensures hello { request false (Whole (codes "HELLO 4 8")) ≡ Makes (Hello (record { segments = 4; nodes = 8 })) }
+    ensures ask { request true (Whole (codes "ASK 0 ---------------------------OX------XO--------------------------- X")) ≡ Makes (Ask 0 opening_board Black) }
+    ensures get { request true (Whole (codes "GET 01")) ≡ Makes (Get 1) }
+    ensures zero { request true (Whole (codes "GET 0")) ≡ Makes (Get 0) }
+    ensures wait { request true (Whole (codes "WAIT 256")) ≡ Makes (Wait 256) }
+    ensures cancel { request true (Whole (codes "CANCEL 2")) ≡ Makes (Cancel 2) }
+    ensures quota { request true (Whole (codes "QUOTA")) ≡ Makes AskQuota }
+    ensures live { request true (Whole (codes "LIVE")) ≡ Makes AskLive }
+    ensures bye { request true (Whole (codes "BYE")) ≡ Ends }
+    ensures early_bye { request false (Whole (codes "BYE")) ≡ Ends }
+{}
+
+/// Lines that are no command with its arguments, whether a tenant is there or not.
+pub fn foreign_lines_are_faults()
+    ensures long { request true TooLong ≡ Fault 22 }
+    ensures empty { request true (Whole (codes "")) ≡ Fault 21 }
+    ensures small_letters { request true (Whole (codes "get 1")) ≡ Fault 21 }
+    ensures no_argument { request true (Whole (codes "GET")) ≡ Fault 21 }
+    ensures one_more { request true (Whole (codes "GET 1 ")) ≡ Fault 21 }
+    ensures no_position { request true (Whole (codes "ASK 0")) ≡ Fault 21 }
+    ensures three_amounts { request false (Whole (codes "HELLO 1 2 3")) ≡ Fault 21 }
+    ensures longest { request true (Whole (replicate 128 65)) ≡ Fault 21 }
+{}
+
+/// The first fault of each line: the tenant before the numbers, a depth before its position.
+pub fn faults_come_in_order()
+    ensures before_hello { request false (Whole (codes "GET 1")) ≡ Fault 28 }
+    ensures before_numbers { request false (Whole (codes "WAIT x")) ≡ Fault 28 }
+    ensures again { request true (Whole (codes "HELLO x 1")) ≡ Fault 29 }
+    ensures no_number { request true (Whole (codes "WAIT x")) ≡ Fault 23 }
+    ensures nine_digits { request true (Whole (codes "GET 123456789")) ≡ Fault 23 }
+    ensures no_segment { request false (Whole (codes "HELLO 0 1")) ≡ Fault 23 }
+    ensures many_segments { request false (Whole (codes "HELLO 4097 1")) ≡ Fault 23 }
+    ensures no_node { request false (Whole (codes "HELLO 1 0")) ≡ Fault 23 }
+    ensures many_nodes { request false (Whole (codes "HELLO 1 65537")) ≡ Fault 23 }
+    ensures most { request false (Whole (codes "HELLO 4096 65536")) ≡ Makes (Hello (record { segments = 4096; nodes = 65536 })) }
+    ensures no_depth { request true (Whole (codes "ASK x Z")) ≡ Fault 23 }
+    ensures deep { request true (Whole (codes "ASK 13 Z")) ≡ Fault 27 }
+    ensures short { request true (Whole (codes "ASK 0 ")) ≡ Fault 24 }
+    ensures spaces { request true (Whole (codes "ASK 0  ---------------------------OX------XO--------------------------- X")) ≡ Fault 24 }
+    ensures cell { request true (Whole (codes "ASK 0 ---" ++ 255 ∷ codes "-----------------------OX------XO--------------------------- X")) ≡ Fault 25 }
+    ensures side { request true (Whole (codes "ASK 0 ---------------------------OX------XO--------------------------- Q")) ≡ Fault 26 }
+{}
+
+/// A job of the opening at depth 0, and what is left after it: nothing follows BYE, and the tenant leaves.
+pub fn one_job()
+    ensures calls { calls
+        (codes "HELLO 4 8" ++ 10 ∷ codes "ASK 0 ---------------------------OX------XO--------------------------- X" ++ 13 ∷ 10 ∷ codes "WAIT 1" ++ 10 ∷ codes "QUOTA" ++ 10 ∷ codes "BYE" ++ 10 ∷ codes "LIVE" ++ 10 ∷ [])
+        (Welcome (record { segments = 4; nodes = 8 }) ∷ Job 1 ∷ Told 1 (Done (record { value = pos 0; choice = None })) ∷ Rest (record { segments = 4; nodes = 7; steps = 123 }) ∷ [])
+        ≡ (Hello (record { segments = 4; nodes = 8 }), Welcome (record { segments = 4; nodes = 8 })) ∷ (Ask 0 opening_board Black, Job 1) ∷ (Wait 1, Told 1 (Done (record { value = pos 0; choice = None }))) ∷ (AskQuota, Rest (record { segments = 4; nodes = 7; steps = 123 })) ∷ (Leave, Gone) ∷ [] }
+    ensures out { out
+        (codes "HELLO 4 8" ++ 10 ∷ codes "ASK 0 ---------------------------OX------XO--------------------------- X" ++ 13 ∷ 10 ∷ codes "WAIT 1" ++ 10 ∷ codes "QUOTA" ++ 10 ∷ codes "BYE" ++ 10 ∷ codes "LIVE" ++ 10 ∷ [])
+        (Welcome (record { segments = 4; nodes = 8 }) ∷ Job 1 ∷ Told 1 (Done (record { value = pos 0; choice = None })) ∷ Rest (record { segments = 4; nodes = 7; steps = 123 }) ∷ [])
+        ≡ codes "WELCOME 4 8" ++ 10 ∷ codes "JOB 1" ++ 10 ∷ codes "DONE 1 0 -" ++ 10 ∷ codes "QUOTA 4 7 123" ++ 10 ∷ codes "BYE" ++ 10 ∷ [] }
+{}
+
+/// A job that is spent, shown twice, and what is alive. At the end of the input the tenant leaves too.
+pub fn a_spent_job()
+    ensures calls { calls (codes "HELLO 8 1" ++ 10 ∷ codes "WAIT 1" ++ 10 ∷ codes "LIVE" ++ 10 ∷ [])
+        (Welcome (record { segments = 8; nodes = 1 }) ∷ Told 1 Spent ∷ Alive (record { frames = 0; words = 0 }) ∷ [])
+        ≡ (Hello (record { segments = 8; nodes = 1 }), Welcome (record { segments = 8; nodes = 1 })) ∷ (Wait 1, Told 1 Spent) ∷ (AskLive, Alive (record { frames = 0; words = 0 })) ∷ (Leave, Gone) ∷ [] }
+    ensures out { out (codes "HELLO 8 1" ++ 10 ∷ codes "WAIT 1" ++ 10 ∷ codes "LIVE" ++ 10 ∷ [])
+        (Welcome (record { segments = 8; nodes = 1 }) ∷ Told 1 Spent ∷ Alive (record { frames = 0; words = 0 }) ∷ [])
+        ≡ codes "WELCOME 8 1" ++ 10 ∷ codes "SPENT 1" ++ 10 ∷ codes "LIVE 0 0" ++ 10 ∷ [] }
+{}
+
+/// Faults take no reply. A HELLO that is refused leaves no tenant, and HELLO may come again; who has none doesn't leave.
+pub fn a_refused_hello()
+    ensures calls { calls (codes "GET 1" ++ 10 ∷ codes "HELLO 4 8" ++ 10 ∷ codes "GET 1" ++ 10 ∷ [])
+        (Refused 19 ∷ []) ≡ (Hello (record { segments = 4; nodes = 8 }), Refused 19) ∷ [] }
+    ensures out { out (codes "GET 1" ++ 10 ∷ codes "HELLO 4 8" ++ 10 ∷ codes "GET 1" ++ 10 ∷ [])
+        (Refused 19 ∷ []) ≡ codes "ERR 28" ++ 10 ∷ codes "ERR 19" ++ 10 ∷ codes "ERR 28" ++ 10 ∷ [] }
+    ensures taken { out (codes "HELLO 4 8" ++ 10 ∷ codes "HELLO 4 8" ++ 10 ∷ codes "HELLO 1 1" ++ 10 ∷ codes "GET 1")
+        (Refused 14 ∷ Welcome (record { segments = 4; nodes = 8 }) ∷ Refused 17 ∷ [])
+        ≡ codes "ERR 14" ++ 10 ∷ codes "WELCOME 4 8" ++ 10 ∷ codes "ERR 29" ++ 10 ∷ codes "ERR 17" ++ 10 ∷ [] }
+{}
+
+/// The end of the input ends a line too, and a line that an LF ends may be `ASK 0 `.
+pub fn a_last_line_without_an_end()
+    ensures calls { calls (codes "HELLO 4 8" ++ 10 ∷ codes "ASK 0 ") (Welcome (record { segments = 4; nodes = 8 }) ∷ [])
+        ≡ (Hello (record { segments = 4; nodes = 8 }), Welcome (record { segments = 4; nodes = 8 })) ∷ (Leave, Gone) ∷ [] }
+    ensures out { out (codes "HELLO 4 8" ++ 10 ∷ codes "ASK 0 ") (Welcome (record { segments = 4; nodes = 8 }) ∷ [])
+        ≡ codes "WELCOME 4 8" ++ 10 ∷ codes "ERR 24" ++ 10 ∷ [] }
+{}

@@ -1,0 +1,109 @@
+//! Serving a session from its first line to its last.
+ghost use Rattle.std.specs.Prelude.{◌≡◌, ◌≢◌, Err, true, false};
+ghost use Rattle.line_io.specs.Views.{text_of};
+ghost use Rattle.session.specs.Forms.{is_bye};
+ghost use Rattle.session.specs.Requests.{request};
+ghost use Rattle.session.specs.Sessions.{Turned, Session, talk_result};
+
+use crate::faults::{End, SessionFault};
+use crate::office::Office;
+use crate::texts::Text;
+use crate::turns::{leave_if, take_turn};
+use line_io::{Answer, Ends, Line, LineFault, Sink, Source, TalkEnd, talk_lines};
+use std::sync::Wait;
+
+/// Ends each answer.
+const LF: u8 = 10;
+
+/// Answers the lines of one session, and knows whether its tenant is there.
+struct Clerk<'a, O: Office> {
+    office: &'a mut O,
+    seated: bool,
+    text: Text,
+    ghost ready: { O.ready ≡ true },
+}
+
+impl<'a, O: Office> Clerk<'a, O> {
+    /// A clerk without a tenant, who hasn't answered yet.
+    fn new(office: &'a mut O) -> Clerk<'a, O>
+        requires { O.ready ≡ true }
+        ensures same_office { result.office.ghost_name ≡ office.entry.ghost_name }
+        ensures office { result.office.now ≡ office.old }
+        ensures seated { result.seated ≡ false }
+    {
+        Clerk {
+            office,
+            seated: false,
+            text: Text::new(),
+        }
+    }
+}
+
+impl<O: Office> Answer for Clerk<'_, O> {
+    ghost answers = { λ s line text t. (t.office.ghost_name ≡ s.office.ghost_name)
+        × Turned O.does (request s.seated line) s.office.now s.seated text t.office.now t.seated };
+
+    ghost kept = { λ clerk. clerk.text.items };
+
+    fn answer(&mut self, line: Line<'_>) {
+        self.text = take_turn(self.office, &mut self.seated, line);
+        self.text.push(LF);
+    }
+
+    fn text(&self) -> &[u8] {
+        self.text.as_slice()
+    }
+}
+
+impl<O: Office> Ends for Clerk<'_, O> {
+    ghost ends = { is_bye };
+
+    fn is_last(&self, line: Line<'_>) -> bool {
+        match line {
+            Line::Whole(bytes) => bytes == b"BYE".as_slice(),
+            Line::TooLong => false,
+        }
+    }
+}
+
+/// How a session ended, by how its talk did.
+fn session_end(talk: Result<TalkEnd, LineFault>) -> Result<End, SessionFault>
+    requires { talk ≢ Err LineFault.TooMuch }
+    ensures { talk_result result ≡ talk }
+{
+    match talk {
+        Ok(TalkEnd::Line) => Ok(End::Bye),
+        Ok(TalkEnd::Input) => Ok(End::EndOfInput),
+        Err(LineFault::Read) => Err(SessionFault::Read),
+        Err(LineFault::Write) => Err(SessionFault::Write),
+        Err(LineFault::TooMuch) => unreachable!(),
+    }
+}
+
+/// Serves one session: answers each line of the source on the sink, as soon as it is complete, by what the office
+/// replies, up to a line `BYE` or the end of the input. It may wait, as the office may.
+///
+/// At `Bye` such a line was answered, and nothing after it is. At `EndOfInput` the source has given its end, and all
+/// lines are answered. Fault 1 comes only where the source failed: the lines that an LF ended are answered then, and the
+/// bytes after the last LF are dropped. Fault 2 comes only where the sink failed or took no byte: the answer to the last
+/// line that was looked at isn't written, or in part. In each case the tenant has left. A tenant leaves before its `BYE`
+/// is answered, so who has read that answer may reserve anew what it had.
+pub fn serve_lines<S: Source, K: Sink, O: Office, R: Wait>(
+    rt: &R,
+    source: &mut S,
+    sink: &mut K,
+    office: &mut O,
+) -> Result<End, SessionFault>
+    requires { O.ready ≡ true }
+    ensures { Session S.gives K.takes O.does source.old sink.old office.old source.new sink.new office.new result }
+{
+    let mut clerk = Clerk::new(office);
+    let talk = talk_lines(rt, source, sink, &mut clerk);
+    let Clerk {
+        office,
+        seated,
+        text: _text,
+    } = clerk;
+    leave_if(office, seated);
+    session_end(talk)
+}
