@@ -1,4 +1,4 @@
-//! Words of both commands, read, and what is said of refused ones.
+//! Words, read, and what is said of refused ones.
 use crate::{Options, WordsFault};
 use std::test::Fail;
 
@@ -13,16 +13,6 @@ fn words_are_read(rt: HostRuntime) {
             visited: true
         })
     );
-    let serve = Options::read(alloc, &["othello", "serve", "--sessions", "2", "--port=80"]).ok();
-    let asked = Options::Serve {
-        sessions: 2,
-        port: 80,
-        workers: 4,
-        segments: 4096,
-        nodes: 65536,
-        grain: 2,
-    };
-    assert_eq!(rt; serve, Some(asked));
 }
 
 #[test]
@@ -35,19 +25,14 @@ fn refusals_are_told(rt: HostRuntime) -> Result<(), Fail> {
             "error: --grain takes a number from 0 to 6\n",
         ),
         (
-            &["othello", "serve", "--sessions", "x"],
+            &["othello"],
             2,
-            "error: --sessions takes a number from 1 to 1000\n",
+            "error: 'othello' requires a subcommand but one was not provided\n",
         ),
         (
-            &["othello", "serve"],
-            2,
-            "error: the following required arguments were not provided:\n  --sessions <k>\n",
-        ),
-        (
-            &["othello", "serve", "--help"],
+            &["othello", "solve", "--help"],
             0,
-            "serves sessions of many tenants",
+            "answers lines `depth position`",
         ),
     ] {
         let Err(fault) = Options::read(alloc, words) else {

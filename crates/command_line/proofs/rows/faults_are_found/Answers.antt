@@ -11,5 +11,4 @@ returns c = record {
   twice = refl;
   a_value = refl;
   unknown = refl;
-  no_sessions = refl;
 }
