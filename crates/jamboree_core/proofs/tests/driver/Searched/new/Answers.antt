@@ -1,4 +1,4 @@
-use Rattle.std.proofs.Common.{ℕ, List, [], sym, subst}
+use Rattle.std.proofs.Common.{[], sym, subst}
 use Rattle.sched_rules.specs.Cores.{Shared}
 use Rattle.jamboree_core.specs.Searching.{CoreSearches}
 use Rattle.jamboree_core.proofs.Serving.{nobody-searches}
