@@ -79,6 +79,7 @@ impl<A: Allocator> Hall<A> {
         ensures taken { OnOk result (self.new ≡ hall_after self.old step.now self.new.shared) }
         ensures refused { OnErr result (self.new ≡ self.old) }
         ensures memory { is_admission step.now ≡ false → result ≢ Err OutOfMemory }
+        ensures count { OnOk result (count_of self.new ≡ count_of self.old + 1) }
         ensures newest { OnOk result (self.new.shared.newest ≡ newest_after self.old.shared.newest step.now) }
         ensures explained { IsExplained self.new }
     {
@@ -96,6 +97,7 @@ impl<A: Allocator> Hall<A> {
         ensures one { IsOneStep (jamboree self.old.grain) self.old.shared step.now result self.new.shared }
         ensures taken { OnOk result (self.new ≡ hall_after self.old step.now self.new.shared) }
         ensures refused { OnErr result (self.new ≡ self.old) }
+        ensures count { OnOk result (count_of self.new ≡ count_of self.old + 1) }
         ensures memory { is_admission step.now ≡ false → result ≢ Err OutOfMemory }
         ensures known { IsKnown self.old.shared }
     {
@@ -122,6 +124,7 @@ impl<A: Allocator> Hall<A> {
         ensures one { IsOneStep (jamboree self.old.grain) self.old.shared (StepOf.Admit number reserve) result self.new.shared }
         ensures taken { OnOk result (self.new ≡ hall_after self.old (StepOf.Admit number reserve) self.new.shared) }
         ensures refused { OnErr result (self.new ≡ self.old) }
+        ensures count { OnOk result (count_of self.new ≡ count_of self.old + 1) }
     {
         match self.core.refusal(&StepOf::Admit(number, reserve)) {
             Some(refusal) => Err(refusal),
@@ -137,6 +140,7 @@ impl<A: Allocator> Hall<A> {
         ensures one { IsOneStep (jamboree self.old.grain) self.old.shared (StepOf.Admit number reserve) result self.new.shared }
         ensures taken { OnOk result (self.new ≡ hall_after self.old (StepOf.Admit number reserve) self.new.shared) }
         ensures refused { OnErr result (self.new ≡ self.old) }
+        ensures count { OnOk result (count_of self.new ≡ count_of self.old + 1) }
     {
         match room_for(&mut self.journals, &self.alloc, number, reserve) {
             Ok(journal) => match self.core.step(&StepOf::Admit(number, reserve)) {
@@ -162,6 +166,7 @@ impl<A: Allocator> Hall<A> {
         ensures one { IsOneStep (jamboree self.old.grain) self.old.shared step.now result self.new.shared }
         ensures taken { OnOk result (self.new ≡ hall_after self.old step.now self.new.shared) }
         ensures refused { OnErr result (self.new ≡ self.old) }
+        ensures count { OnOk result (count_of self.new ≡ count_of self.old + 1) }
         ensures memory { result ≢ Err OutOfMemory }
     {
         match self.core.step(step) {
@@ -181,6 +186,7 @@ impl<A: Allocator> Hall<A> {
         ensures one { IsOneStep (jamboree self.old.grain) self.old.shared (StepOf.Leave number) result self.new.shared }
         ensures taken { OnOk result (self.new ≡ hall_after self.old (StepOf.Leave number) self.new.shared) }
         ensures refused { OnErr result (self.new ≡ self.old) }
+        ensures count { OnOk result (count_of self.new ≡ count_of self.old + 1) }
         ensures memory { result ≢ Err OutOfMemory }
     {
         match self.core.step(&StepOf::Leave(number)) {

@@ -1,4 +1,4 @@
-use Rattle.std.proofs.Common.{◌≡◌, ap, sym}
+use Rattle.std.proofs.Common.{◌≡◌, ℕ, ◌+◌, ap, sym, ◌∙◌}
 use Rattle.hall.proofs.Halls.{goes-on}
 use Rattle.hall.proofs.hall.Hall.go_on.Goals as goal
 
@@ -22,3 +22,6 @@ returns-in-Ok-clause-one g c = rw (← c.self.view_is) (rw c.in-Ok.is at c.step.
 
 pub returns-in-Err-clause-one : goal.returns-in-Err-clause-one
 returns-in-Err-clause-one g c = rw (← c.self.view_is) (rw c.in-Err.is at c.step.ensures.one)
+
+pub returns-in-Ok-clause-count : goal.returns-in-Ok-clause-count
+returns-in-Ok-clause-count g c = rw (← c.self.view_is) (sym (invariant_of-self g c).counted ∙ ap (λ (n : ℕ). n + 1) c.self.invariant.counted)

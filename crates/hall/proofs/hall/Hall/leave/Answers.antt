@@ -1,4 +1,4 @@
-use Rattle.std.proofs.Common.{◌≡◌, sym, ◌∙◌, ap, length, arith, refl}
+use Rattle.std.proofs.Common.{◌≡◌, ℕ, ◌+◌, sym, ◌∙◌, ap, length, arith, refl}
 use Rattle.hall.proofs.Lists.{at-within}
 use Rattle.hall.proofs.Halls.{leaves-off, left-by}
 use Rattle.hall.proofs.hall.Hall.leave.Goals as goal
@@ -27,3 +27,6 @@ returns-in-Ok-clause-taken g c =
 
 pub returns-in-Err-clause-one : goal.returns-in-Err-clause-one
 returns-in-Err-clause-one g c = rw (← c.self.view_is) (rw c.in-Err.is at c.step.ensures.one)
+
+pub returns-in-Ok-clause-count : goal.returns-in-Ok-clause-count
+returns-in-Ok-clause-count g c = rw (← c.self.view_is) (sym (invariant_of-self g c).counted ∙ ap (λ (n : ℕ). n + 1) c.self.invariant.counted)

@@ -1,0 +1,187 @@
+//! The desk.
+ghost use Rattle.std.specs.Prelude.{◌≡◌, ◌≢◌, ◌+◌, ◌≤◌, [], true, length, Err, Some, None, IfOk, IfSome, MatchResult};
+ghost use Rattle.sched_rules.specs.declared.refusal.Refusal.TheVariants.{NoJob, NoJobsLeft, OutOfMemory};
+ghost use Rattle.hall.specs.Journals.{is_worker_step};
+ghost use Rattle.hall.specs.Halls.{count_of};
+ghost use Rattle.desk.specs.Seats.{stepped, with_asked, asked_at, IsShown};
+
+use crate::kept::{Ends, Kept};
+use crate::seat::Seat;
+use crate::shares::{Badge, Hands, PARTS};
+use frame_table::FrameId;
+use hall::{Did, Hall, Jamboree, Outcome, Refusal, Step};
+use position_text::Position;
+use std::sync::ledger::Blank;
+use std::sync::{Condvar, Mutex, Wait};
+use tenant_quota::{Left, Reserve};
+
+/// The lock with the hall in it.
+#[derive(Drop)]
+pub struct Desk<L: Hands> {
+    lock: Mutex<Kept<L>>,
+    ready: Condvar,
+    ended: Condvar,
+}
+
+impl<L: Hands> Desk<L> {
+    /// A hall under a lock, with a ledger that is new.
+    pub fn new(hall: Hall, blank: Blank) -> Desk<L>
+        requires name { blank.name ≡ L.name }
+        requires parts { (blank.parts ≡ L.parts) × (L.all ≡ L.parts) × (L.all ≡ PARTS) }
+    {
+        Desk {
+            lock: Mutex::new(Kept::new(hall, blank)),
+            ready: Condvar::new(),
+            ended: Condvar::new(),
+        }
+    }
+
+    /// Admits a tenant under the number after the greatest so far: its seat, whose share is 1.
+    pub fn admit<R: Wait>(&self, rt: &R, reserve: Reserve) -> Result<Seat<L>, Refusal>
+        ensures { IfOk result (λ seat. (seat.share ≡ 1) × (seat.asked ≡ [])) }
+    {
+        self.lock.lock(rt).admit(reserve)
+    }
+
+    /// Asks for the value of a position to a depth of 0 to 12 plies: the number of the job, which is
+    /// the new length of the seat's list. Refused as `NoJobsLeft` where the list is full, and else as
+    /// the core refuses a Submit; then seat and hall are as they were.
+    pub fn ask<R: Wait>(
+        &self,
+        rt: &R,
+        seat: &mut Seat<L>,
+        position: &Position,
+        depth: u8,
+    ) -> Result<u64, Refusal>
+        requires { depth ≤ 12 }
+        ensures asked { MatchResult result
+            (λ job. (seat.new ≡ with_asked (record { board = position.now.board; depth = depth }) seat.old) × (job ≡ length seat.new.asked))
+            (λ _. seat.new ≡ seat.old) }
+        ensures full { length seat.old.asked ≡ 256 → result ≡ Err NoJobsLeft }
+        ensures memory { result ≢ Err OutOfMemory }
+    {
+        let job = self.lock.lock(rt).ask(seat, position, depth)?;
+        self.ready.notify_one();
+        Ok(job)
+    }
+
+    /// What became of a job. Refused as `NoJob` exactly where its number is 0 or over the length of the
+    /// seat's list; shown as done only with a reply to what stands there.
+    pub fn get<R: Wait>(&self, rt: &R, seat: &Seat<L>, job: u64) -> Result<Outcome, Refusal>
+        ensures { IsShown (asked_at seat.now.asked job) result }
+    {
+        self.lock.lock(rt).get(seat, job)
+    }
+
+    /// What became of a job once it has ended, or the desk was closed; refused as `get` is.
+    pub fn wait<R: Wait>(&self, rt: &R, seat: &Seat<L>, job: u64) -> Result<Outcome, Refusal>
+        ensures { IsShown (asked_at seat.now.asked job) result }
+    {
+        let tenant = seat.tenant();
+        let kept = self.ended.wait_while(
+            rt,
+            self.lock.lock(rt),
+            |kept| kept.is_pending(tenant, job),
+        );
+        kept.get(seat, job)
+    }
+
+    /// Cancels a job. Refused as `NoJob` where its number is 0 or over the length of the seat's list,
+    /// or it has ended.
+    pub fn cancel<R: Wait>(&self, rt: &R, seat: &mut Seat<L>, job: u64) -> Result<(), Refusal>
+        ensures share { MatchResult result (λ _. seat.new ≡ stepped seat.old) (λ _. seat.new ≡ seat.old) }
+        ensures none { asked_at seat.old.asked job ≡ None → result ≡ Err NoJob }
+        ensures memory { result ≢ Err OutOfMemory }
+    {
+        self.lock.lock(rt).cancel(seat, job)?;
+        self.ended.notify_all();
+        Ok(())
+    }
+
+    /// What the seat's tenant has left.
+    pub fn quota<R: Wait>(&self, rt: &R, seat: &Seat<L>) -> Result<Left, Refusal>
+        ensures { result ≢ Err OutOfMemory }
+    {
+        self.lock.lock(rt).quota(seat.tenant())
+    }
+
+    /// How many frames the seat's tenant has, and how many words they have.
+    pub fn live<R: Wait>(&self, rt: &R, seat: &Seat<L>) -> Result<(usize, usize), Refusal>
+        ensures { result ≢ Err OutOfMemory }
+    {
+        self.lock.lock(rt).live(seat.tenant())
+    }
+
+    /// The seat's tenant leaves, and its jobs, frames and reservation are gone. Its share stays with the hall.
+    pub fn leave<R: Wait>(&self, rt: &R, seat: Seat<L>)
+        requires { L.all ≡ L.parts }
+    {
+        self.lock.lock(rt).leave(seat);
+        self.ended.notify_all();
+    }
+
+    /// A badge whose share is 0; `None` only after 2^62 badges.
+    pub fn badge<R: Wait>(&self, rt: &R) -> Option<Badge<L>>
+        ensures { IfSome result (λ badge. badge ≡ 0) }
+    {
+        self.lock.lock(rt).badge()
+    }
+
+    /// Offers a worker's step: what it did, or why it is refused. The badge's share is raised by 1
+    /// exactly where the step was taken.
+    pub fn offer<R: Wait>(
+        &self,
+        rt: &R,
+        badge: &mut Badge<L>,
+        step: &Step<Jamboree>,
+    ) -> Result<Did<Jamboree>, Refusal>
+        requires { is_worker_step step.now ≡ true }
+        ensures share { MatchResult result (λ _. badge.new ≡ badge.old + 1) (λ _. badge.new ≡ badge.old) }
+        ensures memory { result ≢ Err OutOfMemory }
+    {
+        if badge.share() >= u64::MAX as u128 {
+            // No badge takes so many steps.
+            for _ in rt.forever() {}
+            unreachable!()
+        }
+        let did = self.lock.lock(rt).offer(badge, step)?;
+        match Ends::of(&did) {
+            Ends::Nothing => {}
+            Ends::InReady => self.ready.notify_one(),
+            Ends::Job => self.ended.notify_all(),
+        }
+        Ok(did)
+    }
+
+    /// Some frame that is ready, with its home (a worker's number, or 0 for the hall). Waits until
+    /// there is one, or the desk is closed; `None` only where it is closed.
+    pub fn next_ready<R: Wait>(&self, rt: &R) -> Option<(FrameId, u8)> {
+        let kept = self
+            .ready
+            .wait_while(rt, self.lock.lock(rt), |kept| !kept.has_news());
+        kept.next_ready()
+    }
+
+    /// Nobody waits from now on: `next_ready` answers `None`, and `wait` what `get` does. All other
+    /// calls go on as before.
+    pub fn close<R: Wait>(&self, rt: &R) {
+        self.lock.lock(rt).close();
+        self.ready.notify_all();
+        self.ended.notify_all();
+    }
+
+    /// All steps that were taken since the hall was new.
+    pub fn count<R: Wait>(&self, rt: &R) -> u128 {
+        self.lock.lock(rt).count()
+    }
+
+    /// The hall, when no thread has the desk any more, and whether all shares are here: then all steps
+    /// are those that the hall keeps and the badge's.
+    pub fn into_hall(self, badge: Badge<L>) -> (Hall, bool)
+        requires { L.all ≡ L.parts }
+        ensures { result.1 ≡ true → count_of result.0 ≡ result.0.kept + badge }
+    {
+        let Desk { lock, .. } = self;
+        lock.into_inner().closed(badge)
+    }
+}

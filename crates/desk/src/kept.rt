@@ -1,0 +1,407 @@
+//! What lies under the lock: the hall, and the book of the shares.
+ghost use Rattle.std.specs.Prelude.{◌≡◌, ◌≢◌, ◌+◌, ◌^◌, ◌<◌, ◌≤◌, ◌↔◌, [], true, false, length, Ok, Err, Some, None, IfOk, IfSome, IsNone, Option, MatchResult, option_copied};
+ghost use Rattle.sched_rules.specs.declared.refusal.Refusal.TheVariants.{NoJob, NoJobsLeft, OutOfMemory};
+ghost use Rattle.sched_rules.specs.declared.step.StepOf.TheVariants.{Admit, Submit, Cancel, Leave};
+ghost use Rattle.sched_rules.specs.declared.step.DidOf.{DidOf};
+ghost use Rattle.jamboree_rules.specs.declared.leaf.Leaf.{Leaf as LeafOf};
+ghost use Rattle.jamboree_rules.specs.Places.{root_words, frame_size};
+ghost use Rattle.hall.specs.Journals.{is_worker_step};
+ghost use Rattle.hall.specs.Halls.{count_of};
+ghost use Rattle.sched_rules.specs.Headline.{is_admission};
+ghost use Rattle.sched_rules.specs.Views.{left_of, live_of, job_of};
+ghost use Rattle.jamboree_laws.specs.Replies.{IsSearch};
+ghost use Rattle.jamboree_core.specs.declared.outcomes.Outcome.{Outcome as OutcomeOf};
+ghost use Rattle.jamboree_core.specs.Outcomes.{IsOutcomeIn};
+ghost use Rattle.desk.specs.Seats.{stepped, with_asked, asked_at, Shows, IsShown, IsShownOf, IsToldBy};
+ghost use Rattle.desk.specs.Counts.{IsOffered, IsLeft, with_kept, found_or_no_tenant};
+
+use crate::seat::{Asked, JOBS, Seat};
+use crate::shares::{Badge, Hands, PARTS};
+use arrayvec::ArrayVec;
+use frame_table::FrameId;
+use hall::{Did, DidOf, Hall, Jamboree, Outcome, Refusal, Step, StepOf, submit};
+use position_text::Position;
+use std::marker::Model;
+use std::sync::ledger::{Blank, Book, Share};
+use tenant_quota::{Left, Reserve};
+
+/// The most badges that are ever given.
+const BADGES: u64 = 1 << 62;
+
+/// What lies under the lock.
+#[derive(Drop)]
+pub(crate) struct Kept<L: Hands> {
+    hall: Hall,
+    book: Book<L>,
+    spare: Share<L>,
+    parts: u64,
+    badges: u64,
+    before: u128,
+    closed: bool,
+}
+
+// Clauses see the hall, and whether the desk is closed.
+impl<L: Hands> Model for Kept<L> {
+    ghost use Rattle.std.specs.Prelude.{◌≡◌, ◌+◌, ◌^◌, ◌≤◌};
+    ghost use Rattle.hall.specs.Halls.{count_of};
+    ghost use Rattle.desk.specs.Counts.{KeptOf};
+
+    ghost Value = { KeptOf };
+
+    ghost view = { λ k. record { hall = k.hall; closed = k.closed } };
+
+    ghost invariant = { λ k. (count_of k.hall ≡ k.before + k.book.total) × (k.hall.kept ≡ k.before + k.spare.amount) × (k.spare.parts ≡ k.parts)
+        × (L.all ≡ 13835058055282163712) × (k.parts ≤ 13835058055282163712) × (13835058055282163712 ≤ k.parts + k.badges + k.hall.shared.newest) × (k.badges ≤ 2 ^ 62) };
+}
+
+/// What a step changed that somebody may wait for.
+pub(crate) enum Ends {
+    Nothing,
+    /// A frame became ready.
+    InReady,
+    /// A job ended.
+    Job,
+}
+
+impl Ends {
+    /// What a taken step of a worker changed.
+    pub(crate) fn of(did: &Did<Jamboree>) -> Ends {
+        match did {
+            DidOf::Spawned(_) | DidOf::TakenIn(Some(_), _) => Ends::InReady,
+            DidOf::Finished(_) | DidOf::Spent(_) => Ends::Job,
+            _ => Ends::Nothing,
+        }
+    }
+}
+
+impl<L: Hands> Kept<L> {
+    /// A hall under a ledger that is new. The steps that it has taken are kept.
+    pub(crate) fn new(hall: Hall, blank: Blank) -> Kept<L>
+        requires name { blank.name ≡ L.name }
+        requires parts { (blank.parts ≡ L.parts) × (L.all ≡ L.parts) × (L.all ≡ PARTS) }
+        ensures hall { result.hall ≡ record hall { kept = count_of hall } }
+        ensures open { result.closed ≡ false }
+    {
+        let (book, spare) = blank.open::<L>();
+        let mut hall = hall;
+        let before = hall.count();
+        hall.keep(before);
+        Kept {
+            hall,
+            book,
+            spare,
+            parts: PARTS,
+            badges: 0,
+            before,
+            closed: false,
+        }
+    }
+
+    /// Offers a step to the hall, and counts it for this share where it was taken.
+    fn take(&mut self, mine: &mut Share<L>, step: &Step<Jamboree>) -> Result<Did<Jamboree>, Refusal>
+        requires search { IsSearch step.now }
+        requires stays { is_admission step.now ≡ false }
+        requires part { 0 < mine.old.parts }
+        ensures step { IsOffered self.old.hall step.now result self.new.hall }
+        ensures closed { self.new.closed ≡ self.old.closed }
+        ensures amount { MatchResult result (λ _. mine.new.amount ≡ mine.old.amount + 1) (λ _. mine.new.amount ≡ mine.old.amount) }
+        ensures parts { mine.new.parts ≡ mine.old.parts }
+        ensures bound { mine.new.amount ≤ 2 ^ 84 }
+        ensures memory { result ≢ Err OutOfMemory }
+    {
+        let Kept { hall, book, .. } = self;
+        match hall.offer(step) {
+            Ok(did) => {
+                book.add(mine, 1);
+                book.audit(mine);
+                Ok(did)
+            }
+            Err(refusal) => {
+                book.audit(mine);
+                Err(refusal)
+            }
+        }
+    }
+
+    /// Admits a tenant under the number after the greatest so far.
+    pub(crate) fn admit(&mut self, reserve: Reserve) -> Result<Seat<L>, Refusal>
+        ensures seat { IfOk result (λ seat. seat ≡ record { tenant = self.old.hall.shared.newest + 1; share = 1; asked = [] }) }
+        ensures step { MatchResult result
+            (λ _. (did : DidOf LeafOf) × IsOffered self.old.hall (Admit (self.old.hall.shared.newest + 1) reserve) (Ok did) self.new.hall)
+            (λ refusal. IsOffered self.old.hall (Admit (self.old.hall.shared.newest + 1) reserve) (Err refusal) self.new.hall) }
+        ensures closed { self.new.closed ≡ self.old.closed }
+    {
+        let Kept {
+            hall,
+            book,
+            spare,
+            parts,
+            ..
+        } = self;
+        let tenant = hall.next_tenant();
+        match hall.offer(&StepOf::Admit(tenant, reserve)) {
+            Ok(_) => {
+                let mut mine = spare.split_off(1, 0);
+                *parts -= 1;
+                book.add(&mut mine, 1);
+                Ok(Seat {
+                    tenant,
+                    mine,
+                    steps: 1,
+                    asked: ArrayVec::new(),
+                })
+            }
+            Err(refusal) => Err(refusal),
+        }
+    }
+
+    /// Submits the search of a position for a seat.
+    pub(crate) fn ask(
+        &mut self,
+        seat: &mut Seat<L>,
+        position: &Position,
+        depth: u8,
+    ) -> Result<u64, Refusal>
+        requires { depth ≤ 12 }
+        ensures asked { MatchResult result
+            (λ job. (seat.new ≡ with_asked (record { board = position.now.board; depth = depth }) seat.old) × (job ≡ length seat.new.asked))
+            (λ _. seat.new ≡ seat.old) }
+        ensures full { length seat.old.asked ≡ 256 → (result ≡ Err NoJobsLeft) × (self.new ≡ self.old) }
+        ensures step { MatchResult result
+            (λ _. (did : DidOf LeafOf) × IsOffered self.old.hall (Submit seat.old.tenant (root_words position.now.board.own position.now.board.opp depth) frame_size) (Ok did) self.new.hall)
+            (λ refusal. length seat.old.asked ≢ 256 → IsOffered self.old.hall (Submit seat.old.tenant (root_words position.now.board.own position.now.board.opp depth) frame_size) (Err refusal) self.new.hall) }
+        ensures closed { self.new.closed ≡ self.old.closed }
+        ensures memory { result ≢ Err OutOfMemory }
+    {
+        if seat.asked.len() == JOBS {
+            return Err(Refusal::NoJobsLeft);
+        }
+        let step = submit(seat.tenant, position, depth);
+        self.take(&mut seat.mine, &step)?;
+        seat.steps += 1;
+        seat.asked.push(Asked {
+            board: position.board,
+            depth,
+        });
+        Ok(seat.asked.len() as u64)
+    }
+
+    /// Cancels a seat's job.
+    pub(crate) fn cancel(&mut self, seat: &mut Seat<L>, job: u64) -> Result<(), Refusal>
+        ensures share { MatchResult result (λ _. seat.new ≡ stepped seat.old) (λ _. seat.new ≡ seat.old) }
+        ensures none { asked_at seat.old.asked job ≡ None → (result ≡ Err NoJob) × (self.new ≡ self.old) }
+        ensures step { MatchResult result
+            (λ _. (did : DidOf LeafOf) × IsOffered self.old.hall (Cancel seat.old.tenant job) (Ok did) self.new.hall)
+            (λ refusal. asked_at seat.old.asked job ≢ None → IsOffered self.old.hall (Cancel seat.old.tenant job) (Err refusal) self.new.hall) }
+        ensures closed { self.new.closed ≡ self.old.closed }
+        ensures memory { result ≢ Err OutOfMemory }
+    {
+        if asked_at(seat.asked.as_slice(), job).is_none() {
+            return Err(Refusal::NoJob);
+        }
+        let step = StepOf::Cancel(seat.tenant, job);
+        self.take(&mut seat.mine, &step)?;
+        seat.steps += 1;
+        Ok(())
+    }
+
+    /// Takes a worker's step for its badge.
+    pub(crate) fn offer(
+        &mut self,
+        badge: &mut Badge<L>,
+        step: &Step<Jamboree>,
+    ) -> Result<Did<Jamboree>, Refusal>
+        requires worker { is_worker_step step.now ≡ true }
+        requires few { badge.old + 1 < 2 ^ 64 }
+        ensures share { MatchResult result (λ _. badge.new ≡ badge.old + 1) (λ _. badge.new ≡ badge.old) }
+        ensures step { IsOffered self.old.hall step.now result self.new.hall }
+        ensures closed { self.new.closed ≡ self.old.closed }
+        ensures memory { result ≢ Err OutOfMemory }
+    {
+        let did = self.take(&mut badge.mine, step)?;
+        badge.steps += 1;
+        Ok(did)
+    }
+
+    /// What became of a seat's job.
+    pub(crate) fn get(&self, seat: &Seat<L>, job: u64) -> Result<Outcome, Refusal>
+        ensures shown { IsShown (asked_at seat.now.asked job) result }
+        ensures told { (told : Option OutcomeOf) × IsOutcomeIn (job_of self.now.hall.shared seat.now.tenant job) told × IsToldBy (asked_at seat.now.asked job) told result }
+    {
+        let told = self.hall.outcome(seat.tenant(), job);
+        match asked_at(seat.asked(), job) {
+            Some(asked) => Ok(shown(asked, told)),
+            None => Err(Refusal::NoJob),
+        }
+    }
+
+    /// Whether a seat that asked for a job goes on waiting.
+    pub(crate) fn is_pending(&self, tenant: u64, job: u64) -> bool {
+        !self.closed && matches!(self.hall.outcome(tenant, job), Some(Outcome::Pending))
+    }
+
+    /// Whether a worker that waits may go on.
+    pub(crate) fn has_news(&self) -> bool {
+        self.closed || self.hall.core().any_ready().is_some()
+    }
+
+    /// A frame that is ready, unless the desk is closed.
+    pub(crate) fn next_ready(&self) -> Option<(FrameId, u8)>
+        ensures { self.now.closed ≡ true → result ≡ None }
+    {
+        if self.closed {
+            None
+        } else {
+            self.hall.core().any_ready()
+        }
+    }
+
+    /// Nobody waits from now on.
+    pub(crate) fn close(&mut self)
+        ensures { self.new ≡ record self.old { closed = true } }
+    {
+        self.closed = true;
+    }
+
+    /// All steps that were taken.
+    pub(crate) fn count(&self) -> u128
+        ensures { result ≡ count_of self.now.hall }
+    {
+        self.hall.count()
+    }
+
+    /// What a tenant has left.
+    pub(crate) fn quota(&self, tenant: u64) -> Result<Left, Refusal>
+        ensures { result ≡ found_or_no_tenant (left_of self.now.hall.shared tenant) }
+    {
+        self.hall.core().left(tenant).ok_or(Refusal::NoTenant)
+    }
+
+    /// How many frames a tenant has, and how many words they have.
+    pub(crate) fn live(&self, tenant: u64) -> Result<(usize, usize), Refusal>
+        ensures { result ≡ found_or_no_tenant (live_of self.now.hall.shared tenant) }
+    {
+        self.hall.core().live(tenant).ok_or(Refusal::NoTenant)
+    }
+
+    /// A badge with no step; `None` only after 2^62 badges.
+    pub(crate) fn badge(&mut self) -> Option<Badge<L>>
+        ensures share { IfSome result (λ badge. badge ≡ 0) }
+        ensures same { self.new ≡ self.old }
+    {
+        if self.badges == BADGES {
+            return None;
+        }
+        let _next = self.hall.next_tenant();
+        let mine = self.spare.split_off(1, 0);
+        self.parts -= 1;
+        self.badges += 1;
+        Some(Badge {
+            mine,
+            steps: 0,
+            parts: 1,
+        })
+    }
+
+    /// A seat's tenant leaves, and its share is kept.
+    pub(crate) fn leave(&mut self, seat: Seat<L>)
+        requires { L.all ≡ L.parts }
+        ensures step { IsLeft self.old.hall seat self.new.hall }
+        ensures closed { self.new.closed ≡ self.old.closed }
+    {
+        let Seat {
+            tenant,
+            mut mine,
+            steps,
+            ..
+        } = seat;
+        match self.take(&mut mine, &StepOf::Leave(tenant)) {
+            Ok(_) => self.keep_share(mine, steps + 1),
+            Err(_) => self.keep_share(mine, steps),
+        }
+    }
+
+    /// Keeps a share that no seat has any more.
+    fn keep_share(&mut self, mine: Share<L>, steps: u128)
+        requires all { L.all ≡ L.parts }
+        requires amount { mine.amount ≡ steps }
+        requires part { mine.parts ≡ 1 }
+        ensures { self.new ≡ with_kept steps self.old }
+    {
+        let Kept {
+            hall,
+            book,
+            spare,
+            parts,
+            ..
+        } = self;
+        spare.merge(mine);
+        book.audit(spare);
+        *parts += 1;
+        let _count = hall.count();
+        let kept = hall.kept();
+        hall.keep(kept + steps);
+    }
+
+    /// The hall, and whether this badge has all that was out.
+    pub(crate) fn closed(self, badge: Badge<L>) -> (Hall, bool)
+        requires { L.all ≡ L.parts }
+        ensures { result.1 ≡ true → count_of result.0 ≡ result.0.kept + badge }
+    {
+        let Kept {
+            hall,
+            mut book,
+            mut spare,
+            parts,
+            ..
+        } = self;
+        let Badge {
+            mine,
+            parts: out,
+            ..
+        } = badge;
+        if PARTS - parts != out {
+            return (hall, false);
+        }
+        spare.merge(mine);
+        book.audit(&mut spare);
+        (hall, true)
+    }
+}
+
+/// What was asked by the job of this number, from 1 on.
+fn asked_at(asked: &[Asked], job: u64) -> Option<&Asked>
+    ensures { option_copied result ≡ asked_at asked.now job }
+{
+    if job == 0 {
+        return None;
+    }
+    let at = job as usize - 1;
+    if at < asked.len() {
+        Some(&asked[at])
+    } else {
+        None
+    }
+}
+
+/// What is shown of a job that asked this: done only with a reply to just that.
+fn shown(asked: &Asked, told: Option<Outcome>) -> Outcome
+    ensures fits { Shows asked.now result }
+    ensures told { IsShownOf asked.now told result }
+{
+    match told {
+        Some(Outcome::Done(reply)) => {
+            let board = reply.board();
+            if board.own == asked.board.own
+                && board.opp == asked.board.opp
+                && reply.depth() == asked.depth
+            {
+                Outcome::Done(reply)
+            } else {
+                Outcome::Pending
+            }
+        }
+        Some(outcome) => outcome,
+        None => Outcome::Pending,
+    }
+}

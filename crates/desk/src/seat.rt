@@ -1,0 +1,76 @@
+//! A tenant's seat.
+ghost use Rattle.std.specs.Prelude.{◌≡◌, ◌≤◌, length};
+
+use crate::shares::Hands;
+use arrayvec::ArrayVec;
+use othello_board::Board;
+use std::marker::Model;
+use std::sync::ledger::Share;
+
+/// How many jobs a seat can ask for.
+pub(crate) const JOBS: usize = 256;
+
+/// What was asked: a board, seen by the player to move, and a depth of 0 to 12 plies.
+#[derive(Clone, Copy, Debug, PartialEq, Eq)]
+pub struct Asked {
+    /// The board.
+    pub board: Board,
+    /// The depth.
+    pub depth: u8,
+}
+
+// An `ArrayVec` fills its free places with some value.
+impl Default for Asked {
+    fn default() -> Asked {
+        Asked {
+            board: Board { own: 0, opp: 0 },
+            depth: 0,
+        }
+    }
+}
+
+/// The seat of a tenant: its share, which counts its own taken steps, and what it asked. Contracts see
+/// its tenant, its share and the list of what it asked.
+#[derive(Drop)]
+pub struct Seat<L: Hands> {
+    pub(crate) tenant: u64,
+    pub(crate) mine: Share<L>,
+    pub(crate) steps: u128,
+    pub(crate) asked: ArrayVec<Asked, JOBS>,
+}
+
+// Clauses see the tenant, the share and the list.
+impl<L: Hands> Model for Seat<L> {
+    ghost use Rattle.std.specs.Prelude.{◌≡◌, ◌^◌, ◌<◌};
+    ghost use Rattle.desk.specs.Seats.{SeatOf};
+
+    ghost Value = { SeatOf };
+
+    ghost view = { λ s. record { tenant = s.tenant; share = s.steps; asked = s.asked.items } };
+
+    ghost invariant = { λ s. (s.mine.amount ≡ s.steps) × (s.mine.parts ≡ 1) × (s.steps < 2 ^ 100) };
+}
+
+impl<L: Hands> Seat<L> {
+    /// Its tenant's number.
+    pub fn tenant(&self) -> u64
+        ensures { result ≡ self.now.tenant }
+    {
+        self.tenant
+    }
+
+    /// Its share: its own steps that were taken, from its admission on.
+    pub fn share(&self) -> u128
+        ensures { result ≡ self.now.share }
+    {
+        self.steps
+    }
+
+    /// What it asked, from job 1 on; at most 256.
+    pub fn asked(&self) -> &[Asked]
+        ensures asked { result.now ≡ self.now.asked }
+        ensures few { length result.now ≤ 256 }
+    {
+        self.asked.as_slice()
+    }
+}
