@@ -19,6 +19,13 @@ use Rattle.session.specs.Requests.{Request, Fault, Makes, Ends, request}
 use Rattle.session.specs.Turns.{Turn, Faulted, Made, Closed, turns, turn_text, calls_in, leaving, by_request, next_reply, later_replies, seated_after}
 use Rattle.session.specs.Sessions.{Called, LeavesIf, Turned, Session, IsAnsweredOf, IsWrittenOf, session_lines, talk_result, texts_for, calls_for}
 
+-- the turns of a line that asks for this, and of the lines after it
+abbrev pub next_turns : Request → Bool → List LineText → List Reply → List Turn
+next_turns q seated lines replies =
+    by_request q (λ number. Faulted number ∷ turns seated lines replies)
+    (λ call. Made call (next_reply replies) ∷ turns (seated_after seated (next_reply replies)) lines (later_replies replies))
+    (λ _. Closed ∷ turns false lines replies)
+
 module _ {O : Type 0} (does : O → Call → Reply → O → Type 0) where
   -- where replies give these turns, the texts are theirs, and the office is led through their calls, once a tenant that is there has left
   pub record Came (turned : List Reply → List Turn) (from : O) (seated : Bool) (texts : List (List ℕ)) (to : O) (seated' : Bool) : Type 0 where
@@ -33,13 +40,6 @@ module _ {O : Type 0} (does : O → Call → Reply → O → Type 0) where
   leaves-more : (seated : Bool) (from mid to : O) (more : List (Call × Reply)) → LeavesIf does seated from mid → Leads (Called does) mid more to → Leads (Called does) from (leaving seated ++ more) to
   leaves-more true from mid to more h k = (mid, h, k)
   leaves-more false from mid to more h k = subst (λ o. Leads (Called does) o more to) (sym h) k
-
-  -- the turns of a line that asks for this, and of the lines after it
-  abbrev next_turns : Request → Bool → List LineText → List Reply → List Turn
-  next_turns q seated lines replies =
-      by_request q (λ number. Faulted number ∷ turns seated lines replies)
-      (λ call. Made call (next_reply replies) ∷ turns (seated_after seated (next_reply replies)) lines (later_replies replies))
-      (λ _. Closed ∷ turns false lines replies)
 
   -- one line before others
   came-next : (q : Request) (from : O) (seated : Bool) (text : List ℕ) (mid : O) (seated' : Bool) (lines : List LineText) (texts : List (List ℕ)) (to : O) (seated'' : Bool)

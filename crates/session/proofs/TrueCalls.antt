@@ -1,12 +1,14 @@
 -- Sessions over an office that keeps its asks.
-use Rattle.std.proofs.Common.{List, [], ◌∷◌, ap, subst, Result}
+use Rattle.std.proofs.Common.{◌≡◌, List, [], ◌∷◌, ap, subst, Result}
 use Rattle.line_io.specs.Leads.{Leads}
 use Rattle.line_io.specs.Streams.{ReadAnswer, WriteAnswer}
 use Rattle.session.specs.declared.faults.End.{End}
 use Rattle.session.specs.declared.faults.SessionFault.{SessionFault}
 use Rattle.session.specs.Calls.{Call, Reply}
 use Rattle.session.specs.Sessions.{Called, Session, calls_for}
-use Rattle.session.specs.Asks.{Asked, asks_after, KeepsAsks, AllTrue, TrueSession}
+use Rattle.session.specs.Asks.{Asked, asks_after, KeepsAsks, AllTrue}
+use Rattle.session.specs.DoneLines.{TrueSession}
+use Rattle.session.proofs.DoneLemmas.{each_done}
 
 -- calls through which the asks are led are true
 all_true : (asks : List Asked) (made : List (Call × Reply)) (asks' : List Asked) → Leads (Called KeepsAsks) asks made asks' → AllTrue asks made
@@ -19,11 +21,13 @@ module _ {O : Type 0} (does : O → Call → Reply → O → Type 0) (asks : O �
   asks-led from [] to h = ap asks h
   asks-led from (made ∷ more) to h = (asks h.0, keeps from made.0 made.1 h.0 h.1, asks-led h.0 more to h.2)
 
-  -- a session, seen by the asks of its office
-  pub true_session : {S K : Type 0} (gives : S → ReadAnswer → S → Type 0) (takes : K → WriteAnswer → K → Type 0) (s : S) (k : K) (o : O) (s' : S) (k' : K) (o' : O) (r : Result End SessionFault) → Session gives takes does s k o s' k' o' r → TrueSession gives takes s k (asks o) s' k' (asks o') r
-  true_session gives takes s k o s' k' o' r x =
-      let led = asks-led o (calls_for x.answered x.replies) o' x.made in
+  -- a session, seen by the asks of its office, of which there are none at first
+  pub true_session : {S K : Type 0} (gives : S → ReadAnswer → S → Type 0) (takes : K → WriteAnswer → K → Type 0) (s : S) (k : K) (o : O) (s' : S) (k' : K) (o' : O) (r : Result End SessionFault) → asks o ≡ [] → Session gives takes does s k o s' k' o' r → TrueSession gives takes s k s' k' r
+  true_session gives takes s k o s' k' o' r new x =
+      let led = subst (λ z. Leads (Called KeepsAsks) z (calls_for x.answered x.replies) (asks o')) new (asks-led o (calls_for x.answered x.replies) o' x.made) in
+      let numbers = all_true [] (calls_for x.answered x.replies) (asks o') led in
       record {
+        asks = asks o';
         session = record {
           blocks = x.blocks;
           last = x.last;
@@ -37,5 +41,6 @@ module _ {O : Type 0} (does : O → Call → Reply → O → Type 0) (asks : O �
           writes = x.writes;
           written = x.written;
         };
-        all_true = all_true (asks o) (calls_for x.answered x.replies) (asks o') led;
+        numbers = numbers;
+        dones = each_done x.answered x.replies numbers;
       }

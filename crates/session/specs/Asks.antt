@@ -1,15 +1,11 @@
 -- An office that keeps what its tenant asked for, and shows the values of just that.
-use Rattle.std.specs.Prelude.{◌≡◌, ℕ, ◌+◌, ◌-◌, ◌==◌, List, [], ◌∷◌, ◌++◌, length, Option, Some, None, Result, if◌then◌else◌}
+use Rattle.std.specs.Prelude.{◌≡◌, ℕ, ◌+◌, ◌-◌, ◌==◌, List, [], ◌∷◌, ◌++◌, length, Option, Some, None, if◌then◌else◌}
 use Rattle.othello_board.specs.declared.cells.Cell.{Cell}
 use Rattle.othello_eval.specs.Minimax.{minimax, best_choice}
-use Rattle.line_io.specs.Streams.{ReadAnswer, WriteAnswer}
-use Rattle.session.specs.declared.faults.End.{End}
-use Rattle.session.specs.declared.faults.SessionFault.{SessionFault}
 use Rattle.session.specs.declared.outcome.Finding.{Finding}
 use Rattle.session.specs.declared.outcome.Outcome.{Outcome}
 use Rattle.session.specs.declared.outcome.Outcome.TheVariants.{Pending, Done, Spent, Cancelled}
 use Rattle.session.specs.Calls.{Call, Hello, Ask, Get, Wait, Cancel, AskQuota, AskLive, Leave, Reply, Welcome, Job, Told, Ended, Rest, Alive, Gone, Refused}
-use Rattle.session.specs.Sessions.{Session, calls_for}
 
 -- a board, and the depth to which its value was asked for
 pub record Asked : Type 0 where
@@ -78,8 +74,3 @@ KeepsAsks asks call reply asks' = (asks' ≡ asks_after asks call reply) × Says
 abbrev pub AllTrue : List Asked → List (Call × Reply) → Type 0
 AllTrue asks [] = Unit {0}
 AllTrue asks (made ∷ more) = SaysTrue asks made.1 × AllTrue (asks_after asks made.0 made.1) more
-
--- a session over an office that keeps its asks, seen by them
-pub record TrueSession {S K : Type 0} (gives : S → ReadAnswer → S → Type 0) (takes : K → WriteAnswer → K → Type 0) (source : S) (sink : K) (asks : List Asked) (source' : S) (sink' : K) (asks' : List Asked) (r : Result End SessionFault) : Type 0 where
-  pub session : Session gives takes KeepsAsks source sink asks source' sink' asks' r
-  pub all_true : AllTrue asks (calls_for session.answered session.replies)

@@ -4,6 +4,7 @@ pub mod Requests
 pub mod Turns
 pub mod Sessions
 pub mod Asks
+pub mod DoneLines
 pub mod Rows
 pub mod Views
 pub mod Ends

@@ -1,9 +1,10 @@
 //! What follows for sessions over an office that keeps its asks: a law, which is the contract of a function that does nothing.
-ghost use Rattle.std.specs.Prelude.{List, Result};
+ghost use Rattle.std.specs.Prelude.{◌≡◌, List, [], Result};
 ghost use Rattle.session.specs.declared.faults.End.{End};
 ghost use Rattle.session.specs.declared.faults.SessionFault.{SessionFault};
-ghost use Rattle.session.specs.Asks.{Asked, KeepsAsks, TrueSession};
+ghost use Rattle.session.specs.Asks.{Asked, KeepsAsks};
 ghost use Rattle.session.specs.Calls.{Call, Reply};
+ghost use Rattle.session.specs.DoneLines.{TrueSession};
 ghost use Rattle.session.specs.Sessions.{Session};
 
 use crate::office::Office;
@@ -15,6 +16,7 @@ pub fn each_done_line_is_true<S: Source, K: Sink, O: Office>()
     ensures { (asks : O → List Asked)
         → ((from : O) (call : Call) (reply : Reply) (to : O) → O.does from call reply to → KeepsAsks (asks from) call reply (asks to))
         → (source source' : S) (sink sink' : K) (office office' : O) (r : Result End SessionFault)
+        → asks office ≡ []
         → Session S.gives K.takes O.does source sink office source' sink' office' r
-        → TrueSession S.gives K.takes source sink (asks office) source' sink' (asks office') r }
+        → TrueSession S.gives K.takes source sink source' sink' r }
 {}
