@@ -6,9 +6,7 @@ use Rattle.sched_rules.specs.declared.job.Job.{Job}
 use Rattle.sched_rules.specs.declared.job.Job.TheVariants.{Done}
 use Rattle.sched_rules.specs.declared.refusal.Refusal.{Refusal}
 use Rattle.sched_rules.specs.declared.step.StepOf.{StepOf}
-use Rattle.sched_rules.specs.declared.step.StepOf.TheVariants.{Admit, Submit, Take, Steal, Advance, Answer, Inlet, Finish, Spend, Cancel, Leave}
 use Rattle.sched_rules.specs.declared.step.DidOf.{DidOf}
-use Rattle.sched_rules.specs.Laws.{Fitting, Rooting}
 use Rattle.sched_rules.specs.Runs.{tenant_of}
 use Rattle.sched_rules.specs.Trees.{Tree, Tenant, job_at}
 use Rattle.sched_rules.specs.Cores.{Shared, shared_by_nobody, tenant_in}
@@ -20,8 +18,9 @@ use Rattle.jamboree_rules.specs.Fits.{AreFitting, IsRoot, IsKeptRoot}
 use Rattle.othello_board.specs.Words.{cells, cells_of}
 use Rattle.jamboree.specs.declared.reply.Reply.{Reply}
 use Rattle.jamboree.specs.Replies.{board_of}
-use Rattle.jamboree_laws.specs.Replies.{IsReplyTo}
-use Rattle.jamboree_laws.proofs.Replying.{replies-held}
+use Rattle.jamboree_rules.specs.declared.leaf.LeafAnswer.{LeafAnswer}
+use Rattle.jamboree_laws.specs.Replies.{IsSearch, IsReplyTo}
+use Rattle.jamboree_laws.proofs.Replying.{search-fits, replies-held}
 use Rattle.lone_search.specs.Asked.{HasAsked, Keeps, IsReplyFor}
 
 -- a core with no tenant was asked nothing
@@ -29,20 +28,6 @@ pub nothing-asked : (totals : Quota) (shared : Shared) → shared ≡ shared_by_
 nothing-asked totals shared is =
     let P : Shared → Type 0 = λ s. HasAsked [] s in
     subst P (sym is) (record { origins = λ number. []; are = refl; fits = nobody-fits AreFitting IsRoot totals })
-
--- a step that submits nothing has no new root
-no-root : {A : Type 0} (fits : Fitting) (rooted : Rooting) (step : StepOf A) → submits step ≡ [] → RootFits fits rooted step
-no-root fits rooted (Admit number quota) none = tt
-no-root fits rooted (Submit number words size) none = absurd cc
-no-root fits rooted (Take worker name) none = tt
-no-root fits rooted (Steal worker from name) none = tt
-no-root fits rooted (Advance worker name) none = tt
-no-root fits rooted (Answer worker name answer) none = tt
-no-root fits rooted (Inlet worker name) none = tt
-no-root fits rooted (Finish worker name) none = tt
-no-root fits rooted (Spend name) none = tt
-no-root fits rooted (Cancel number job) none = tt
-no-root fits rooted (Leave number) none = tt
 
 -- nothing is added
 none-added : (b : Bool) (xs ys : List (List ℕ)) → ys ≡ [] → (if b then xs ++ ys else xs) ≡ xs
@@ -56,12 +41,12 @@ StepFits before step answer after =
     → CoreFits AreFitting IsRoot (origins_after origins step answer) after
 
 -- a step that submits nothing keeps what was asked
-pub step-keeps : {I A : Type 0} (before after : Shared) (step : StepOf A) (answer : Result (DidOf I) Refusal) → submits step ≡ [] → StepFits before step answer after → Keeps before after
-step-keeps before after step answer none fitting asked has =
+pub step-keeps : {I : Type 0} (before after : Shared) (step : StepOf LeafAnswer) (answer : Result (DidOf I) Refusal) → submits step ≡ [] → IsSearch step → StepFits before step answer after → Keeps before after
+step-keeps before after step answer none search fitting asked has =
     record {
       origins = origins_after has.origins step answer;
       are = none-added (is_ok answer && eqb (tenant_of step) 1) (has.origins 1) (submits step) none ∙ has.are;
-      fits = fitting has.origins has.fits (λ ok. no-root AreFitting IsRoot step none);
+      fits = fitting has.origins has.fits (λ ok. search-fits step search);
     }
 
 -- the one job of a tenant, where it is done

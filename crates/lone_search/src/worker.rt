@@ -6,6 +6,7 @@
 //! is taken in by its parent, a returned root ends the job. Where the quota is at its end the job is given up.
 ghost use Rattle.std.specs.Prelude.{◌≡◌, []};
 ghost use Rattle.sched_laws.specs.Fitted.{submits};
+ghost use Rattle.jamboree_laws.specs.Replies.{IsSearch};
 ghost use Rattle.lone_search.specs.Asked.{Keeps};
 
 use crate::job::TENANT;
@@ -51,7 +52,8 @@ fn offer<A: Allocator + Clone>(
     core: &mut Core<Jamboree, A>,
     step: &Step<Jamboree>,
 ) -> Result<Did<Jamboree>, Refusal>
-    requires { submits step.now ≡ [] }
+    requires submits { submits step.now ≡ [] }
+    requires search { IsSearch step.now }
     ensures { Keeps core.old.shared core.new.shared }
 {
     core.step(step)

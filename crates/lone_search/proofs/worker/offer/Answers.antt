@@ -3,4 +3,4 @@ use Rattle.lone_search.proofs.worker.offer.Goals as goal
 
 pub returns : goal.returns
 returns g c =
-    step-keeps c.args.core.now.shared c.step.new.self.shared c.args.step.now c.step.result c.requires c.step.ensures.fitting
+    step-keeps c.args.core.now.shared c.step.new.self.shared c.args.step.now c.step.result c.requires.submits c.requires.search c.step.ensures.fitting
