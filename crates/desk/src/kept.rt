@@ -176,8 +176,8 @@ impl<L: Hands> Kept<L> {
         if seat.asked.len() == JOBS {
             return Err(Refusal::NoJobsLeft);
         }
-        let step = submit(seat.tenant, position, depth);
-        self.take(&mut seat.mine, &step)?;
+        let search = submit(seat.tenant, position, depth);
+        self.take(&mut seat.mine, &search)?;
         seat.steps += 1;
         seat.asked.push(Asked {
             board: position.board,

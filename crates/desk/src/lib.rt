@@ -25,6 +25,7 @@
 
 mod desk;
 mod kept;
+pub mod rows;
 mod seat;
 mod shares;
 
@@ -35,3 +36,6 @@ pub use hall::{
 };
 pub use seat::{Asked, Seat};
 pub use shares::{Badge, Hands, PARTS};
+
+#[cfg(test)]
+mod tests;

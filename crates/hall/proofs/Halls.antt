@@ -1,5 +1,5 @@
 -- What a hall keeps, over an admission, a Leave, and any other step that was taken.
-use Rattle.std.proofs.Common.{◌≡◌, ◌≢◌, ℕ, ◌+◌, ◌*◌, ◌^◌, ◌<◌, ◌≤◌, Bool, true, false, ◌||◌, eqb, List, [], ◌∷◌, ◌++◌, length, Option, Some, None, Result, Ok, Err, refl, ap, sym, ◌∙◌, subst, arith, inl, inr, length-append, get_or}
+use Rattle.std.proofs.Common.{◌≡◌, ℕ, ◌+◌, ◌*◌, ◌^◌, ◌<◌, ◌≤◌, Bool, true, false, ◌||◌, eqb, List, [], ◌∷◌, ◌++◌, length, Option, Some, None, Result, Ok, Err, refl, ap, sym, ◌∙◌, subst, arith, inl, inr, length-append, get_or}
 use Rattle.std.specs.Prelude.{◌==◌, nat_le, nat_lt, OnOk}
 use Rattle.std.specs.List.{remove}
 use Rattle.std.proofs.lemmas.Bool.{cases_Bool, eqb-true, eqb-false, true≢false}
@@ -32,9 +32,9 @@ use Rattle.jamboree_core.specs.Outcomes.{IsOutcomeIn, AnswersTo}
 use Rattle.jamboree_core.specs.Journals.{IsJournalOf}
 use Rattle.jamboree_core.proofs.JournalLemmas.{journal-searches, journal-goes-on, journal-begins, others-stay}
 use Rattle.hall.specs.Journals.{JournalOf, journal_in, places_in, has_journal, place_in, with_step, without_journal, total_length, places_for, admitted_journal, journals_after, gone_by, goes_on, AreBegun}
-use Rattle.hall.specs.Halls.{HallOf, hall_after, count_of, Explains, IsExplained, IsHall}
+use Rattle.hall.specs.Halls.{HallOf, hall_after, Explains, IsExplained, IsHall}
 use Rattle.hall.proofs.Lists.{none-there, step-own, step-other, step-length, step-total, step-rising, step-upto, step-begun, without-own, without-other, without-length, without-total, without-rising, without-upto, without-begun, push-own, push-other, push-total, push-rising, push-upto, push-begun, total-within, found-at, at-read, at-removed}
-use Rattle.hall.proofs.Using.{HasUsed, step-used, journal-short, journal-shaped}
+use Rattle.hall.proofs.Using.{step-used, journal-short, journal-shaped}
 
 abbrev Step : Type 0
 Step = StepOf LeafAnswer

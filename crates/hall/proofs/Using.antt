@@ -15,7 +15,7 @@ use Rattle.sched_rules.specs.declared.step.StepOf.{StepOf}
 use Rattle.sched_rules.specs.declared.step.StepOf.TheVariants.{Admit, Submit, Take, Steal, Advance, Answer, Inlet, Finish, Spend, Cancel, Leave}
 use Rattle.sched_rules.specs.declared.step.DidOf.TheVariants.{Cancelled, Left}
 use Rattle.sched_rules.specs.Functions.{Functions}
-use Rattle.sched_rules.specs.Trees.{Tree, Tenant, admitted_with, words_in, has_child, is_root, job_at, is_live_at, with_ended}
+use Rattle.sched_rules.specs.Trees.{Tree, Tenant, admitted_with, words_in, has_child, is_root, job_at, with_ended}
 use Rattle.sched_rules.specs.Lone.{Outcome, unless, lone, lone_step, counted, holding, submit_tests, submitted, take_tests, steal_tests, taken_by, act_of, advance_tests, then_done, advanced, answer_tests, answered, inlet_tests, does_wait, staying, taken_in, inlet_under, finish_tests, finished, is_spendable, spent, cancelled, ended}
 use Rattle.sched_rules.specs.Runs.{state_after, alone_from}
 use Rattle.sched_laws.specs.Ended.{HasEnded}

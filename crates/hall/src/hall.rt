@@ -3,19 +3,14 @@ ghost use Rattle.std.specs.Prelude.{◌≡◌, ◌≢◌, ◌≤◌, ◌<◌, �
 ghost use Rattle.sched_rules.specs.declared.refusal.Refusal.TheVariants.{OutOfMemory};
 ghost use Rattle.sched_rules.specs.Cores.{newest_after, shared_refusal};
 ghost use Rattle.sched_rules.specs.Headline.{IsOneStep, IsKnown, is_admission};
-ghost use Rattle.sched_rules.specs.Views.{job_of};
 ghost use Rattle.jamboree_rules.specs.Procedure.{jamboree};
 ghost use Rattle.jamboree_laws.specs.Replies.{IsSearch};
 ghost use Rattle.sched_rules.specs.Runs.{tenant_of};
-ghost use Rattle.hall.specs.Journals.{journal_in, goes_on, admitted_journal};
+ghost use Rattle.hall.specs.Journals.{goes_on, admitted_journal};
 ghost use Rattle.hall.specs.Halls.{empty_hall, hall_after, count_of, IsExplained};
-ghost use Rattle.sched_laws.specs.Fitted.{origins_of};
-ghost use Rattle.jamboree_core.specs.Searching.{origin_at};
-ghost use Rattle.jamboree_core.specs.Outcomes.{IsOutcomeIn, AnswersTo};
 
 use crate::journal::{Journal, place_of, write};
 use jamboree::Jamboree;
-use jamboree_core::{Outcome, outcome_of};
 use sched_core::Core;
 use sched_rules::{Config, Did, Refusal, Step, StepOf};
 use std::alloc::{AllocError, Allocator, Global};
@@ -26,12 +21,12 @@ use tenant_quota::Reserve;
 #[derive(Drop)]
 pub struct Hall<A: Allocator = Global> {
     alloc: A,
-    core: Core<Jamboree, A>,
+    pub(crate) core: Core<Jamboree, A>,
     journals: Vec<Journal<A>, A>,
-    newest: u64,
-    count: u128,
-    gone: u128,
-    kept: u128,
+    pub(crate) newest: u64,
+    pub(crate) count: u128,
+    pub(crate) gone: u128,
+    pub(crate) kept: u128,
 }
 
 // Clauses see the grain, what the tenants share, the journals, and the counts of steps that are gone and kept.
@@ -201,58 +196,11 @@ impl<A: Allocator> Hall<A> {
         }
     }
 
-    /// What became of a tenant's job, by its number from 1 on; `None` where there is no such tenant or
-    /// job. A job that is done is told with the reply to the board and the depth of its Submit.
-    pub fn outcome(&self, tenant: u64, job: u64) -> Option<Outcome>
-        ensures is { IsOutcomeIn (job_of self.now.shared tenant job) result }
-        ensures asked { AnswersTo (origin_at (origins_of (journal_in self.now.journals tenant)) job) result }
-    {
-        outcome_of(&self.core, tenant, job)
-    }
-
-    /// The core, to be read.
-    pub fn core(&self) -> &Core<Jamboree, A>
-        ensures shared { result.now.shared ≡ self.now.shared }
-        ensures grain { result.now.procedure.grain ≡ self.now.grain }
-    {
-        &self.core
-    }
-
-    /// All steps that were taken since the hall was new.
-    pub fn count(&self) -> u128
-        ensures value { result ≡ count_of self.now }
-        ensures explained { IsExplained self.now }
-    {
-        self.count
-    }
-
-    /// The length of the journals that went with a Leave, that Leave counted.
-    pub fn gone(&self) -> u128
-        ensures { result ≡ self.now.gone }
-    {
-        self.gone
-    }
-
-    /// How many of all steps are kept: those of seats that left, and those from before the desk.
-    pub fn kept(&self) -> u128
-        ensures { result ≡ self.now.kept }
-    {
-        self.kept
-    }
-
     /// Notes how many steps are kept. The desk does.
     pub fn keep(&mut self, kept: u128)
         ensures { self.new ≡ record self.old { kept = kept } }
     {
         self.kept = kept;
-    }
-
-    /// The number after the greatest of a tenant so far.
-    pub fn next_tenant(&self) -> u64
-        ensures value { result ≡ self.now.shared.newest + 1 }
-        ensures explained { IsExplained self.now }
-    {
-        self.newest + 1
     }
 }
 

@@ -27,8 +27,13 @@
 mod entry;
 mod hall;
 mod journal;
+mod reading;
+pub mod rows;
 
 pub use hall::Hall;
 pub use jamboree::{Jamboree, Leaf, LeafAnswer, Reply};
 pub use jamboree_core::{Outcome, submit};
 pub use sched_core::{Config, Core, Did, DidOf, Refusal, Step, StepOf, Worker};
+
+#[cfg(test)]
+mod tests;

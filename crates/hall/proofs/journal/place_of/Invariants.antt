@@ -1,4 +1,4 @@
-use Rattle.std.proofs.Common.{◌≡◌, ℕ, ◌+◌, drop}
+use Rattle.std.proofs.Common.{◌≡◌, ◌+◌, drop}
 use Rattle.hall.specs.Journals.{place_in}
 use Rattle.hall.proofs.journal.place_of.Given as goal
 

@@ -1,4 +1,4 @@
-use Rattle.std.proofs.Common.{◌<◌, length, sym, ap, arith}
+use Rattle.std.proofs.Common.{length, ap, arith}
 use Rattle.hall.proofs.Lists.{at-within, at-read, at-written}
 use Rattle.hall.proofs.journal.write.Goals as goal
 

@@ -1,4 +1,4 @@
-use Rattle.std.proofs.Common.{◌≡◌, ℕ, ◌+◌, ap, sym, ◌∙◌}
+use Rattle.std.proofs.Common.{ℕ, ◌+◌, ap, sym, ◌∙◌}
 use Rattle.hall.proofs.Halls.{goes-on}
 use Rattle.hall.proofs.hall.Hall.go_on.Goals as goal
 

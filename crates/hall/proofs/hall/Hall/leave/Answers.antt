@@ -1,4 +1,4 @@
-use Rattle.std.proofs.Common.{◌≡◌, ℕ, ◌+◌, sym, ◌∙◌, ap, length, arith, refl}
+use Rattle.std.proofs.Common.{ℕ, ◌+◌, sym, ◌∙◌, ap, length, arith, refl}
 use Rattle.hall.proofs.Lists.{at-within}
 use Rattle.hall.proofs.Halls.{leaves-off, left-by}
 use Rattle.hall.proofs.hall.Hall.leave.Goals as goal

@@ -1,5 +1,5 @@
 use Rattle.std.proofs.Common.{ℕ, ◌+◌, sym, ◌∙◌, ap}
-use Rattle.hall.proofs.Halls.{admitted, wanting}
+use Rattle.hall.proofs.Halls.{admitted}
 use Rattle.hall.proofs.hall.Hall.let_in.Goals as goal
 
 pub invariant_of-self : goal.invariant_of-self

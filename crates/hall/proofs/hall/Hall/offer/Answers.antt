@@ -1,4 +1,3 @@
-use Rattle.std.proofs.Common.{sym, ◌∙◌, ap}
 use Rattle.hall.proofs.Halls.{newest-is}
 use Rattle.hall.proofs.hall.Hall.offer.Goals as goal
 

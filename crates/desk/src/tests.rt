@@ -1,0 +1,309 @@
+ghost use Rattle.std.specs.Prelude.{◌≡◌, ◌≤◌, true};
+
+use super::*;
+use frame_table::FrameId;
+use othello_board::Board;
+use othello_moves::Choice;
+use position_text::{Position, Side};
+use std::alloc::Global;
+use std::marker::Brand;
+use std::process::Abort;
+use std::sync::Wait;
+use std::sync::ledger::Blank;
+use std::test::Fail;
+use std::thread;
+use std::thread::{JoinHandle, Scope, Threads};
+use tenant_quota::{Left, Reserve};
+
+/// A position of these discs, seen by the side to move.
+fn position(own: u64, opp: u64) -> Result<Position, Fail> {
+    Ok(Position {
+        board: Board::new(own, opp).ok_or("no board")?,
+        side: Side::Black,
+    })
+}
+
+/// The opening, Black to move.
+fn opening() -> Result<Position, Fail> {
+    position(1 << 28 | 1 << 35, 1 << 27 | 1 << 36)
+}
+
+/// A desk over a core of so many segments and nodes; each job is searched by one worker.
+fn desk_of<L: Hands>(
+    alloc: Global,
+    blank: Blank,
+    segments: u32,
+    nodes: u32,
+) -> Result<Desk<L>, Fail>
+    requires name { blank.name ≡ L.name }
+    requires parts { (blank.parts ≡ L.parts) × (L.all ≡ L.parts) × (L.all ≡ 13835058055282163712) }
+{
+    let config = Config::new(segments, nodes).ok_or("within the limits")?;
+    Ok(Desk::new(Hall::new(alloc, config, 6)?, blank))
+}
+
+/// A reservation within the limits.
+fn reserve(segments: u32, nodes: u32) -> Result<Reserve, Fail> {
+    Ok(Reserve::new(segments, nodes).ok_or("within the limits")?)
+}
+
+/// The five steps of a worker that compute and finish the job under this root.
+fn compute<L: Hands, R: Wait>(
+    rt: &R,
+    desk: &Desk<L>,
+    badge: &mut Badge<L>,
+    worker: Worker,
+    root: FrameId,
+) -> Option<u64> {
+    desk.offer(rt, badge, &StepOf::Steal(worker, 0, root)).ok()?;
+    let Ok(DidOf::Computing(leaf)) = desk.offer(rt, badge, &StepOf::Advance(worker, root)) else {
+        return None;
+    };
+    let answer = StepOf::Answer(worker, root, LeafAnswer::compute(leaf));
+    desk.offer(rt, badge, &answer).ok()?;
+    desk.offer(rt, badge, &StepOf::Advance(worker, root)).ok()?;
+    match desk.offer(rt, badge, &StepOf::Finish(worker, root)) {
+        Ok(DidOf::Finished(job)) => Some(job),
+        _ => None,
+    }
+}
+
+/// Value and choice of a job that is done.
+fn reply_of(outcome: Result<Outcome, Refusal>) -> Option<(i32, Option<Choice>)> {
+    match outcome {
+        Ok(Outcome::Done(reply)) => Some((reply.value(), reply.choice())),
+        _ => None,
+    }
+}
+
+fn left(segments: u32, nodes: u32, steps: u32) -> Result<Left, Refusal> {
+    Ok(Left {
+        segments,
+        nodes,
+        steps,
+    })
+}
+
+/// A tenant's whole stay: a job that is done, one that is cancelled, and the Leave. Its badge.
+fn stay<L: Hands, R: Wait + Abort>(
+    rt: &R,
+    desk: &Desk<L>,
+    worker: Worker,
+    reserve: Reserve,
+    position: Position,
+) -> Badge<L>
+    requires { L.all ≡ L.parts }
+{
+    let mut seat = desk.admit(rt, reserve).expect(rt, "there is room");
+    let mut badge = desk.badge(rt).expect(rt, "there are badges");
+    let root = FrameId {
+        tenant: seat.tenant(),
+        serial: 1,
+    };
+    assert_eq!(rt; desk.ask(rt, &mut seat, &position, 0), Ok(1));
+    assert_eq!(rt; compute(rt, desk, &mut badge, worker, root), Some(1));
+    assert_eq!(rt; reply_of(desk.wait(rt, &seat, 1)), Some((0, None)));
+    assert_eq!(rt; desk.quota(rt, &seat), left(4, 7, 123));
+    assert_eq!(rt; (seat.share(), badge.share()), (2, 5));
+    assert_eq!(rt; desk.cancel(rt, &mut seat, 1), Err(Refusal::NoJob));
+    assert_eq!(rt; desk.ask(rt, &mut seat, &position, 0), Ok(2));
+    assert_eq!(rt; desk.live(rt, &seat), Ok((1, 12)));
+    assert_eq!(rt; desk.cancel(rt, &mut seat, 2), Ok(()));
+    assert_eq!(rt; desk.get(rt, &seat, 2), Ok(Outcome::Cancelled));
+    assert_eq!(rt; desk.quota(rt, &seat), left(4, 6, 123));
+    assert_eq!(rt; seat.share(), 4);
+    desk.leave(rt, seat);
+    badge
+}
+
+/// One seat, and one badge for its worker.
+fn one_stays<L: Hands, R: Wait + Abort>(rt: &R, alloc: Global, blank: Blank) -> Result<(), Fail>
+    requires name { blank.name ≡ L.name }
+    requires parts { (blank.parts ≡ L.parts) × (L.all ≡ L.parts) × (L.all ≡ 13835058055282163712) }
+{
+    let desk: Desk<L> = desk_of(alloc, blank, 32, 64)?;
+    let worker = Worker::new(1).ok_or("within the limits")?;
+    let badge = stay(rt, &desk, worker, reserve(4, 8)?, opening()?);
+    assert_eq!(rt; desk.count(rt), 10);
+    let (hall, is_whole) = desk.into_hall(badge);
+    assert_eq!(rt;
+        (hall.count(), hall.kept(), hall.gone(), is_whole),
+        (10, 5, 10, true)
+    );
+    Ok(())
+}
+
+#[test]
+fn a_seat_and_a_badge(rt: HostRuntime) -> Result<(), Fail> {
+    one_stays::<Brand, HostRuntime>(&rt, rt.alloc(), Blank::new(PARTS))
+}
+
+/// Starts a stay for each worker of 1 to 4.
+fn start_four<'s, E, L: Hands + Send + Sync, R: Wait + Abort + Sync>(
+    scope: &'s Scope<'s, E>,
+    rt: &'s R,
+    desk: &'s Desk<L>,
+    reserve: Reserve,
+    position: Position,
+    handles: &mut Vec<JoinHandle<Badge<L>>>,
+) -> Option<()>
+    requires { L.all ≡ L.parts }
+{
+    for number in 1..5u8 {
+        let worker = Worker::new(number)?;
+        handles.reserve(1).ok()?;
+        let started = scope.spawn(
+            move || -> Badge<L>
+                requires { L.all ≡ L.parts }
+            { stay(rt, desk, worker, reserve, position) },
+        );
+        handles.push_reserved(started.ok()?);
+    }
+    Some(())
+}
+
+/// Joins all, and their badges to this one.
+fn join_all<L: Hands, R: Threads>(
+    rt: &R,
+    first: Badge<L>,
+    handles: Vec<JoinHandle<Badge<L>>>,
+) -> Badge<L>
+    requires { L.all ≡ L.parts }
+{
+    let mut all = first;
+    for handle in handles {
+        all = all.join(handle.join(rt));
+    }
+    all
+}
+
+/// Four threads, each with a seat and a badge of its own.
+fn four_stay<L: Hands + Send + Sync, R: Wait + Abort + Threads + Sync>(
+    rt: &R,
+    alloc: Global,
+    blank: Blank,
+) -> Result<(), Fail>
+    requires name { blank.name ≡ L.name }
+    requires parts { (blank.parts ≡ L.parts) × (L.all ≡ L.parts) × (L.all ≡ 13835058055282163712) }
+{
+    let desk: Desk<L> = desk_of(alloc, blank, 32, 64)?;
+    let (reserve, position) = (reserve(4, 8)?, opening()?);
+    let spare = desk.badge(rt).ok_or("there are badges")?;
+    let shared = &desk;
+    let badge = thread::scope(
+        thread::scope_env(),
+        rt,
+        |scope| -> Badge<L>
+            requires { L.all ≡ L.parts }
+        {
+            let mut handles = Vec::new(alloc);
+            let started = start_four(scope, rt, shared, reserve, position, &mut handles);
+            assert!(rt; started.is_some());
+            join_all(rt, spare, handles)
+        },
+    );
+    assert_eq!(rt; badge.share(), 20);
+    let (hall, is_whole) = desk.into_hall(badge);
+    assert_eq!(rt; (hall.count(), hall.kept(), is_whole), (40, 20, true));
+    Ok(())
+}
+
+#[test]
+fn four_seats_in_four_threads(rt: HostRuntime) -> Result<(), Fail> {
+    four_stay::<Brand, HostRuntime>(&rt, rt.alloc(), Blank::new(PARTS))
+}
+
+/// A seat asks for a position; its worker, who waits until something is ready, computes it; it is read
+/// back twice.
+fn ask_and_read<L: Hands, R: Wait + Abort>(
+    rt: &R,
+    desk: &Desk<L>,
+    badge: &mut Badge<L>,
+    worker: Worker,
+    seat: &mut Seat<L>,
+    position: Position,
+    depth: u8,
+    reply: (i32, Option<Choice>),
+)
+    requires { depth ≤ 12 }
+{
+    let job = desk
+        .ask(rt, seat, &position, depth)
+        .expect(rt, "there is room");
+    let (root, home) = desk.next_ready(rt).expect(rt, "the root is ready");
+    assert_eq!(rt; (root.tenant, home), (seat.tenant(), 0));
+    assert_eq!(rt; compute(rt, desk, badge, worker, root), Some(job));
+    assert_eq!(rt; reply_of(desk.get(rt, seat, job)), Some(reply));
+    assert_eq!(rt; reply_of(desk.wait(rt, seat, job)), Some(reply));
+}
+
+/// Two seats ask for three positions in turn.
+fn two_seats_ask<L: Hands, R: Wait + Abort>(rt: &R, alloc: Global, blank: Blank) -> Result<(), Fail>
+    requires name { blank.name ≡ L.name }
+    requires parts { (blank.parts ≡ L.parts) × (L.all ≡ L.parts) × (L.all ≡ 13835058055282163712) }
+{
+    let desk: Desk<L> = desk_of(alloc, blank, 8, 32)?;
+    let worker = Worker::new(7).ok_or("within the limits")?;
+    let asked = [
+        (opening()?, 1, (-3, Some(Choice::Square(19)))),
+        (position(1, 2)?, 1, (6000, Some(Choice::Square(2)))),
+        (position(0, u64::MAX)?, 12, (-128_000, None)),
+    ];
+    let mut one = desk.admit(rt, reserve(4, 8)?)?;
+    let mut other = desk.admit(rt, reserve(4, 8)?)?;
+    let mut badge = desk.badge(rt).ok_or("there are badges")?;
+    for (position, depth, reply) in asked {
+        ask_and_read(
+            rt, &desk, &mut badge, worker, &mut one, position, depth, reply,
+        );
+        ask_and_read(
+            rt, &desk, &mut badge, worker, &mut other, position, depth, reply,
+        );
+    }
+    assert_eq!(rt;
+        (one.asked().len(), other.share(), badge.share()),
+        (3, 4, 30)
+    );
+    Ok(())
+}
+
+#[test]
+fn two_seats_ask_in_turn(rt: HostRuntime) -> Result<(), Fail> {
+    two_seats_ask::<Brand, HostRuntime>(&rt, rt.alloc(), Blank::new(PARTS))
+}
+
+/// 256 asks and the 257th; a desk without room, and a desk that is closed.
+fn limits<L: Hands, R: Wait + Abort>(rt: &R, alloc: Global, blank: Blank) -> Result<(), Fail>
+    requires name { blank.name ≡ L.name }
+    requires parts { (blank.parts ≡ L.parts) × (L.all ≡ L.parts) × (L.all ≡ 13835058055282163712) }
+{
+    let desk: Desk<L> = desk_of(alloc, blank, 8, 512)?;
+    let mut seat = desk.admit(rt, reserve(8, 300)?)?;
+    for job in 1..257u64 {
+        assert_eq!(rt; desk.ask(rt, &mut seat, &opening()?, 3), Ok(job));
+        assert_eq!(rt; desk.cancel(rt, &mut seat, job), Ok(()));
+    }
+    assert_eq!(rt;
+        desk.ask(rt, &mut seat, &opening()?, 3),
+        Err(Refusal::NoJobsLeft)
+    );
+    assert_eq!(rt; desk.get(rt, &seat, 257), Err(Refusal::NoJob));
+    assert_eq!(rt; (seat.share(), seat.asked().len()), (513, 256));
+    assert_eq!(rt; desk.admit(rt, reserve(1, 1)?).err(), Some(Refusal::Full));
+    desk.leave(rt, seat);
+    let mut seat = desk.admit(rt, reserve(1, 1)?)?;
+    assert_eq!(rt;
+        (seat.tenant(), desk.ask(rt, &mut seat, &opening()?, 3)),
+        (2, Ok(1))
+    );
+    desk.close(rt);
+    assert_eq!(rt; desk.next_ready(rt), None);
+    assert_eq!(rt; desk.wait(rt, &seat, 1), Ok(Outcome::Pending));
+    assert_eq!(rt; desk.get(rt, &seat, 1), Ok(Outcome::Pending));
+    Ok(())
+}
+
+#[test]
+fn asks_room_and_closing(rt: HostRuntime) -> Result<(), Fail> {
+    limits::<Brand, HostRuntime>(&rt, rt.alloc(), Blank::new(PARTS))
+}
