@@ -1,0 +1,8 @@
+use Rattle.std.proofs.Common.{refl}
+use Rattle.desk_office.proofs.SeatLemmas.{seat_shows}
+use Rattle.desk_office.proofs.office.DeskOfficeOffice.wait.Goals as goal
+
+pub returns-in_ok-wait-in-Some : goal.returns-in_ok-wait-in-Some
+returns-in_ok-wait-in-Some g c =
+    let shown = c.in_ok-wait-in-Some in
+    (refl, seat_shows c.args.self.now.seat c.in-Some.seat c.args.job shown.field-0 c.told.result c.in-Some.is shown.ensures c.told.ensures)

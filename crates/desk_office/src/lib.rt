@@ -1,0 +1,28 @@
+//! The office of one tenant at a desk, and sessions over it.
+//!
+//! A [`DeskOffice`] is what a session asks of (`session::Office`): it holds the desk by reference, and its tenant's seat
+//! once HELLO was taken. What it stands for is the list of what its tenant asked for, each a board of 64 cells and a depth, from job 1
+//! on (`asks_of` of `specs/Offices.antt`): it is the seat's own list, empty where no tenant is there. Each call keeps
+//! that list (`KeepsAsks`): a new job gets the next number, and a job is shown as done only with the minimax value and
+//! the best choice of what stands under its number, since a desk shows no other reply, and a reply's type holds no other
+//! value.
+//!
+//! So [`serve_desk`] can promise it of the lines themselves (`TrueSession`): each `DONE k value move` bears the minimax
+//! value and the best choice of the position and the depth of the `ASK` line that was answered by `JOB k`.
+//!
+//! ```text
+//! let mut source = FromReader { reader: &stream };
+//! let mut sink = FromWriter::new(&stream);
+//! serve_desk(&rt, &mut source, &mut sink, &desk)?;        // while workers of a pool offer steps to the desk
+//! ```
+#![tactic(auto)]
+
+mod office;
+mod outcomes;
+mod serving;
+
+pub use office::DeskOffice;
+pub use serving::serve_desk;
+
+#[cfg(test)]
+mod tests;

@@ -1,0 +1,108 @@
+//! The office of one tenant.
+ghost use Rattle.std.specs.Prelude.{◌==◌};
+ghost use Rattle.session.specs.Asks.{KeepsAsks};
+ghost use Rattle.desk_office.specs.Offices.{asks_of};
+
+use crate::outcomes::told;
+use desk::{Desk, Hands, Refusal, Seat};
+use position_text::Position;
+use session::{Live, Office, Outcome};
+use std::sync::Wait;
+use tenant_quota::{Left, Reserve};
+
+/// The office of one tenant at a desk: its seat, once it has one.
+pub struct DeskOffice<'a, L: Hands, R: Wait> {
+    rt: &'a R,
+    desk: &'a Desk<L>,
+    seat: Option<Seat<L>>,
+}
+
+impl<'a, L: Hands, R: Wait> DeskOffice<'a, L, R> {
+    ghost use Rattle.std.specs.Prelude.{◌≡◌, None};
+
+    /// An office without a tenant.
+    pub fn new(rt: &'a R, desk: &'a Desk<L>) -> DeskOffice<'a, L, R>
+        ensures { result.seat ≡ None }
+    {
+        DeskOffice {
+            rt,
+            desk,
+            seat: None,
+        }
+    }
+
+    /// The office closes. Its seat, where a tenant is still there, is let go.
+    pub fn close(self) {
+        let DeskOffice {
+            rt: _rt,
+            desk: _desk,
+            seat: _seat,
+        } = self;
+    }
+}
+
+impl<L: Hands, R: Wait> Office for DeskOffice<'_, L, R> {
+    ghost does = { λ from call reply to. KeepsAsks (asks_of from.seat) call reply (asks_of to.seat) };
+
+    ghost ready = { L.all == L.parts };
+
+    fn hello(&mut self, reserve: Reserve) -> Result<(), Refusal> {
+        if self.seat.is_some() {
+            return Err(Refusal::OldTenant);
+        }
+        self.seat = Some(self.desk.admit(self.rt, reserve)?);
+        Ok(())
+    }
+
+    fn ask(&mut self, position: &Position, depth: u8) -> Result<u64, Refusal> {
+        match &mut self.seat {
+            Some(seat) => self.desk.ask(self.rt, seat, position, depth),
+            None => Err(Refusal::NoTenant),
+        }
+    }
+
+    fn get(&mut self, job: u64) -> Result<Outcome, Refusal> {
+        match &self.seat {
+            Some(seat) => Ok(told(self.desk.get(self.rt, seat, job)?)),
+            None => Err(Refusal::NoTenant),
+        }
+    }
+
+    fn wait(&mut self, job: u64) -> Result<Outcome, Refusal> {
+        match &self.seat {
+            Some(seat) => Ok(told(self.desk.wait(self.rt, seat, job)?)),
+            None => Err(Refusal::NoTenant),
+        }
+    }
+
+    fn cancel(&mut self, job: u64) -> Result<(), Refusal> {
+        match &mut self.seat {
+            Some(seat) => self.desk.cancel(self.rt, seat, job),
+            None => Err(Refusal::NoTenant),
+        }
+    }
+
+    fn quota(&mut self) -> Result<Left, Refusal> {
+        match &self.seat {
+            Some(seat) => self.desk.quota(self.rt, seat),
+            None => Err(Refusal::NoTenant),
+        }
+    }
+
+    fn live(&mut self) -> Result<Live, Refusal> {
+        let Some(seat) = &self.seat else {
+            return Err(Refusal::NoTenant);
+        };
+        let (frames, words) = self.desk.live(self.rt, seat)?;
+        Ok(Live {
+            frames: frames as u64,
+            words: words as u64,
+        })
+    }
+
+    fn leave(&mut self) {
+        if let Some(seat) = self.seat.take() {
+            self.desk.leave(self.rt, seat);
+        }
+    }
+}

@@ -1,0 +1,21 @@
+//! How a job stands, as a session tells it.
+ghost use Rattle.std.specs.Prelude.{◌≡◌};
+ghost use Rattle.desk_office.specs.Offices.{told};
+
+use desk::Outcome;
+use session::{Finding, Outcome as Told};
+
+/// How a job stands: a reply is told by its value and its choice.
+pub(crate) fn told(outcome: Outcome) -> Told
+    ensures { result ≡ told outcome }
+{
+    match outcome {
+        Outcome::Pending => Told::Pending,
+        Outcome::Done(reply) => Told::Done(Finding {
+            value: reply.value(),
+            choice: reply.choice(),
+        }),
+        Outcome::Spent => Told::Spent,
+        Outcome::Cancelled => Told::Cancelled,
+    }
+}

@@ -1,0 +1,27 @@
+//! Sessions at a desk.
+ghost use Rattle.std.specs.Prelude.{◌≡◌};
+ghost use Rattle.session.specs.DoneLines.{TrueSession};
+
+use crate::office::DeskOffice;
+use desk::{Desk, Hands};
+use line_io::{Sink, Source};
+use session::{End, SessionFault, each_done_line_is_true, serve_lines};
+use std::sync::Wait;
+
+/// Serves one session of one tenant at a desk (`serve_lines`): each `DONE` line that it writes bears the minimax value
+/// and the best choice of the position and the depth of the `ASK` line that was answered by `JOB` and its number.
+pub fn serve_desk<S: Source, K: Sink, L: Hands, R: Wait>(
+    rt: &R,
+    source: &mut S,
+    sink: &mut K,
+    desk: &Desk<L>,
+) -> Result<End, SessionFault>
+    requires { L.all ≡ L.parts }
+    ensures { TrueSession S.gives K.takes source.old sink.old source.new sink.new result }
+{
+    let mut office = DeskOffice::new(rt, desk);
+    let result = serve_lines(rt, source, sink, &mut office);
+    office.close();
+    each_done_line_is_true::<S, K, DeskOffice<'_, L, R>>();
+    result
+}

@@ -1,0 +1,223 @@
+//! Sessions over a desk: no contract says that HELLO ever succeeds, that a job is done, or that the tenant is gone from the
+//! desk after its session.
+ghost use Rattle.std.specs.Prelude.{◌≡◌, ◌≤◌};
+
+use crate::serve_desk;
+use desk::{Badge, Config, Desk, DidOf, Hall, Hands, LeafAnswer, PARTS, StepOf, Worker};
+use frame_table::FrameId;
+use line_io::{FromReader, FromWriter, ReadFailed, Source};
+use session::{End, SessionFault};
+use std::alloc::Global;
+use std::marker::Brand;
+use std::sync::Wait;
+use std::sync::ledger::Blank;
+use std::test::Fail;
+
+/// Gives one line a call. Before a line WAIT a worker runs the job that is ready to its end.
+struct Driven<'a, L: Hands, R: Wait> {
+    rt: &'a R,
+    desk: &'a Desk<L>,
+    badge: Badge<L>,
+    worker: Worker,
+    lines: &'a [&'a [u8]],
+    given: usize,
+}
+
+impl<L: Hands, R: Wait> Driven<'_, L, R> {
+    /// One step of the root: whether it goes on.
+    fn advance(&mut self, frame: FrameId) -> bool {
+        let step = StepOf::Advance(self.worker, frame);
+        match self.desk.offer(self.rt, &mut self.badge, &step) {
+            Ok(DidOf::Computing(leaf)) => {
+                let answer = StepOf::Answer(self.worker, frame, LeafAnswer::compute(leaf));
+                self.desk.offer(self.rt, &mut self.badge, &answer).is_ok()
+            }
+            Ok(DidOf::Returned(_)) => {
+                let _ = self.desk.offer(
+                    self.rt,
+                    &mut self.badge,
+                    &StepOf::Finish(self.worker, frame),
+                );
+                false
+            }
+            Ok(_) => true,
+            Err(_) => {
+                let _ = self
+                    .desk
+                    .offer(self.rt, &mut self.badge, &StepOf::Spend(frame));
+                false
+            }
+        }
+    }
+
+    /// Runs the root that is ready.
+    fn work(&mut self) {
+        if let Some((frame, home)) = self.desk.next_ready(self.rt) {
+            let _ = self.desk.offer(
+                self.rt,
+                &mut self.badge,
+                &StepOf::Steal(self.worker, home, frame),
+            );
+            for _ in 0..8 {
+                if !self.advance(frame) {
+                    return;
+                }
+            }
+        }
+    }
+
+    /// The work is over.
+    fn close(self) {
+        let Driven {
+            rt: _rt,
+            desk: _desk,
+            badge: _badge,
+            worker: _worker,
+            lines: _lines,
+            given: _given,
+        } = self;
+    }
+}
+
+impl<L: Hands, R: Wait> Source for Driven<'_, L, R> {
+    ghost gives = { λ _ _ _. Unit {0} };
+
+    fn fill(&mut self, block: &mut [u8]) -> Result<usize, ReadFailed> {
+        let lines = self.lines;
+        match lines.get(self.given) {
+            Some(line) if line.len() <= block.len() => {
+                if line.first() == Some(&b'W') {
+                    self.work();
+                }
+                self.given = self.given.saturating_add(1);
+                block[..line.len()].copy_from_slice(line);
+                Ok(line.len())
+            }
+            _ => Ok(0),
+        }
+    }
+}
+
+/// What a session wrote, and how it ended.
+type Served = Result<(Result<End, SessionFault>, Vec<u8>), Fail>;
+
+/// A session whose jobs a worker runs.
+fn worked<L: Hands, R: Wait>(rt: &R, alloc: Global, desk: &Desk<L>, lines: &[&[u8]]) -> Served
+    requires { L.all ≡ L.parts }
+{
+    let mut source = Driven {
+        rt,
+        desk,
+        badge: desk.badge(rt).ok_or("no badge")?,
+        worker: Worker::new(1).ok_or("no worker")?,
+        lines,
+        given: 0,
+    };
+    let mut sink = FromWriter::new(Vec::new(alloc));
+    let result = serve_desk(rt, &mut source, &mut sink, desk);
+    source.close();
+    Ok((result, sink.writer))
+}
+
+/// A session whose jobs nobody runs.
+fn alone<L: Hands, R: Wait>(
+    rt: &R,
+    alloc: Global,
+    desk: &Desk<L>,
+    lines: &[u8],
+) -> (Result<End, SessionFault>, Vec<u8>)
+    requires { L.all ≡ L.parts }
+{
+    let mut source = FromReader { reader: lines };
+    let mut sink = FromWriter::new(Vec::new(alloc));
+    let result = serve_desk(rt, &mut source, &mut sink, desk);
+    (result, sink.writer)
+}
+
+/// The lines of a job of the opening at depth 0.
+const ONE_JOB: [&[u8]; 4] = [
+    b"HELLO 4 8\n",
+    b"ASK 0 ---------------------------OX------XO--------------------------- X\n",
+    b"WAIT 1\n",
+    b"QUOTA\n",
+];
+
+/// The lines of a job that has too few nodes.
+const SPENT_JOB: [&[u8]; 5] = [
+    b"HELLO 8 1\n",
+    b"ASK 3 ---------------------------OX------XO--------------------------- X\n",
+    b"WAIT 1\n",
+    b"QUOTA\n",
+    b"LIVE\n",
+];
+
+/// What two sessions wrote, one after the other, at a desk of 8 segments and 8 nodes.
+fn two_sessions<L: Hands, R: Wait>(
+    rt: &R,
+    alloc: Global,
+    blank: Blank,
+    grain: u8,
+    first: &[&[u8]],
+) -> Result<(Vec<u8>, Vec<u8>), Fail>
+    requires grain { grain ≤ 6 }
+    requires name { blank.name ≡ L.name }
+    requires parts { (blank.parts ≡ L.parts) × (L.all ≡ L.parts) × (L.all ≡ 13835058055282163712) }
+{
+    let config = Config::new(8, 8).ok_or("no config")?;
+    let desk: Desk<L> = Desk::new(Hall::new(alloc, config, grain)?, blank);
+    let (_first_end, first) = worked(rt, alloc, &desk, first)?;
+    let (_second_end, second) = alone(
+        rt,
+        alloc,
+        &desk,
+        b"HELLO 8 8
+ASK 6 ---------------------------OX------XO--------------------------- X
+GET 1
+CANCEL 1
+GET 1
+CANCEL 1
+QUOTA
+LIVE
+BYE
+",
+    );
+    Ok((first, second))
+}
+
+/// What the second session writes, whose tenant reserves all.
+const SECOND: &[u8] =
+    b"WELCOME 8 8\nJOB 1\nPENDING 1\nCANCELLED 1\nCANCELLED 1\nERR 17\nQUOTA 8 7 128\nLIVE 0 0\nBYE\n";
+
+#[test]
+fn a_job_is_done_and_its_tenant_leaves(rt: HostRuntime) -> Result<(), Fail> {
+    let (first, second) = two_sessions::<Brand, HostRuntime>(
+        &rt,
+        rt.alloc(),
+        Blank::new(PARTS),
+        2,
+        ONE_JOB.as_slice(),
+    )?;
+    assert_eq!(rt;
+        first.as_slice(),
+        b"WELCOME 4 8\nJOB 1\nDONE 1 0 -\nQUOTA 4 7 123\n".as_slice()
+    );
+    assert_eq!(rt; second.as_slice(), SECOND);
+    Ok(())
+}
+
+#[test]
+fn a_job_is_spent_and_its_tenant_leaves(rt: HostRuntime) -> Result<(), Fail> {
+    let (first, second) = two_sessions::<Brand, HostRuntime>(
+        &rt,
+        rt.alloc(),
+        Blank::new(PARTS),
+        0,
+        SPENT_JOB.as_slice(),
+    )?;
+    assert_eq!(rt;
+        first.as_slice(),
+        b"WELCOME 8 1\nJOB 1\nSPENT 1\nQUOTA 8 0 14\nLIVE 0 0\n".as_slice()
+    );
+    assert_eq!(rt; second.as_slice(), SECOND);
+    Ok(())
+}
