@@ -1,1 +1,3 @@
 pub mod TaskLemmas
+pub mod ReadyFrames
+pub mod ReadiedLemmas
