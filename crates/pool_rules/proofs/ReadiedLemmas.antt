@@ -35,12 +35,12 @@ abbrev NoneMore : Tree → Tree → Type 0
 NoneMore before after = (serial home : ℕ) → IsReadyAt (frame_at after serial) home → IsReadyAt (frame_at before serial) home
 
 -- a step that is taken did what it does
-unless-taken : {X : Type 0} (P : X → Type 0) (tests : List (Bool × Refusal)) (effect : X) → P effect → IfOk (unless tests effect) P
+pub unless-taken : {X : Type 0} (P : X → Type 0) (tests : List (Bool × Refusal)) (effect : X) → P effect → IfOk (unless tests effect) P
 unless-taken P [] effect holds = holds
 unless-taken P (test ∷ tests) effect holds = elim test.0 as (λ b. IfOk (if b then Err test.1 else unless tests effect) P) [ true ↦ tt | false ↦ unless-taken P tests effect holds ]
 
 -- a step at a frame that is there
-frame-taken : {X : Type 0} (P : X → Type 0) (found : Option (Frame (List ℕ))) (step : Frame (List ℕ) → Result X Refusal) → ((frame : Frame (List ℕ)) → IfOk (step frame) P) → IfOk (at_frame found step) P
+pub frame-taken : {X : Type 0} (P : X → Type 0) (found : Option (Frame (List ℕ))) (step : Frame (List ℕ) → Result X Refusal) → ((frame : Frame (List ℕ)) → IfOk (step frame) P) → IfOk (at_frame found step) P
 frame-taken P None step holds = tt
 frame-taken P (Some frame) step holds = holds frame
 
@@ -162,7 +162,7 @@ spend-names functions before name tree =
     unless-taken N ((not (is_spendable functions before frame), NotSpent) ∷ []) (spent before frame) (spent-names before name.tenant frame tree))
 
 -- whose step it is
-tenant_of-step_of : (worker : ℕ) (deed : Deed) → tenant_of (step_of worker deed) ≡ (frame_of deed).tenant
+pub tenant_of-step_of : (worker : ℕ) (deed : Deed) → tenant_of (step_of worker deed) ≡ (frame_of deed).tenant
 tenant_of-step_of worker (Get task) =
     elim (task.home == worker) as (λ own. tenant_of {A = LeafAnswer} (if own then Take worker task.frame else Steal worker task.home task.frame) ≡ task.frame.tenant) [ true ↦ refl | false ↦ refl ]
 tenant_of-step_of worker (Run name) = refl

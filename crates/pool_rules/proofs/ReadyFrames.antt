@@ -1,13 +1,15 @@
 -- Which frames are ready after a change of a tenant's frames.
-use Rattle.std.proofs.Common.{◌≡◌, ℕ, eqb, Bool, false, List, [], ◌∷◌, ◌++◌, Option, Some, None, ◌⊎◌, inl, inr, sym, ap, ◌∙◌, subst, not}
+use Rattle.std.proofs.Common.{true, ◌≡◌, ℕ, eqb, Bool, false, List, [], ◌∷◌, ◌++◌, Option, Some, None, ◌⊎◌, inl, inr, refl, sym, ap, ◌∙◌, subst, not}
 use Rattle.std.proofs.lemmas.Bool.{cases_Bool, eq-eqb, eqb-true}
 use Rattle.frame_table.specs.declared.names.State.{State}
 use Rattle.frame_table.specs.declared.names.State.TheVariants.{Ready}
-use Rattle.frame_table.specs.Frames.{Frame, frame_at, has_frame, IsReadyAt, IsTree, with_state, is_ready, goes_under, aborted, frames_without}
+use Rattle.frame_table.specs.Frames.{Frame, frame_at, has_frame, IsReadyAt, IsTree, AllBelow, with_state, is_ready, goes_under, aborted, frames_without}
+use Rattle.frame_table.specs.Tables.{new_frame}
 use Rattle.frame_table.specs.TreeLaws.{if_kept}
-use Rattle.frame_table.proofs.TreeLaws.{frame_at-left, frame_at-right}
+use Rattle.frame_table.proofs.TreeLaws.{frame_at-left, frame_at-right, frame_at-push}
 use Rattle.frame_table.proofs.TreeChanges.{frame_at-without, frame_at_other-without, frame_at-aborted}
 use Rattle.sched_rules.specs.Trees.{Tree, with_words, without_job}
+use Rattle.sched_rules.specs.Lone.{does_wait}
 
 -- another state in a frame: it is ready where it was, or it is that frame, and the state is Ready
 pub ready-with_state : (n : ℕ) (state : State) (xs : Tree) (s home : ℕ) → IsReadyAt (frame_at (with_state n state xs) s) home → IsReadyAt (frame_at xs s) home ⊎ ((n ≡ s) × (state ≡ Ready home))
@@ -85,3 +87,25 @@ ready-push xs y s home ready =
             | inr gone ↦ absurd (rw gone at last)
           ]
     ]
+
+-- where all serials are below one, they are so with other words
+pub below-with_words : (top n : ℕ) (words : List ℕ) (xs : Tree) → AllBelow top xs → AllBelow top (with_words n words xs)
+below-with_words top n words [] below = tt
+below-with_words top n words (x ∷ xs) below = elim (cases_Bool (eqb x.serial n)) [
+  | inl same ↦ rw same (below.0, below-with_words top n words xs below.1)
+  | inr other ↦ rw other (below.0, below-with_words top n words xs below.1)
+]
+
+-- the frame that is woken is ready, whatever its words became
+pub ready-woken : (p home : ℕ) (words : List ℕ) (xs : Tree) → does_wait (frame_at xs p) ≡ true → IsReadyAt (frame_at (with_state p (Ready home) (with_words p words xs)) p) home
+ready-woken p home words [] waits = absurd cc
+ready-woken p home words (x ∷ xs) waits = elim (cases_Bool (eqb x.serial p)) [
+  | inl same ↦ rw (same, same, same) refl
+  | inr other ↦ rw (other, other, other) (ready-woken p home words xs (rw other at waits))
+]
+
+-- a new frame is ready at its home
+pub ready-pushed : (xs : Tree) (serial : ℕ) (parent : Option ℕ) (home : ℕ) (words : List ℕ) → AllBelow serial xs → IsReadyAt (frame_at (xs ++ new_frame xs serial parent home words ∷ []) serial) home
+ready-pushed xs serial parent home words below =
+    let R : Option (Frame (List ℕ)) → Type 0 = λ found. IsReadyAt found home in
+    subst R (sym (frame_at-push xs (new_frame xs serial parent home words) below)) refl

@@ -29,3 +29,14 @@ abbrev pub PushesWhatItReadied : Functions Leaf LeafAnswer → Tenant → ℕ �
 PushesWhatItReadied functions tenant worker holding step =
     IfOk (lone functions (Some tenant) step) (λ outcome.
     IsNoneForgotten (tenant_of step) tenant.frames (frames_in outcome.0) (turn_after worker holding (Ok outcome.1)).task)
+
+-- a task, if there is one, is of a frame of this tenant that is ready at the task's home
+abbrev pub IsOfAReadyFrame : ℕ → Tree → Option Task → Type 0
+IsOfAReadyFrame tenant after None = Unit {0}
+IsOfAReadyFrame tenant after (Some task) = (task.frame.tenant ≡ tenant) × IsReadyAt (frame_at after task.frame.serial) task.home
+
+-- where the step that a worker offers is taken, the task of its turn is of a frame that is ready then
+abbrev pub PushesWhatIsReady : Functions Leaf LeafAnswer → Tenant → ℕ → Holding → StepOf LeafAnswer → Type 0
+PushesWhatIsReady functions tenant worker holding step =
+    IfOk (lone functions (Some tenant) step) (λ outcome.
+    IsOfAReadyFrame (tenant_of step) (frames_in outcome.0) (turn_after worker holding (Ok outcome.1)).task)
