@@ -1,1 +1,4 @@
 pub mod TaskLemmas
+pub mod ReadyFrames
+pub mod ReadiedLemmas
+pub mod TaskFrames

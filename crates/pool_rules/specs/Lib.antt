@@ -1,3 +1,4 @@
 pub mod Tasks
 pub mod Turns
 pub mod Rows
+pub mod Readied

@@ -7,7 +7,9 @@
 //! that computes is computed outside the hall's lock and its answer brought, one that has returned is
 //! taken in by its parent or, as a root, finished. A step that is refused for want of quota is followed
 //! by the offer to give its job up, and where the job may go on, by the same step; any other refusal
-//! leaves the worker without a frame, as its frame was aborted, spent, cancelled or left.
+//! leaves the worker without a frame, as its frame was aborted, spent, cancelled or left. [`laws`] ties
+//! the table to what steps do: each frame that a worker's step makes ready is the task of its turn, so
+//! that no ready frame is forgotten.
 //!
 //! A [`TaskList`] stands for the tasks in the order in which they were pushed, the room that it took
 //! at its start, and how many tasks were pushed and taken (`specs/Tasks.antt`). Its invariant is that
@@ -22,6 +24,7 @@
 #![tactic(auto)]
 
 mod count;
+pub mod laws;
 mod list;
 pub mod rows;
 mod table;

@@ -1,0 +1,111 @@
+-- The task of a worker's turn is of a frame that is ready.
+use Rattle.std.proofs.Common.{◌≡◌, ℕ, ◌+◌, ◌==◌, ◌&&◌, ◌||◌, not, Bool, true, false, List, [], ◌∷◌, Option, Some, None, IfOk, if◌then◌else◌, refl, sym, subst}
+use Rattle.frame_table.specs.declared.names.FrameId.{FrameId}
+use Rattle.frame_table.specs.declared.names.State.TheVariants.{Ready, Waiting, Returned}
+use Rattle.frame_table.specs.Frames.{Frame, frame_at, parent_of, AllBelow}
+use Rattle.sched_rules.specs.declared.act.InletAct.{InletAct}
+use Rattle.sched_rules.specs.declared.act.Then.{Then}
+use Rattle.sched_rules.specs.declared.act.Then.TheVariants.{Grow, Spawn, Go, Wait, Compute, Return}
+use Rattle.sched_rules.specs.declared.refusal.Refusal.TheVariants.{NotSpent}
+use Rattle.sched_rules.specs.declared.step.StepOf.{StepOf}
+use Rattle.sched_rules.specs.declared.step.StepOf.TheVariants.{Take, Steal, Spend}
+use Rattle.sched_rules.specs.declared.step.DidOf.TheVariants.{Went, Waited, Returned as HasReturned, TakenIn}
+use Rattle.sched_rules.specs.Functions.{Functions}
+use Rattle.sched_rules.specs.Trees.{Tenant, has_child, words_in, stored, is_root}
+use Rattle.sched_rules.specs.Runs.{tenant_of}
+use Rattle.sched_rules.specs.Lone.{Outcome, lone_step, take_tests, steal_tests, taken_by, act_of, advance_tests, advanced, then_done, holding, in_state, counted, does_wait, aborted_beside, answer_tests, answered, inlet_tests, inlet_under, taken_in, staying, finish_tests, finished, spent, is_spendable}
+use Rattle.jamboree_rules.specs.declared.leaf.Leaf.{Leaf}
+use Rattle.jamboree_rules.specs.declared.leaf.LeafAnswer.{LeafAnswer}
+use Rattle.pool_rules.specs.declared.turn.Deed.{Deed}
+use Rattle.pool_rules.specs.declared.turn.Deed.TheVariants.{Get, Run, Bring, TakeIn, Finish}
+use Rattle.pool_rules.specs.declared.turn.Holding.{Holding}
+use Rattle.pool_rules.specs.declared.turn.Holding.TheVariants.{Nothing, Next, Computing as IsComputed, Short}
+use Rattle.pool_rules.specs.Turns.{readied, task_at, frame_of, step_of, offered}
+use Rattle.pool_rules.specs.Readied.{frames_in, IsOfAReadyFrame, PushesWhatIsReady}
+use Rattle.pool_rules.proofs.ReadyFrames.{below-with_words, ready-woken, ready-pushed}
+use Rattle.pool_rules.proofs.ReadiedLemmas.{unless-taken, frame-taken, tenant_of-step_of}
+
+-- the task of what a worker's step did is of a ready frame
+abbrev IsTasked : ℕ → ℕ → Outcome Leaf → Type 0
+IsTasked tenant worker outcome = IsOfAReadyFrame tenant (frames_in outcome.0) (task_at worker (readied outcome.1))
+
+-- what comes after the stores
+then-ready : (functions : Functions Leaf LeafAnswer) (before : Tenant) (worker : ℕ) (name : FrameId) (path words : List ℕ) (after : Then) → AllBelow (before.serials + 1) before.frames →
+    IsTasked name.tenant worker (then_done functions before worker name path words after)
+then-ready functions before worker name path words (Grow more) below = tt
+then-ready functions before worker name path words (Spawn given size) below =
+    (refl, ready-pushed before.frames (before.serials + 1) (Some name.serial) worker _ below)
+then-ready functions before worker name path words Go below = tt
+then-ready functions before worker name path words Wait below =
+    elim (has_child before.frames name.serial) as (λ b. IsTasked name.tenant worker (if b then (Some (in_state name.serial Waiting before), Waited) else (Some before, Went))) [ true ↦ tt | false ↦ tt ]
+then-ready functions before worker name path words Compute below = tt
+then-ready functions before worker name path words Return below =
+    elim (has_child before.frames name.serial) as (λ b. IsTasked name.tenant worker (if b then (Some (in_state name.serial Waiting before), Waited) else (Some (in_state name.serial Returned before), HasReturned (is_root path)))) [ true ↦ tt | false ↦ tt ]
+
+-- a parent that is woken waited
+woken-ready : (before : Tenant) (worker : ℕ) (name : FrameId) (parent gone : ℕ) (act : InletAct) (waits others : Bool) → does_wait (frame_at (staying before.frames name.serial parent act.abort) parent) ≡ waits →
+    (let frames = staying before.frames name.serial parent act.abort in
+    let after : Tenant = counted (holding parent (stored act.stores (words_in frames parent)) (record before { frames = frames })) in
+    IsTasked name.tenant worker (if waits && others then (Some (in_state parent (Ready worker) after), TakenIn (Some (record name { serial = parent })) gone) else (Some after, TakenIn None gone)))
+woken-ready before worker name parent gone act true true is = (refl, ready-woken parent worker _ _ is)
+woken-ready before worker name parent gone act true false is = tt
+woken-ready before worker name parent gone act false others is = tt
+
+-- Inlet
+inlet-ready : (before : Tenant) (worker : ℕ) (name : FrameId) (parent : ℕ) (act : InletAct) → IsTasked name.tenant worker (taken_in before worker name parent act)
+inlet-ready before worker name parent act =
+    let frames = staying before.frames name.serial parent act.abort in
+    woken-ready before worker name parent (aborted_beside before.frames name.serial parent act.abort) act (does_wait (frame_at frames parent)) (act.abort || act.wake || not (has_child frames parent)) refl
+
+-- Inlet, by the frame's parent
+under-ready : (functions : Functions Leaf LeafAnswer) (before : Tenant) (worker : ℕ) (name : FrameId) (frame : Frame (List ℕ)) (parent : Option ℕ) → IfOk (inlet_under functions before worker name frame parent) (IsTasked name.tenant worker)
+under-ready functions before worker name frame None = tt
+under-ready functions before worker name frame (Some parent) =
+    let act = functions.inlet (words_in before.frames parent) frame.value in
+    unless-taken (IsTasked name.tenant worker) (inlet_tests before worker frame parent act) (taken_in before worker name parent act) (inlet-ready before worker name parent act)
+
+-- each step of a worker
+deed-ready : (functions : Functions Leaf LeafAnswer) (before : Tenant) (worker : ℕ) (deed : Deed) → AllBelow (before.serials + 1) before.frames →
+    IfOk (lone_step functions before (step_of worker deed)) (IsTasked (frame_of deed).tenant worker)
+deed-ready functions before worker (Get task) below =
+    let R = IsTasked task.frame.tenant worker in
+    let S : Bool → Type 0 = λ own. IfOk (lone_step functions before (if own then Take worker task.frame else Steal worker task.home task.frame)) R in
+    elim (task.home == worker) as S [
+      | true ↦ frame-taken R (frame_at before.frames task.frame.serial) _ (λ frame. unless-taken R (take_tests before worker frame) (taken_by before worker frame) tt)
+      | false ↦ frame-taken R (frame_at before.frames task.frame.serial) _ (λ frame. unless-taken R (steal_tests before worker task.home frame) (taken_by before worker frame) tt)
+    ]
+deed-ready functions before worker (Run name) below =
+    let R = IsTasked name.tenant worker in
+    frame-taken R (frame_at before.frames name.serial) _ (λ frame.
+    let act = act_of functions before frame in
+    let words = stored act.stores frame.value in
+    unless-taken R (advance_tests before worker frame act) (advanced functions before worker name frame act)
+    (then-ready functions (counted (holding frame.serial words before)) worker name frame.path words act.after (below-with_words (before.serials + 1) frame.serial words before.frames below)))
+deed-ready functions before worker (Bring name answer) below =
+    let R = IsTasked name.tenant worker in
+    frame-taken R (frame_at before.frames name.serial) _ (λ frame. unless-taken R (answer_tests functions before worker frame answer) (answered functions before worker frame answer) tt)
+deed-ready functions before worker (TakeIn name) below =
+    frame-taken (IsTasked name.tenant worker) (frame_at before.frames name.serial) _ (λ frame. under-ready functions before worker name frame (parent_of frame.path))
+deed-ready functions before worker (Finish name) below =
+    let R = IsTasked name.tenant worker in
+    frame-taken R (frame_at before.frames name.serial) _ (λ frame. unless-taken R (finish_tests before worker frame) (finished before frame) tt)
+
+-- a job that is spent
+spend-ready : (functions : Functions Leaf LeafAnswer) (before : Tenant) (name : FrameId) → IfOk (lone_step functions before (Spend name)) (λ outcome. IsOfAReadyFrame name.tenant (frames_in outcome.0) None)
+spend-ready functions before name =
+    let R : Outcome Leaf → Type 0 = λ outcome. IsOfAReadyFrame name.tenant (frames_in outcome.0) None in
+    frame-taken R (frame_at before.frames name.serial) _ (λ frame. unless-taken R ((not (is_spendable functions before frame), NotSpent) ∷ []) (spent before frame) tt)
+
+-- a worker pushes frames that are ready, and no others
+pub pushes-ready : (functions : Functions Leaf LeafAnswer) (tenant : Tenant) (worker : ℕ) (held : Holding) (step : StepOf LeafAnswer) → AllBelow (tenant.serials + 1) tenant.frames → offered worker held ≡ Some step →
+    PushesWhatIsReady functions tenant worker held step
+pushes-ready functions tenant worker Nothing step below same = absurd cc
+pushes-ready functions tenant worker (Next deed) step below same =
+    let its : step_of worker deed ≡ step = cc in
+    let F : ℕ → Type 0 = λ number. IfOk (lone_step functions tenant (step_of worker deed)) (λ outcome. IsOfAReadyFrame number (frames_in outcome.0) (task_at worker (readied outcome.1))) in
+    let ready : F (tenant_of (step_of worker deed)) = subst F (sym (tenant_of-step_of worker deed)) (deed-ready functions tenant worker deed below) in
+    subst (λ (s : StepOf LeafAnswer). PushesWhatIsReady functions tenant worker (Next deed) s) its ready
+pushes-ready functions tenant worker (IsComputed frame leaf) step below same = absurd cc
+pushes-ready functions tenant worker (Short deed) step below same =
+    let its : Spend (frame_of deed) ≡ step = cc in
+    subst (λ (s : StepOf LeafAnswer). PushesWhatIsReady functions tenant worker (Short deed) s) its (spend-ready functions tenant (frame_of deed))

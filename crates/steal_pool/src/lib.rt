@@ -1,0 +1,37 @@
+//! A pool of workers, each in a thread of its own, that do the jobs of a desk.
+//!
+//! Whoever has a seat at a [`desk::Desk`] asks for searches; [`run_pool`] starts workers, and they do
+//! them until the desk is closed. A worker looks for a frame that is ready: its own newest task, else
+//! the oldest of the list that all share, else any that the hall knows of, for which it sleeps at the
+//! desk. With a frame it does turn after turn (`pool_rules`): each turn is one step, offered to the
+//! hall under its lock by [`desk::Desk::offer`] and by nothing else, or one computation outside all
+//! locks. A frame that becomes ready by its step is pushed on the list; where there is no room it stays
+//! ready in the hall, where it is found again.
+//!
+//! What is proved of a worker is that each of its turns is the table's (`specs/Works.antt`), that it
+//! offers workers' steps alone, that it brings an answer that was computed from just the leaf it was
+//! given, and that its badge counts the steps that were taken. Of a pool it is that what was pushed is
+//! what was taken and what is left, and that the badge it ends with is that of all its workers, so that
+//! [`desk::Desk::into_hall`] can tell whether every step in the hall is one that somebody took. No
+//! order between threads is promised, nor that a job ends.
+//!
+//! ```text
+//! // four workers, beside whoever speaks at the desk, until it is closed
+//! let end = run_pool(rt, alloc, &desk, Worker::new(4)?, &Open)?;
+//! end.pushed == end.taken + end.left
+//! ```
+#![tactic(auto)]
+
+mod gate;
+mod pool;
+mod tasks;
+mod worker;
+
+pub use gate::{Gate, Open};
+pub use pool::{PoolEnd, PoolFault, run_pool};
+pub use pool_rules::Task;
+pub use tasks::{Shared, Tasks};
+pub use worker::run_worker;
+
+#[cfg(test)]
+mod tests;

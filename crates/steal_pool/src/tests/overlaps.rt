@@ -1,0 +1,176 @@
+//! Computations at the same time, and answers that come too late.
+ghost use Rattle.std.specs.Prelude.{◌≡◌};
+
+use super::seats::{is_found, opening, seat};
+use super::{MOST_TURNS, Scenario, Table, play};
+use crate::{Gate, Task};
+use desk::{Desk, Hands, Seat};
+use sched_rules::Worker;
+use std::sync::Wait;
+use std::sync::atomic::{AtomicBool, Ordering};
+use std::test::Fail;
+use std::thread;
+
+/// The first computation waits within a limit until it is let go on.
+#[derive(Drop)]
+struct Held {
+    by_second: bool,
+    began: AtomicBool,
+    let_go: AtomicBool,
+    late: AtomicBool,
+}
+
+/// A gate whose first computation is let go on by the second, or else by the scenario.
+fn first_is_held(by_second: bool) -> Held {
+    Held {
+        by_second,
+        began: AtomicBool::new(false),
+        let_go: AtomicBool::new(false),
+        late: AtomicBool::new(false),
+    }
+}
+
+/// Waits within a limit until a flag is set.
+fn is_set(flag: &AtomicBool) -> bool {
+    for _ in 0..MOST_TURNS {
+        if flag.load(Ordering::SeqCst) {
+            return true;
+        }
+        thread::yield_now();
+    }
+    false
+}
+
+impl Gate for Held {
+    fn before(&self, _worker: Worker, _task: &Task) {}
+
+    fn inside(&self, _worker: Worker, number: u64) {
+        if number == 2 && self.by_second {
+            self.let_go.store(true, Ordering::SeqCst);
+        }
+        if number == 1 {
+            self.began.store(true, Ordering::SeqCst);
+            if !is_set(&self.let_go) {
+                self.late.store(true, Ordering::SeqCst);
+            }
+        }
+    }
+}
+
+/// Two jobs of depth 0.
+#[derive(Drop)]
+struct TwoJobs;
+
+impl Scenario for TwoJobs {
+    fn play<L: Hands, R: Wait>(&self, rt: &R, desk: &Desk<L>) -> bool {
+        let Some(mut seat) = seat(rt, desk, 8, 8) else {
+            return false;
+        };
+        let asked = desk.ask(rt, &mut seat, &opening(), 0).is_ok()
+            && desk.ask(rt, &mut seat, &opening(), 0).is_ok();
+        let found = is_found(rt, desk, &seat, 1, &opening(), 0)
+            && is_found(rt, desk, &seat, 2, &opening(), 0);
+        desk.leave(rt, seat);
+        asked && found
+    }
+}
+
+/// The first computation of a pool goes on only once the second was begun.
+#[test]
+fn two_computations_overlap(rt: HostRuntime) -> Result<(), Fail> {
+    for workers in [2, 8] {
+        let gate = first_is_held(true);
+        let table = Table {
+            scenario: &TwoJobs,
+            gate: &gate,
+            workers,
+            grain: 0,
+            room: None,
+            segments: 8,
+        };
+        let played = play(&rt, rt.alloc(), &table).ok_or("no pool")?;
+        assert!(rt; played.content && played.whole);
+        assert!(rt; !gate.late.load(Ordering::SeqCst));
+    }
+    Ok(())
+}
+
+/// A first seat's job is computed when the seat leaves, or cancels it; a second seat's job ends all the
+/// same.
+#[derive(Drop)]
+struct Late<'g> {
+    gate: &'g Held,
+    leaves: bool,
+}
+
+impl Scenario for Late<'_> {
+    fn play<L: Hands, R: Wait>(&self, rt: &R, desk: &Desk<L>) -> bool {
+        let (Some(first), Some(second)) = (seat(rt, desk, 4, 4), seat(rt, desk, 4, 4)) else {
+            return false;
+        };
+        if self.leaves {
+            leaves(rt, desk, self.gate, first) && goes_on(rt, desk, self.gate, second)
+        } else {
+            cancels(rt, desk, self.gate, first) && goes_on(rt, desk, self.gate, second)
+        }
+    }
+}
+
+/// A seat asks, and leaves once its job is computed.
+fn leaves<L: Hands, R: Wait>(rt: &R, desk: &Desk<L>, gate: &Held, seat: Seat<L>) -> bool
+    requires { L.all ≡ L.parts }
+{
+    let mut seat = seat;
+    let asked = desk.ask(rt, &mut seat, &opening(), 0).is_ok();
+    let began = is_set(&gate.began);
+    desk.leave(rt, seat);
+    asked && began
+}
+
+/// A seat asks, and cancels once its job is computed.
+fn cancels<L: Hands, R: Wait>(rt: &R, desk: &Desk<L>, gate: &Held, seat: Seat<L>) -> bool
+    requires { L.all ≡ L.parts }
+{
+    let mut seat = seat;
+    let asked = desk.ask(rt, &mut seat, &opening(), 0).is_ok();
+    let began = is_set(&gate.began);
+    let cancelled = desk.cancel(rt, &mut seat, 1).is_ok();
+    desk.leave(rt, seat);
+    asked && began && cancelled
+}
+
+/// The computation is let go on, and another seat's job ends.
+fn goes_on<L: Hands, R: Wait>(rt: &R, desk: &Desk<L>, gate: &Held, seat: Seat<L>) -> bool
+    requires { L.all ≡ L.parts }
+{
+    let mut seat = seat;
+    let asked = desk.ask(rt, &mut seat, &opening(), 0).is_ok();
+    gate.let_go.store(true, Ordering::SeqCst);
+    let found = is_found(rt, desk, &seat, 1, &opening(), 0);
+    desk.leave(rt, seat);
+    asked && found
+}
+
+/// An answer that comes after its tenant has left, or after its job was cancelled, is refused, and the
+/// pool goes on.
+#[test]
+fn late_answers(rt: HostRuntime) -> Result<(), Fail> {
+    for leaves in [true, false] {
+        let gate = first_is_held(false);
+        let table = Table {
+            scenario: &Late {
+                gate: &gate,
+                leaves,
+            },
+            gate: &gate,
+            workers: 2,
+            grain: 0,
+            room: None,
+            segments: 8,
+        };
+        let played = play(&rt, rt.alloc(), &table).ok_or("no pool")?;
+        assert!(rt; played.content && played.whole);
+        assert_eq!(rt; played.free, 8);
+    }
+    Ok(())
+}

@@ -1,0 +1,113 @@
+//! One worker.
+//!
+//! A worker without a frame looks for a task: its own newest, else the oldest of the list, else any
+//! frame that is ready in the hall, for which it waits at the desk. It then does its turns
+//! (`pool_rules::Holding`) until it is without a frame again. It sleeps only at the desk, and it ends
+//! once the desk is closed and no task is left. It holds no lock while it computes.
+ghost use Rattle.std.specs.Prelude.{◌≡◌, Some};
+ghost use Rattle.pool_rules.specs.Turns.{offered};
+ghost use Rattle.steal_pool.specs.Works.{IsTurn, BringsAnswerTo};
+
+use crate::gate::Gate;
+use crate::tasks::Tasks;
+use desk::{Badge, Desk, Hands};
+use frame_table::FrameId;
+use jamboree::{Jamboree, Leaf, LeafAnswer};
+use pool_rules::{Deed, Holding, Task};
+use sched_rules::{Step, Worker};
+use std::sync::Wait;
+
+/// Works until the desk is closed and no task is left. Every step goes through [`Desk::offer`], so its
+/// badge's share is the number of steps that it took.
+pub fn run_worker<'s, L: Hands, G: Gate, R: Wait>(
+    rt: &R,
+    desk: &Desk<L>,
+    worker: Worker,
+    badge: Badge<L>,
+    tasks: Tasks<'s>,
+    gate: &G,
+) -> (Badge<L>, Tasks<'s>) {
+    let mut badge = badge;
+    for _ in rt.forever() {
+        let Some(task) = next_task(rt, desk, worker, &tasks) else {
+            break;
+        };
+        gate.before(worker, &task);
+        work_off(rt, desk, worker, &mut badge, &tasks, gate, task);
+    }
+    (badge, tasks)
+}
+
+/// The task that a worker without a frame does next; None once the desk is closed and no task is left.
+fn next_task<L: Hands, R: Wait>(
+    rt: &R,
+    desk: &Desk<L>,
+    worker: Worker,
+    tasks: &Tasks<'_>,
+) -> Option<Task> {
+    if let Some(task) = tasks.take(rt, worker) {
+        return Some(task);
+    }
+    let (frame, home) = desk.next_ready(rt)?;
+    Some(Task { frame, home })
+}
+
+/// Does a task, and what comes of it, until the worker is without a frame.
+fn work_off<L: Hands, G: Gate, R: Wait>(
+    rt: &R,
+    desk: &Desk<L>,
+    worker: Worker,
+    badge: &mut Badge<L>,
+    tasks: &Tasks<'_>,
+    gate: &G,
+    task: Task,
+) {
+    let mut holding = Holding::Next(Deed::Get(task));
+    for _ in rt.forever() {
+        holding = match holding.step(worker) {
+            Some(step) => offered(rt, desk, worker, badge, tasks, holding, &step),
+            None => match holding {
+                Holding::Computing(frame, leaf) => computed(rt, worker, tasks, gate, frame, leaf),
+                _ => break,
+            },
+        };
+    }
+}
+
+/// Computes a leaf outside all locks: the answer is to be brought.
+fn computed<G: Gate, R: Wait>(
+    rt: &R,
+    worker: Worker,
+    tasks: &Tasks<'_>,
+    gate: &G,
+    frame: FrameId,
+    leaf: Leaf,
+) -> Holding
+    ensures { BringsAnswerTo frame leaf result }
+{
+    let number = tasks.begin(rt);
+    gate.inside(worker, number);
+    Holding::Next(Deed::Bring(frame, LeafAnswer::compute(leaf)))
+}
+
+/// Offers the step of what the worker holds, and pushes the task that it makes.
+#[tactic(auto, using(crate::proofs::Steps::offers_a_worker_step))]
+fn offered<L: Hands, R: Wait>(
+    rt: &R,
+    desk: &Desk<L>,
+    worker: Worker,
+    badge: &mut Badge<L>,
+    tasks: &Tasks<'_>,
+    holding: Holding,
+    step: &Step<Jamboree>,
+) -> Holding
+    requires { Some step.now ≡ offered worker holding }
+    ensures { IsTurn worker holding result badge.old badge.new }
+{
+    let answer = desk.offer(rt, badge, step);
+    let turn = holding.turned(worker, answer);
+    if let Some(task) = turn.task {
+        tasks.push(rt, task);
+    }
+    turn.holding
+}
