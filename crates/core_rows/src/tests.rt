@@ -1,0 +1,10 @@
+mod chain;
+mod deed;
+mod drawing;
+mod draws;
+mod fan;
+mod frames;
+mod limits;
+mod lists;
+mod spin;
+mod walking;
