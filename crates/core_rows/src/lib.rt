@@ -9,15 +9,19 @@
 //! For lists that are drawn from a seed there is one more procedure, [`Reader`], whose frames do what
 //! their words say, so that a list of steps meets every act there is: it grows, opens children, waits,
 //! computes, goes on for ever, and asks for what can't be done. It is a table (`specs/Reading.antt`),
-//! and its frames always fit.
+//! tried on worked examples ([`rows`]), and its frames always fit.
 //!
 //! ```text
-//! // a root that opens a child, waits for it, and returns; the child is computed, and returns
-//! core.step(&StepOf::Submit(1, GivenWords::two(0o43, 0o5), 4))?;
+//! // a_root_opens_a_child: it waits for it and returns; the child is computed, and returns
+//! (Deed::Submit(1, &[0o43, 0o5], 4), Ok(DidOf::Submitted(1, ROOT))),
+//! (Deed::Steal(1, 0, ROOT), Ok(DidOf::Took)),
+//! (Deed::Advance(1, ROOT), Ok(DidOf::Spawned(FRAME_2))),
+//! (Deed::Advance(1, ROOT), Ok(DidOf::Waited)),
 //! ```
 #![tactic(auto)]
 
 mod reader;
+pub mod rows;
 
 pub use reader::Reader;
 

@@ -6,5 +6,6 @@ mod fan;
 mod frames;
 mod limits;
 mod lists;
+mod reader;
 mod spin;
 mod walking;

@@ -3,7 +3,6 @@ use cactus_stack::Words;
 use frame_table::{FrameId, State};
 use sched_core::{Core, Job, Procedure};
 use std::alloc::{AllocError, Global};
-use std::process::Abort;
 
 /// Serials and jobs up to this are looked for.
 const LAST: u64 = 320;
@@ -27,25 +26,22 @@ pub fn picture<P: Procedure>(
     Ok(text)
 }
 
-/// Compares what is read of tenant 1 with a text.
-pub fn expect_picture<P: Procedure>(
-    rt: &impl Abort,
-    alloc: Global,
-    core: &Core<P>,
-    text: &str,
-) -> Result<(), AllocError> {
-    assert_eq!(rt; picture(alloc, core, 1)?.as_str(), text);
-    Ok(())
+/// How many segments are free, and whether some frame is ready; the frame that is named as ready must
+/// be so, at the home that is named.
+pub fn free<P: Procedure>(alloc: Global, core: &Core<P>) -> Result<String, AllocError> {
+    let ready = match core.any_ready() {
+        None => "none ready",
+        Some((name, home)) if is_ready(core, name, home) => "some ready",
+        Some(_) => "a frame is named that is not ready",
+    };
+    format!(in alloc; "{} free, {ready}", core.free_segments())
 }
 
-/// Compares how many segments are free with a number, and whether a frame is ready. Where one is, a
-/// ready frame is named with its home.
-pub fn expect_free<P: Procedure>(rt: &impl Abort, core: &Core<P>, segments: usize, ready: bool) {
-    assert_eq!(rt; core.free_segments(), segments);
-    assert_eq!(rt; core.any_ready().is_some(), ready);
-    if let Some((name, home)) = core.any_ready() {
-        let state = core.frame(name).map(|(_, state)| state);
-        assert_eq!(rt; state, Some(State::Ready(home)));
+/// Whether a frame is ready at this home.
+fn is_ready<P: Procedure>(core: &Core<P>, name: FrameId, home: u8) -> bool {
+    match core.frame(name) {
+        Some((_, state)) => state == State::Ready(home),
+        None => false,
     }
 }
 
