@@ -3,8 +3,8 @@
 //! What a core does is proved of every list of steps, for every lawful procedure; worked examples of
 //! the definitions are in `sched_toys`. Here the core itself is built and driven, in tests, which are
 //! the substance of this crate: the toy procedures step by step, with all that is read of a tenant in
-//! between; refusals of every number that a list of steps can meet, by `step`, by `run` and foretold by
-//! `refusal`; and the limits of jobs and tenants.
+//! between; a list of steps that meets every refusal there is for a list, by `step`, by `run`, foretold
+//! by `refusal`, and for each tenant alone; and the limits of jobs and tenants.
 //!
 //! For lists that are drawn from a seed there is one more procedure, [`Reader`], whose frames do what
 //! their words say, so that a list of steps meets every act there is: it grows, opens children, waits,

@@ -50,6 +50,23 @@ impl Numbered for u64 {
 }
 
 impl Deed {
+    /// Whose step it is.
+    pub fn tenant(&self) -> u64 {
+        match self {
+            Deed::Admit(tenant, _, _) => *tenant,
+            Deed::Submit(tenant, _, _) => *tenant,
+            Deed::Take(_, name) => name.tenant,
+            Deed::Steal(_, _, name) => name.tenant,
+            Deed::Advance(_, name) => name.tenant,
+            Deed::Answer(_, name, _, _) => name.tenant,
+            Deed::Inlet(_, name) => name.tenant,
+            Deed::Finish(_, name) => name.tenant,
+            Deed::Spend(name) => name.tenant,
+            Deed::Cancel(tenant, _) => *tenant,
+            Deed::Leave(tenant) => *tenant,
+        }
+    }
+
     /// The step; `None` where a number isn't one of a worker or of a reservation, or there are more
     /// than 8 words.
     pub fn step<A: Numbered>(&self) -> Option<StepOf<A>> {

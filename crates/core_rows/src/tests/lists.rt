@@ -3,7 +3,7 @@ use crate::Reader;
 use crate::tests::deed::Deed;
 use crate::tests::drawing::{free, picture};
 use crate::tests::draws::{Draws, drawn};
-use crate::tests::walking::{Miss, Told, core_of};
+use crate::tests::walking::{Miss, Told, core_of, walk};
 use sched_core::{Core, DidOf, Step};
 use std::alloc::{AllocError, Global};
 
@@ -159,19 +159,52 @@ fn run_again(alloc: Global, core: &mut Core<Reader>, played: &Played) -> Result<
     Ok(())
 }
 
+/// What is read of a tenant in two cores must be the same.
+fn compare_tenant(
+    alloc: Global,
+    one: &Core<Reader>,
+    other: &Core<Reader>,
+    tenant: u64,
+) -> Result<(), Miss> {
+    let seen = picture(alloc, one, tenant)?;
+    if seen.as_str() == picture(alloc, other, tenant)?.as_str() {
+        return Ok(());
+    }
+    Err(Miss::Differs(tenant))
+}
+
 /// All that is read of two cores must be the same.
 fn compare_cores(alloc: Global, one: &Core<Reader>, other: &Core<Reader>) -> Result<(), Miss> {
     for tenant in 1..8 {
-        let seen = picture(alloc, one, tenant)?;
-        if seen.as_str() != picture(alloc, other, tenant)?.as_str() {
-            return Err(Miss::Differs(tenant));
-        }
+        compare_tenant(alloc, one, other, tenant)?;
     }
     let seen = free(alloc, one)?;
-    if seen.as_str() != free(alloc, other)?.as_str() {
-        return Err(Miss::Differs(0));
+    if seen.as_str() == free(alloc, other)?.as_str() {
+        return Ok(());
+    }
+    Err(Miss::Differs(0))
+}
+
+/// Takes a tenant's own steps alone, those that were taken. Each must be answered as it was.
+fn play_alone(core: &mut Core<Reader>, played: &Played, tenant: u64) -> Result<(), Miss> {
+    for (deed, told) in played.deeds.iter().zip(played.told.iter()) {
+        if deed.tenant() == tenant && told.is_ok() {
+            walk(core, *deed, *told)?;
+        }
     }
     Ok(())
+}
+
+/// A tenant must read as it does where it has a core to itself.
+fn compare_alone(
+    alloc: Global,
+    together: &Core<Reader>,
+    played: &Played,
+    tenant: u64,
+) -> Result<(), Miss> {
+    let mut core = new_core(alloc)?;
+    play_alone(&mut core, played, tenant)?;
+    compare_tenant(alloc, together, &core, tenant)
 }
 
 /// What was met must be all.
@@ -199,4 +232,15 @@ fn a_list_by_step_and_by_run(rt: HostRuntime) -> Result<(), Miss> {
     let mut ran = new_core(rt.alloc())?;
     run_again(rt.alloc(), &mut ran, &played)?;
     compare_cores(rt.alloc(), &ran, &stepped)
+}
+
+/// Each tenant is answered the same, and reads the same, with all other tenants' steps removed.
+#[test]
+fn each_tenant_of_a_list_alone(rt: HostRuntime) -> Result<(), Miss> {
+    let mut together = new_core(rt.alloc())?;
+    let played = play_all(rt.alloc(), &mut together)?;
+    for tenant in 1..8 {
+        compare_alone(rt.alloc(), &together, &played, tenant)?;
+    }
+    Ok(())
 }
