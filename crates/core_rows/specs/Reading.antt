@@ -1,0 +1,53 @@
+-- A procedure whose frames do what their words say.
+use Rattle.std.specs.Prelude.{ℕ, ◌/◌, ◌%◌, ◌==◌, List, [], ◌∷◌, if◌then◌else◌}
+use Rattle.sched_rules.specs.declared.act.Act.{Act}
+use Rattle.sched_rules.specs.declared.act.InletAct.{InletAct}
+use Rattle.sched_rules.specs.declared.act.Then.{Then}
+use Rattle.sched_rules.specs.declared.act.Then.TheVariants.{Grow, Spawn, Go, Wait, Compute, Return}
+use Rattle.sched_rules.specs.Functions.{Functions}
+use Rattle.sched_toys.specs.Toys.{nearest, word_at}
+
+-- an act
+abbrev pub act_of : List (ℕ × ℕ) → Then → Act
+act_of stores after = record { stores = stores; after = after }
+
+-- the acts that are left after the lowest digit of an octal number
+abbrev pub acts_left : ℕ → List (ℕ × ℕ)
+acts_left acts = (0, acts / 8) ∷ []
+
+-- the act that a digit stands for, of a frame with these acts left, whose children's acts are those
+abbrev pub act_of_digit : ℕ → ℕ → ℕ → Act
+act_of_digit digit acts below =
+    if digit == 0 then act_of [] Return
+    else if digit == 1 then act_of (acts_left acts) Go
+    else if digit == 2 then act_of (acts_left acts) (Grow 16)
+    else if digit == 3 then act_of (acts_left acts) (Spawn (below ∷ 0 ∷ []) 4)
+    else if digit == 4 then act_of (acts_left acts) Wait
+    else if digit == 5 then act_of (acts_left acts) Compute
+    else if digit == 6 then act_of ((128, acts) ∷ []) Go
+    else act_of [] Go
+
+-- the act of the lowest digit
+abbrev pub reader_act : ℕ → ℕ → Act
+reader_act acts below = act_of_digit (acts % 8) acts below
+
+-- what a parent does about a returned child: the child's word 2 goes into its own, or, where word 3 is 3, nowhere; at 1 it aborts, at 2 it is woken
+abbrev pub reader_inlet : List ℕ → List ℕ → InletAct
+reader_inlet own child =
+    record {
+      stores = ((if word_at own 3 == 3 then 128 else 2), word_at child 2) ∷ [];
+      abort = word_at own 3 == 1;
+      wake = word_at own 3 == 2;
+    }
+
+-- Reader: a frame is computed from the acts that it has left; answers ask for themselves, and go into word 2
+abbrev pub reader : Functions ℕ ℕ
+reader =
+    record {
+      next = λ sight. reader_act (word_at (nearest sight) 0) (word_at (nearest sight) 1);
+      inlet = reader_inlet;
+      input = λ own. word_at own 0;
+      asked = λ answer. answer;
+      accept = λ own answer. (2, answer) ∷ [];
+      same = λ one other. one == other;
+    }

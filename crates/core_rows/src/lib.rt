@@ -1,0 +1,29 @@
+//! Worked runs of the scheduling core: tables of steps, each with what it is answered, on a core that runs.
+//!
+//! What a core does is proved of every list of steps, for every lawful procedure; worked examples of
+//! the definitions are in `sched_toys`. Here the core itself is built and driven, in tests, which are
+//! the substance of this crate: the toy procedures step by step, with all that is read of a tenant in
+//! between; a list of steps that meets every refusal there is for a list, by `step`, by `run`, foretold
+//! by `refusal`, and for each tenant alone; and the limits of jobs and tenants.
+//!
+//! For lists that are drawn from a seed there is one more procedure, [`Reader`], whose frames do what
+//! their words say, so that a list of steps meets every act there is: it grows, opens children, waits,
+//! computes, goes on for ever, and asks for what can't be done. It is a table (`specs/Reading.antt`),
+//! tried on worked examples ([`rows`]), and its frames always fit.
+//!
+//! ```text
+//! // a_root_opens_a_child: it waits for it and returns; the child is computed, and returns
+//! (Deed::Submit(1, &[0o43, 0o5], 4), Ok(DidOf::Submitted(1, ROOT))),
+//! (Deed::Steal(1, 0, ROOT), Ok(DidOf::Took)),
+//! (Deed::Advance(1, ROOT), Ok(DidOf::Spawned(FRAME_2))),
+//! (Deed::Advance(1, ROOT), Ok(DidOf::Waited)),
+//! ```
+#![tactic(auto)]
+
+mod reader;
+pub mod rows;
+
+pub use reader::Reader;
+
+#[cfg(test)]
+mod tests;

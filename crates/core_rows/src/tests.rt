@@ -1,0 +1,11 @@
+mod chain;
+mod deed;
+mod drawing;
+mod draws;
+mod fan;
+mod frames;
+mod limits;
+mod lists;
+mod reader;
+mod spin;
+mod walking;

@@ -1,0 +1,246 @@
+//! A long list of steps of several tenants, drawn from a seed.
+use crate::Reader;
+use crate::tests::deed::Deed;
+use crate::tests::drawing::{free, picture};
+use crate::tests::draws::{Draws, drawn};
+use crate::tests::walking::{Miss, Told, core_of, walk};
+use sched_core::{Core, DidOf, Step};
+use std::alloc::{AllocError, Global};
+
+/// How many steps are drawn.
+const DRAWN: u64 = 300;
+
+/// A seed whose list meets all that a list can meet.
+const SEED: u64 = 103;
+
+/// The refusals that a list can meet, each by its number: 1 to 18, since none is for want of memory.
+const ALL_REFUSALS: u32 = 0b111_1111_1111_1111_1110;
+
+/// All that steps do.
+const ALL_DEEDS: u32 = 0b111_1111_1111_1111;
+
+/// Steps, and what each was answered.
+#[derive(Drop)]
+struct Played {
+    deeds: Vec<Deed>,
+    told: Vec<Told>,
+}
+
+/// Takes a step, and notes it with its answer. `refusal` is asked before, and must say the same.
+fn play(core: &mut Core<Reader>, played: &mut Played, deed: Deed) -> Result<(), Miss> {
+    let step = deed.step().ok_or(Miss::NoStep(deed))?;
+    let foretold = core.refusal(&step);
+    let told = core.step(&step);
+    if foretold != told.err() {
+        return Err(Miss::Foretold(deed, foretold));
+    }
+    note(played, deed, told)
+}
+
+/// Notes a step with its answer.
+fn note(played: &mut Played, deed: Deed, told: Told) -> Result<(), Miss> {
+    played.deeds.push(deed).map_err(AllocError::from)?;
+    played.told.push(told).map_err(AllocError::from)?;
+    Ok(())
+}
+
+/// Four tenants come, the third with one node and a frame that goes on for ever.
+const OPENING: [Deed; 5] = [
+    Deed::Admit(1, 6, 40),
+    Deed::Admit(2, 12, 30),
+    Deed::Admit(3, 2, 1),
+    Deed::Admit(4, 280, 300),
+    Deed::Submit(3, &[0o7], 4),
+];
+
+/// The tenants come, and the last has 256 jobs and is refused one more.
+fn play_opening(core: &mut Core<Reader>, played: &mut Played) -> Result<(), Miss> {
+    for deed in &OPENING {
+        play(core, played, *deed)?;
+    }
+    for _ in 0..257 {
+        play(core, played, Deed::Submit(4, &[0o43, 0o5], 4))?;
+    }
+    Ok(())
+}
+
+/// What is drawn from the seed.
+fn play_drawn(core: &mut Core<Reader>, played: &mut Played) -> Result<(), Miss> {
+    let mut draws = Draws::new(SEED);
+    for _ in 0..DRAWN {
+        let deed = drawn(&mut draws, core);
+        play(core, played, deed)?;
+        if let Some(told) = played.told.last() {
+            draws.note(told);
+        }
+    }
+    Ok(())
+}
+
+/// The whole list, by `step`.
+fn play_all(alloc: Global, core: &mut Core<Reader>) -> Result<Played, Miss> {
+    let mut played = Played {
+        deeds: Vec::new(alloc),
+        told: Vec::new(alloc),
+    };
+    play_opening(core, &mut played)?;
+    play_drawn(core, &mut played)?;
+    Ok(played)
+}
+
+/// A core with room for all four tenants and no other.
+fn new_core(alloc: Global) -> Result<Core<Reader>, Miss> {
+    core_of(alloc, 300, 371, Reader)
+}
+
+/// Which refusals were met, by number: that of number n in the place of 2 to the n.
+fn refusals_met(told: &[Told]) -> u32 {
+    let mut met = 0u32;
+    for answer in told {
+        if let Err(refusal) = answer {
+            met |= 1u32.wrapping_shl(u32::from(refusal.number()));
+        }
+    }
+    met
+}
+
+/// The place of what a step did among all that steps do.
+fn place_of(did: &DidOf<u64>) -> u32 {
+    match did {
+        DidOf::Admitted => 0,
+        DidOf::Submitted(_, _) => 1,
+        DidOf::Took => 2,
+        DidOf::Went => 3,
+        DidOf::Grew => 4,
+        DidOf::Spawned(_) => 5,
+        DidOf::Waited => 6,
+        DidOf::Computing(_) => 7,
+        DidOf::Returned(_) => 8,
+        DidOf::Answered => 9,
+        DidOf::TakenIn(_, _) => 10,
+        DidOf::Finished(_) => 11,
+        DidOf::Spent(_) => 12,
+        DidOf::Cancelled => 13,
+        DidOf::Left => 14,
+    }
+}
+
+/// What was done, in those places.
+fn deeds_met(told: &[Told]) -> u32 {
+    let mut met = 0u32;
+    for answer in told {
+        if let Ok(did) = answer {
+            met |= 1u32.wrapping_shl(place_of(did));
+        }
+    }
+    met
+}
+
+/// The steps of a list.
+fn steps_of(alloc: Global, deeds: &[Deed]) -> Result<Vec<Step<Reader>>, Miss> {
+    let mut steps: Vec<Step<Reader>> = Vec::new(alloc);
+    for deed in deeds {
+        let step = deed.step().ok_or(Miss::NoStep(*deed))?;
+        steps.push(step).map_err(AllocError::from)?;
+    }
+    Ok(steps)
+}
+
+/// The steps of a list once more, in two runs. The answers must be the same.
+fn run_again(alloc: Global, core: &mut Core<Reader>, played: &Played) -> Result<(), Miss> {
+    let steps = steps_of(alloc, played.deeds.as_slice())?;
+    let (first, others) = steps.as_slice().split_at(steps.len() / 2);
+    let mut told = Vec::new(alloc);
+    core.run(first, &mut told)?;
+    core.run(others, &mut told)?;
+    if told.as_slice() != played.told.as_slice() {
+        return Err(Miss::Differs(0));
+    }
+    Ok(())
+}
+
+/// What is read of a tenant in two cores must be the same.
+fn compare_tenant(
+    alloc: Global,
+    one: &Core<Reader>,
+    other: &Core<Reader>,
+    tenant: u64,
+) -> Result<(), Miss> {
+    let seen = picture(alloc, one, tenant)?;
+    if seen.as_str() == picture(alloc, other, tenant)?.as_str() {
+        return Ok(());
+    }
+    Err(Miss::Differs(tenant))
+}
+
+/// All that is read of two cores must be the same.
+fn compare_cores(alloc: Global, one: &Core<Reader>, other: &Core<Reader>) -> Result<(), Miss> {
+    for tenant in 1..8 {
+        compare_tenant(alloc, one, other, tenant)?;
+    }
+    let seen = free(alloc, one)?;
+    if seen.as_str() == free(alloc, other)?.as_str() {
+        return Ok(());
+    }
+    Err(Miss::Differs(0))
+}
+
+/// Takes a tenant's own steps alone, those that were taken. Each must be answered as it was.
+fn play_alone(core: &mut Core<Reader>, played: &Played, tenant: u64) -> Result<(), Miss> {
+    for (deed, told) in played.deeds.iter().zip(played.told.iter()) {
+        if deed.tenant() == tenant && told.is_ok() {
+            walk(core, *deed, *told)?;
+        }
+    }
+    Ok(())
+}
+
+/// A tenant must read as it does where it has a core to itself.
+fn compare_alone(
+    alloc: Global,
+    together: &Core<Reader>,
+    played: &Played,
+    tenant: u64,
+) -> Result<(), Miss> {
+    let mut core = new_core(alloc)?;
+    play_alone(&mut core, played, tenant)?;
+    compare_tenant(alloc, together, &core, tenant)
+}
+
+/// What was met must be all.
+fn expect_all(met: u32, all: u32) -> Result<(), Miss> {
+    if met == all {
+        return Ok(());
+    }
+    Err(Miss::Met(met))
+}
+
+/// The list meets every refusal that a list can meet, and all that steps do.
+#[test]
+fn a_list_meets_all(rt: HostRuntime) -> Result<(), Miss> {
+    let mut core = new_core(rt.alloc())?;
+    let played = play_all(rt.alloc(), &mut core)?;
+    expect_all(refusals_met(played.told.as_slice()), ALL_REFUSALS)?;
+    expect_all(deeds_met(played.told.as_slice()), ALL_DEEDS)
+}
+
+/// By `step` and by `run`, a list is answered the same, and leaves the same tenants.
+#[test]
+fn a_list_by_step_and_by_run(rt: HostRuntime) -> Result<(), Miss> {
+    let mut stepped = new_core(rt.alloc())?;
+    let played = play_all(rt.alloc(), &mut stepped)?;
+    let mut ran = new_core(rt.alloc())?;
+    run_again(rt.alloc(), &mut ran, &played)?;
+    compare_cores(rt.alloc(), &ran, &stepped)
+}
+
+/// Each tenant is answered the same, and reads the same, with all other tenants' steps removed.
+#[test]
+fn each_tenant_of_a_list_alone(rt: HostRuntime) -> Result<(), Miss> {
+    let mut together = new_core(rt.alloc())?;
+    let played = play_all(rt.alloc(), &mut together)?;
+    for tenant in 1..8 {
+        compare_alone(rt.alloc(), &together, &played, tenant)?;
+    }
+    Ok(())
+}

@@ -1,0 +1,149 @@
+//! Tables of steps and of what is read in between, followed on a core.
+use crate::tests::deed::{Deed, Numbered};
+use crate::tests::drawing::{free, picture};
+use sched_core::{Config, Core, DidOf, Procedure, Refusal, StepOf};
+use std::alloc::{AllocError, Global};
+
+/// What a step is answered, where inputs are numbers.
+pub type Told = Result<DidOf<u64>, Refusal>;
+
+/// A row of a table.
+#[derive(Clone, Copy, Debug)]
+pub enum Row {
+    /// A step that is taken, and what it does.
+    Taken(Deed, DidOf<u64>),
+    /// A step that is refused.
+    Refused(Deed, Refusal),
+    /// What is read of tenant 1, as `picture` has it.
+    Reads(&'static str),
+    /// How many segments are free, and whether a frame is ready, as `free` has it.
+    Free(&'static str),
+}
+
+/// Where a core first went another way than its table.
+#[derive(Debug, Drop)]
+pub enum Miss {
+    /// The totals aren't those of a core.
+    Totals,
+    /// There was no memory.
+    Memory,
+    /// This is no step.
+    NoStep(Deed),
+    /// Before this step, `refusal` said this.
+    Foretold(Deed, Option<Refusal>),
+    /// This step was answered so.
+    Answered(Deed, Told),
+    /// This was read.
+    Read(String),
+    /// These answers or readings of two cores aren't the same.
+    Differs(u64),
+    /// Of what a list should meet, only these were met.
+    Met(u32),
+}
+
+impl From<AllocError> for Miss {
+    fn from(_error: AllocError) -> Miss {
+        Miss::Memory
+    }
+}
+
+/// A core of so many segments and nodes.
+pub fn core_of<P: Procedure + Drop>(
+    alloc: Global,
+    segments: u32,
+    nodes: u32,
+    procedure: P,
+) -> Result<Core<P>, Miss> {
+    let config = Config::new(segments, nodes).ok_or(Miss::Totals)?;
+    Ok(Core::new(alloc, config, procedure)?)
+}
+
+/// Takes a step, which must be answered so; `refusal`, asked before, must say the same.
+fn take<P: Procedure<Input = u64>>(
+    core: &mut Core<P>,
+    deed: Deed,
+    step: &StepOf<P::Answer>,
+    told: Told,
+) -> Result<(), Miss> {
+    let foretold = core.refusal(step);
+    if foretold != told.err() {
+        return Err(Miss::Foretold(deed, foretold));
+    }
+    let answer = core.step(step);
+    if answer != told {
+        return Err(Miss::Answered(deed, answer));
+    }
+    Ok(())
+}
+
+/// Takes a step in plain numbers, which must be answered so.
+pub fn walk<P: Procedure<Input = u64>>(
+    core: &mut Core<P>,
+    deed: Deed,
+    told: Told,
+) -> Result<(), Miss>
+where
+    P::Answer: Numbered + Drop,
+{
+    match deed.step() {
+        Some(step) => take(core, deed, &step, told),
+        None => Err(Miss::NoStep(deed)),
+    }
+}
+
+/// What was read must be this text.
+fn compare(read: String, text: &str) -> Result<(), Miss> {
+    if read.as_str() == text {
+        return Ok(());
+    }
+    Err(Miss::Read(read))
+}
+
+/// Follows one row.
+fn follow_row<P: Procedure<Input = u64>>(
+    alloc: Global,
+    core: &mut Core<P>,
+    row: Row,
+) -> Result<(), Miss>
+where
+    P::Answer: Numbered + Drop,
+{
+    match row {
+        Row::Taken(deed, did) => walk(core, deed, Ok(did)),
+        Row::Refused(deed, refusal) => walk(core, deed, Err(refusal)),
+        Row::Reads(text) => compare(picture(alloc, core, 1)?, text),
+        Row::Free(text) => compare(free(alloc, core)?, text),
+    }
+}
+
+/// Follows the rows of tables, one after the other.
+pub fn follow<P: Procedure<Input = u64>>(
+    alloc: Global,
+    core: &mut Core<P>,
+    tables: &[&[Row]],
+) -> Result<(), Miss>
+where
+    P::Answer: Numbered + Drop,
+{
+    for table in tables {
+        for row in *table {
+            follow_row(alloc, core, *row)?;
+        }
+    }
+    Ok(())
+}
+
+/// Follows the rows of tables on a new core of so many segments and nodes.
+pub fn run_tables<P: Procedure<Input = u64> + Drop>(
+    alloc: Global,
+    segments: u32,
+    nodes: u32,
+    procedure: P,
+    tables: &[&[Row]],
+) -> Result<(), Miss>
+where
+    P::Answer: Numbered + Drop,
+{
+    let mut core = core_of(alloc, segments, nodes, procedure)?;
+    follow(alloc, &mut core, tables)
+}
