@@ -21,6 +21,7 @@ use Rattle.sched_rules.specs.Cores.{Shared, tenant_in, shared_refusal}
 use Rattle.sched_laws.proofs.Words.{frame_at-with_words}
 use Rattle.sched_store.specs.Reads.{frames_in, path_of, serials_in, words_under, may_hold, holds, is_busy_among}
 use Rattle.sched_core.specs.Judging.{IsCome}
+use Rattle.sched_core.specs.Seeing.{GoesOn}
 use Rattle.sched_core.proofs.Going.{IsWith, IsGoing, going, begins, then-changed}
 use Rattle.sched_core.proofs.Ending.{named-words}
 
@@ -141,3 +142,17 @@ return-came {I = I} functions shared now worker name tenant frame act top is own
     let told : ◌≡◌ {A = DidOf I} (HasReturned top) (HasReturned (is_root frame.path)) = rw root refl in
     rw (is, own) (came name.tenant (in_state name.serial Returned tenant) shared (HasReturned (is_root frame.path)) (HasReturned top) now
     (then-changed _ _ _ _ now (in_state name.serial Returned) (begins shared name.tenant tenant owner) changes) told)
+
+-- who runs the frame holds it
+run-held : (worker : ℕ) (state : State) → is_run_by worker state ≡ true → is_held_by worker state ≡ true
+run-held worker (Ready home) runs = runs
+run-held worker (Running holder) runs = runs
+run-held worker (Computing holder) runs = absurd cc
+run-held worker Waiting runs = runs
+run-held worker Returned runs = runs
+
+pub held-by-runner : (shared : Shared) (name : FrameId) (worker : ℕ) (after : Then) (tenant : Tenant) (frame : Frame (List ℕ)) → GoesOn shared name worker after tenant frame → holds worker (named shared name) ≡ true
+held-by-runner shared name worker after tenant frame on =
+    let owner = on.owner in
+    let found = on.found in
+    rw (owner, found) (run-held worker frame.state on.runs)

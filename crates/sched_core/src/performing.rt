@@ -74,7 +74,7 @@ impl<P: Procedure, A: Allocator> Engine<P, A> {
                 if !self.store.has_child(name) {
                     return DidOf::Went;
                 }
-                self.store.set_state(name, State::Waiting);
+                self.store.let_go(worker, name, State::Waiting);
                 DidOf::Waited
             }
             Then::Compute => {
@@ -84,11 +84,11 @@ impl<P: Procedure, A: Allocator> Engine<P, A> {
             }
             Then::Return => {
                 if self.store.has_child(name) {
-                    self.store.set_state(name, State::Waiting);
+                    self.store.let_go(worker, name, State::Waiting);
                     return DidOf::Waited;
                 }
                 let is_root = self.store.is_root(name);
-                self.store.set_state(name, State::Returned);
+                self.store.let_go(worker, name, State::Returned);
                 DidOf::Returned(is_root)
             }
         }

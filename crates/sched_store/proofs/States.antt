@@ -180,6 +180,35 @@ unheld-set old trees name state frame stored sets there nobody =
       | inr same ↦ stored.places worker number serial f (sym same ∙ is) held
     ])
 
+-- the worker that held the frame has an empty place, where the state names nobody
+
+pub let-go-set : (old : Parts) (trees : List (TableTree ℕ)) (worker : ℕ) (name : FrameId) (state : State) (frame : Frame ℕ) → IsStored old → SetsState old.trees trees name state → frame_in old.trees name.tenant name.serial ≡ Some frame →
+    is_held_by worker frame.state ≡ true → is_held state ≡ false → StateSet old trees (set old.places worker None) name state
+let-go-set old trees worker name state frame stored sets there holds nobody =
+    state-set old trees (set old.places worker None) name state frame stored sets there (length-set old.places worker None ∙ stored.workers) (λ other number serial f is held.
+    elim (state-cases old.trees trees name state sets number serial) [
+      | inl (m, s) ↦ absurd (not-here other f (rw (← m, ← s) is) held)
+      | inr same ↦
+          (let was : frame_in old.trees number serial ≡ Some f = sym same ∙ is in
+          let at = stored.places other number serial f was held in
+          elim (cases_eq other worker) [
+            | inl w ↦ absurd (
+                let own = stored.places worker name.tenant name.serial frame there holds in
+                let place = rw w at at.2 in
+                let e : record { tenant = number; serial = serial } ≡ name = cc (own.2, place) in
+                let m : number ≡ name.tenant = ap (λ (n : FrameId). n.tenant) e in
+                let s : serial ≡ name.serial = ap (λ (n : FrameId). n.serial) e in
+                not-here other f (rw (← m, ← s) is) held)
+            | inr differs ↦ (at.0, at.1, get_or-set_other old.places worker other None None differs ∙ at.2)
+          ])
+    ])
+  where
+    not-here : (other : ℕ) (f : Frame ℕ) → frame_in trees name.tenant name.serial ≡ Some f → is_held_by other f.state ≡ true → ⊥
+    not-here other f now held =
+        let e : record frame { state = state } ≡ f = cc (state-here old.trees trees name state frame sets there, now) in
+        let h : is_held_by other state ≡ true = ap (λ (x : Frame ℕ). is_held_by other x.state) e ∙ held in
+        false≢true (sym nobody ∙ held-is-held other state h)
+
 -- a state that names the worker
 
 pub held-set : (old : Parts) (trees : List (TableTree ℕ)) (worker : ℕ) (name : FrameId) (state : State) (frame : Frame ℕ) → IsStored old → SetsState old.trees trees name state → frame_in old.trees name.tenant name.serial ≡ Some frame →

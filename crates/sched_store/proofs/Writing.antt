@@ -87,7 +87,6 @@ nothing-stored parts name is_stored is =
     let has = has-node parts is_stored name f.0.value is value in
     (stores-set parts parts.nodes name f.0.value [] is_stored has (sym (words-stay parts.nodes f.0.value has.is_open))).shared
 
-
 -- a segment that a tenant has left is free
 
 pub has-free : (parts : Parts) → IsStored parts → (number segments nodes : ℕ) → HasLeft (shared_of parts) number segments nodes → segments ≤ free_segments parts.nodes

@@ -6,7 +6,7 @@ ghost use Rattle.sched_rules.specs.Trees.{stored, is_outside};
 ghost use Rattle.sched_rules.specs.Lone.{holding, in_state};
 ghost use Rattle.sched_rules.specs.Changes.{on_tenant};
 ghost use Rattle.sched_rules.specs.Views.{named};
-ghost use Rattle.sched_store.specs.Reads.{words_under, is_held, may_hold, HasLeft};
+ghost use Rattle.sched_store.specs.Reads.{words_under, is_held, holds, may_hold, HasLeft};
 
 use crate::store::{Store, node_of};
 use cactus_stack::{NodeNo, Stack, growth_charge};
@@ -49,6 +49,20 @@ impl<A: Allocator> Store<A> {
         ensures { self.new ≡ on_tenant name.tenant (in_state name.serial state) self.old }
     {
         self.table.set_state(name, state);
+    }
+
+    /// The worker that holds a frame lets it go into a state that names no worker: Ready, Waiting or
+    /// Returned. Its place is empty then, so that it is seen to be free at one look.
+    pub fn let_go(&mut self, worker: Worker, name: FrameId, state: State)
+        requires there { IsSome (named self.old name) }
+        requires held { holds worker (named self.old name) ≡ true }
+        requires nobody { is_held state ≡ false }
+        ensures { self.new ≡ on_tenant name.tenant (in_state name.serial state) self.old }
+    {
+        let number = worker.number();
+        self.places[number as usize] = None;
+        let table = &mut self.table;
+        table.set_state(name, state);
     }
 
     /// The worker runs the frame. It held none before, or this one.

@@ -1,6 +1,6 @@
 use Rattle.std.proofs.Common.{◌≡◌, inl, inr, refl, sym, ◌∙◌}
 use Rattle.frame_table.proofs.TreeLaws.{found-there}
-use Rattle.sched_core.proofs.Acting.{go-came, grow-came, spawn-came, compute-came, waits-came, wait-came, return-came}
+use Rattle.sched_core.proofs.Acting.{go-came, grow-came, spawn-came, compute-came, waits-came, wait-came, return-came, held-by-runner}
 use Rattle.sched_core.proofs.engine.Engine.go_on.Goals as goal
 
 pub open-requires-clause-parent : goal.open-requires-clause-parent
@@ -31,12 +31,21 @@ returns-then-not-has_child-clause-came g c tenant frame on =
 
 pub returns-else-not-has_child-clause-came : goal.returns-else-not-has_child-clause-came
 returns-else-not-has_child-clause-came g c tenant frame on =
-    waits-came (g.P.Procedure.functions c.args.self.now.procedure) c.args.self.now.store c.set_state.new.self c.args.worker c.args.name tenant frame c.args.after.now (inl c.in-Wait.is) on.owner (sym c.if-not-has_child.ensures) c.set_state.ensures
+    waits-came (g.P.Procedure.functions c.args.self.now.procedure) c.args.self.now.store c.let_go.new.self c.args.worker c.args.name tenant frame c.args.after.now (inl c.in-Wait.is) on.owner (sym c.if-not-has_child.ensures) c.let_go.ensures
 
 pub returns-then-has_child-clause-came : goal.returns-then-has_child-clause-came
 returns-then-has_child-clause-came g c tenant frame on =
-    waits-came (g.P.Procedure.functions c.args.self.now.procedure) c.args.self.now.store c.set_state-then-has_child.new.self c.args.worker c.args.name tenant frame c.args.after.now (inr c.in-Return.is) on.owner (sym c.if-has_child.ensures) c.set_state-then-has_child.ensures
+    waits-came (g.P.Procedure.functions c.args.self.now.procedure) c.args.self.now.store c.let_go-then-has_child.new.self c.args.worker c.args.name tenant frame c.args.after.now (inr c.in-Return.is) on.owner (sym c.if-has_child.ensures) c.let_go-then-has_child.ensures
 
 pub returns-else-has_child-clause-came : goal.returns-else-has_child-clause-came
 returns-else-has_child-clause-came g c tenant frame on =
-    return-came (g.P.Procedure.functions c.args.self.now.procedure) c.args.self.now.store c.set_state-in-Return.new.self c.args.worker c.args.name tenant frame c.args.after.now c.is_root-is_root.result c.in-Return.is on.owner on.found (sym c.if-has_child.ensures) c.set_state-in-Return.ensures c.is_root-is_root.ensures
+    return-came (g.P.Procedure.functions c.args.self.now.procedure) c.args.self.now.store c.let_go-in-Return.new.self c.args.worker c.args.name tenant frame c.args.after.now c.is_root-is_root.result c.in-Return.is on.owner on.found (sym c.if-has_child.ensures) c.let_go-in-Return.ensures c.is_root-is_root.ensures
+
+pub let_go-requires-clause-held : goal.let_go-requires-clause-held
+let_go-requires-clause-held g c = let s = c.requires in held-by-runner c.args.self.now.store c.args.name c.args.worker c.args.after.now s.0 s.1 s.2
+
+pub let_go-requires-then-has_child-clause-held : goal.let_go-requires-then-has_child-clause-held
+let_go-requires-then-has_child-clause-held g c = let s = c.requires in held-by-runner c.args.self.now.store c.args.name c.args.worker c.args.after.now s.0 s.1 s.2
+
+pub let_go-requires-in-Return-clause-held : goal.let_go-requires-in-Return-clause-held
+let_go-requires-in-Return-clause-held g c = let s = c.requires in held-by-runner c.args.self.now.store c.args.name c.args.worker c.args.after.now s.0 s.1 s.2
