@@ -19,27 +19,20 @@ use Rattle.sched_rules.proofs.Isolation.{there, step-taken, shared-after-taken}
 use Rattle.sched_laws.specs.Fitted.{submits, origins_of}
 use Rattle.sched_laws.proofs.Shaped.{LeftShaped}
 use Rattle.sched_laws.proofs.Answers.{lone-shaped}
-use Rattle.sched_laws.proofs.Levels.{IsLawful}
 use Rattle.sched_laws.proofs.Fits.{LeftFits}
 use Rattle.sched_laws.proofs.FitAnswers.{step-fits, admission}
 use Rattle.jamboree_rules.specs.declared.leaf.Leaf.{Leaf}
 use Rattle.jamboree_rules.specs.declared.leaf.LeafAnswer.{LeafAnswer}
 use Rattle.jamboree_rules.specs.Fits.{AreFitting, IsRoot}
 use Rattle.jamboree_rules.specs.Procedure.{jamboree}
-use Rattle.jamboree_rules.proofs.Keeping.{next-keeps, inlet-keeps}
-use Rattle.jamboree_rules.proofs.Answers.{accept-keeps}
 use Rattle.jamboree_laws.specs.Replies.{IsSearch, AreSearches}
-use Rattle.jamboree_laws.proofs.Replying.{search-fits}
+use Rattle.jamboree_laws.proofs.Replying.{search-fits, lawful}
 use Rattle.jamboree_core.specs.Searching.{TenantSearches}
 use Rattle.jamboree_core.specs.Journals.{StaysTaken, AreTakenFrom, IsJournalOf}
 use Rattle.jamboree_core.proofs.Serving.{searches-asked}
 
 abbrev Came : Type 0
 Came = Result (Outcome Leaf) Refusal
-
--- Jamboree keeps frames fitting
-pub lawful : (grain : ℕ) → IsLawful (jamboree grain) AreFitting IsRoot
-lawful grain = record { next = next-keeps (jamboree grain) grain refl; inlet = inlet-keeps (jamboree grain) refl; accept = accept-keeps (jamboree grain) refl refl refl refl }
 
 -- from nothing only an admission is taken, and it leaves a tenant without jobs
 begun-fits : (grain : ℕ) (step : StepOf LeafAnswer) (outcome : Outcome Leaf) → lone (jamboree grain) None step ≡ Ok outcome → LeftFits AreFitting IsRoot (submits step) outcome.0

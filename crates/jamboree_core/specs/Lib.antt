@@ -1,3 +1,4 @@
 pub mod Searching
 pub mod Journals
 pub mod Outcomes
+pub mod Rows

@@ -35,6 +35,7 @@
 mod asking;
 pub mod laws;
 mod outcomes;
+pub mod rows;
 mod running;
 
 pub use asking::submit;

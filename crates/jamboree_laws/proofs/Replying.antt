@@ -15,6 +15,7 @@ use Rattle.sched_rules.specs.Runs.{only}
 use Rattle.sched_rules.specs.Cores.{shared_by_nobody, tenant_in}
 use Rattle.sched_rules.specs.Headline.{AreAnswersTo, after_answers, taken}
 use Rattle.sched_laws.specs.Fitted.{JobsFit, TenantFits, RootFits, RootsFit, origins_of}
+use Rattle.sched_laws.proofs.Levels.{IsLawful}
 use Rattle.sched_laws.proofs.FitAnswers.{run-fits, nobody-fits}
 use Rattle.jamboree_rules.specs.declared.leaf.Leaf.{Leaf}
 use Rattle.jamboree_rules.specs.declared.leaf.LeafAnswer.{LeafAnswer}
@@ -46,6 +47,10 @@ pub searches-fit : (steps : List (StepOf LeafAnswer)) → AreSearches steps → 
 searches-fit [] are = tt
 searches-fit (step ∷ steps) are = (search-fits step are.0, searches-fit steps are.1)
 
+-- Jamboree keeps frames fitting
+pub lawful : (grain : ℕ) → IsLawful (jamboree grain) AreFitting IsRoot
+lawful grain = record { next = next-keeps (jamboree grain) grain refl; inlet = inlet-keeps (jamboree grain) refl; accept = accept-keeps (jamboree grain) refl refl refl refl }
+
 -- a tenant fits after any list of searches
 pub searched : (grain : ℕ) (totals : Quota) (steps : List (StepOf LeafAnswer)) (answers : List (Result (DidOf Leaf) Refusal)) (number : ℕ) (tenant : Tenant) →
     AreAnswersTo (jamboree grain) (shared_by_nobody totals) steps answers → AreSearches (taken steps answers) →
@@ -53,7 +58,7 @@ pub searched : (grain : ℕ) (totals : Quota) (steps : List (StepOf LeafAnswer))
     TenantFits AreFitting IsRoot (origins_of (only number (taken steps answers))) tenant
 searched grain totals steps answers number tenant right searches at =
     let core = run-fits (jamboree grain) AreFitting IsRoot (λ n. []) (shared_by_nobody totals) steps answers
-    (record { next = next-keeps (jamboree grain) grain refl; inlet = inlet-keeps (jamboree grain) refl; accept = accept-keeps (jamboree grain) refl refl refl refl }) tt tt
+    (lawful grain) tt tt
     (nobody-fits AreFitting IsRoot totals) right (searches-fit (taken steps answers) searches) in
     core.tenants number tenant at
 
