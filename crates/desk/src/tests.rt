@@ -84,16 +84,16 @@ fn left(segments: u32, nodes: u32, steps: u32) -> Result<Left, Refusal> {
     })
 }
 
-/// A tenant's whole stay: a job that is done, one that is cancelled, and the Leave. Its badge.
-fn stay<L: Hands, R: Wait + Abort>(
-    rt: &R,
-    desk: &Desk<L>,
-    worker: Worker,
-    reserve: Reserve,
-    position: Position,
-) -> Badge<L>
-    requires { L.all ≡ L.parts }
-{
+/// A tenant's jobs: one that is done, and one that is cancelled. Its seat, and the badge of the
+/// worker of this number.
+fn work<L: Hands, R: Wait + Abort>(rt: &R, desk: &Desk<L>, number: u8) -> (Seat<L>, Badge<L>) {
+    let worker = Worker::new(number).expect(rt, "a worker's number");
+    let reserve = Reserve::new(4, 8).expect(rt, "within the limits");
+    let board = Board::new(1 << 28 | 1 << 35, 1 << 27 | 1 << 36).expect(rt, "a board");
+    let position = Position {
+        board,
+        side: Side::Black,
+    };
     let mut seat = desk.admit(rt, reserve).expect(rt, "there is room");
     let mut badge = desk.badge(rt).expect(rt, "there are badges");
     let root = FrameId {
@@ -112,8 +112,7 @@ fn stay<L: Hands, R: Wait + Abort>(
     assert_eq!(rt; desk.get(rt, &seat, 2), Ok(Outcome::Cancelled));
     assert_eq!(rt; desk.quota(rt, &seat), left(4, 6, 123));
     assert_eq!(rt; seat.share(), 4);
-    desk.leave(rt, seat);
-    badge
+    (seat, badge)
 }
 
 /// One seat, and one badge for its worker.
@@ -122,8 +121,8 @@ fn one_stays<L: Hands, R: Wait + Abort>(rt: &R, alloc: Global, blank: Blank) -> 
     requires parts { (blank.parts ≡ L.parts) × (L.all ≡ L.parts) × (L.all ≡ 13835058055282163712) }
 {
     let desk: Desk<L> = desk_of(alloc, blank, 32, 64)?;
-    let worker = Worker::new(1).ok_or("within the limits")?;
-    let badge = stay(rt, &desk, worker, reserve(4, 8)?, opening()?);
+    let (seat, badge) = work(rt, &desk, 1);
+    desk.leave(rt, seat);
     assert_eq!(rt; desk.count(rt), 10);
     let (hall, is_whole) = desk.into_hall(badge);
     assert_eq!(rt;
@@ -143,41 +142,65 @@ fn start_four<'s, E, L: Hands + Send + Sync, R: Wait + Abort + Sync>(
     scope: &'s Scope<'s, E>,
     rt: &'s R,
     desk: &'s Desk<L>,
-    reserve: Reserve,
-    position: Position,
-    handles: &mut Vec<JoinHandle<Badge<L>>>,
-) -> Option<()>
-    requires { L.all ≡ L.parts }
-{
+    handles: &mut Vec<JoinHandle<(Seat<L>, Badge<L>)>>,
+) -> Option<()> {
     for number in 1..5u8 {
-        let worker = Worker::new(number)?;
-        handles.reserve(1).ok()?;
-        let started = scope.spawn(
-            move || -> Badge<L>
-                requires { L.all ≡ L.parts }
-            { stay(rt, desk, worker, reserve, position) },
-        );
-        handles.push_reserved(started.ok()?);
+        if handles.reserve(1).is_err() {
+            return None;
+        }
+        match scope.spawn(move || work(rt, desk, number)) {
+            Ok(handle) => handles.push_reserved(handle),
+            Err(_) => return None,
+        }
     }
     Some(())
 }
 
-/// Joins all, and their badges to this one.
-fn join_all<L: Hands, R: Threads>(
+/// Joins all: their seats leave, and their badges are joined to this one.
+fn join_all<L: Hands, R: Wait + Threads>(
     rt: &R,
+    desk: &Desk<L>,
     first: Badge<L>,
-    handles: Vec<JoinHandle<Badge<L>>>,
+    handles: Vec<JoinHandle<(Seat<L>, Badge<L>)>>,
 ) -> Badge<L>
     requires { L.all ≡ L.parts }
 {
     let mut all = first;
     for handle in handles {
-        all = all.join(handle.join(rt));
+        let (seat, badge) = handle.join(rt);
+        desk.leave(rt, seat);
+        all = all.join(badge);
     }
     all
 }
 
 /// Four threads, each with a seat and a badge of its own.
+fn four_work<L: Hands + Send + Sync, R: Wait + Abort + Threads + Sync>(
+    rt: &R,
+    alloc: Global,
+    desk: &Desk<L>,
+    first: Badge<L>,
+) -> Option<Badge<L>>
+    requires { L.all ≡ L.parts }
+{
+    thread::scope(
+        thread::scope_env(),
+        rt,
+        |scope|
+            requires { L.all ≡ L.parts }
+        {
+            let mut handles = Vec::new(alloc);
+            let started = start_four(scope, rt, desk, &mut handles);
+            let badge = join_all(rt, desk, first, handles);
+            match started {
+                Some(()) => Some(badge),
+                None => None,
+            }
+        },
+    )
+}
+
+/// A desk for four threads.
 fn four_stay<L: Hands + Send + Sync, R: Wait + Abort + Threads + Sync>(
     rt: &R,
     alloc: Global,
@@ -187,21 +210,9 @@ fn four_stay<L: Hands + Send + Sync, R: Wait + Abort + Threads + Sync>(
     requires parts { (blank.parts ≡ L.parts) × (L.all ≡ L.parts) × (L.all ≡ 13835058055282163712) }
 {
     let desk: Desk<L> = desk_of(alloc, blank, 32, 64)?;
-    let (reserve, position) = (reserve(4, 8)?, opening()?);
-    let spare = desk.badge(rt).ok_or("there are badges")?;
-    let shared = &desk;
-    let badge = thread::scope(
-        thread::scope_env(),
-        rt,
-        |scope| -> Badge<L>
-            requires { L.all ≡ L.parts }
-        {
-            let mut handles = Vec::new(alloc);
-            let started = start_four(scope, rt, shared, reserve, position, &mut handles);
-            assert!(rt; started.is_some());
-            join_all(rt, spare, handles)
-        },
-    );
+    let first = desk.badge(rt).ok_or("there are badges")?;
+    let badge = four_work(rt, alloc, &desk, first);
+    let badge = badge.ok_or("there are threads")?;
     assert_eq!(rt; badge.share(), 20);
     let (hall, is_whole) = desk.into_hall(badge);
     assert_eq!(rt; (hall.count(), hall.kept(), is_whole), (40, 20, true));
