@@ -1,8 +1,7 @@
 -- What a seat shows of its jobs, as a session has it.
-use Rattle.std.proofs.Common.{◌≡◌, ℕ, ◌+◌, ◌-◌, List, [], ◌∷◌, ◌++◌, map, length, true, false, Option, Some, None, refl, sym, subst, ap, ap₂, ◌∙◌, Ok}
+use Rattle.std.proofs.Common.{◌≡◌, ℕ, ◌-◌, List, [], ◌∷◌, map, true, false, Option, Some, None, refl, sym, subst, ap, ap₂, ◌∙◌, Ok}
 use Rattle.std.specs.Prelude.{◌==◌, if◌then◌else◌}
 use Rattle.std.specs.Option.{option_map}
-use Rattle.std.proofs.lemmas.List.{map-append}
 use Rattle.othello_board.specs.Words.{cells, cells_of}
 use Rattle.othello_eval.specs.Minimax.{minimax, best_choice}
 use Rattle.jamboree.specs.declared.reply.Reply.{Reply}

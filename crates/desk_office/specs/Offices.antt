@@ -1,8 +1,7 @@
 -- What a session sees of a seat: its asks, and how its jobs stand.
-use Rattle.std.specs.Prelude.{ℕ, List, [], map, Option, Some, None}
+use Rattle.std.specs.Prelude.{List, [], map, Option, Some, None}
 use Rattle.othello_board.specs.Words.{cells}
 use Rattle.othello_eval.specs.Minimax.{minimax, best_choice}
-use Rattle.jamboree.specs.declared.reply.Reply.{Reply}
 use Rattle.jamboree.specs.Replies.{board_of, depth_of}
 use Rattle.jamboree_core.specs.declared.outcomes.Outcome.{Outcome}
 use Rattle.jamboree_core.specs.declared.outcomes.Outcome.TheVariants.{Pending, Done, Spent, Cancelled}
