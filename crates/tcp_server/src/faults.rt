@@ -1,0 +1,27 @@
+//! Why a server ended before its sessions did.
+use std::io;
+use steal_pool::PoolFault;
+use thiserror::Error;
+
+/// Why a server ended before it had taken all its sessions.
+#[derive(Debug, Drop, Error)]
+pub enum ServeFault {
+    /// The listener has failed: no more connections can be taken.
+    #[error("no connection could be taken: {0}")]
+    Listener(io::Error),
+    /// There was no memory for the pool.
+    #[error("no memory for the workers")]
+    OutOfMemory,
+    /// A thread of the pool couldn't be had.
+    #[error("no thread for a worker")]
+    NoThread,
+}
+
+impl From<PoolFault> for ServeFault {
+    fn from(fault: PoolFault) -> ServeFault {
+        match fault {
+            PoolFault::OutOfMemory => ServeFault::OutOfMemory,
+            PoolFault::NoThread => ServeFault::NoThread,
+        }
+    }
+}

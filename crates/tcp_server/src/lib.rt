@@ -1,0 +1,27 @@
+//! Sessions over TCP: a server of lines for many tenants, with one pool of workers.
+//!
+//! [`serve`] is handed a listener that is bound, and a desk. It takes so many connections and no more, each in a
+//! thread of its own, in which `desk_office` answers its lines; the pool of `steal_pool` works beside them. When all
+//! sessions have ended it closes the desk, joins all, and gives what the pool ended with.
+//!
+//! A connection that is lost is a session that ended: its tenant leaves. A connection for which no thread can be had
+//! is closed, and counts too. The listener is closed with the last connection that is taken, so that who comes later
+//! is refused at once and can try another server.
+//!
+//! What a session answers is the contract of `desk_office::serve_desk`, whatever the threads do: a socket is a source
+//! and a sink of bytes. Here is only who runs where. Nothing is proved of when a thread runs.
+//!
+//! ```text
+//! let listener = TcpListener::bind(&rt, "127.0.0.1:0")?;
+//! let end = serve(&rt, alloc, &desk, listener, 2, Worker::new(4)?, &Open)?;   // after two sessions
+//! ```
+#![tactic(auto)]
+
+mod faults;
+mod server;
+
+pub use faults::ServeFault;
+pub use server::serve;
+
+#[cfg(test)]
+mod tests;

@@ -1,0 +1,306 @@
+//! Sessions over TCP, server and clients in one process. What each session is told is known beforehand, whatever else
+//! the server does.
+ghost use Rattle.std.specs.Prelude.{◌≡◌};
+
+use crate::{ServeFault, serve};
+use desk::{Desk, Hall, Hands, PARTS};
+use sched_rules::{Config, Worker};
+use std::alloc::Global;
+use std::io::{self, Read, Write};
+use std::marker::Brand;
+use std::net::{Net, TcpListener, TcpStream};
+use std::sync::Wait;
+use std::sync::ledger::Blank;
+use std::test::Fail;
+use std::thread::{self, Threads};
+use steal_pool::{Open, PoolEnd};
+
+/// A line, and its answer.
+type Row = (&'static str, &'static str);
+
+/// A job that is answered.
+const ANSWERED: [Row; 5] = [
+    ("HELLO 4 8\n", "WELCOME 4 8\n"),
+    (
+        "ASK 0 ---------------------------OX------XO--------------------------- X\n",
+        "JOB 1\n",
+    ),
+    ("WAIT 1\n", "DONE 1 0 -\n"),
+    ("QUOTA\n", "QUOTA 4 7 123\n"),
+    ("BYE\n", "BYE\n"),
+];
+
+/// A job that is spent, at grain 0.
+const SPENT: [Row; 6] = [
+    ("HELLO 8 1\n", "WELCOME 8 1\n"),
+    (
+        "ASK 3 ---------------------------OX------XO--------------------------- X\n",
+        "JOB 1\n",
+    ),
+    ("WAIT 1\n", "SPENT 1\n"),
+    ("QUOTA\n", "QUOTA 8 0 14\n"),
+    ("LIVE\n", "LIVE 0 0\n"),
+    ("BYE\n", "BYE\n"),
+];
+
+/// Lines that reserve all there is, and wait for a job that takes a while.
+const LONG_WAIT: &str =
+    "HELLO 4096 65536\nASK 7 ---------------------------OX------XO--------------------------- X\nWAIT 1\n";
+
+/// Jobs, each with its answer as a first and as a second job.
+const JOBS: [(&str, &str, &str); 4] = [
+    (
+        "ASK 1 ---------------------------OX------XO--------------------------- X\n",
+        "DONE 1 -3 d3\n",
+        "DONE 2 -3 d3\n",
+    ),
+    (
+        "ASK 1 XO-------------------------------------------------------------- X\n",
+        "DONE 1 6000 c1\n",
+        "DONE 2 6000 c1\n",
+    ),
+    (
+        "ASK 1 XO-------------------------------------------------------------- O\n",
+        "DONE 1 -124 pass\n",
+        "DONE 2 -124 pass\n",
+    ),
+    (
+        "ASK 1 -OXO------------------------------------------------------------ X\n",
+        "DONE 1 89 a1\n",
+        "DONE 2 89 a1\n",
+    ),
+];
+
+/// How often a client asks again for what another one has still reserved.
+const TURNS: u32 = 1_000_000;
+
+/// What the clients of a server do.
+#[derive(Clone, Copy)]
+enum Visit {
+    /// One job is answered, each line sent after the answer to the one before.
+    Answered,
+    /// One job is spent.
+    Spent,
+    /// The two at once, line by line.
+    Both,
+    /// The lines of one job, a byte at a time.
+    Bytes,
+    /// A connection is lost while its session waits; another one then gets what it had reserved.
+    Lost,
+    /// Each connection has two jobs of its own.
+    Many,
+}
+
+/// Sends a line, and tells whether this is its answer.
+fn is_answered(mut stream: &TcpStream, row: Row) -> io::Result<bool> {
+    stream.write_all(row.0.as_bytes())?;
+    is_told(stream, row.1)
+}
+
+/// Whether this is what the server says next.
+fn is_told(mut stream: &TcpStream, text: &str) -> io::Result<bool> {
+    let mut held = [0; 64];
+    let Some(told) = held.get_mut(..text.len()) else {
+        return Ok(false);
+    };
+    stream.read_exact(told)?;
+    Ok(&*told == text.as_bytes())
+}
+
+/// Whether each line is answered as it should be, and the connection is closed then.
+fn are_answered(mut stream: &TcpStream, rows: &[Row]) -> io::Result<bool> {
+    for row in rows {
+        if !is_answered(stream, *row)? {
+            return Ok(false);
+        }
+    }
+    Ok(stream.read(&mut [0; 1])? == 0)
+}
+
+/// Whether two sessions at once are answered as each is alone.
+fn are_both_answered(one: &TcpStream, two: &TcpStream) -> io::Result<bool> {
+    for (first, second) in ANSWERED.iter().zip(SPENT.iter()) {
+        if !is_answered(two, *second)? || !is_answered(one, *first)? {
+            return Ok(false);
+        }
+    }
+    is_answered(two, ("BYE\n", "BYE\n"))
+}
+
+/// Whether lines that come a byte at a time are answered as whole ones.
+fn are_bytes_answered(mut stream: &TcpStream) -> io::Result<bool> {
+    for (line, answer) in &ANSWERED {
+        for byte in line.as_bytes() {
+            stream.write_all(&[*byte])?;
+        }
+        if !is_told(stream, answer)? {
+            return Ok(false);
+        }
+    }
+    Ok(true)
+}
+
+/// Whether all that there is can be reserved, within so many turns.
+fn is_welcome(stream: &TcpStream) -> io::Result<bool> {
+    for _ in 0..TURNS {
+        let mut told = [0; 1];
+        let mut reader = stream;
+        (&*stream).write_all(b"HELLO 4096 65536\n")?;
+        reader.read_exact(&mut told)?;
+        if told == *b"W" {
+            return is_told(stream, "ELCOME 4096 65536\n");
+        }
+        if !is_told(stream, "RR 14\n")? {
+            return Ok(false);
+        }
+    }
+    Ok(false)
+}
+
+/// Whether each connection is told of its own jobs: all ask, and then each waits for its second job and its first.
+fn are_told_of_their_own(streams: &[TcpStream]) -> io::Result<bool> {
+    for (i, stream) in streams.iter().enumerate() {
+        let (first, second) = (&JOBS[i % 4], &JOBS[i / 4 % 4]);
+        let told = is_answered(stream, ("HELLO 16 64\n", "WELCOME 16 64\n"))?
+            && is_answered(stream, (first.0, "JOB 1\n"))?
+            && is_answered(stream, (second.0, "JOB 2\n"))?;
+        if !told {
+            return Ok(false);
+        }
+    }
+    for (i, stream) in streams.iter().enumerate() {
+        let (first, second) = (&JOBS[i % 4], &JOBS[i / 4 % 4]);
+        let told = is_answered(stream, ("WAIT 2\n", second.2))?
+            && is_answered(stream, ("WAIT 1\n", first.1))?
+            && is_answered(stream, ("WAIT 3\n", "ERR 17\n"))?;
+        if !told {
+            return Ok(false);
+        }
+    }
+    Ok(true)
+}
+
+/// Whether a session whose connection is lost gives back what it had reserved.
+fn is_given_back(lost: TcpStream, kept: &TcpStream) -> io::Result<bool> {
+    (&lost).write_all(LONG_WAIT.as_bytes())?;
+    if !is_told(&lost, "WELCOME 4096 65536\n")? {
+        return Ok(false);
+    }
+    drop(lost);
+    is_welcome(kept)
+}
+
+/// Whether clients at these connections are told what they should be told.
+fn are_served(visit: Visit, mut streams: Vec<TcpStream>) -> io::Result<bool> {
+    match (visit, streams.as_slice()) {
+        (Visit::Answered, [stream]) => are_answered(stream, &ANSWERED),
+        (Visit::Spent, [stream]) => are_answered(stream, &SPENT),
+        (Visit::Both, [one, two]) => are_both_answered(one, two),
+        (Visit::Bytes, [stream]) => are_bytes_answered(stream),
+        (Visit::Many, many) => are_told_of_their_own(many),
+        _ => match (streams.pop(), streams.pop()) {
+            (Some(lost), Some(kept)) => is_given_back(lost, &kept),
+            _ => Ok(false),
+        },
+    }
+}
+
+/// A server for so many sessions with two workers, and clients beside it: whether they were told what they should be
+/// told, and whether all steps are accounted for at the end.
+fn visited<L, R>(
+    rt: &R,
+    alloc: Global,
+    blank: Blank,
+    sessions: u16,
+    visit: Visit,
+) -> Result<(bool, bool), Fail>
+where
+    L: Hands + Send + Sync,
+    R: Net<Listener = TcpListener, Stream = TcpStream> + Threads + Wait + Sync,
+    requires name { blank.name ≡ L.name }
+    requires parts { (blank.parts ≡ L.parts) × (L.all ≡ L.parts) × (L.all ≡ PARTS) }
+{
+    let config = Config::new(4096, 65536).ok_or("the limits")?;
+    let desk: Desk<L> = Desk::new(Hall::new(alloc, config, 0)?, blank);
+    let listener = TcpListener::bind(rt, "127.0.0.1:0")?;
+    let address = listener.local_addr()?;
+    let mut streams = Vec::new(alloc);
+    for _ in 0..sessions {
+        streams.push(TcpStream::connect(rt, address)?)?;
+    }
+    let (told, served) = thread::join(
+        rt,
+        move || are_served(visit, streams),
+        ||
+            requires { L.all ≡ L.parts }
+        { serve_with_two(rt, alloc, &desk, listener, sessions) },
+    );
+    let PoolEnd { badge, .. } = served?;
+    let (_, is_whole) = desk.into_hall(badge);
+    Ok((told?, is_whole))
+}
+
+/// A server with two workers.
+fn serve_with_two<L, R>(
+    rt: &R,
+    alloc: Global,
+    desk: &Desk<L>,
+    listener: TcpListener,
+    sessions: u16,
+) -> Result<PoolEnd<L>, ServeFault>
+where
+    L: Hands + Send + Sync,
+    R: Net<Listener = TcpListener, Stream = TcpStream> + Threads + Wait + Sync,
+    requires { L.all ≡ L.parts }
+{
+    let workers = Worker::new(2).unwrap();
+    serve(rt, alloc, desk, listener, sessions, workers, &Open)
+}
+
+#[test]
+fn a_job_is_answered(rt: HostRuntime) -> Result<(), Fail> {
+    let found = visited::<Brand, HostRuntime>(
+        &rt,
+        rt.alloc(),
+        Blank::new(PARTS),
+        1,
+        Visit::Answered,
+    )?;
+    assert_eq!(rt; found, (true, true));
+    Ok(())
+}
+
+#[test]
+fn a_job_is_spent(rt: HostRuntime) -> Result<(), Fail> {
+    let found = visited::<Brand, HostRuntime>(&rt, rt.alloc(), Blank::new(PARTS), 1, Visit::Spent)?;
+    assert_eq!(rt; found, (true, true));
+    Ok(())
+}
+
+#[test]
+fn two_at_once_are_served_as_each_alone(rt: HostRuntime) -> Result<(), Fail> {
+    let found = visited::<Brand, HostRuntime>(&rt, rt.alloc(), Blank::new(PARTS), 2, Visit::Both)?;
+    assert_eq!(rt; found, (true, true));
+    Ok(())
+}
+
+#[test]
+fn a_byte_at_a_time_is_enough(rt: HostRuntime) -> Result<(), Fail> {
+    let found = visited::<Brand, HostRuntime>(&rt, rt.alloc(), Blank::new(PARTS), 1, Visit::Bytes)?;
+    assert_eq!(rt; found, (true, true));
+    Ok(())
+}
+
+#[test]
+fn a_lost_connection_gives_all_back(rt: HostRuntime) -> Result<(), Fail> {
+    let found = visited::<Brand, HostRuntime>(&rt, rt.alloc(), Blank::new(PARTS), 2, Visit::Lost)?;
+    assert_eq!(rt; found, (true, true));
+    Ok(())
+}
+
+#[test]
+fn thirty_two_are_told_of_their_own(rt: HostRuntime) -> Result<(), Fail> {
+    let found = visited::<Brand, HostRuntime>(&rt, rt.alloc(), Blank::new(PARTS), 32, Visit::Many)?;
+    assert_eq!(rt; found, (true, true));
+    Ok(())
+}
