@@ -1,20 +1,18 @@
 -- What a procedure makes of a frame, done.
-use Rattle.std.proofs.Common.{◌≡◌, ◌≢◌, ℕ, ◌+◌, ◌<◌, ◌≤◌, ◌⊎◌, inl, inr, ◌==◌, Bool, true, false, List, [], ◌∷◌, ◌++◌, Option, Some, None, Result, Ok, Err, refl, sym, ◌∙◌, ap, arith}
-use Rattle.std.specs.Prelude.{◌||◌, ◌&&◌, not, length, nat_lt, nat_le, replicate, IsSome}
-use Rattle.std.proofs.lemmas.Bool.Decides.{nat_tests}
+use Rattle.std.proofs.Common.{◌≡◌, ℕ, ◌+◌, ◌⊎◌, inl, inr, Bool, true, false, List, ◌++◌, Some, None, refl}
+use Rattle.std.specs.Prelude.{◌||◌, not, replicate}
 use Rattle.frame_table.specs.declared.names.FrameId.{FrameId}
 use Rattle.frame_table.specs.declared.names.State.{State}
 use Rattle.frame_table.specs.declared.names.State.TheVariants.{Ready, Running, Computing, Waiting, Returned}
 use Rattle.frame_table.specs.Frames.{Frame, frame_at}
-use Rattle.sched_rules.specs.declared.refusal.Refusal.TheVariants.{NoTenant}
 use Rattle.sched_rules.specs.declared.act.Then.{Then}
 use Rattle.sched_rules.specs.declared.act.Then.TheVariants.{Grow, Spawn, Go, Wait, Compute, Return}
-use Rattle.sched_rules.specs.declared.step.StepOf.TheVariants.{Advance, Answer, Inlet}
+use Rattle.sched_rules.specs.declared.step.StepOf.TheVariants.{Advance, Answer}
 use Rattle.sched_rules.specs.declared.step.DidOf.{DidOf}
 use Rattle.sched_rules.specs.declared.step.DidOf.TheVariants.{Went, Grew, Spawned, Waited, Computing as IsComputing, Returned as HasReturned}
 use Rattle.sched_rules.specs.Functions.{Functions}
 use Rattle.sched_rules.specs.Trees.{Tenant, has_child, is_held_by, is_root}
-use Rattle.sched_rules.specs.Lone.{unless, is_computed_by, is_run_by, holding, opened, in_state, answer_tests, answered, advance_tests, advanced, act_of, then_done}
+use Rattle.sched_rules.specs.Lone.{is_computed_by, is_run_by, holding, opened, in_state, answer_tests, answered, advance_tests, advanced, act_of, then_done}
 use Rattle.sched_rules.specs.Changes.{on_tenant}
 use Rattle.sched_rules.specs.Views.{named}
 use Rattle.sched_rules.specs.Cores.{Shared, tenant_in, shared_refusal}

@@ -1,21 +1,20 @@
 -- An act, done: the stores, and then what comes after them.
-use Rattle.std.proofs.Common.{◌≡◌, ◌≢◌, ℕ, ◌+◌, ◌-◌, ◌<◌, ◌≤◌, ◌==◌, Bool, true, false, List, [], ◌∷◌, ◌++◌, Option, Some, None, Result, Ok, Err, refl, sym, ◌∙◌, ap, arith}
-use Rattle.std.specs.Prelude.{◌||◌, ◌&&◌, not, length, nat_lt, nat_le}
+use Rattle.std.proofs.Common.{◌≡◌, ℕ, ◌+◌, ◌==◌, Bool, true, false, List, [], ◌∷◌, Option, Some, None, Ok, refl, sym, ◌∙◌, ap, arith}
+use Rattle.std.specs.Prelude.{◌||◌, length}
 use Rattle.std.proofs.lemmas.Bool.Decides.{nat_tests}
 use Rattle.cactus_stack.specs.Nodes.{charge}
 use Rattle.frame_table.specs.declared.names.FrameId.{FrameId}
 use Rattle.frame_table.specs.Frames.{Frame, frame_at, children_of}
 use Rattle.frame_table.proofs.TreeLaws.{tree-rising}
-use Rattle.sched_rules.specs.declared.refusal.Refusal.{Refusal}
 use Rattle.sched_rules.specs.declared.act.Act.{Act}
 use Rattle.sched_rules.specs.declared.act.Then.{Then}
 use Rattle.sched_rules.specs.declared.act.Then.TheVariants.{Grow, Spawn, Go, Wait, Compute, Return}
 use Rattle.sched_rules.specs.declared.step.StepOf.{StepOf}
 use Rattle.sched_rules.specs.declared.step.DidOf.{DidOf}
 use Rattle.sched_rules.specs.Functions.{Functions}
-use Rattle.sched_rules.specs.Trees.{Tenant, Tree, left, has_child, stored, with_words, charged_for, is_outside}
-use Rattle.sched_rules.specs.Lone.{Outcome, advance_tests, act_tests, act_of, holding, counted, is_bad_then, is_bad_act, segments_for, is_run_by}
-use Rattle.sched_rules.specs.Cores.{Shared, tenant_in, with_tenant, without_tenant, with_outcome, judged, shared_with}
+use Rattle.sched_rules.specs.Trees.{Tenant, has_child, stored, with_words, charged_for, is_outside}
+use Rattle.sched_rules.specs.Lone.{Outcome, advance_tests, holding, counted, is_bad_then, segments_for}
+use Rattle.sched_rules.specs.Cores.{Shared, with_tenant, without_tenant, with_outcome, judged, shared_with}
 use Rattle.sched_laws.specs.Shapes.{IsShaped}
 use Rattle.sched_laws.proofs.Words.{length-stored, children_of-with_words, length-with_words, charged-with_words}
 use Rattle.sched_core.specs.Seeing.{GoesOn}

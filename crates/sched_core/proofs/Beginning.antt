@@ -1,23 +1,21 @@
 -- A tenant that comes, and a job of it.
-use Rattle.std.proofs.Common.{◌≡◌, ◌≢◌, ℕ, ◌+◌, ◌<◌, ◌≤◌, ◌==◌, Bool, true, false, List, [], ◌∷◌, ◌++◌, Option, Some, None, Result, Ok, Err, refl, sym, ◌∙◌, ap, arith}
-use Rattle.std.specs.Prelude.{◌||◌, ◌^◌, nat_le, nat_lt, length}
+use Rattle.std.proofs.Common.{◌≡◌, ℕ, ◌+◌, ◌<◌, ◌==◌, true, false, List, [], ◌∷◌, Option, Some, None, Ok, refl, sym, ◌∙◌, arith}
+use Rattle.std.specs.Prelude.{◌||◌, ◌^◌, nat_le, nat_lt}
 use Rattle.std.proofs.lemmas.Bool.Decides.{nat_tests}
-use Rattle.frame_table.specs.Frames.{Frame, has_frame, path_in}
+use Rattle.frame_table.specs.Frames.{has_frame}
 use Rattle.frame_table.proofs.TreeLaws.{below-found, found-there}
 use Rattle.tenant_quota.specs.Quota.{Quota}
 use Rattle.sched_rules.specs.declared.job.Job.{Job}
 use Rattle.sched_rules.specs.declared.job.Job.TheVariants.{Live, Done, Spent, Cancelled}
-use Rattle.sched_rules.specs.declared.refusal.Refusal.{Refusal}
 use Rattle.sched_rules.specs.declared.refusal.Refusal.TheVariants.{NoTenant}
-use Rattle.sched_rules.specs.declared.step.StepOf.{StepOf}
 use Rattle.sched_rules.specs.declared.step.StepOf.TheVariants.{Admit, Submit}
 use Rattle.sched_rules.specs.declared.step.DidOf.TheVariants.{Admitted}
 use Rattle.sched_rules.specs.Functions.{Functions}
-use Rattle.sched_rules.specs.Trees.{Tenant, Tree, admitted_with, is_live_at, number_from, job_under}
-use Rattle.sched_rules.specs.Lone.{Outcome, unless, refusal_in, submitted, submit_tests}
+use Rattle.sched_rules.specs.Trees.{Tenant, Tree, admitted_with, number_from, job_under}
+use Rattle.sched_rules.specs.Lone.{unless, submitted, submit_tests}
 use Rattle.sched_rules.specs.Headline.{IsKnown, AreNumbersTaken}
-use Rattle.sched_rules.specs.Cores.{Shared, tenant_in, with_tenant, judged, shared_refusal, admit_tests, shared_with}
-use Rattle.sched_laws.specs.Shapes.{IsShaped, AreLiveRootsThere, IsRootThere}
+use Rattle.sched_rules.specs.Cores.{Shared, tenant_in, judged, shared_refusal, admit_tests}
+use Rattle.sched_laws.specs.Shapes.{IsShaped, AreLiveRootsThere}
 use Rattle.sched_store.specs.Changes.{with_admitted}
 use Rattle.sched_core.specs.Judging.{IsJudged}
 use Rattle.sched_core.proofs.Changing.{with_tenant-new}

@@ -1,10 +1,10 @@
 -- One tenant changed, once and again, and looked up.
-use Rattle.std.proofs.Common.{◌≡◌, ◌≢◌, ℕ, ◌<◌, ◌≤◌, ◌==◌, Bool, true, false, List, [], ◌∷◌, ◌++◌, Option, Some, None, refl, arith, ◌∙◌, ap}
-use Rattle.std.specs.Prelude.{◌||◌, ◌&&◌, not, option_map, if◌then◌else◌}
+use Rattle.std.proofs.Common.{◌≡◌, ℕ, ◌==◌, true, false, List, [], ◌∷◌, ◌++◌, Some, None, refl, arith, ap}
+use Rattle.std.specs.Prelude.{option_map}
 use Rattle.std.proofs.lemmas.Bool.Decides.{nat_tests}
-use Rattle.sched_rules.specs.Trees.{Tenant, is_busy_in}
-use Rattle.sched_rules.specs.Cores.{Shared, tenant_in, with_tenant, is_busy_elsewhere}
-use Rattle.sched_rules.specs.Changes.{with_change, on_tenant}
+use Rattle.sched_rules.specs.Trees.{Tenant}
+use Rattle.sched_rules.specs.Cores.{tenant_in, with_tenant}
+use Rattle.sched_rules.specs.Changes.{with_change}
 
 abbrev Entries : Type 0
 Entries = List (ℕ × Tenant)

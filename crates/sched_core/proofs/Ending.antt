@@ -1,22 +1,21 @@
 -- A job that ends, with all its frames.
-use Rattle.std.proofs.Common.{◌≡◌, ◌≢◌, ℕ, ◌==◌, Bool, true, false, List, [], ◌∷◌, ◌++◌, Option, Some, None, Result, Ok, Err, refl, sym, ◌∙◌, ap}
-use Rattle.std.specs.Prelude.{IsSome, not, length, nat_lt}
+use Rattle.std.proofs.Common.{◌≡◌, ℕ, ◌==◌, true, false, List, [], ◌∷◌, Option, Some, None, Ok, refl}
+use Rattle.std.specs.Prelude.{IsSome, not}
 use Rattle.frame_table.specs.declared.names.FrameId.{FrameId}
-use Rattle.frame_table.specs.Frames.{Frame, frame_at, has_frame, path_in, root_of, aborted, children_of, IsTree}
+use Rattle.frame_table.specs.Frames.{Frame, frame_at, has_frame, path_in, root_of, IsTree}
 use Rattle.frame_table.proofs.TreeLaws.{there-found}
-use Rattle.frame_table.proofs.TreeChanges.{aborted-itself, aborted-leaf}
-use Rattle.sched_rules.specs.declared.job.Job.{Job}
-use Rattle.sched_rules.specs.declared.job.Job.TheVariants.{Live, Spent as SpentJob, Cancelled as CancelledJob}
-use Rattle.sched_rules.specs.declared.refusal.Refusal.TheVariants.{NotSpent, NoTenant}
-use Rattle.sched_rules.specs.declared.step.StepOf.TheVariants.{Finish, Spend, Cancel, Leave}
+use Rattle.frame_table.proofs.TreeChanges.{aborted-leaf}
+use Rattle.sched_rules.specs.declared.job.Job.TheVariants.{Live, Cancelled as CancelledJob}
+use Rattle.sched_rules.specs.declared.refusal.Refusal.TheVariants.{NotSpent}
+use Rattle.sched_rules.specs.declared.step.StepOf.TheVariants.{Finish, Spend, Cancel}
 use Rattle.sched_rules.specs.declared.step.DidOf.TheVariants.{Cancelled}
 use Rattle.sched_rules.specs.Functions.{Functions}
 use Rattle.sched_rules.specs.Trees.{Tenant, has_child, job_at}
-use Rattle.sched_rules.specs.Lone.{Outcome, ended, spent, finished, finish_tests, is_spendable}
-use Rattle.sched_rules.specs.Changes.{on_tenant, without_frame, without_under, ending_job, with_change}
+use Rattle.sched_rules.specs.Lone.{ended, spent, finished, finish_tests, is_spendable}
+use Rattle.sched_rules.specs.Changes.{on_tenant, without_under, with_change}
 use Rattle.sched_rules.specs.Views.{named, job_of}
 use Rattle.sched_rules.specs.Cores.{Shared, tenant_in, judged, shared_refusal, with_tenant}
-use Rattle.sched_laws.specs.Shapes.{IsShaped, AreShaped}
+use Rattle.sched_laws.specs.Shapes.{AreShaped}
 use Rattle.sched_laws.proofs.Answers.{shaped-in}
 use Rattle.sched_laws.proofs.Consequences.{live-root, root-above}
 use Rattle.sched_store.specs.Reads.{frames_in, words_under}

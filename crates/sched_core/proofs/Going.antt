@@ -1,9 +1,7 @@
 -- A step that is taken: what it comes to, and one change of its tenant after another.
-use Rattle.std.proofs.Common.{◌≡◌, ◌≢◌, ℕ, ◌<◌, ◌≤◌, ◌==◌, Bool, true, false, List, [], ◌∷◌, ◌++◌, Option, Some, None, Result, Ok, Err, refl, sym, ◌∙◌, ap, arith}
-use Rattle.std.specs.Prelude.{if◌then◌else◌, option_map, IsSome}
+use Rattle.std.proofs.Common.{◌≡◌, ℕ, ◌==◌, Bool, true, false, List, [], ◌∷◌, Option, Some, None, Result, Ok, Err, refl, sym, ◌∙◌, ap, arith}
 use Rattle.std.proofs.lemmas.Bool.Decides.{nat_tests}
 use Rattle.frame_table.specs.declared.names.FrameId.{FrameId}
-use Rattle.frame_table.specs.declared.names.State.TheVariants.{Running}
 use Rattle.frame_table.specs.Frames.{Frame, frame_at}
 use Rattle.sched_rules.specs.declared.refusal.Refusal.{Refusal}
 use Rattle.sched_rules.specs.declared.refusal.Refusal.TheVariants.{NoTenant}
@@ -14,11 +12,11 @@ use Rattle.sched_rules.specs.Functions.{Functions}
 use Rattle.sched_rules.specs.Trees.{Tenant, left}
 use Rattle.sched_rules.specs.Lone.{Outcome, unless, lone, refusal_in, at_frame, take_tests, steal_tests, taken_by}
 use Rattle.sched_rules.specs.Changes.{on_tenant, with_change}
-use Rattle.sched_rules.specs.Cores.{Shared, tenant_in, with_tenant, unless_busy, judged, shared_refusal, shared_with, shared_after}
+use Rattle.sched_rules.specs.Cores.{Shared, tenant_in, with_tenant, unless_busy, judged, shared_refusal, shared_with}
 use Rattle.sched_store.specs.Reads.{HasStepLeft}
 use Rattle.sched_core.specs.Judging.{IsJudged}
 use Rattle.sched_core.proofs.Changing.{with_change-there}
-use Rattle.sched_core.proofs.Deciding.{some-is, seen-serial}
+use Rattle.sched_core.proofs.Deciding.{some-is}
 
 -- a step that is refused, as it is judged
 pub judged-refused : {I A : Type 0} (functions : Functions I A) (before : Shared) (step : StepOf A) (answer : Result (DidOf I) Refusal) (after : Shared) (told refusal : Refusal) →

@@ -1,12 +1,12 @@
 -- A returned frame is taken in by its parent.
-use Rattle.std.proofs.Common.{◌≡◌, ◌≢◌, ℕ, ◌+◌, ◌<◌, ◌≤◌, ◌==◌, eqb, Bool, true, false, List, [], ◌∷◌, ◌++◌, Option, Some, None, Result, Ok, Err, refl, sym, ◌∙◌, ap, arith}
-use Rattle.std.specs.Prelude.{◌||◌, ◌&&◌, not, length, IsSome}
+use Rattle.std.proofs.Common.{◌≡◌, ◌≢◌, ℕ, ◌<◌, ◌==◌, Bool, true, false, List, [], ◌∷◌, Option, Some, None, Result, Ok, Err, refl, sym, ◌∙◌, ap, arith}
+use Rattle.std.specs.Prelude.{◌||◌, ◌&&◌, not}
 use Rattle.std.proofs.lemmas.Bool.Decides.{nat_tests}
 use Rattle.std.proofs.lemmas.Bool.{eq-eqb}
 use Rattle.frame_table.specs.declared.names.FrameId.{FrameId}
 use Rattle.frame_table.specs.declared.names.State.{State}
 use Rattle.frame_table.specs.declared.names.State.TheVariants.{Ready, Running, Computing, Waiting, Returned}
-use Rattle.frame_table.specs.Frames.{Frame, frame_at, name_of, parent_of, goes_under, aborted, frames_without, children_of, IsTree}
+use Rattle.frame_table.specs.Frames.{Frame, frame_at, name_of, parent_of, goes_under, aborted, frames_without, IsTree}
 use Rattle.frame_table.specs.TreeLaws.{is_child_of, Each}
 use Rattle.frame_table.proofs.TreeLaws.{tree-rising, found-each, found-serial, there-found, under-there, under-below}
 use Rattle.frame_table.proofs.TreeChanges.{child-under-parent, aborted-itself, frame_at_other-without}
@@ -16,17 +16,14 @@ use Rattle.sched_rules.specs.declared.act.InletAct.{InletAct}
 use Rattle.sched_rules.specs.declared.step.StepOf.TheVariants.{Inlet}
 use Rattle.sched_rules.specs.declared.step.DidOf.TheVariants.{TakenIn}
 use Rattle.sched_rules.specs.Functions.{Functions}
-use Rattle.sched_rules.specs.Trees.{Tenant, words_in, words_of, has_child, stored}
-use Rattle.sched_rules.specs.Lone.{Outcome, unless, lone, refusal_in, inlet_tests, inlet_under, taken_in, staying, aborted_beside, does_wait, is_returned, holding, counted, in_state}
-use Rattle.sched_rules.specs.Changes.{without_frame, without_under}
-use Rattle.sched_rules.specs.Views.{named}
+use Rattle.sched_rules.specs.Trees.{Tenant, words_in, has_child, stored}
+use Rattle.sched_rules.specs.Lone.{Outcome, unless, lone, refusal_in, inlet_tests, taken_in, staying, aborted_beside, does_wait, is_returned, holding, counted, in_state}
 use Rattle.sched_rules.specs.Cores.{Shared, tenant_in, is_busy_elsewhere, unless_busy, judged, shared_refusal}
 use Rattle.sched_laws.specs.Shapes.{IsShaped}
 use Rattle.sched_laws.proofs.Consequences.{returned-leaf}
-use Rattle.sched_store.specs.Reads.{words_under}
 use Rattle.sched_core.specs.Seeing.{MayBeTakenIn}
 use Rattle.sched_core.specs.Judging.{staying_with}
-use Rattle.sched_core.proofs.Going.{AllPass, all-pass, IsWith}
+use Rattle.sched_core.proofs.Going.{AllPass, all-pass}
 
 -- what an inlet that is taken comes to
 pub record IsInlet {I A : Type 0} (functions : Functions I A) (shared : Shared) (worker : ℕ) (name : FrameId) : Type 0 where

@@ -1,8 +1,8 @@
 -- What one step does, from how it is judged; and a list of steps.
-use Rattle.std.proofs.Common.{◌≡◌, ◌≢◌, ℕ, ◌⊎◌, inl, inr, Bool, true, false, List, [], ◌∷◌, ◌++◌, Option, Some, None, Result, Ok, Err, refl, sym, ◌∙◌, ap, append_assoc, append-nil, length, take, ◌≤◌, arith}
+use Rattle.std.proofs.Common.{◌≡◌, ℕ, inl, inr, true, List, [], ◌∷◌, ◌++◌, Some, None, Result, Ok, Err, refl, sym, ◌∙◌, append_assoc, append-nil, length, take, ◌≤◌, arith}
 use Rattle.std.proofs.lemmas.Grind.{common_steps}
 use Rattle.sched_rules.specs.declared.refusal.Refusal.{Refusal}
-use Rattle.sched_rules.specs.declared.refusal.Refusal.TheVariants.{Busy, OutOfMemory}
+use Rattle.sched_rules.specs.declared.refusal.Refusal.TheVariants.{OutOfMemory}
 use Rattle.sched_rules.specs.declared.step.StepOf.{StepOf}
 use Rattle.sched_rules.specs.declared.step.StepOf.TheVariants.{Admit}
 use Rattle.sched_rules.specs.declared.step.DidOf.{DidOf}
@@ -11,7 +11,7 @@ use Rattle.sched_rules.specs.Functions.{Functions}
 use Rattle.sched_rules.specs.Lone.{Outcome}
 use Rattle.sched_rules.specs.Runs.{answer_of}
 use Rattle.sched_rules.specs.Cores.{Shared, judged, shared_after, shared_refusal}
-use Rattle.sched_rules.specs.Headline.{IsAnswerTo, IsAnswerToAdmit, IsOneStep, after_answer, after_answers, AreAnswersTo, IsHeadline, IsKnown, is_admission}
+use Rattle.sched_rules.specs.Headline.{IsAnswerTo, IsOneStep, after_answer, after_answers, AreAnswersTo, IsHeadline, IsKnown}
 use Rattle.sched_rules.proofs.Isolation.{right-answer, step-taken, shared-after-taken, headline}
 use Rattle.sched_rules.specs.Laws.{Fitting, Rooting}
 use Rattle.sched_rules.specs.Runs.{only}

@@ -1,4 +1,4 @@
-use Rattle.std.proofs.Common.{◌≡◌, inl, inr, refl, sym, ◌∙◌}
+use Rattle.std.proofs.Common.{inl, inr, sym}
 use Rattle.frame_table.proofs.TreeLaws.{found-there}
 use Rattle.sched_core.proofs.Acting.{go-came, grow-came, spawn-came, compute-came, waits-came, wait-came, return-came, held-by-runner}
 use Rattle.sched_core.proofs.engine.Engine.go_on.Goals as goal

@@ -1,9 +1,8 @@
-use Rattle.std.proofs.Common.{◌≡◌, true, false, Some, None, Ok, refl, sym, ◌∙◌, ap}
+use Rattle.std.proofs.Common.{◌≡◌, true, false, Some, Ok, refl, sym, ◌∙◌, ap}
 use Rattle.std.specs.Prelude.{◌||◌, ◌&&◌, not}
 use Rattle.frame_table.specs.declared.names.State.TheVariants.{Ready}
 use Rattle.frame_table.specs.Frames.{frame_at}
 use Rattle.sched_rules.specs.declared.step.StepOf.TheVariants.{Inlet}
-use Rattle.sched_rules.specs.declared.step.DidOf.TheVariants.{TakenIn}
 use Rattle.sched_rules.specs.Changes.{on_tenant}
 use Rattle.sched_rules.specs.Trees.{stored, words_in, has_child, is_outside}
 use Rattle.sched_rules.specs.Lone.{holding, in_state, counted, staying, aborted_beside, does_wait, taken_in}

@@ -1,4 +1,4 @@
-use Rattle.std.proofs.Common.{sym, ◌∙◌, ap}
+use Rattle.std.proofs.Common.{sym}
 use Rattle.std.proofs.lemmas.Result.{err_from_is_err_and}
 use Rattle.sched_core.proofs.Deciding.{passed-on, lost-inlet}
 use Rattle.sched_core.proofs.Parents.{parent-there, inlet-goes}

@@ -1,4 +1,3 @@
-use Rattle.std.proofs.Common.{sym, ◌∙◌, ap}
 use Rattle.std.proofs.lemmas.Result.{err_from_is_err_and}
 use Rattle.sched_core.proofs.Deciding.{passed-on, lost-finish, finish-decided}
 use Rattle.sched_core.proofs.engine.Engine.may_finish.Goals as goal

@@ -1,4 +1,3 @@
-use Rattle.std.proofs.Common.{sym, ◌∙◌, ap}
 use Rattle.std.proofs.lemmas.Result.{err_from_is_err_and}
 use Rattle.sched_core.proofs.Deciding.{passed-on, lost-steal, steal-decided}
 use Rattle.sched_core.proofs.engine.Engine.may_steal.Goals as goal

@@ -1,4 +1,4 @@
-use Rattle.std.proofs.Common.{◌≡◌, refl, sym, ◌∙◌}
+use Rattle.std.proofs.Common.{◌≡◌, refl}
 use Rattle.frame_table.specs.Frames.{root_of}
 use Rattle.sched_rules.specs.declared.job.Job.TheVariants.{Spent as SpentJob}
 use Rattle.sched_rules.specs.declared.step.StepOf.TheVariants.{Spend}

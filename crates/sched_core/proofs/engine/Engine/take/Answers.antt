@@ -1,10 +1,9 @@
 use Rattle.std.proofs.Common.{refl}
-use Rattle.std.proofs.lemmas.Result.{err_from_is_err_and}
 use Rattle.frame_table.specs.declared.names.State.TheVariants.{Running}
-use Rattle.sched_rules.specs.declared.step.StepOf.TheVariants.{Take, Steal}
+use Rattle.sched_rules.specs.declared.step.StepOf.TheVariants.{Take}
 use Rattle.sched_rules.specs.Lone.{in_state, counted}
 use Rattle.sched_core.proofs.Deciding.{seen-serial}
-use Rattle.sched_core.proofs.Going.{judged-taken, judged-refused, take-going, begins, then-changed, step-left}
+use Rattle.sched_core.proofs.Going.{judged-taken, take-going, begins, then-changed, step-left}
 use Rattle.sched_core.proofs.engine.Engine.take.Goals as goal
 
 pub count_step-requires : goal.count_step-requires

@@ -1,7 +1,6 @@
-use Rattle.std.proofs.Common.{◌≡◌, ◌∙◌, ◌+◌, ◌<◌, ◌≤◌, ◌++◌, [], ◌∷◌, length, take, refl, sym, ap, rules, arith}
+use Rattle.std.proofs.Common.{◌≡◌, ◌∙◌, take, refl, arith}
 use Rattle.std.proofs.lemmas.List.{take_more}
-use Rattle.std.proofs.lemmas.Grind.{common_steps}
-use Rattle.sched_core.proofs.Stepping.{IsRunning, runs-begin, runs-on, runs-out, fits-on, take-all}
+use Rattle.sched_core.proofs.Stepping.{runs-begin, runs-on, runs-out, fits-on, take-all}
 use Rattle.sched_core.proofs.scheduler.Core.run.Goals as goal
 
 pub loop-step-init : goal.loop-step-init

@@ -1,6 +1,5 @@
 use Rattle.std.proofs.Common.{◌≡◌, ◌+◌, ◌≤◌, length, take, vec_len}
 use Rattle.std.specs.Vec.{vec_capacity}
-use Rattle.sched_rules.specs.Headline.{IsKnown}
 use Rattle.sched_core.proofs.Stepping.{IsRunning}
 use Rattle.sched_core.proofs.scheduler.Core.run.Given as goal
 

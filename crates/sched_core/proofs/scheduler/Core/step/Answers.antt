@@ -1,4 +1,3 @@
-use Rattle.std.proofs.Common.{◌≡◌, sym, ◌∙◌}
 use Rattle.sched_core.proofs.Stepping.{kept-still, fits-still}
 use Rattle.sched_core.proofs.scheduler.Core.step.Goals as goal
 

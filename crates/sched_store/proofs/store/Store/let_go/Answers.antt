@@ -1,5 +1,3 @@
-use Rattle.std.proofs.Common.{◌≡◌, true}
-use Rattle.sched_rules.specs.Trees.{is_held_by}
 use Rattle.sched_store.specs.Inside.{parts_of}
 use Rattle.sched_store.proofs.Lookups.{named-found}
 use Rattle.sched_store.proofs.Frames.{there-frame, there-has}
