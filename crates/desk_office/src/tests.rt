@@ -13,7 +13,7 @@ use std::sync::Wait;
 use std::sync::ledger::Blank;
 use std::test::Fail;
 
-/// Gives one line a call. Before a line WAIT a worker runs the job that is ready to its end.
+/// Gives one line a call. Before a line WAIT a worker runs the first tenant's first job to its end.
 struct Driven<'a, L: Hands, R: Wait> {
     rt: &'a R,
     desk: &'a Desk<L>,
@@ -50,18 +50,20 @@ impl<L: Hands, R: Wait> Driven<'_, L, R> {
         }
     }
 
-    /// Runs the root that is ready.
+    /// Runs the root of the first tenant's first job.
     fn work(&mut self) {
-        if let Some((frame, home)) = self.desk.next_ready(self.rt) {
-            let _ = self.desk.offer(
-                self.rt,
-                &mut self.badge,
-                &StepOf::Steal(self.worker, home, frame),
-            );
-            for _ in 0..8 {
-                if !self.advance(frame) {
-                    return;
-                }
+        let frame = FrameId {
+            tenant: 1,
+            serial: 1,
+        };
+        let _ = self.desk.offer(
+            self.rt,
+            &mut self.badge,
+            &StepOf::Steal(self.worker, 0, frame),
+        );
+        for _ in 0..8 {
+            if !self.advance(frame) {
+                return;
             }
         }
     }
