@@ -2,10 +2,12 @@
 //! lock; a worker takes its own newest task, else the oldest, else any ready frame, and does one step a lock. Frames are
 //! typed values in a `Vec` for each tenant, with no words, journals or proofs. Leaves are searched by `vectors.rs`.
 //!
-//! usage: pool_peer WORKERS GRAIN DEPTH < positions ; pool_peer positions
+//! usage: pool_peer WORKERS GRAIN DEPTH, which prints how many jobs were done, the steps, the microseconds, and how many
+//! positions a serial search of the same jobs enters; or pool_peer positions, which prints the positions
 #[path = "../search/vectors.rs"]
 mod vectors;
 
+use std::sync::atomic::{AtomicUsize, Ordering};
 use std::sync::{Condvar, Mutex};
 use std::time::Instant;
 
@@ -595,6 +597,7 @@ fn main() {
         ended: Condvar::new(),
         list: Mutex::new(Vec::new()),
     };
+    let spent = AtomicUsize::new(0);
     let start = Instant::now();
     std::thread::scope(|scope| {
         for worker in 1..=workers {
@@ -603,11 +606,16 @@ fn main() {
         }
         std::thread::scope(|seats| {
             for seat in 0..SEATS {
-                let (pool, positions, wanted) = (&pool, &positions, &wanted);
+                let (pool, positions, wanted, spent) = (&pool, &positions, &wanted, &spent);
                 seats.spawn(move || {
                     for at in (seat..positions.len()).step_by(SEATS) {
-                        let outcome = pool.ask(seat, positions[at], depth);
-                        assert_eq!(outcome, Outcome::Done(wanted[at].0, wanted[at].1 as u8), "position {at}");
+                        match pool.ask(seat, positions[at], depth) {
+                            Outcome::Spent => spent.fetch_add(1, Ordering::SeqCst),
+                            outcome => {
+                                assert_eq!(outcome, Outcome::Done(wanted[at].0, wanted[at].1 as u8), "position {at}");
+                                0
+                            }
+                        };
                     }
                 });
             }
@@ -615,7 +623,7 @@ fn main() {
         pool.core.lock().unwrap().closed = true;
         pool.ready.notify_all();
     });
-    let seconds = start.elapsed().as_secs_f64();
+    let micros = start.elapsed().as_micros();
     let steps = pool.core.lock().unwrap().steps;
-    println!("peer {workers} workers grain {grain} depth {depth}: {} jobs {:.3} s, {:.1} jobs/s, {:.0} serial positions/s, {steps} steps", positions.len(), seconds, positions.len() as f64 / seconds, serial as f64 / seconds);
+    println!("{} {steps} {micros} {serial}", positions.len() - spent.load(Ordering::SeqCst));
 }
