@@ -2,7 +2,7 @@
 use Rattle.std.proofs.Common.{◌≡◌, ℕ, ◌+◌, ◌*◌, ◌^◌, ◌<◌, ◌≤◌, Bool, true, false, ◌||◌, eqb, List, [], ◌∷◌, ◌++◌, length, Option, Some, None, Result, Ok, Err, refl, ap, sym, ◌∙◌, subst, arith, inl, inr, length-append, get_or}
 use Rattle.std.specs.Prelude.{◌==◌, nat_le, nat_lt, OnOk}
 use Rattle.std.specs.List.{remove}
-use Rattle.std.proofs.lemmas.Bool.{cases_Bool, eqb-true, eqb-false, true≢false}
+use Rattle.std.proofs.lemmas.Bool.{cases_Bool, eqb-true, eqb-false, eq-eqb, true≢false}
 use Rattle.std.proofs.lemmas.Bool.Decides.{nat_tests}
 use Rattle.tenant_quota.specs.Quota.{Quota}
 use Rattle.sched_rules.specs.declared.refusal.Refusal.{Refusal}
@@ -12,11 +12,13 @@ use Rattle.sched_rules.specs.declared.step.StepOf.TheVariants.{Admit, Submit, Ta
 use Rattle.sched_rules.specs.declared.step.DidOf.{DidOf}
 use Rattle.sched_rules.specs.declared.step.DidOf.TheVariants.{Left}
 use Rattle.sched_rules.specs.Functions.{Functions}
-use Rattle.sched_rules.specs.Trees.{Tenant, admitted_with}
+use Rattle.sched_rules.specs.declared.job.Job.{Job}
+use Rattle.sched_rules.specs.Trees.{Tenant, admitted_with, job_at}
+use Rattle.sched_laws.proofs.EndedJobs.{step-ended}
 use Rattle.sched_rules.specs.Lone.{Outcome, unless, refusal_in, lone, lone_step}
 use Rattle.sched_rules.specs.Runs.{tenant_of}
 use Rattle.sched_rules.specs.Cores.{Shared, tenant_in, judged, shared_refusal, shared_with, newest_after}
-use Rattle.sched_rules.specs.Headline.{IsOneStep, IsKnown, is_admission}
+use Rattle.sched_rules.specs.Headline.{IsOneStep, IsKnown, IsAnswerTo, is_admission}
 use Rattle.sched_rules.proofs.Isolation.{IsTaken, step-taken, shared-after-taken, there, newest-stays}
 use Rattle.sched_rules.proofs.Tenants.{tenant_in-with_outcome}
 use Rattle.sched_core.proofs.Stepping.{one-step, one-admission}
@@ -32,7 +34,7 @@ use Rattle.jamboree_core.specs.Outcomes.{IsOutcomeIn, AnswersTo}
 use Rattle.jamboree_core.specs.Journals.{IsJournalOf}
 use Rattle.jamboree_core.proofs.JournalLemmas.{journal-searches, journal-goes-on, journal-begins, others-stay}
 use Rattle.hall.specs.Journals.{JournalOf, journal_in, places_in, has_journal, place_in, with_step, without_journal, total_length, places_for, admitted_journal, journals_after, gone_by, goes_on, AreBegun}
-use Rattle.hall.specs.Halls.{HallOf, hall_after, Explains, IsExplained, IsHall}
+use Rattle.hall.specs.Halls.{HallOf, hall_after, Explains, IsExplained, IsHall, lets_go, KeepsEndedJobs}
 use Rattle.hall.proofs.Lists.{none-there, step-own, step-other, step-length, step-total, step-rising, step-upto, step-begun, without-own, without-other, without-length, without-total, without-rising, without-upto, without-begun, push-own, push-other, push-total, push-rising, push-upto, push-begun, total-within, found-at, at-read, at-removed}
 use Rattle.hall.proofs.Using.{step-used, journal-short, journal-shaped}
 
@@ -86,11 +88,13 @@ has-place grain journals number step next has begun is =
     omega (arith, short, one, long, places)
 
 -- a tenant that was there, and what it came to by a step
-record WentOn (before after : Shared) (step : Step) : Type 0 where
+record WentOn (grain : ℕ) (before after : Shared) (step : Step) : Type 0 where
   tenant : Tenant
   next : Tenant
+  told : DidOf Leaf
   was : tenant_in before.tenants (tenant_of step) ≡ Some tenant
   is : tenant_in after.tenants (tenant_of step) ≡ Some next
+  taken : lone_step (jamboree grain) tenant step ≡ Ok (Some next, told)
 
 -- what explains a tenant that is there
 explained-some : (grain : ℕ) (own : Option Tenant) (tenant : Tenant) (journal : List Step) → own ≡ Some tenant → Explains (jamboree grain) own journal → IsJournalOf (jamboree grain) journal tenant
@@ -99,7 +103,7 @@ explained-some grain own tenant journal is explains = let P : Option Tenant → 
 some-explained : (grain : ℕ) (own : Option Tenant) (tenant : Tenant) (journal : List Step) → own ≡ Some tenant → IsJournalOf (jamboree grain) journal tenant → Explains (jamboree grain) own journal
 some-explained grain own tenant journal is journal_is = let P : Option Tenant → Type 0 = λ o. Explains (jamboree grain) o journal in subst P (sym is) journal_is
 
-went-on : (hall : HallOf) (after : Shared) (step : Step) (did : DidOf Leaf) → IsExplained hall → IsOneStep (jamboree hall.grain) hall.shared step (Ok did) after → goes_on step ≡ true → is_admission step ≡ false → WentOn hall.shared after step
+went-on : (hall : HallOf) (after : Shared) (step : Step) (did : DidOf Leaf) → IsExplained hall → IsOneStep (jamboree hall.grain) hall.shared step (Ok did) after → goes_on step ≡ true → is_admission step ≡ false → WentOn hall.grain hall.shared after step
 went-on hall after step did explained one goes no_admission =
     let functions = jamboree hall.grain in
     let t = step-taken functions hall.shared step did explained.known one.answered in
@@ -107,18 +111,20 @@ went-on hall after step did explained one goes no_admission =
     by t left (tenant_in hall.shared.tenants (tenant_of step)) refl t.outcome refl
   where
     by : (t : IsTaken (jamboree hall.grain) hall.shared step did) → after ≡ shared_with hall.shared step t.outcome.0 → (own : Option Tenant) → tenant_in hall.shared.tenants (tenant_of step) ≡ own → (outcome : Outcome Leaf) → t.outcome ≡ outcome →
-        WentOn hall.shared after step
+        WentOn hall.grain hall.shared after step
     by t left None own outcome came = absurd (there (jamboree hall.grain) (tenant_in hall.shared.tenants (tenant_of step)) step t.outcome no_admission t.own own)
     by t left (Some tenant) own (None, did) came =
         let taken : lone_step (jamboree hall.grain) tenant step ≡ Ok (None, did) = ap (λ (o : Option Tenant). lone (jamboree hall.grain) o step) (sym own) ∙ t.own ∙ ap (λ (o : Outcome Leaf). Ok o) came in
         let shape = journal-shaped (jamboree hall.grain) (journal_in hall.journals (tenant_of step)) tenant (explained-some hall.grain _ tenant _ own (explained.tenants (tenant_of step))) in
         absurd (true≢false (sym goes ∙ step-used (jamboree hall.grain) tenant step (None, did) taken shape))
-    by t left (Some tenant) own (Some next, did) came =
+    by t left (Some tenant) own (Some next, told) came =
         record {
           tenant = tenant;
           next = next;
+          told = told;
           was = own;
           is = ap (λ (s : Shared). tenant_in s.tenants (tenant_of step)) left ∙ tenant_in-with_outcome (tenant_of step) t.outcome.0 hall.shared.tenants ∙ ap (λ (o : Outcome Leaf). o.0) came;
+          taken = ap (λ (o : Option Tenant). lone (jamboree hall.grain) o step) (sym own) ∙ t.own ∙ ap (λ (o : Outcome Leaf). Ok o) came;
         }
 
 -- the greatest number stays
@@ -367,3 +373,40 @@ answered grain shared n job journal result explains searches is asked = by (tena
 pub newest-is : (grain : ℕ) (before after : Shared) (step : Step) (answer : Result (DidOf Leaf) Refusal) → IsKnown before → IsOneStep (jamboree grain) before step answer after → OnOk answer (after.newest ≡ newest_after before.newest step)
 newest-is grain before after step (Ok did) known one = newest-after grain before after step did known one
 newest-is grain before after step (Err refusal) known one = tt
+
+-- an admission or a Leave of a tenant that has a job that ended: only its Leave
+stopped : (grain : ℕ) (before : Shared) (step : Step) (did : DidOf Leaf) (number job : ℕ) (ended : Job) → IsKnown before → IsAnswerTo (jamboree grain) before step (Ok did) → goes_on step ≡ false → tenant_of step ≡ number → lets_go number step ≡ false →
+    job_of before number job ≡ Some ended → ⊥
+stopped grain before (Admit n quota) did number job ended known right stops mine stays at =
+    let t = step-taken (jamboree grain) before (Admit n quota) did known right in by (tenant_in before.tenants n) refl t.outcome t.own
+  where
+    by : (own : Option Tenant) → tenant_in before.tenants n ≡ own → (outcome : Outcome Leaf) → lone {A = LeafAnswer} (jamboree grain) (tenant_in before.tenants n) (Admit n quota) ≡ Ok outcome → ⊥
+    by None own outcome taken = (let none : None ≡ Some ended = rw (← mine, own) at at in absurd cc)
+    by (Some tenant) own outcome taken = (let wrong : ◌≡◌ {A = Result (Outcome Leaf) Refusal} (Err OldTenant) (Ok outcome) = rw own at taken in absurd cc)
+stopped grain before (Submit n words size) did number job ended known right stops mine stays at = true≢false stops
+stopped grain before (Take worker name) did number job ended known right stops mine stays at = true≢false stops
+stopped grain before (Steal worker from name) did number job ended known right stops mine stays at = true≢false stops
+stopped grain before (Advance worker name) did number job ended known right stops mine stays at = true≢false stops
+stopped grain before (Answer worker name answer) did number job ended known right stops mine stays at = true≢false stops
+stopped grain before (Inlet worker name) did number job ended known right stops mine stays at = true≢false stops
+stopped grain before (Finish worker name) did number job ended known right stops mine stays at = true≢false stops
+stopped grain before (Spend name) did number job ended known right stops mine stays at = true≢false stops
+stopped grain before (Cancel n k) did number job ended known right stops mine stays at = true≢false stops
+stopped grain before (Leave n) did number job ended known right stops mine stays at = true≢false (sym (eq-eqb n number mine) ∙ stays)
+
+-- but for a Leave of its tenant, a job that has ended stays as it is
+pub ended-stays : (hall : HallOf) (step : Step) (answer : Result (DidOf Leaf) Refusal) (after : Shared) → IsExplained hall → IsOneStep (jamboree hall.grain) hall.shared step answer after → KeepsEndedJobs hall.shared step after
+ended-stays hall step (Err refusal) after explained one number job ended stays has at = rw one.left at
+ended-stays hall step (Ok did) after explained one number job ended stays has at = elim (cases_Bool (eqb (tenant_of step) number)) [
+  | inl mine ↦ own (eqb-true (tenant_of step) number mine)
+  | inr others ↦ rw (others-stay (jamboree hall.grain) hall.shared step (Ok did) after number explained.known one (eqb-false (tenant_of step) number others)) at
+]
+  where
+    own : tenant_of step ≡ number → job_of after number job ≡ Some ended
+    own mine = elim (cases_Bool (goes_on step)) [
+      | inl goes ↦ (let went = went-on hall after step did explained one goes (after-going step hall.journals goes).2 in
+          let keeps = step-ended (jamboree hall.grain) went.tenant step (Some went.next, went.told) went.taken in
+          let was : job_at went.tenant.jobs job ≡ Some ended = rw (← mine, went.was) at at in
+          rw (← mine, went.is) (keeps job ended has was))
+      | inr stops ↦ absurd (stopped hall.grain hall.shared step did number job ended explained.known one.answered stops mine stays at)
+    ]

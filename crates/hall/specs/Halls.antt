@@ -1,11 +1,15 @@
 -- What contracts see of a hall, and what explains it.
-use Rattle.std.specs.Prelude.{◌≡◌, ℕ, ◌+◌, ◌*◌, ◌^◌, ◌≤◌, List, [], Option, Some, None, length}
+use Rattle.std.specs.Prelude.{◌≡◌, ℕ, ◌+◌, ◌*◌, ◌^◌, ◌≤◌, ◌==◌, Bool, false, List, [], Option, Some, None, length}
 use Rattle.tenant_quota.specs.Quota.{Quota}
+use Rattle.sched_rules.specs.declared.job.Job.{Job}
 use Rattle.sched_rules.specs.declared.step.StepOf.{StepOf}
+use Rattle.sched_rules.specs.declared.step.StepOf.TheVariants.{Admit, Submit, Take, Steal, Advance, Answer, Inlet, Finish, Spend, Cancel, Leave}
 use Rattle.sched_rules.specs.Functions.{Functions}
 use Rattle.sched_rules.specs.Trees.{Tenant}
 use Rattle.sched_rules.specs.Cores.{Shared, tenant_in, shared_by_nobody}
 use Rattle.sched_rules.specs.Headline.{IsKnown}
+use Rattle.sched_rules.specs.Views.{job_of}
+use Rattle.sched_laws.specs.Ended.{HasEnded}
 use Rattle.jamboree_rules.specs.declared.leaf.LeafAnswer.{LeafAnswer}
 use Rattle.jamboree_rules.specs.Procedure.{jamboree}
 use Rattle.jamboree_laws.specs.Replies.{AreSearches}
@@ -58,3 +62,22 @@ pub record IsHall (hall : HallOf) (latest count : ℕ) : Type 0 where
   pub newest : latest ≡ hall.shared.newest
   pub counted : count ≡ count_of hall
   pub bounded : length hall.journals * 2 ^ 21 + hall.gone ≤ latest * 2 ^ 21
+
+-- whether a step is a Leave of this tenant
+abbrev pub lets_go : {A : Type 0} → ℕ → StepOf A → Bool
+lets_go number (Admit other quota) = false
+lets_go number (Submit other words size) = false
+lets_go number (Take worker name) = false
+lets_go number (Steal worker from name) = false
+lets_go number (Advance worker name) = false
+lets_go number (Answer worker name answer) = false
+lets_go number (Inlet worker name) = false
+lets_go number (Finish worker name) = false
+lets_go number (Spend name) = false
+lets_go number (Cancel other job) = false
+lets_go number (Leave other) = other == number
+
+-- but for a Leave of its tenant, a job that has ended stays as it is
+abbrev pub KeepsEndedJobs : Shared → StepOf LeafAnswer → Shared → Type 0
+KeepsEndedJobs before step after =
+    (number job : ℕ) (ended : Job) → lets_go number step ≡ false → HasEnded ended → job_of before number job ≡ Some ended → job_of after number job ≡ Some ended

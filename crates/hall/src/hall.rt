@@ -2,12 +2,12 @@
 ghost use Rattle.std.specs.Prelude.{◌≡◌, ◌≢◌, ◌≤◌, ◌<◌, ◌+◌, ◌^◌, vec_len, vec_capacity, true, false, length, Err, Some, None, IfOk, OnErr, OnOk};
 ghost use Rattle.sched_rules.specs.declared.refusal.Refusal.TheVariants.{OutOfMemory};
 ghost use Rattle.sched_rules.specs.Cores.{newest_after, shared_refusal};
-ghost use Rattle.sched_rules.specs.Headline.{IsOneStep, IsKnown, is_admission};
+ghost use Rattle.sched_rules.specs.Headline.{IsOneStep, is_admission};
 ghost use Rattle.jamboree_rules.specs.Procedure.{jamboree};
 ghost use Rattle.jamboree_laws.specs.Replies.{IsSearch};
 ghost use Rattle.sched_rules.specs.Runs.{tenant_of};
 ghost use Rattle.hall.specs.Journals.{goes_on, admitted_journal};
-ghost use Rattle.hall.specs.Halls.{empty_hall, hall_after, count_of, IsExplained};
+ghost use Rattle.hall.specs.Halls.{empty_hall, hall_after, count_of, IsExplained, KeepsEndedJobs};
 
 use crate::journal::{Journal, place_of, write};
 use jamboree::Jamboree;
@@ -77,6 +77,7 @@ impl<A: Allocator> Hall<A> {
         ensures count { OnOk result (count_of self.new ≡ count_of self.old + 1) }
         ensures newest { OnOk result (self.new.shared.newest ≡ newest_after self.old.shared.newest step.now) }
         ensures explained { IsExplained self.new }
+        ensures ended { KeepsEndedJobs self.old.shared step.now self.new.shared }
     {
         let answer = self.decide(step);
         // What a hall keeps is known from here on.
@@ -94,7 +95,7 @@ impl<A: Allocator> Hall<A> {
         ensures refused { OnErr result (self.new ≡ self.old) }
         ensures count { OnOk result (count_of self.new ≡ count_of self.old + 1) }
         ensures memory { is_admission step.now ≡ false → result ≢ Err OutOfMemory }
-        ensures known { IsKnown self.old.shared }
+        ensures explained { IsExplained self.old }
     {
         // What a hall keeps is known from here on.
         let _ = &self.core;

@@ -1,5 +1,8 @@
-use Rattle.hall.proofs.Halls.{newest-is}
+use Rattle.hall.proofs.Halls.{newest-is, ended-stays}
 use Rattle.hall.proofs.hall.Hall.offer.Goals as goal
 
 pub returns-clause-newest : goal.returns-clause-newest
-returns-clause-newest g c = newest-is _ c.args.self.now.shared _ c.args.step.now c.decide-answer.result c.decide-answer.ensures.known c.decide-answer.ensures.one
+returns-clause-newest g c = newest-is _ c.args.self.now.shared _ c.args.step.now c.decide-answer.result c.decide-answer.ensures.explained.known c.decide-answer.ensures.one
+
+pub returns-clause-ended : goal.returns-clause-ended
+returns-clause-ended g c = ended-stays c.args.self.now c.args.step.now c.decide-answer.result _ c.decide-answer.ensures.explained c.decide-answer.ensures.one
