@@ -1,20 +1,19 @@
 -- What the program does.
-use Rattle.std.specs.Prelude.{◌≡◌, ℕ, List, Bool, true, false, [], Result, Ok, Err}
+use Rattle.std.specs.Prelude.{◌≡◌, ◌≤◌, ℕ, List, Bool, true, false, [], Some, Result, Ok, Err}
 use Rattle.clap.specs.Words.{Text, fault_of}
 use Rattle.line_io.specs.declared.faults.LineFault.{LineFault}
 use Rattle.line_io.specs.Streams.{ReadAnswer, WriteAnswer}
-use Rattle.line_io.specs.Runs.{FunctionRun}
-use Rattle.solve_engine.specs.Solving.{solve_out, VisitedRun}
-use Rattle.othello_server.specs.declared.options.Options.{Options}
-use Rattle.othello_server.specs.declared.options.Options.TheVariants.{Solve}
-use Rattle.othello_server.specs.declared.options.WordsFault.{WordsFault}
-use Rattle.othello_server.specs.CommandLine.{options_asked, program}
-use Rattle.othello_server.specs.Statuses.{IsRefusal, status_of}
+use Rattle.solve_engine.specs.Solving.{SolvedRun, VisitedRun}
+use Rattle.command_line.specs.declared.options.Options.{Options}
+use Rattle.command_line.specs.declared.options.Options.TheVariants.{Serve, Solve}
+use Rattle.command_line.specs.declared.faults.WordsFault.{WordsFault}
+use Rattle.command_line.specs.CommandLine.{options_asked, program}
+use Rattle.command_line.specs.Faults.{IsRefusal, status_of}
 
 -- the words are read as what they ask for, and refused only for a fault that they have or for want of memory
 abbrev pub IsReadOf : List Text → Result Options WordsFault → Type 0
-IsReadOf words (Ok options) = (options ≡ options_asked words) × (fault_of program words ≡ [])
-IsReadOf words (Err fault) = IsRefusal (fault_of program words) fault
+IsReadOf words (Ok options) = (options_asked words ≡ Some options) × (fault_of program words ≡ [])
+IsReadOf words (Err fault) = IsRefusal words fault
 
 -- 0 where the input has ended, and 1 where it or the output failed
 abbrev pub status_of_run : Result (Unit {0}) LineFault → ℕ
@@ -22,12 +21,14 @@ status_of_run (Ok _) = 0
 status_of_run (Err _) = 1
 
 module _ {S K : Type 0} (gives : S → ReadAnswer → S → Type 0) (takes : K → WriteAnswer → K → Type 0) (source : S) (sink : K) (source' : S) (sink' : K) where
-  -- the lines of the input are answered, with counts or without
+  -- the lines of the input are answered, with counts or without; the grain changes nothing of it
   abbrev pub IsAnsweredRun : Bool → Result (Unit {0}) LineFault → Type 0
-  IsAnsweredRun false r = FunctionRun gives takes solve_out source sink source' sink' r
+  IsAnsweredRun false r = SolvedRun gives takes source sink source' sink' r
   IsAnsweredRun true r = VisitedRun gives takes source sink source' sink' r
 
-  -- what is done for the words, and the exit status: where they are refused nothing is read
+  -- what is done for the words, and the exit status: a server reads nothing of the input, nor is anything read where the
+  -- words are refused
   abbrev pub IsFollowed : Result Options WordsFault → ℕ → Type 0
-  IsFollowed (Ok (Solve visited)) status = (r : Result (Unit {0}) LineFault) × IsAnsweredRun visited r × (status ≡ status_of_run r)
+  IsFollowed (Ok (Solve grain visited)) status = (r : Result (Unit {0}) LineFault) × IsAnsweredRun visited r × (status ≡ status_of_run r)
+  IsFollowed (Ok (Serve sessions port workers segments nodes grain)) status = (source' ≡ source) × (status ≤ 1)
   IsFollowed (Err fault) status = (source' ≡ source) × (status ≡ status_of fault)
