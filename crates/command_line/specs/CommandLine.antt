@@ -5,12 +5,27 @@ use Rattle.std.specs.Option.{option_map_or}
 use Rattle.clap.specs.Words.{App, Row, Rule, Shape, Text, first_of, new_app, new_rule, subcommand_of, with_rule, with_subcommand}
 use Rattle.clap.specs.declared.builder.ArgAction.TheVariants.{SetTrue}
 use Rattle.command_line.specs.declared.options.Options.{Options}
-use Rattle.command_line.specs.declared.options.Options.TheVariants.{Solve}
+use Rattle.command_line.specs.declared.options.Options.TheVariants.{Serve, Solve}
 use Rattle.command_line.specs.Settings.{NumberOption, number_rule, value_asked}
 
--- the option with a number: word, least and greatest value, default
+-- the options with a number: word, least and greatest value, default
 abbrev pub grain_option : NumberOption
 grain_option = record { name = codes "grain"; least = 0; most = 6; default = Some 2 }
+
+abbrev pub sessions_option : NumberOption
+sessions_option = record { name = codes "sessions"; least = 1; most = 1000; default = None }
+
+abbrev pub port_option : NumberOption
+port_option = record { name = codes "port"; least = 0; most = 65535; default = Some 0 }
+
+abbrev pub workers_option : NumberOption
+workers_option = record { name = codes "workers"; least = 1; most = 32; default = Some 4 }
+
+abbrev pub segments_option : NumberOption
+segments_option = record { name = codes "segments"; least = 1; most = 65536; default = Some 4096 }
+
+abbrev pub nodes_option : NumberOption
+nodes_option = record { name = codes "nodes"; least = 1; most = 4194304; default = Some 65536 }
 
 -- the flag `--visited`
 abbrev pub visited_rule : Rule
@@ -20,15 +35,25 @@ visited_rule = record (new_rule (codes "visited")) { long = Some (codes "visited
 abbrev pub solve_shape : Shape
 solve_shape = (with_rule (with_rule (new_app (codes "solve")) (number_rule (codes "grain") false)) visited_rule).top
 
+-- a command with one more option that has a number and a default
+abbrev pub with_number : App → Text → App
+with_number app name = with_rule app (number_rule name false)
+
+-- the command `serve --sessions k [--port p] [--workers w] [--segments s] [--nodes n] [--grain g]`
+abbrev pub serve_shape : Shape
+serve_shape =
+    let serve = with_rule (new_app (codes "serve")) (number_rule (codes "sessions") true) in
+    (with_number (with_number (with_number (with_number (with_number serve (codes "port")) (codes "workers")) (codes "segments")) (codes "nodes")) (codes "grain")).top
+
 -- the program before it has commands: it tells its version, and one of its commands has to be named
 abbrev pub bare_program : App
 bare_program = record (new_app (codes "othello")) {
   top = record (new_app (codes "othello")).top { has_version = true; subcommand_required = true };
 }
 
--- the program with its command
+-- the program with its commands
 abbrev pub program : App
-program = with_subcommand bare_program solve_shape
+program = with_subcommand (with_subcommand bare_program solve_shape) serve_shape
 
 -- a flag is set where the words give it, and else not
 abbrev pub is_set : Text → List Row → Bool
@@ -39,12 +64,25 @@ abbrev pub solve_with : Option ℕ → Bool → Option Options
 solve_with None visited = None
 solve_with (Some grain) visited = Some (Solve grain visited)
 
+-- `serve` with its options, where each has a value
+abbrev pub serve_with : Option ℕ → Option ℕ → Option ℕ → Option ℕ → Option ℕ → Option ℕ → Option Options
+serve_with None p w s n g = None
+serve_with (Some k) None w s n g = None
+serve_with (Some k) (Some p) None s n g = None
+serve_with (Some k) (Some p) (Some w) None n g = None
+serve_with (Some k) (Some p) (Some w) (Some s) None g = None
+serve_with (Some k) (Some p) (Some w) (Some s) (Some n) None = None
+serve_with (Some k) (Some p) (Some w) (Some s) (Some n) (Some g) = Some (Serve k p w s n g)
+
 -- what a command and what was given to it ask for
 abbrev pub solve_asked : List Row → Option Options
 solve_asked rows = solve_with (value_asked grain_option rows) (is_set (codes "visited") rows)
 
+abbrev pub serve_asked : List Row → Option Options
+serve_asked rows = serve_with (value_asked sessions_option rows) (value_asked port_option rows) (value_asked workers_option rows) (value_asked segments_option rows) (value_asked nodes_option rows) (value_asked grain_option rows)
+
 abbrev pub command_asked : Text × List Row → Option Options
-command_asked named = if bytes_eq named.0 (codes "solve") then solve_asked named.1 else None
+command_asked named = if bytes_eq named.0 (codes "solve") then solve_asked named.1 else (if bytes_eq named.0 (codes "serve") then serve_asked named.1 else None)
 
 abbrev pub asked_of : Option (Text × List Row) → Option Options
 asked_of None = None
@@ -58,3 +96,5 @@ options_asked words = asked_of (subcommand_of program words)
 -- each option is within its limits
 abbrev pub IsWithinLimits : Options → Type 0
 IsWithinLimits (Solve grain visited) = grain ≤ 6
+IsWithinLimits (Serve sessions port workers segments nodes grain) = (1 ≤ sessions) × (sessions ≤ 1000) × (port ≤ 65535) × (1 ≤ workers) × (workers ≤ 32)
+    × (1 ≤ segments) × (segments ≤ 65536) × (1 ≤ nodes) × (nodes ≤ 4194304) × (grain ≤ 6)

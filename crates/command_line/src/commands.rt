@@ -1,11 +1,11 @@
 //! The commands as `clap` has them, with what help says of each.
-ghost use Rattle.std.specs.Prelude.{◌≡◌, IfOk, false};
-ghost use Rattle.clap.specs.Words.{app_of, found_of, rows_of, rule_of, shape_of};
+ghost use Rattle.std.specs.Prelude.{◌≡◌, IfOk, codes, false};
+ghost use Rattle.clap.specs.Words.{app_of, found_of, new_app, rows_of, rule_of, shape_of, with_rule};
 ghost use Rattle.clap.specs.declared.builder.command.Command.TheViews.{out-Command};
-ghost use Rattle.command_line.specs.CommandLine.{is_set, program, solve_shape};
+ghost use Rattle.command_line.specs.CommandLine.{is_set, program, serve_shape, solve_shape};
 ghost use Rattle.command_line.specs.Settings.{number_rule};
 
-use crate::settings::{GRAIN, Setting};
+use crate::settings::{GRAIN, NODES, PORT, SEGMENTS, SESSIONS, Setting, WORKERS};
 use clap::{Arg, ArgAction, ArgMatches, Command};
 use std::alloc::{AllocError, Global};
 
@@ -24,13 +24,15 @@ pub(crate) fn othello_command<'a>(alloc: Global) -> Result<Command<'a>, AllocErr
     ensures { IfOk result (λ command. app_of command ≡ program) }
 {
     let solve = solve_command(alloc)?;
+    let serve = serve_command(alloc)?;
     Command::new(alloc, "othello")
         .version(VERSION)
         .about(
             "Othello analysis: the minimax value of a position, and the first move that attains it",
         )
         .subcommand_required(true)
-        .subcommand(solve)
+        .subcommand(solve)?
+        .subcommand(serve)
 }
 
 /// An option with a number, under its word.
@@ -68,11 +70,62 @@ fn solve_command<'a>(alloc: Global) -> Result<Command<'a>, AllocError>
         .arg(visited)
 }
 
+/// The command `serve`.
+fn serve_command<'a>(alloc: Global) -> Result<Command<'a>, AllocError>
+    ensures shape { IfOk result (λ command. shape_of command ≡ serve_shape) }
+    ensures local { IfOk result (λ command. (out-Command command).has_globals ≡ false) }
+{
+    let command = bare_serve(alloc);
+    let command = with_number(alloc, command, SESSIONS, "k", true, SESSIONS_HELP)?;
+    let command = with_number(alloc, command, PORT, "p", false, PORT_HELP)?;
+    let command = with_number(alloc, command, WORKERS, "w", false, WORKERS_HELP)?;
+    let command = with_number(alloc, command, SEGMENTS, "s", false, SEGMENTS_HELP)?;
+    let command = with_number(alloc, command, NODES, "n", false, NODES_HELP)?;
+    with_number(alloc, command, GRAIN, "g", false, GRAIN_HELP)
+}
+
+/// The command `serve` before it has options.
+fn bare_serve<'a>(alloc: Global) -> Command<'a>
+    ensures app { app_of result ≡ new_app (codes "serve") }
+    ensures local { (out-Command result).has_globals ≡ false }
+{
+    Command::new(alloc, "serve")
+        .about("serves sessions of many tenants over TCP on 127.0.0.1, with one pool of workers")
+        .after_help(SERVE_HELP)
+}
+
+/// A command with one more option that has a number.
+fn with_number<'a>(
+    alloc: Global,
+    command: Command<'a>,
+    setting: Setting,
+    value: &'static str,
+    required: bool,
+    help: &'static str,
+) -> Result<Command<'a>, AllocError>
+    requires { (out-Command command).has_globals ≡ false }
+    ensures app { IfOk result (λ c. app_of c ≡ with_rule (app_of command.entry) (number_rule setting.name.now required)) }
+    ensures local { IfOk result (λ c. (out-Command c).has_globals ≡ false) }
+{
+    command.arg(number_arg(alloc, setting, value, required, help))
+}
+
 /// The program's version.
 const VERSION: &str = "0.1.0";
 
 /// What help says of `--grain`.
 const GRAIN_HELP: &str = "the depth that one worker searches alone, 0 to 6 [default: 2]";
+
+/// What help says of the options of `serve`.
+const SESSIONS_HELP: &str = "how many sessions to serve before the program ends, 1 to 1000";
+
+const PORT_HELP: &str = "the port, 0 to 65535; at 0 the system chooses one [default: 0]";
+
+const WORKERS_HELP: &str = "the workers of the pool, 1 to 32 [default: 4]";
+
+const SEGMENTS_HELP: &str = "the segments of all tenants together, 1 to 65536 [default: 4096]";
+
+const NODES_HELP: &str = "the nodes of all tenants together, 1 to 4194304 [default: 65536]";
 
 /// What a line of `solve` is, and what answers it.
 const SOLVE_HELP: &str = "A line is `depth position`, and is answered as soon as it is complete.
@@ -90,4 +143,27 @@ A faulty line is answered by ERR and the number of its first fault.
   24  the position hasn't 66 bytes
   25  a byte spells no cell     26  no space and side after the cells
   19  no memory for the search
+";
+
+/// What a session is, and what answers its lines.
+const SERVE_HELP: &str =
+    "The program writes `listening 127.0.0.1:port` first, and `ended k` when k sessions have ended.
+A connection is a session. Each line is answered by one line, in order:
+  HELLO s n         WELCOME s n     reserves s segments (1 to 4096) and n nodes (1 to 65536)
+  ASK d position    JOB k           asks for a position, d plies deep (`othello solve --help`)
+  GET k             PENDING k, DONE k value move, SPENT k or CANCELLED k
+  WAIT k            as GET, once the job has ended
+  CANCEL k          CANCELLED k     ends a job
+  QUOTA             QUOTA s n t     the segments, nodes and steps that are left
+  LIVE              LIVE f w        the frames that are open, and their words
+  BYE               BYE             ends the session
+
+A faulty line is answered by ERR and a number, and the session goes on.
+  22  over 128 bytes             21  unknown word, or wrong number of words
+  28  no HELLO yet               29  HELLO again
+  23  no number, or HELLO outside the limits
+  27  the depth is over 12       24, 25, 26  the position, as in `solve`
+  14  no room for the tenant     10, 11  no segments or nodes are left
+  13  256 jobs were asked        17  no such job
+  19  no memory for the tenant
 ";

@@ -5,8 +5,8 @@
 //! its default, and a value outside its limits is refused. [`Options::read`] is proved to read just that.
 //!
 //! ```text
-//! let words = ["othello", "solve", "--grain", "0"];
-//! Options::read(alloc, &words)    // Solve { grain: 0, visited: false }
+//! let words = ["othello", "serve", "--sessions", "2", "--grain", "0"];
+//! Options::read(alloc, &words)    // Serve { sessions: 2, port: 0, workers: 4, segments: 4096, nodes: 65536, grain: 0 }
 //! ```
 #![tactic(auto)]
 

@@ -2,12 +2,12 @@
 ghost use Rattle.std.specs.Prelude.{◌≡◌, [], map, IfErr, IfOk, None, OnErr, OnOk, Some};
 ghost use Rattle.clap.specs.Words.{fault_of, found_of, kind_of, rows_of, subcommand_rows_of};
 ghost use Rattle.clap.specs.declared.error.kind.ErrorKind.TheVariants.{ValueValidation};
-ghost use Rattle.command_line.specs.CommandLine.{IsWithinLimits, asked_of, command_asked, options_asked, program, solve_asked};
+ghost use Rattle.command_line.specs.CommandLine.{IsWithinLimits, asked_of, command_asked, options_asked, program, serve_asked, solve_asked};
 ghost use Rattle.command_line.specs.Faults.{IsOutside, IsRefusal};
 
 use crate::commands::{flag_in, othello_command};
 use crate::faults::WordsFault;
-use crate::settings::{GRAIN, Missing};
+use crate::settings::{GRAIN, Missing, NODES, PORT, SEGMENTS, SESSIONS, WORKERS};
 use clap::error::ErrorKind;
 use clap::{ArgMatches, Error};
 use std::alloc::{AllocError, Global};
@@ -22,6 +22,21 @@ pub enum Options {
         grain: u8,
         /// Whether each answer also tells how many positions one serial search entered.
         visited: bool,
+    },
+    /// To serve sessions over TCP.
+    Serve {
+        /// How many sessions, 1 to 1,000.
+        sessions: u16,
+        /// The port of 127.0.0.1; at 0 the system chooses one.
+        port: u16,
+        /// The workers of the pool, 1 to 32.
+        workers: u8,
+        /// The segments of all tenants together, 1 to 65,536.
+        segments: u32,
+        /// The nodes of all tenants together, 1 to 4,194,304.
+        nodes: u32,
+        /// The depth that one worker searches alone, 0 to 6.
+        grain: u8,
     },
 }
 
@@ -72,6 +87,8 @@ fn options_given(name: &str, given: &ArgMatches<'_>) -> Result<Options, Missing>
 {
     if name == "solve" {
         solve_of(given)
+    } else if name == "serve" {
+        serve_of(given)
     } else {
         Err(Missing::Command)
     }
@@ -87,6 +104,28 @@ fn solve_of(given: &ArgMatches<'_>) -> Result<Options, Missing>
     Ok(Options::Solve {
         grain: grain as u8,
         visited: flag_in(given, "visited"),
+    })
+}
+
+/// The options of `serve`.
+fn serve_of(given: &ArgMatches<'_>) -> Result<Options, Missing>
+    ensures asked { IfOk result (λ options. serve_asked (rows_of (found_of given.now)) ≡ Some options) }
+    ensures within { IfOk result IsWithinLimits }
+    ensures none { OnErr result (serve_asked (rows_of (found_of given.now)) ≡ None) }
+{
+    let sessions = SESSIONS.value_in(given)?;
+    let port = PORT.value_in(given)?;
+    let workers = WORKERS.value_in(given)?;
+    let segments = SEGMENTS.value_in(given)?;
+    let nodes = NODES.value_in(given)?;
+    let grain = GRAIN.value_in(given)?;
+    Ok(Options::Serve {
+        sessions: sessions as u16,
+        port: port as u16,
+        workers: workers as u8,
+        segments,
+        nodes,
+        grain: grain as u8,
     })
 }
 
@@ -106,7 +145,7 @@ fn outside_error(alloc: Global, missing: Missing) -> Result<Error, AllocError>
 {
     let text = match missing {
         Missing::Value(setting) => format!(in alloc; "{setting}")?,
-        Missing::Command => format!(in alloc; "the command solve is needed")?,
+        Missing::Command => format!(in alloc; "one of the commands is needed: solve, serve")?,
     };
     othello_command(alloc)?.error(ErrorKind::ValueValidation, text.as_str())
 }

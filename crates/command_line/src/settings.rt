@@ -74,3 +74,43 @@ pub(crate) const GRAIN: Setting = Setting {
     most: 6,
     default: Some(2),
 };
+
+/// How many sessions are served. There is no default.
+pub(crate) const SESSIONS: Setting = Setting {
+    name: "sessions",
+    least: 1,
+    most: 1000,
+    default: None,
+};
+
+/// The port; at 0 the system chooses one.
+pub(crate) const PORT: Setting = Setting {
+    name: "port",
+    least: 0,
+    most: 65535,
+    default: Some(0),
+};
+
+/// The number of workers.
+pub(crate) const WORKERS: Setting = Setting {
+    name: "workers",
+    least: 1,
+    most: 32,
+    default: Some(4),
+};
+
+/// The segments of all tenants together.
+pub(crate) const SEGMENTS: Setting = Setting {
+    name: "segments",
+    least: 1,
+    most: 65536,
+    default: Some(4096),
+};
+
+/// The nodes of all tenants together.
+pub(crate) const NODES: Setting = Setting {
+    name: "nodes",
+    least: 1,
+    most: 4194304,
+    default: Some(65536),
+};

@@ -1,4 +1,4 @@
-//! Words, read, and what is said of refused ones.
+//! Words of both commands, read, and what is said of refused ones.
 use crate::{Options, WordsFault};
 use std::test::Fail;
 
@@ -13,6 +13,16 @@ fn words_are_read(rt: HostRuntime) {
             visited: true
         })
     );
+    let serve = Options::read(alloc, &["othello", "serve", "--sessions", "2", "--port=80"]).ok();
+    let asked = Options::Serve {
+        sessions: 2,
+        port: 80,
+        workers: 4,
+        segments: 4096,
+        nodes: 65536,
+        grain: 2,
+    };
+    assert_eq!(rt; serve, Some(asked));
 }
 
 #[test]
@@ -25,14 +35,19 @@ fn refusals_are_told(rt: HostRuntime) -> Result<(), Fail> {
             "error: --grain takes a number from 0 to 6\n",
         ),
         (
-            &["othello"],
+            &["othello", "serve", "--sessions", "x"],
             2,
-            "error: 'othello' requires a subcommand but one was not provided\n",
+            "error: --sessions takes a number from 1 to 1000\n",
         ),
         (
-            &["othello", "solve", "--help"],
+            &["othello", "serve"],
+            2,
+            "error: the following required arguments were not provided:\n  --sessions <k>\n",
+        ),
+        (
+            &["othello", "serve", "--help"],
             0,
-            "answers lines `depth position`",
+            "serves sessions of many tenants",
         ),
     ] {
         let Err(fault) = Options::read(alloc, words) else {

@@ -1,11 +1,11 @@
 -- What the program does.
-use Rattle.std.specs.Prelude.{◌≡◌, ℕ, List, Bool, true, false, [], Some, Result, Ok, Err}
+use Rattle.std.specs.Prelude.{◌≡◌, ◌≤◌, ℕ, List, Bool, true, false, [], Some, Result, Ok, Err}
 use Rattle.clap.specs.Words.{Text, fault_of}
 use Rattle.line_io.specs.declared.faults.LineFault.{LineFault}
 use Rattle.line_io.specs.Streams.{ReadAnswer, WriteAnswer}
 use Rattle.solve_engine.specs.Solving.{SolvedRun, VisitedRun}
 use Rattle.command_line.specs.declared.options.Options.{Options}
-use Rattle.command_line.specs.declared.options.Options.TheVariants.{Solve}
+use Rattle.command_line.specs.declared.options.Options.TheVariants.{Serve, Solve}
 use Rattle.command_line.specs.declared.faults.WordsFault.{WordsFault}
 use Rattle.command_line.specs.CommandLine.{options_asked, program}
 use Rattle.command_line.specs.Faults.{IsRefusal, status_of}
@@ -26,7 +26,9 @@ module _ {S K : Type 0} (gives : S → ReadAnswer → S → Type 0) (takes : K �
   IsAnsweredRun false r = SolvedRun gives takes source sink source' sink' r
   IsAnsweredRun true r = VisitedRun gives takes source sink source' sink' r
 
-  -- what is done for the words, and the exit status: where they are refused nothing is read
+  -- what is done for the words, and the exit status: a server reads nothing of the input, nor is anything read where the
+  -- words are refused
   abbrev pub IsFollowed : Result Options WordsFault → ℕ → Type 0
   IsFollowed (Ok (Solve grain visited)) status = (r : Result (Unit {0}) LineFault) × IsAnsweredRun visited r × (status ≡ status_of_run r)
+  IsFollowed (Ok (Serve sessions port workers segments nodes grain)) status = (source' ≡ source) × (status ≤ 1)
   IsFollowed (Err fault) status = (source' ≡ source) × (status ≡ status_of fault)

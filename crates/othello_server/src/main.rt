@@ -1,17 +1,22 @@
 //! `othello`: answers Othello positions with their minimax value and the first move that attains it.
 //!
 //! `othello solve` reads lines `depth position` and writes for each a line `value move`, as soon as the line is
-//! complete. The words of the command line are read by `command_line`, and the lines are the work of `solve_engine`,
-//! whose contract says what is written of what is read. Here is what is done with the words: [`running::run`] goes from
-//! them and the three streams to the exit status.
+//! complete. `othello serve` serves sessions of many tenants over TCP. The words of the command line are read by
+//! `command_line`; the lines are the work of `solve_engine`, and sessions that of `tcp_server` and the crates below it,
+//! whose contracts say what is written of what is read. Here is what is done with the words: [`running::run`] goes from
+//! them and the three streams to the exit status, and [`serving`] says where it listens and when it has ended.
 //!
 //! ```text
 //! $ printf '1 ---------------------------OX------XO--------------------------- X\n' | othello solve
 //! -3 d3
+//! $ othello serve --sessions 2 --port 4711
+//! listening 127.0.0.1:4711
+//! ended 2
 //! ```
 #![tactic(auto)]
 
 mod running;
+mod serving;
 
 use line_io::{FromReader, FromWriter};
 use std::process::ExitCode;
@@ -23,6 +28,7 @@ fn main(rt: HostRuntime) -> io::Result<ExitCode> {
     let mut sink = FromWriter::new(rt.stdout());
     let mut errors = FromWriter::new(rt.stderr());
     let status = running::run(
+        &rt,
         rt.alloc(),
         words.as_slice(),
         &mut source,

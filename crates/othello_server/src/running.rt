@@ -6,19 +6,27 @@ ghost use Rattle.command_line.specs.declared.faults.WordsFault.{WordsFault};
 ghost use Rattle.command_line.specs.Faults.{status_of};
 ghost use Rattle.othello_server.specs.Running.{IsAnsweredRun, IsFollowed, IsReadOf, status_of_run};
 
+use crate::serving::{Asked, serve_as_asked};
 use command_line::{Options, WordsFault};
+use desk::{Config, PARTS};
 use line_io::{FromReader, FromWriter, LineFault, Sink, Source, write_text};
+use sched_rules::Worker;
 use solve_engine::{solve, solve_visited};
 use std::alloc::Global;
 use std::convert::AsStr;
 use std::fmt::{self, Display, Write as _};
 use std::io::{ErrorKind, IsTerminal, Read, Write};
+use std::marker::Brand;
+use std::net::{Net, TcpListener, TcpStream};
+use std::sync::Wait;
+use std::sync::ledger::Blank;
+use std::thread::Threads;
 
 /// The exit status where all went well.
-const DONE: u8 = 0;
+pub(crate) const DONE: u8 = 0;
 
 /// The exit status where the input or the output failed.
-const FAILED: u8 = 1;
+pub(crate) const FAILED: u8 = 1;
 
 /// What somebody is told who types the lines.
 const HINT: &str = "reading lines `depth position`; `othello solve --help` explains them";
@@ -48,21 +56,44 @@ impl<W: Write> Output for FromWriter<W> {
 }
 
 /// Does what the words ask for, and gives the exit status. Answers, help and the version go to the output, and all
-/// else that there is to say to the errors. A status doesn't change where a text of the program's own can't be
+/// else that there is to say to the errors. A status doesn't change where a text of help or of refusal can't be
 /// written.
-pub fn run<T: AsStr, S: Input, K: Output, E: Sink>(
+pub fn run<R, T: AsStr, S: Input, K: Output, E: Sink>(
+    rt: &R,
     alloc: Global,
     words: &[T],
     source: &mut S,
     sink: &mut K,
     errors: &mut E,
 ) -> u8
+where
+    R: Net<Listener = TcpListener, Stream = TcpStream> + Threads + Wait + Sync,
     ensures { (asked : Result Options WordsFault) × IsReadOf (map T.text words.now) asked
         × IsFollowed S.gives K.takes source.old sink.old source.new sink.new asked result }
 {
     match Options::read(alloc, words) {
         Ok(Options::Solve { grain, visited }) => {
             answer(alloc, grain, visited, source, sink, errors)
+        }
+        Ok(
+            Options::Serve {
+                sessions,
+                port,
+                workers,
+                segments,
+                nodes,
+                grain,
+            },
+        ) => {
+            let asked = Asked {
+                sessions,
+                port,
+                workers: Worker::new(workers).unwrap(),
+                config: Config::new(segments, nodes).unwrap(),
+                grain,
+            };
+            let blank = Blank::new(PARTS);
+            serve_as_asked::<Brand, R, K, E>(rt, alloc, blank, asked, sink, errors)
         }
         Err(fault) => refuse(&fault, sink, errors),
     }
@@ -111,7 +142,7 @@ fn refuse<K: Sink, E: Sink>(fault: &WordsFault, sink: &mut K, errors: &mut E) ->
 }
 
 /// Writes a line of the program's own.
-fn say<K: Sink, D: Display + Drop>(sink: &mut K, text: D) {
+pub(crate) fn say<K: Sink, D: Display + Drop>(sink: &mut K, text: D) {
     let _ = writeln!(Pen(sink), "othello: {text}");
 }
 

@@ -1,6 +1,8 @@
 //! The exit statuses, and where each text goes.
 use crate::running::{Input, Output, run};
 use line_io::{FromWriter, ReadFailed, Sink, Source, WriteFailed};
+use std::io::Write;
+use std::net::{Net, TcpListener, TcpStream};
 use std::test::Fail;
 
 /// The opening two plies deep.
@@ -89,11 +91,13 @@ fn each_text_has_its_place_and_status(rt: HostRuntime) -> Result<(), Fail> {
         (&["othello", "--visited"], 2, "", "error: "),
         (&["othello", "solved"], 2, "", "error: "),
         (&["othello", "solve", "--fast"], 2, "", "error: "),
+        (&["othello", "serve"], 2, "", "error: "),
+        (&["othello", "serve", "--help"], 0, "serves sessions", ""),
     ] {
         let mut sink = FromWriter::new(Vec::new(alloc));
         let mut errors = FromWriter::new(Vec::new(alloc));
         let mut source = Given::new(LINE);
-        let found = run(alloc, words, &mut source, &mut sink, &mut errors);
+        let found = run(&rt, alloc, words, &mut source, &mut sink, &mut errors);
         let (output, error) = (output.as_bytes(), error.as_bytes());
         assert_eq!(rt; found, status, "{words:?}");
         assert!(rt; sink.writer.as_slice().starts_with(output), "{words:?}");
@@ -142,7 +146,7 @@ fn streams_that_fail(rt: HostRuntime) -> Result<(), Fail> {
             fails,
             typed,
         };
-        let found = run(alloc, words, &mut source, &mut sink, &mut errors);
+        let found = run(&rt, alloc, words, &mut source, &mut sink, &mut errors);
         assert_eq!(rt; found, status, "{words:?}");
         assert!(rt;
             errors.writer.as_slice().starts_with(error.as_bytes()),
@@ -154,6 +158,7 @@ fn streams_that_fail(rt: HostRuntime) -> Result<(), Fail> {
     let mut full = Full { closed: false };
     let mut errors = Full { closed: false };
     let found = run(
+        &rt,
         alloc,
         words.as_slice(),
         &mut Given::new(LINE),
@@ -161,5 +166,99 @@ fn streams_that_fail(rt: HostRuntime) -> Result<(), Fail> {
         &mut errors,
     );
     assert_eq!(rt; found, 2, "refused words that can't be explained");
+    Ok(())
+}
+
+/// An output that keeps what it is told. Once it is told where a server listens it says `BYE` to it.
+#[derive(Drop)]
+struct Visitor<'a, R> {
+    rt: &'a R,
+    told: Vec<u8>,
+    stream: Option<TcpStream>,
+}
+
+impl<R: Net<Stream = TcpStream>> Visitor<'_, R> {
+    /// Opens a session at the address of this line, and ends it.
+    fn visit(&mut self, line: &[u8]) -> Option<()> {
+        let line = str::from_utf8(line).ok()?;
+        let address = line.strip_prefix("listening ")?.trim_end();
+        let stream = TcpStream::connect(self.rt, address).ok()?;
+        (&stream).write_all(b"BYE\n").ok()?;
+        self.stream = Some(stream);
+        Some(())
+    }
+}
+
+impl<R: Net<Stream = TcpStream>> Sink for Visitor<'_, R> {
+    ghost takes = { λ _ _ _. Unit {0} };
+
+    fn put(&mut self, bytes: &[u8]) -> Result<usize, WriteFailed> {
+        if self.told.extend_from_slice(bytes).is_err() {
+            return Err(WriteFailed);
+        }
+        let _ = self.visit(bytes);
+        Ok(bytes.len())
+    }
+}
+
+impl<R: Net<Stream = TcpStream>> Output for Visitor<'_, R> {
+    fn is_closed(&self) -> bool {
+        false
+    }
+}
+
+#[test]
+fn a_server_says_where_it_listens_and_when_it_has_ended(rt: HostRuntime) -> Result<(), Fail> {
+    let alloc = rt.alloc();
+    let mut source = Given::new(b"");
+    let mut errors = FromWriter::new(Vec::new(alloc));
+    let mut sink = Visitor {
+        rt: &rt,
+        told: Vec::new(alloc),
+        stream: None,
+    };
+    let words = ["othello", "serve", "--sessions", "1", "--workers", "1"];
+    let found = run(
+        &rt,
+        alloc,
+        words.as_slice(),
+        &mut source,
+        &mut sink,
+        &mut errors,
+    );
+    assert_eq!(rt; found, 0);
+    assert!(rt; sink.told.as_slice().starts_with(b"listening 127.0.0.1:"));
+    assert!(rt; sink.told.as_slice().ends_with(b"\nended 1\n"));
+    assert!(rt; errors.writer.is_empty());
+    Ok(())
+}
+
+#[test]
+fn a_port_that_is_taken_is_told(rt: HostRuntime) -> Result<(), Fail> {
+    let alloc = rt.alloc();
+    let taken = TcpListener::bind(&rt, "127.0.0.1:0")?;
+    let port = format!(in alloc; "{}", taken.local_addr()?.port())?;
+    let words = [
+        "othello",
+        "serve",
+        "--sessions",
+        "1",
+        "--port",
+        port.as_str(),
+    ];
+    let mut source = Given::new(b"");
+    let mut sink = FromWriter::new(Vec::new(alloc));
+    let mut errors = FromWriter::new(Vec::new(alloc));
+    let found = run(
+        &rt,
+        alloc,
+        words.as_slice(),
+        &mut source,
+        &mut sink,
+        &mut errors,
+    );
+    assert_eq!(rt; found, 1);
+    assert!(rt; sink.writer.is_empty());
+    assert!(rt; errors.writer.as_slice().starts_with(b"othello: "));
     Ok(())
 }

@@ -11,4 +11,5 @@ returns c = record {
   twice = refl;
   a_value = refl;
   unknown = refl;
+  no_sessions = refl;
 }

@@ -1,0 +1,95 @@
+//! The command `serve`: a listener on 127.0.0.1, a hall under a desk, and what is said at the start and at the end.
+ghost use Rattle.std.specs.Prelude.{◌≡◌, ◌≤◌};
+
+use crate::running::{DONE, FAILED, say};
+use desk::{Config, Desk, Hall, Hands, PARTS};
+use line_io::{Sink, write_text};
+use sched_rules::Worker;
+use std::alloc::Global;
+use std::fmt::Display;
+use std::net::{Ipv4Addr, Net, TcpListener, TcpStream};
+use std::sync::Wait;
+use std::sync::ledger::Blank;
+use std::thread::Threads;
+use steal_pool::Open;
+use tcp_server::serve;
+
+/// What a server is asked to be.
+#[derive(Clone, Copy)]
+pub struct Asked {
+    /// How many sessions it serves.
+    pub sessions: u16,
+    /// Its port; at 0 the system chooses one.
+    pub port: u16,
+    /// How many workers it has.
+    pub workers: Worker,
+    /// The segments and nodes of all tenants together.
+    pub config: Config,
+    /// The depth that one worker searches alone.
+    pub grain: u8,
+    ghost limit: { grain ≤ 6 },
+}
+
+/// Serves so many sessions, and gives the exit status. The output gets `listening 127.0.0.1:port` before the first
+/// and `ended k` after the last. Where there is no port, no memory, no thread or no output, the errors get why.
+pub fn serve_as_asked<L, R, K: Sink, E: Sink>(
+    rt: &R,
+    alloc: Global,
+    blank: Blank,
+    asked: Asked,
+    sink: &mut K,
+    errors: &mut E,
+) -> u8
+where
+    L: Hands + Send + Sync,
+    R: Net<Listener = TcpListener, Stream = TcpStream> + Threads + Wait + Sync,
+    requires name { blank.name ≡ L.name }
+    requires parts { (blank.parts ≡ L.parts) × (L.all ≡ L.parts) × (L.all ≡ PARTS) }
+    ensures { result ≤ 1 }
+{
+    let listener = match TcpListener::bind(rt, (Ipv4Addr::LOCALHOST, asked.port)) {
+        Ok(listener) => listener,
+        Err(error) => return failed(errors, error),
+    };
+    let Ok(hall) = Hall::new(alloc, asked.config, asked.grain) else {
+        return failed(errors, "no memory for the segments");
+    };
+    let desk: Desk<L> = Desk::new(hall, blank);
+    match listener.local_addr() {
+        Ok(address) if is_told(alloc, sink, "listening", address) => {}
+        Ok(_) => return failed(errors, "the output could not be written"),
+        Err(error) => return failed(errors, error),
+    }
+    if let Err(fault) = serve(
+        rt,
+        alloc,
+        &desk,
+        listener,
+        asked.sessions,
+        asked.workers,
+        &Open,
+    ) {
+        return failed(errors, fault);
+    }
+    if is_told(alloc, sink, "ended", asked.sessions) {
+        DONE
+    } else {
+        failed(errors, "the output could not be written")
+    }
+}
+
+/// Says why there is no server, or no more of it.
+fn failed<E: Sink, D: Display + Drop>(errors: &mut E, why: D) -> u8
+    ensures { result ≡ 1 }
+{
+    say(errors, why);
+    FAILED
+}
+
+/// Writes a line of two words by one call, and tells whether it was written.
+fn is_told<K: Sink, D: Display + Drop>(alloc: Global, sink: &mut K, word: &str, what: D) -> bool {
+    match format!(in alloc; "{word} {what}\n") {
+        Ok(line) => write_text(sink, line.as_bytes()).is_ok(),
+        Err(_) => false,
+    }
+}
