@@ -1,4 +1,3 @@
-use Rattle.std.proofs.Common.{◌≡◌}
 use Rattle.desk.proofs.Offering.{offered}
 use Rattle.desk.proofs.kept.Kept.take.Goals.{in-Ok, in-Err}
 use Rattle.desk.proofs.kept.Kept.take.Goals as goal
