@@ -4,6 +4,7 @@ pub mod Content
 pub mod Fresh
 pub mod Grown
 pub mod Sound
+pub mod Blocks
 pub mod Changes
 pub mod Steps
 pub mod TreeFacts

@@ -1,7 +1,8 @@
 //! The words of one node, read in place.
-ghost use Rattle.std.specs.Prelude.{◌≡◌, ◌≤◌, length, slice_get};
+ghost use Rattle.std.specs.Prelude.{◌≡◌, ◌≤◌, ◌*◌, drop, length, slice_get, take};
 
 use crate::chain::segment_after;
+use crate::charges::charge;
 use segment_region::{RegionView, SegNo};
 use std::marker::Model;
 
@@ -55,5 +56,18 @@ impl<'a> Words<'a> {
         }
         let segment = segment_after(&self.region, self.first, at / 16);
         Some(self.region.words(segment)[at % 16])
+    }
+
+    /// The words of a segment, in place: the sixteen from place `16 * number` on, or as many as are
+    /// left from there. It follows a link for each segment before it.
+    pub fn segment(&self, number: usize) -> &'a [u64]
+        ensures { result.now ≡ take 16 (drop (16 * number) self.now) }
+    {
+        if charge(self.len) <= number {
+            return &[];
+        }
+        let segment = segment_after(&self.region, self.first, number);
+        let words = self.region.words(segment);
+        &words[..(self.len - 16 * number).min(16)]
     }
 }

@@ -2,6 +2,7 @@
 ghost use Rattle.std.specs.Prelude.{◌≡◌, ◌↔◌, ◌∷◌, [], IsTrue, MatchOption, drop, length, slice_get};
 
 use super::choices::Choice;
+use super::legal::moves;
 use super::mobility::Mobility;
 use othello_board::Board;
 use std::marker::Model;
@@ -32,11 +33,16 @@ impl Choices {
     ghost use Rattle.othello_board.specs.Words.{cells};
     ghost use Rattle.othello_moves.specs.Choices.{choices};
 
-    /// All choices of a board.
+    /// All choices of a board. The opponent's legal squares are sought only where the mover has none.
     pub fn new(board: Board) -> Choices
         ensures { result ≡ choices (cells board) }
     {
-        Choices::of(Mobility::of(board))
+        let own = moves(board);
+        Choices {
+            corners: own & CORNERS,
+            others: own & !CORNERS,
+            passes: own == 0 && moves(board.swap()) != 0,
+        }
     }
 
     /// All choices of a board whose legal squares are known.

@@ -1,9 +1,7 @@
 -- How a region keeps its entries: a block for each number, whose link words chain the free ones.
-use Rattle.std.specs.Prelude.{◌≡◌, ℕ, zero, suc, ◌+◌, ◌<◌, List, [], ◌∷◌, length, replicate, Option, Some, None, slice_index_or}
+use Rattle.std.specs.Prelude.{◌≡◌, ℕ, zero, suc, ◌+◌, ◌≤◌, Bool, true, false, if◌then◌else◌, List, [], ◌∷◌, length, Option, Some, None, slice_index_or}
 use Rattle.segment_region.specs.Segments.{Segment, Segments, taken_count}
-use Rattle.segment_region.specs.Places.{IsFilled}
 use Rattle.segment_region.specs.declared.block.Link.{Link}
-use Rattle.segment_region.specs.declared.block.Link.TheVariants.{FreeEnd, FreeThen, End, Then}
 use Rattle.segment_region.specs.declared.block.Block.{Block}
 use Rattle.segment_region.specs.declared.cells.Base.{Base}
 use Rattle.segment_region.specs.declared.cells.Cells.{Cells}
@@ -13,29 +11,17 @@ use Rattle.segment_region.specs.declared.cells.Deed.{Deed}
 abbrev pub WordBlock : Type 0
 WordBlock = Block (List ℕ)
 
--- the link word of a free block before next
-abbrev pub free_link : Option ℕ → Link
-free_link None = FreeEnd
-free_link (Some next) = FreeThen next
-
--- the link word of a taken block that is chained to next
-abbrev pub taken_link : Option ℕ → Link
-taken_link None = End
-taken_link (Some next) = Then next
-
--- the number in a link word
+-- the number in a link word, if it has one
 abbrev pub next_of : Link → Option ℕ
-next_of FreeEnd = None
-next_of (FreeThen next) = Some next
-next_of End = None
-next_of (Then next) = Some next
+next_of link = if link.chained then Some link.next else None
 
--- the entry that a block's link and words stand for
+-- a link word says that the block is taken, or is not, and which comes after it
+abbrev pub IsLink : Link → Bool → Option ℕ → Type 0
+IsLink link taken next = (link.taken ≡ taken) × (next_of link ≡ next)
+
+-- the entry that a block's link and words stand for: a segment where the block is taken
 abbrev pub entry_of : Link → List ℕ → Option Segment
-entry_of FreeEnd words = None
-entry_of (FreeThen next) words = None
-entry_of End words = Some (record { words = words; link = None })
-entry_of (Then next) words = Some (record { words = words; link = Some next })
+entry_of link words = if link.taken then Some (record { words = words; link = next_of link }) else None
 
 -- the entry that a place of the block's memory stands for
 abbrev pub place_entry : Option WordBlock → Option Segment
@@ -47,9 +33,9 @@ abbrev pub entries_of : List (Option WordBlock) → Segments
 entries_of [] = []
 entries_of (place ∷ places) = place_entry place ∷ entries_of places
 
--- the link word at a place
+-- the link word at a place, and that of a taken block where nothing is written
 abbrev pub place_link : Option WordBlock → Link
-place_link None = End
+place_link None = record { taken = true; chained = false; next = 0 }
 place_link (Some block) = block.link
 
 -- the link word under a number
@@ -60,28 +46,24 @@ link_in places number = place_link (slice_index_or places number None)
 abbrev pub IsFreeList : List (Option WordBlock) → Option ℕ → ℕ → Type 0
 IsFreeList places head zero = head ≡ None
 IsFreeList places None (suc count) = ⊥
-IsFreeList places (Some number) (suc count) = (link_in places number ≡ free_link (next_of (link_in places number))) × IsFreeList places (next_of (link_in places number)) count
+IsFreeList places (Some number) (suc count) = ((link_in places number).taken ≡ false) × IsFreeList places (next_of (link_in places number)) count
 
--- each of the places holds a block, and from head on the free ones are chained: as many as are not taken
-pub record IsWhole (places : List (Option WordBlock)) (count : ℕ) (head : Option ℕ) (free_len : ℕ) : Type 0 where
+-- the places from fresh on are empty, and of those below it the free ones are chained from the link free on: free_len are free in all, as many as are not taken
+pub record IsWhole (places : List (Option WordBlock)) (count : ℕ) (free : Link) (free_len fresh : ℕ) : Type 0 where
   pub all_places : length places ≡ count
-  pub filled : (number : ℕ) → number < count → IsFilled places number
+  pub in_limits : count ≤ 65536
+  pub below : fresh ≤ count
+  pub empty : (number : ℕ) → fresh ≤ number → slice_index_or places number None ≡ None
   pub counted : free_len + taken_count (entries_of places) ≡ count
-  pub chain : IsFreeList places head free_len
+  pub is_free : free.taken ≡ false
+  pub listed : ℕ
+  pub parts : listed + count ≡ free_len + fresh
+  pub chain : IsFreeList places (next_of free) listed
 
 -- the places, and the right to free them, are those of one allocation of count blocks
 abbrev pub IsOneAllocation : {A : Type 0} → Base WordBlock → Cells WordBlock → Deed WordBlock A → ℕ → A → Type 0
 IsOneAllocation base cells deed count alloc = (cells.at ≡ base.ptr) × (deed.at ≡ base.ptr) × (deed.len ≡ count) × (deed.alloc ≡ alloc)
 
--- the free block under a number as new chains them: each before the one below it
-abbrev pub below : ℕ → Option ℕ
-below zero = None
-below (suc number) = Some number
-
--- the block that a new region has under a number
-abbrev pub first_block : ℕ → WordBlock
-first_block number = record { words = replicate 16 0; link = free_link (below number) }
-
--- the cells begin at the base, and each place holds its block
+-- the cells begin at the base
 abbrev pub IsReadable : Base WordBlock → Cells WordBlock → Type 0
-IsReadable base cells = (cells.at ≡ base.ptr) × ((number : ℕ) → number < length cells.slots → IsFilled cells.slots number)
+IsReadable base cells = cells.at ≡ base.ptr

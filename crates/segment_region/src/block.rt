@@ -3,41 +3,50 @@ ghost use Rattle.std.specs.Prelude.{◌≡◌, replicate};
 
 use crate::slot::SegNo;
 
-/// What the link word of a block says: whether the block is taken, and which comes after it, in the
-/// list of the free blocks where it is free, and in its owner's chain where it is taken.
+/// The link word of a block: whether the block is taken, and which comes after it, in the list of the
+/// free blocks where it is free, and in its owner's chain where it is taken. Its parts are read with no
+/// branch, which an enum of the cases would need.
 #[derive(Clone, Copy, Drop)]
-pub enum Link {
-    /// Free, and the last of the free ones.
-    FreeEnd,
-    /// Free, before this free one.
-    FreeThen(SegNo),
-    /// Taken, and chained to none.
-    End,
-    /// Taken, and chained to this one.
-    Then(SegNo),
+pub struct Link {
+    taken: bool,
+    chained: bool,
+    // Where the block is chained, the one after it.
+    next: SegNo,
 }
 
 impl Link {
-    ghost use Rattle.std.specs.Prelude.{◌≡◌};
-    ghost use Rattle.segment_region.specs.Blocks.{free_link, taken_link, next_of};
+    ghost use Rattle.std.specs.Prelude.{◌≡◌, true, None, Some};
+    ghost use Rattle.segment_region.specs.Blocks.{IsLink, next_of};
 
-    /// The link word of a free block.
-    pub(crate) fn free(next: Option<SegNo>) -> Link
-        ensures { result ≡ free_link next }
+    /// The link word of a block that has none after it.
+    pub(crate) fn end(taken: bool) -> Link
+        ensures { IsLink result taken None }
     {
-        match next {
-            None => Link::FreeEnd,
-            Some(next) => Link::FreeThen(next),
+        Link {
+            taken,
+            chained: false,
+            next: SegNo::from_number(0),
+        }
+    }
+
+    /// The link word of a block that has this one after it.
+    pub(crate) fn before(taken: bool, next: SegNo) -> Link
+        ensures { IsLink result taken (Some next) }
+    {
+        Link {
+            taken,
+            chained: true,
+            next,
         }
     }
 
     /// The link word of a taken block.
     pub(crate) fn taken(next: Option<SegNo>) -> Link
-        ensures { result ≡ taken_link next }
+        ensures { IsLink result true next }
     {
         match next {
-            None => Link::End,
-            Some(next) => Link::Then(next),
+            None => Link::end(true),
+            Some(next) => Link::before(true, next),
         }
     }
 
@@ -45,12 +54,7 @@ impl Link {
     pub(crate) fn next(self) -> Option<SegNo>
         ensures { result ≡ next_of self }
     {
-        match self {
-            Link::FreeEnd => None,
-            Link::FreeThen(next) => Some(next),
-            Link::End => None,
-            Link::Then(next) => Some(next),
-        }
+        if self.chained { Some(self.next) } else { None }
     }
 }
 

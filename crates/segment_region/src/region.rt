@@ -20,9 +20,11 @@ pub struct Region<A: Allocator = Global> {
     cells: Cells<WordBlock>,
     deed: Deed<WordBlock, A>,
     alloc: A,
-    // The first of the free blocks, and how many there are.
-    free_head: Option<SegNo>,
+    // The link word that the next block given back gets: it leads to the free blocks that were taken before.
+    free: Link,
+    // How many blocks are free, and how many were ever taken: nothing is written in those from `fresh` on.
     free_len: usize,
+    fresh: usize,
 }
 
 impl<A: Allocator> Model for Region<A> {
@@ -34,7 +36,7 @@ impl<A: Allocator> Model for Region<A> {
 
     ghost view = { λ region. entries_of region.cells.slots };
 
-    ghost invariant = { λ region. IsOneAllocation region.base region.cells region.deed region.count region.alloc × IsWhole region.cells.slots region.count region.free_head region.free_len };
+    ghost invariant = { λ region. IsOneAllocation region.base region.cells region.deed region.count region.alloc × IsWhole region.cells.slots region.count region.free region.free_len region.fresh };
 }
 
 // The allocation goes, with the blocks in it.
@@ -46,8 +48,9 @@ impl<A: Allocator> Drop for Region<A> {
             cells,
             deed,
             alloc,
-            free_head: _,
+            free: _,
             free_len: _,
+            fresh: _,
         } = self;
         deallocate(&alloc, base, count, cells, deed);
     }
@@ -60,16 +63,16 @@ impl<A: Allocator> Region<A> {
         requires in_limits { count ≤ 65536 }
         ensures { IfOk result (λ region. region ≡ replicate count None) }
     {
-        let (base, mut cells, deed) = allocate(&alloc, count)?;
-        let free_head = fill(&mut cells, base, count);
+        let (base, cells, deed) = allocate(&alloc, count)?;
         Ok(Region {
             base,
             count,
             cells,
             deed,
             alloc,
-            free_head,
+            free: Link::end(false),
             free_len: count,
+            fresh: 0,
         })
     }
 
@@ -81,16 +84,24 @@ impl<A: Allocator> Region<A> {
         ensures none_free { IsNone result ↔ (taken_count self.old ≡ segment_count self.old) }
         ensures unchanged { IfNone result (self.new ≡ self.old) }
     {
-        match self.free_head {
-            None => None,
+        match self.free.next() {
             Some(segment) => {
                 let at = segment.index();
-                self.free_head = self.cells.get(self.base, at).link.next();
+                self.free = self.cells.get(self.base, at).link;
                 self.free_len -= 1;
-                let link = Link::taken(None);
+                let link = Link::end(true);
                 *self.cells.get_mut(self.base, at) = zeros(link);
                 Some(segment)
             }
+            None if self.fresh < self.count => {
+                let at = self.fresh;
+                let link = Link::end(true);
+                self.cells.write(self.base, at, zeros(link));
+                self.fresh += 1;
+                self.free_len -= 1;
+                Some(SegNo::from_number(at as u32))
+            }
+            None => None,
         }
     }
 
@@ -100,9 +111,8 @@ impl<A: Allocator> Region<A> {
         ensures { self.new ≡ with_entry self.old segment None }
     {
         let at = segment.index();
-        let link = Link::free(self.free_head);
-        self.cells.get_mut(self.base, at).link = link;
-        self.free_head = Some(segment);
+        self.cells.get_mut(self.base, at).link = self.free;
+        self.free = Link::before(false, segment);
         self.free_len += 1;
     }
 
@@ -157,22 +167,4 @@ impl<A: Allocator> Region<A> {
         let Region { free_len, .. } = self;
         *free_len
     }
-}
-
-// Writes a free block to each place, each chained to the one below it, and returns the last number.
-fn fill(cells: &mut Cells<WordBlock>, base: Base<WordBlock>, count: usize) -> Option<SegNo>
-    requires block { base.ptr ≡ cells.old.at }
-    requires empty { cells.old.slots ≡ replicate count None }
-    requires in_limits { count ≤ 65536 }
-    ensures block { cells.new.at ≡ cells.old.at }
-    ensures whole { IsWhole cells.new.slots count result count }
-    ensures none_taken { entries_of cells.new.slots ≡ replicate count None }
-{
-    let mut head = None;
-    for number in 0..count {
-        let link = Link::free(head);
-        cells.write(base, number, zeros(link));
-        head = Some(SegNo::from_number(number as u32));
-    }
-    head
 }

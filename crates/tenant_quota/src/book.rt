@@ -61,7 +61,7 @@ fn place_of(accounts: &[(u64, Account)], tenant: u64) -> usize
 
 impl<A: Allocator> Book<A> {
     ghost use Rattle.tenant_quota.specs.Accounts.{fresh, charged_by, credited_by, ticked, charged_segments};
-    ghost use Rattle.tenant_quota.specs.Reservations.{empty_of, left_of, reserve_of, rest_of, HasRoom, IsFull, HasLeft, IsShort, HasStepLeft, IsOutOfSteps, HasCharged, KeepsOthers, Admits, ChangesOnly, Releases, IsSound};
+    ghost use Rattle.tenant_quota.specs.Reservations.{empty_of, left_of, opened_of, reserve_of, rest_of, HasRoom, IsFull, HasLeft, IsShort, HasStepLeft, IsOutOfSteps, HasCharged, KeepsOthers, Admits, ChangesOnly, Releases, IsSound};
 
     /// A book of so many segments (1 to 65,536) and nodes (1 to 4,194,304) in all, with no tenant.
     /// It makes the places of all 64 tenants, so no other call takes memory.
@@ -123,15 +123,27 @@ impl<A: Allocator> Book<A> {
         ensures err { OnErr result (self.new ≡ self.old) }
         ensures sound { IsSound self.new }
     {
-        let place = place_of(&self.accounts, tenant);
-        let account = &mut self.accounts[place].1;
-        let left = account.left();
-        if left.segments < segments || left.nodes < nodes {
-            return Err(Refusal::Short);
-        }
-        account.charged += segments;
-        account.opened += nodes;
+        self.charge_nodes(tenant, segments, nodes)?;
         Ok(())
+    }
+
+    /// Charges the tenant so many segments for a newly opened node, and answers how many nodes it had
+    /// opened before.
+    ///
+    /// Refused as `Short` exactly where the tenant hasn't as many segments left, or no node.
+    pub fn open(&mut self, tenant: u64, segments: u32) -> Result<u32, Refusal>
+        requires { IsSome (account_of tenant self.old.accounts) }
+        ensures ok { IsOk result ↔ HasLeft self.old tenant segments 1 }
+        ensures short { (result ≡ Err Refusal.Short) ↔ IsShort self.old tenant segments 1 }
+        ensures opened { IfOk result (λ before. opened_of tenant self.old ≡ Some before) }
+        ensures charges { OnOk result (ChangesOnly self.old self.new tenant (charged_by segments 1)) }
+        ensures sum { OnOk result (
+            charged_segments self.new.accounts ≡ charged_segments self.old.accounts + segments) }
+        ensures others { KeepsOthers self.old self.new tenant }
+        ensures err { OnErr result (self.new ≡ self.old) }
+        ensures sound { IsSound self.new }
+    {
+        self.charge_nodes(tenant, segments, 1)
     }
 
     /// Gives back so many of the segments that the tenant is charged. Its nodes stay opened.
@@ -194,6 +206,15 @@ impl<A: Allocator> Book<A> {
         Some(account.left())
     }
 
+    /// How many nodes the tenant ever opened, or None where it isn't there.
+    pub fn opened(&self, tenant: u64) -> Option<u32>
+        ensures opened { result ≡ opened_of tenant self.now }
+        ensures sound { IsSound self.now }
+    {
+        let account = self.account(tenant)?;
+        Some(account.opened)
+    }
+
     /// What the tenant has reserved, or None where it isn't there.
     pub fn reserved(&self, tenant: u64) -> Option<Reserve>
         ensures reserved { result ≡ reserve_of tenant self.now }
@@ -213,6 +234,32 @@ impl<A: Allocator> Book<A> {
             segments: self.segments - self.reserved_segments,
             nodes: self.nodes - self.reserved_nodes,
         }
+    }
+
+    /// Charges the tenant so many segments, counts so many newly opened nodes, and answers how many it
+    /// had opened before.
+    fn charge_nodes(&mut self, tenant: u64, segments: u32, nodes: u32) -> Result<u32, Refusal>
+        requires { IsSome (account_of tenant self.old.accounts) }
+        ensures ok { IsOk result ↔ HasLeft self.old tenant segments nodes }
+        ensures short { (result ≡ Err Refusal.Short) ↔ IsShort self.old tenant segments nodes }
+        ensures opened { IfOk result (λ before. opened_of tenant self.old ≡ Some before) }
+        ensures charges { OnOk result (ChangesOnly self.old self.new tenant (charged_by segments nodes)) }
+        ensures sum { OnOk result (
+            charged_segments self.new.accounts ≡ charged_segments self.old.accounts + segments) }
+        ensures others { KeepsOthers self.old self.new tenant }
+        ensures err { OnErr result (self.new ≡ self.old) }
+        ensures sound { IsSound self.new }
+    {
+        let place = place_of(&self.accounts, tenant);
+        let account = &mut self.accounts[place].1;
+        let left = account.left();
+        if left.segments < segments || left.nodes < nodes {
+            return Err(Refusal::Short);
+        }
+        let before = account.opened;
+        account.charged += segments;
+        account.opened += nodes;
+        Ok(before)
     }
 
     /// The tenant's account, or None where it isn't there.
