@@ -20,11 +20,13 @@ pub struct Region<A: Allocator = Global> {
     cells: Cells<WordBlock>,
     deed: Deed<WordBlock, A>,
     alloc: A,
-    // The link word that the next block given back gets: it leads to the free blocks that were taken before.
+    // The blocks from the mark on are free, and were never taken or given back from the last on. Nothing is
+    // read of them.
+    mark: usize,
+    // The link word that the next block below gets as it is given back: it leads to the free ones there.
     free: Link,
-    // How many blocks are free, and how many were ever taken: nothing is written in those from `fresh` on.
+    // How many blocks are free in all.
     free_len: usize,
-    fresh: usize,
 }
 
 impl<A: Allocator> Model for Region<A> {
@@ -34,9 +36,9 @@ impl<A: Allocator> Model for Region<A> {
 
     ghost use Rattle.segment_region.specs.Blocks.{entries_of, IsWhole, IsOneAllocation};
 
-    ghost view = { λ region. entries_of region.cells.slots };
+    ghost view = { λ region. entries_of region.mark region.cells.slots };
 
-    ghost invariant = { λ region. IsOneAllocation region.base region.cells region.deed region.count region.alloc × IsWhole region.cells.slots region.count region.free region.free_len region.fresh };
+    ghost invariant = { λ region. IsOneAllocation region.base region.cells region.deed region.count region.alloc × IsWhole region.cells.slots region.count region.mark region.free region.free_len };
 }
 
 // The allocation goes, with the blocks in it.
@@ -48,9 +50,9 @@ impl<A: Allocator> Drop for Region<A> {
             cells,
             deed,
             alloc,
+            mark: _,
             free: _,
             free_len: _,
-            fresh: _,
         } = self;
         deallocate(&alloc, base, count, cells, deed);
     }
@@ -70,9 +72,9 @@ impl<A: Allocator> Region<A> {
             cells,
             deed,
             alloc,
+            mark: 0,
             free: Link::end(false),
             free_len: count,
-            fresh: 0,
         })
     }
 
@@ -84,22 +86,21 @@ impl<A: Allocator> Region<A> {
         ensures none_free { IsNone result ↔ (taken_count self.old ≡ segment_count self.old) }
         ensures unchanged { IfNone result (self.new ≡ self.old) }
     {
+        let link = Link::end(true);
         match self.free.next() {
             Some(segment) => {
                 let at = segment.index();
                 self.free = self.cells.get(self.base, at).link;
+                self.cells.write(self.base, at, zeros(link));
                 self.free_len -= 1;
-                let link = Link::end(true);
-                *self.cells.get_mut(self.base, at) = zeros(link);
                 Some(segment)
             }
-            None if self.fresh < self.count => {
-                let at = self.fresh;
-                let link = Link::end(true);
-                self.cells.write(self.base, at, zeros(link));
-                self.fresh += 1;
+            None if self.mark < self.count => {
+                let number = self.mark as u32;
+                self.cells.write(self.base, self.mark, zeros(link));
+                self.mark += 1;
                 self.free_len -= 1;
-                Some(SegNo::from_number(at as u32))
+                Some(SegNo::from_number(number))
             }
             None => None,
         }
@@ -111,16 +112,20 @@ impl<A: Allocator> Region<A> {
         ensures { self.new ≡ with_entry self.old segment None }
     {
         let at = segment.index();
-        self.cells.get_mut(self.base, at).link = self.free;
-        self.free = Link::before(false, segment);
         self.free_len += 1;
+        if at + 1 == self.mark {
+            self.mark = at;
+        } else {
+            self.cells.get_mut(self.base, at).link = self.free;
+            self.free = Link::before(false, segment);
+        }
     }
 
     /// The region as its readers see it.
     pub fn view(&self) -> RegionView<'_>
         ensures { result ≡ self.now }
     {
-        RegionView::of(self.base, &self.cells)
+        RegionView::of(self.base, self.mark, &self.cells)
     }
 
     /// The sixteen words of a taken segment.
