@@ -70,8 +70,8 @@ head_block mark places h (suc m) chain = free_block mark places h chain.0 chain.
         record { block = rest.block; is = rest.is; free = rest.free; marked = marked; below = omega (arith, rest.below) }
 
 -- the block that the free ones are chained from
-pub listed_head : (places : List (Option WordBlock)) (count mark : ℕ) (free : Link) (free_len h : ℕ) → IsWhole places count mark free free_len → next_of free ≡ Some h → HeadBlock mark places h
-listed_head places count mark free free_len h whole is = head_block mark places h whole.listed (subst (λ (o : Option ℕ). IsFreeList mark places o whole.listed) is whole.chain)
+pub listed_head : (places : List (Option WordBlock)) (count mark : ℕ) (free : Link) (listed h : ℕ) → IsWhole places count mark free listed → next_of free ≡ Some h → HeadBlock mark places h
+listed_head places count mark free listed h whole is = head_block mark places h listed (subst (λ (o : Option ℕ). IsFreeList mark places o listed) is whole.chain)
 
 pub head_is_free : (mark : ℕ) (places : List (Option WordBlock)) (h : ℕ) → HeadBlock mark places h → IsFree (entries_of mark places) h
 head_is_free mark places h t = (omega (arith, t.below, length-entries_of mark places), get_or-entries_of mark places h t.marked ∙ ap place_entry t.is ∙ entry_of-free t.block.link t.block.words t.free)
@@ -105,77 +105,70 @@ entries-less mark places n last =
     rw up (entries_of-less n places)
 
 -- the head is taken
-pub whole-take : (places : List (Option WordBlock)) (count mark h : ℕ) (free next : Link) (free_len : ℕ) (block : WordBlock) → IsWhole places count mark free free_len → next_of free ≡ Some h → IsLink block.link true None → next ≡ link_in places h →
-    IsWhole (set places h (Some block)) count mark next (free_len - 1)
-whole-take places count mark h free next free_len block whole is link is_next =
-    take_head whole.listed whole.parts (subst (λ (o : Option ℕ). IsFreeList mark places o whole.listed) is whole.chain)
-  where
-    take_head : (listed : ℕ) → listed + count ≡ free_len + mark → IsFreeList mark places (Some h) listed → IsWhole (set places h (Some block)) count mark next (free_len - 1)
-    take_head zero parts chain = absurd (cc)
-    take_head (suc listed) parts chain =
-        let t = head_block mark places h (suc listed) chain in
-        let is_free = head_is_free mark places h t in
-        let more : taken_count (entries_of mark (set places h (Some block))) ≡ taken_count (entries_of mark places) + 1 =
-        ap taken_count (entries-write mark places h block None t.marked link) ∙ taken_count-take (entries_of mark places) h (record { words = block.words; link = None }) is_free.0 is_free.1 in
-        let some : 0 < free_len = omega (arith, parts, whole.below) in
-        record {
-          all_places = omega (arith, whole.all_places, length-set places h (Some block));
-          in_limits = whole.in_limits;
-          below = whole.below;
-          counted = omega (arith, whole.counted, more, some);
-          is_free = rw is_next chain.1;
-          listed = listed;
-          parts = omega (arith, parts, some);
-          chain = rw is_next (chain-keeps mark mark places (set places h (Some block)) h (links-set places mark mark h (Some block) (omega arith)) (next_of (link_in places h)) listed (λ k le c. (let e = one_length mark places (Some h) k (suc listed) c chain in absurd (omega arith))) chain.2);
-        }
+pub whole-take : (places : List (Option WordBlock)) (count mark h : ℕ) (free next : Link) (listed : ℕ) (block : WordBlock) → IsWhole places count mark free listed → next_of free ≡ Some h → IsLink block.link true None → next ≡ link_in places h →
+    IsWhole (set places h (Some block)) count mark next (listed - 1)
+whole-take places count mark h free next zero block whole is link is_next = absurd (let ends = whole.chain in cc)
+whole-take places count mark h free next (suc listed) block whole is link is_next =
+    let chain : IsFreeList mark places (Some h) (suc listed) = subst (λ (o : Option ℕ). IsFreeList mark places o (suc listed)) is whole.chain in
+    let t = head_block mark places h (suc listed) chain in
+    let is_free = head_is_free mark places h t in
+    let more : taken_count (entries_of mark (set places h (Some block))) ≡ taken_count (entries_of mark places) + 1 =
+    ap taken_count (entries-write mark places h block None t.marked link) ∙ taken_count-take (entries_of mark places) h (record { words = block.words; link = None }) is_free.0 is_free.1 in
+    let kept : IsFreeList mark (set places h (Some block)) (next_of (link_in places h)) listed =
+    chain-keeps mark mark places (set places h (Some block)) h (links-set places mark mark h (Some block) (omega arith)) (next_of (link_in places h)) listed (λ k le c. (let e = one_length mark places (Some h) k (suc listed) c chain in absurd (omega arith))) chain.2 in
+    let one : listed ≡ suc listed - 1 = omega arith in
+    record {
+      all_places = omega (arith, whole.all_places, length-set places h (Some block));
+      in_limits = whole.in_limits;
+      below = whole.below;
+      counted = omega (arith, whole.counted, more);
+      is_free = rw is_next chain.1;
+      chain = rw is_next (subst (λ (k : ℕ). IsFreeList mark (set places h (Some block)) (next_of (link_in places h)) k) one kept);
+    }
 
 -- the block at the mark is taken
-pub whole-mark : (places : List (Option WordBlock)) (count mark : ℕ) (free : Link) (free_len : ℕ) (block : WordBlock) → IsWhole places count mark free free_len → mark < count → IsLink block.link true None →
-    IsWhole (set places mark (Some block)) count (mark + 1) free (free_len - 1)
-whole-mark places count mark free free_len block whole below link =
+pub whole-mark : (places : List (Option WordBlock)) (count mark : ℕ) (free : Link) (listed : ℕ) (block : WordBlock) → IsWhole places count mark free listed → mark < count → IsLink block.link true None →
+    IsWhole (set places mark (Some block)) count (mark + 1) free listed
+whole-mark places count mark free listed block whole below link =
     let is_free = mark_is_free mark places (omega (arith, below, whole.all_places)) in
     let more : taken_count (entries_of (mark + 1) (set places mark (Some block))) ≡ taken_count (entries_of mark places) + 1 =
     ap taken_count (entries-mark mark places block None link) ∙ taken_count-take (entries_of mark places) mark (record { words = block.words; link = None }) is_free.0 is_free.1 in
-    let some : 0 < free_len = omega (arith, whole.parts, below) in
     record {
       all_places = omega (arith, whole.all_places, length-set places mark (Some block));
       in_limits = whole.in_limits;
       below = omega arith;
-      counted = omega (arith, whole.counted, more, some);
+      counted = omega (arith, whole.counted, more);
       is_free = whole.is_free;
-      listed = whole.listed;
-      parts = omega (arith, whole.parts, some);
-      chain = chain-keeps mark (mark + 1) places (set places mark (Some block)) mark (links-set places mark (mark + 1) mark (Some block) (omega arith)) (next_of free) whole.listed (λ k le c. mark_unlisted mark places k c) whole.chain;
+      chain = chain-keeps mark (mark + 1) places (set places mark (Some block)) mark (links-set places mark (mark + 1) mark (Some block) (omega arith)) (next_of free) listed (λ k le c. mark_unlisted mark places k c) whole.chain;
     }
 
 -- a block that was taken becomes the head
-pub whole-give : (places : List (Option WordBlock)) (count mark n : ℕ) (free next : Link) (free_len : ℕ) (block : WordBlock) → IsWhole places count mark free free_len → IsTaken (entries_of mark places) n → block.link ≡ free → IsLink next false (Some n) →
-    IsWhole (set places n (Some block)) count mark next (free_len + 1)
-whole-give places count mark n free next free_len block whole taken link is_next =
+pub whole-give : (places : List (Option WordBlock)) (count mark n : ℕ) (free next : Link) (listed : ℕ) (block : WordBlock) → IsWhole places count mark free listed → IsTaken (entries_of mark places) n → block.link ≡ free → IsLink next false (Some n) →
+    IsWhole (set places n (Some block)) count mark next (listed + 1)
+whole-give places count mark n free next listed block whole taken link is_next =
     let t = taken_block mark places n taken in
     let is_free : block.link.taken ≡ false = rw link whole.is_free in
     let less : taken_count (entries_of mark (set places n (Some block))) + 1 ≡ taken_count (entries_of mark places) =
     ap (λ (r : Segments). taken_count r + 1) (entries-free mark places n block taken is_free) ∙ taken_count-give (entries_of mark places) n taken in
     let here : link_in (set places n (Some block)) n ≡ free = ap place_link (get_or-set_same places n (Some block) None t.below) ∙ link in
-    let rest : IsFreeList mark (set places n (Some block)) (next_of free) whole.listed =
-    chain-keeps mark mark places (set places n (Some block)) n (links-set places mark mark n (Some block) (omega arith)) (next_of free) whole.listed (λ k le c. taken_unlisted mark places n t k c) whole.chain in
-    let all : IsFreeList mark (set places n (Some block)) (Some n) (suc whole.listed) =
-    subst (λ (l : Link). (n < mark) × (l.taken ≡ false) × IsFreeList mark (set places n (Some block)) (next_of l) whole.listed) (sym here) (t.marked, whole.is_free, rest) in
+    let rest : IsFreeList mark (set places n (Some block)) (next_of free) listed =
+    chain-keeps mark mark places (set places n (Some block)) n (links-set places mark mark n (Some block) (omega arith)) (next_of free) listed (λ k le c. taken_unlisted mark places n t k c) whole.chain in
+    let all : IsFreeList mark (set places n (Some block)) (Some n) (suc listed) =
+    subst (λ (l : Link). (n < mark) × (l.taken ≡ false) × IsFreeList mark (set places n (Some block)) (next_of l) listed) (sym here) (t.marked, whole.is_free, rest) in
+    let one : suc listed ≡ listed + 1 = omega arith in
     record {
       all_places = omega (arith, whole.all_places, length-set places n (Some block));
       in_limits = whole.in_limits;
       below = whole.below;
       counted = omega (arith, whole.counted, less);
       is_free = is_next.0;
-      listed = suc whole.listed;
-      parts = omega (arith, whole.parts);
-      chain = rw is_next.1 all;
+      chain = rw is_next.1 (subst (λ (k : ℕ). IsFreeList mark (set places n (Some block)) (Some n) k) one all);
     }
 
 -- the last block below the mark is given back
-pub whole-less : (places : List (Option WordBlock)) (count mark n : ℕ) (free : Link) (free_len : ℕ) → IsWhole places count mark free free_len → IsTaken (entries_of mark places) n → n + 1 ≡ mark →
-    IsWhole places count n free (free_len + 1)
-whole-less places count mark n free free_len whole taken last =
+pub whole-less : (places : List (Option WordBlock)) (count mark n : ℕ) (free : Link) (listed : ℕ) → IsWhole places count mark free listed → IsTaken (entries_of mark places) n → n + 1 ≡ mark →
+    IsWhole places count n free listed
+whole-less places count mark n free listed whole taken last =
     let t = taken_block mark places n taken in
     let less : taken_count (entries_of n places) + 1 ≡ taken_count (entries_of mark places) =
     ap (λ (r : Segments). taken_count r + 1) (entries-less mark places n last) ∙ taken_count-give (entries_of mark places) n taken in
@@ -183,17 +176,15 @@ whole-less places count mark n free free_len whole taken last =
       all_places = whole.all_places;
       in_limits = whole.in_limits;
       below = omega (arith, whole.below, last);
-      counted = omega (arith, whole.counted, less);
+      counted = omega (arith, whole.counted, less, last);
       is_free = whole.is_free;
-      listed = whole.listed;
-      parts = omega (arith, whole.parts, last);
-      chain = chain-keeps mark n places places n (λ h below other. (omega (arith, below, other, last), refl)) (next_of free) whole.listed (λ k le c. taken_unlisted mark places n t k c) whole.chain;
+      chain = chain-keeps mark n places places n (λ h below other. (omega (arith, below, other, last), refl)) (next_of free) listed (λ k le c. taken_unlisted mark places n t k c) whole.chain;
     }
 
 -- a taken block is written, and stays taken
-pub whole-write : (places : List (Option WordBlock)) (count mark n : ℕ) (free : Link) (free_len : ℕ) (block : WordBlock) (next : Option ℕ) → IsWhole places count mark free free_len → IsTaken (entries_of mark places) n → IsLink block.link true next →
-    IsWhole (set places n (Some block)) count mark free free_len
-whole-write places count mark n free free_len block next whole taken link =
+pub whole-write : (places : List (Option WordBlock)) (count mark n : ℕ) (free : Link) (listed : ℕ) (block : WordBlock) (next : Option ℕ) → IsWhole places count mark free listed → IsTaken (entries_of mark places) n → IsLink block.link true next →
+    IsWhole (set places n (Some block)) count mark free listed
+whole-write places count mark n free listed block next whole taken link =
     let t = taken_block mark places n taken in
     let same : taken_count (entries_of mark (set places n (Some block))) ≡ taken_count (entries_of mark places) =
     ap taken_count (entries-write mark places n block next t.marked link) ∙ taken_count-write (entries_of mark places) n (record { words = block.words; link = next }) taken in
@@ -203,9 +194,7 @@ whole-write places count mark n free free_len block next whole taken link =
       below = whole.below;
       counted = omega (arith, whole.counted, same);
       is_free = whole.is_free;
-      listed = whole.listed;
-      parts = whole.parts;
-      chain = chain-keeps mark mark places (set places n (Some block)) n (links-set places mark mark n (Some block) (omega arith)) (next_of free) whole.listed (λ k le c. taken_unlisted mark places n t k c) whole.chain;
+      chain = chain-keeps mark mark places (set places n (Some block)) n (links-set places mark mark n (Some block) (omega arith)) (next_of free) listed (λ k le c. taken_unlisted mark places n t k c) whole.chain;
     }
 
 -- the entries after a taken block's words, or its link, were written
@@ -230,7 +219,7 @@ first_entries places count are =
     let nothing : Option Segment = None in
     entries_of-none places ∙ ap (λ (k : ℕ). replicate k nothing) (ap (λ (ps : List (Option WordBlock)). length ps) are ∙ length-replicate count none)
 
-pub first_whole : (places : List (Option WordBlock)) (count : ℕ) (free : Link) → places ≡ replicate count None → count ≤ 65536 → IsLink free false None → IsWhole places count 0 free count
+pub first_whole : (places : List (Option WordBlock)) (count : ℕ) (free : Link) → places ≡ replicate count None → count ≤ 65536 → IsLink free false None → IsWhole places count 0 free 0
 first_whole places count free are in_limits link =
     let none : Option WordBlock = None in
     let no_taken : taken_count (entries_of 0 places) ≡ 0 = ap taken_count (first_entries places count are) ∙ taken_count-replicate count in
@@ -240,8 +229,6 @@ first_whole places count free are in_limits link =
       below = omega arith;
       counted = omega (arith, no_taken);
       is_free = link.0;
-      listed = 0;
-      parts = omega arith;
       chain = link.1;
     }
 
@@ -250,10 +237,10 @@ no_head mark places zero chain = refl
 no_head mark places (suc m) chain = absurd chain
 
 -- all are taken where no free block is chained and the mark is at the end, and while one is free not all are
-pub none_free : (places : List (Option WordBlock)) (count mark : ℕ) (free : Link) (free_len : ℕ) → IsWhole places count mark free free_len → next_of free ≡ None → count ≤ mark → taken_count (entries_of mark places) ≡ length (entries_of mark places)
-none_free places count mark free free_len whole no_next no_more =
-    let none = no_head mark places whole.listed (subst (λ (o : Option ℕ). IsFreeList mark places o whole.listed) no_next whole.chain) in
-    omega (arith, none, whole.parts, whole.below, whole.counted, whole.all_places, length-entries_of mark places)
+pub none_free : (places : List (Option WordBlock)) (count mark : ℕ) (free : Link) (listed : ℕ) → IsWhole places count mark free listed → next_of free ≡ None → count ≤ mark → taken_count (entries_of mark places) ≡ length (entries_of mark places)
+none_free places count mark free listed whole no_next no_more =
+    let none = no_head mark places listed (subst (λ (o : Option ℕ). IsFreeList mark places o listed) no_next whole.chain) in
+    omega (arith, none, whole.below, whole.counted, whole.all_places, length-entries_of mark places)
 
 pub some_free : (region : Segments) (n : ℕ) → IsFree region n → taken_count region ≡ length region → ⊥
 some_free region n free all =

@@ -49,15 +49,13 @@ IsFreeList mark places head zero = head ≡ None
 IsFreeList mark places None (suc count) = ⊥
 IsFreeList mark places (Some number) (suc count) = (number < mark) × ((link_in places number).taken ≡ false) × IsFreeList mark places (next_of (link_in places number)) count
 
--- the blocks from the mark on are free, and of those below it the free ones are chained from the link free on: free_len in all, as many as are not taken
-pub record IsWhole (places : List (Option WordBlock)) (count mark : ℕ) (free : Link) (free_len : ℕ) : Type 0 where
+-- the blocks from the mark on are free, and of those below it the free ones are chained from the link free on: listed many, all that are not taken
+pub record IsWhole (places : List (Option WordBlock)) (count mark : ℕ) (free : Link) (listed : ℕ) : Type 0 where
   pub all_places : length places ≡ count
   pub in_limits : count ≤ 65536
   pub below : mark ≤ count
-  pub counted : free_len + taken_count (entries_of mark places) ≡ count
+  pub counted : listed + taken_count (entries_of mark places) ≡ mark
   pub is_free : free.taken ≡ false
-  pub listed : ℕ
-  pub parts : listed + count ≡ free_len + mark
   pub chain : IsFreeList mark places (next_of free) listed
 
 -- the places, and the right to free them, are those of one allocation of count blocks

@@ -20,13 +20,12 @@ pub struct Region<A: Allocator = Global> {
     cells: Cells<WordBlock>,
     deed: Deed<WordBlock, A>,
     alloc: A,
-    // The blocks from the mark on are free, and were never taken or given back from the last on. Nothing is
-    // read of them.
+    // The blocks from the mark on are free, and nothing is read of them.
     mark: usize,
-    // The link word that the next block below gets as it is given back: it leads to the free ones there.
+    // The link word that the next block below the mark gets as it is given back: it leads to the free ones
+    // there, and how many these are.
     free: Link,
-    // How many blocks are free in all.
-    free_len: usize,
+    listed: usize,
 }
 
 impl<A: Allocator> Model for Region<A> {
@@ -38,7 +37,7 @@ impl<A: Allocator> Model for Region<A> {
 
     ghost view = { λ region. entries_of region.mark region.cells.slots };
 
-    ghost invariant = { λ region. IsOneAllocation region.base region.cells region.deed region.count region.alloc × IsWhole region.cells.slots region.count region.mark region.free region.free_len };
+    ghost invariant = { λ region. IsOneAllocation region.base region.cells region.deed region.count region.alloc × IsWhole region.cells.slots region.count region.mark region.free region.listed };
 }
 
 // The allocation goes, with the blocks in it.
@@ -52,7 +51,7 @@ impl<A: Allocator> Drop for Region<A> {
             alloc,
             mark: _,
             free: _,
-            free_len: _,
+            listed: _,
         } = self;
         deallocate(&alloc, base, count, cells, deed);
     }
@@ -74,7 +73,7 @@ impl<A: Allocator> Region<A> {
             alloc,
             mark: 0,
             free: Link::end(false),
-            free_len: count,
+            listed: 0,
         })
     }
 
@@ -91,15 +90,14 @@ impl<A: Allocator> Region<A> {
             Some(segment) => {
                 let at = segment.index();
                 self.free = self.cells.get(self.base, at).link;
+                self.listed -= 1;
                 self.cells.write(self.base, at, zeros(link));
-                self.free_len -= 1;
                 Some(segment)
             }
             None if self.mark < self.count => {
                 let number = self.mark as u32;
                 self.cells.write(self.base, self.mark, zeros(link));
                 self.mark += 1;
-                self.free_len -= 1;
                 Some(SegNo::from_number(number))
             }
             None => None,
@@ -112,12 +110,12 @@ impl<A: Allocator> Region<A> {
         ensures { self.new ≡ with_entry self.old segment None }
     {
         let at = segment.index();
-        self.free_len += 1;
         if at + 1 == self.mark {
             self.mark = at;
         } else {
             self.cells.get_mut(self.base, at).link = self.free;
             self.free = Link::before(false, segment);
+            self.listed += 1;
         }
     }
 
@@ -169,7 +167,12 @@ impl<A: Allocator> Region<A> {
     pub fn free_count(&self) -> usize
         ensures { result + taken_count self.now ≡ segment_count self.now }
     {
-        let Region { free_len, .. } = self;
-        *free_len
+        let Region {
+            count,
+            mark,
+            listed,
+            ..
+        } = self;
+        *listed + (*count - *mark)
     }
 }

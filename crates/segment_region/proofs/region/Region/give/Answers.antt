@@ -9,12 +9,12 @@ get_mut-requires g c = (sym c.self.invariant.0.0, rw c.index-at.ensures (filled_
 pub invariant_of-self : goal.invariant_of-self
 invariant_of-self g c =
     let r = c.self.inside in
-    (c.self.invariant.0, rw c.index-at.ensures (whole-less r.cells.slots r.count r.mark c.args.segment r.free r.free_len c.self.invariant.1 (rw (← c.self.view_is) at c.requires) (omega (arith, c.if-at-self.true, c.index-at.ensures))))
+    (c.self.invariant.0, rw c.index-at.ensures (whole-less r.cells.slots r.count r.mark c.args.segment r.free r.listed c.self.invariant.1 (rw (← c.self.view_is) at c.requires) (omega (arith, c.if-at-self.true, c.index-at.ensures))))
 
 pub invariant_of-self-else-at-self : goal.invariant_of-self-else-at-self
 invariant_of-self-else-at-self g c =
     let r = c.self.inside in
-    (c.self.invariant.0, rw c.index-at.ensures (whole-give r.cells.slots r.count r.mark c.args.segment r.free _ r.free_len _ c.self.invariant.1 (rw (← c.self.view_is) at c.requires) refl c.before-self-inside.ensures))
+    (c.self.invariant.0, rw c.index-at.ensures (whole-give r.cells.slots r.count r.mark c.args.segment r.free _ r.listed _ c.self.invariant.1 (rw (← c.self.view_is) at c.requires) refl c.before-self-inside.ensures))
 
 pub returns-then-at-self : goal.returns-then-at-self
 returns-then-at-self g c =

@@ -14,7 +14,7 @@ invariant_of-self-lent g c = λ w.
     let taken = rw (← c.self.view_is) at c.requires in
     let is = rw c.index-at.ensures at c.get_mut.ensures.value in
     let block = c.get_mut.result.now in
-    (c.self.invariant.0, rw c.index-at.ensures (whole-write r.cells.slots r.count r.mark c.args.segment r.free r.free_len (with_block_words block w) (next_of block.link) c.self.invariant.1 taken (taken_is r.mark r.cells.slots c.args.segment block taken is, refl)))
+    (c.self.invariant.0, rw c.index-at.ensures (whole-write r.cells.slots r.count r.mark c.args.segment r.free r.listed (with_block_words block w) (next_of block.link) c.self.invariant.1 taken (taken_is r.mark r.cells.slots c.args.segment block taken is, refl)))
 
 pub returns : goal.returns
 returns g c =
