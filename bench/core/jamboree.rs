@@ -2,7 +2,8 @@
 //! procedure, and it takes the same acts, but it reads only the words that an act needs and doesn't test the form of
 //! words that it wrote itself. Moves and flips are those of `bench/search/vectors.rs`; leaves are searched by whatever
 //! the caller gives.
-use crate::plain::{Act, Core, Did, Given, InletAct, Job, Name, Procedure, Step, Stores, Then, Words};
+use crate::plain::{Act, Core, Did, Given, InletAct, Job, Name, Procedure, Step, Stores, Then};
+use crate::segments::Words;
 use crate::vectors::{flips, moves};
 
 pub const INF: i32 = 200_000;

@@ -7,6 +7,7 @@
 mod jamboree;
 mod plain;
 mod searches;
+mod segments;
 mod toys;
 #[allow(dead_code)] // its search isn't used here
 #[path = "../search/vectors.rs"]

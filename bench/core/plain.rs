@@ -2,9 +2,8 @@
 //! list with a free list and links, nodes under parents, frames in slots that are used again and found by binary search
 //! in a list of their serials, ready frames in a list beside them, an account for each tenant. It decides each step by
 //! the same table, and looks a frame up once a step.
+use crate::segments::{NONE, SEGMENT, Stack, Words};
 
-const SEGMENT: usize = 16;
-const NONE: u32 = u32::MAX;
 const MOST_JOBS: usize = 256;
 
 /// At most so many items, in order.
@@ -61,28 +60,6 @@ pub trait Procedure {
     fn input(&self, own: &Words) -> Self::Input;
     fn asked(&self, answer: &Self::Answer) -> Self::Input;
     fn accept(&self, own: &Words, answer: &Self::Answer) -> Stores;
-}
-
-/// The words of a node, read in place.
-pub struct Words<'a> {
-    stack: &'a Stack,
-    node: u32,
-}
-
-impl Words<'_> {
-    fn len(&self) -> usize {
-        self.stack.lengths[self.node as usize] as usize
-    }
-
-    pub fn word(&self, at: usize) -> u64 {
-        self.stack.get(self.node, at).unwrap_or(0)
-    }
-
-    /// The words of the node that this one is under; a root is under none.
-    pub fn parent(&self) -> Option<Words<'_>> {
-        let node = self.stack.parents[self.node as usize];
-        (node != NONE).then_some(Words { stack: self.stack, node })
-    }
 }
 
 #[derive(Clone, Copy, PartialEq, Eq, Debug)]
@@ -171,97 +148,6 @@ impl Frames {
         self.serials.remove(at);
         let slot = self.order.remove(at);
         self.unused.push(slot);
-    }
-}
-
-/// The words of all nodes, in segments of 16 that are linked.
-struct Stack {
-    words: Vec<[u64; SEGMENT]>,
-    links: Vec<u32>,
-    free: Vec<u32>,
-    parents: Vec<u32>,
-    lengths: Vec<u8>,
-    lasts: Vec<u32>,
-}
-
-impl Stack {
-    fn new(segments: usize) -> Stack {
-        Stack {
-            words: vec![[0; SEGMENT]; segments],
-            links: vec![NONE; segments],
-            free: (0..segments as u32).rev().collect(),
-            parents: vec![NONE; segments],
-            lengths: vec![0; segments],
-            lasts: vec![NONE; segments],
-        }
-    }
-
-    fn take(&mut self) -> u32 {
-        let at = self.free.pop().expect("what a tenant has left is there");
-        self.words[at as usize] = [0; SEGMENT];
-        self.links[at as usize] = NONE;
-        at
-    }
-
-    fn open(&mut self, parent: u32, given: &[u64], size: usize) -> u32 {
-        let first = self.take();
-        self.parents[first as usize] = parent;
-        self.lengths[first as usize] = size as u8;
-        let mut last = first;
-        for _ in 1..size.div_ceil(SEGMENT) {
-            let next = self.take();
-            self.links[last as usize] = next;
-            last = next;
-        }
-        self.lasts[first as usize] = last;
-        self.words[first as usize][..given.len()].copy_from_slice(given);
-        first
-    }
-
-    fn grow(&mut self, node: u32, more: usize) {
-        let length = self.lengths[node as usize] as usize;
-        for _ in length.div_ceil(SEGMENT)..(length + more).div_ceil(SEGMENT) {
-            let next = self.take();
-            let last = self.lasts[node as usize];
-            self.links[last as usize] = next;
-            self.lasts[node as usize] = next;
-        }
-        self.lengths[node as usize] = (length + more) as u8;
-    }
-
-    fn segment(&self, node: u32, at: usize) -> usize {
-        let mut segment = node;
-        for _ in 0..at / SEGMENT {
-            segment = self.links[segment as usize];
-        }
-        segment as usize
-    }
-
-    fn get(&self, node: u32, at: usize) -> Option<u64> {
-        if at >= self.lengths[node as usize] as usize {
-            return None;
-        }
-        Some(self.words[self.segment(node, at)][at % SEGMENT])
-    }
-
-    fn store(&mut self, node: u32, at: usize, word: u64) {
-        let segment = self.segment(node, at);
-        self.words[segment][at % SEGMENT] = word;
-    }
-
-    fn own(&self, node: u32) -> Words<'_> {
-        Words { stack: self, node }
-    }
-
-    fn close(&mut self, node: u32) -> u32 {
-        let mut charge = 0;
-        let mut segment = node;
-        while segment != NONE {
-            self.free.push(segment);
-            charge += 1;
-            segment = self.links[segment as usize];
-        }
-        charge
     }
 }
 
@@ -402,7 +288,7 @@ impl<P: Procedure> Core<P> {
         }
         let node = tenant.frames.slots[slot].node;
         let act = self.procedure.next(&self.stack.own(node));
-        let length = self.stack.lengths[node as usize] as usize;
+        let length = self.stack.own(node).len();
         let has_child = tenant.frames.slots[slot].children > 0;
         let needed = match tenant.needs(length, has_child, &act) {
             Ok(needed) => needed,

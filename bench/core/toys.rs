@@ -1,5 +1,6 @@
 //! The procedures of the loads and the loads themselves, on the plain core.
-use crate::plain::{Act, Core, Did, DidOf, Given, InletAct, Name, Procedure, Step, StepOf, Stores, Then, Words};
+use crate::plain::{Act, Core, Did, DidOf, Given, InletAct, Name, Procedure, Step, StepOf, Stores, Then};
+use crate::segments::Words;
 
 /// No load computes: inputs and answers are words, an answer asks for itself, and nothing is stored of one.
 macro_rules! inputs {
