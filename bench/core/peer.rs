@@ -116,10 +116,14 @@ fn measure_loads(rounds: u32) {
     }
 }
 
-/// Searches of positions: at depth 6 what a core of 65,536 nodes can do, and shallower with a grain of 0.
+/// Searches of positions: at depth 6 what a core of 65,536 nodes can do, and less deep with a grain of 0.
 fn measure_searches(rounds: u32) {
-    for (depth, grain) in [(4, 0), (5, 0), (6, 2), (6, 4)] {
-        searches::measure(depth, grain, rounds);
+    let rows = [(4, 0), (5, 0), (6, 2), (6, 4)].map(|(depth, grain)| searches::measure(depth, grain, rounds));
+    for (at, head) in [searches::SPEEDS, searches::COSTS].into_iter().enumerate() {
+        println!("{head}");
+        for row in &rows {
+            println!("{}", row[at]);
+        }
     }
 }
 

@@ -146,39 +146,45 @@ fn times(jobs: &[Job], depth: u8, grain: u8, rounds: u32) -> [f64; 4] {
     all
 }
 
-/// Measures the positions at a depth and a grain, and prints what came of it. Jobs that are spent are left out.
-pub fn measure(depth: u8, grain: u8, rounds: u32) {
-    let tried: Vec<Job> = positions().into_iter().map(|board| checked(board, depth, grain)).collect();
-    let (jobs, spent): (Vec<Job>, Vec<Job>) = tried.into_iter().partition(|job| job.ended.reply.is_some());
-    println!("depth {depth}, grain {grain}: {} positions, {} spent at 65,536 nodes", jobs.len(), spent.len());
-    if jobs.is_empty() {
-        return;
-    }
+/// The heads of both tables: how quick the cores are, and what a position costs.
+pub const SPEEDS: &str = "| depth, grain | jobs done | nodes, steps | plain: nodes/s, steps/s | proved: nodes/s, steps/s | proved to plain \
+    | without the search of leaves | ns a step beside it: plain, proved |\n|---|---|---|---|---|---|---|---|";
+pub const COSTS: &str = "| depth, grain | positions entered: by jobs, serially | microseconds a job: plain, proved, serially \
+    | ns a position entered: plain, proved, serially | proved to serially |\n|---|---|---|---|---|";
+
+/// Measures the positions at a depth and a grain: a row of each table. Jobs that are spent are left out.
+pub fn measure(depth: u8, grain: u8, rounds: u32) -> [String; 2] {
+    let mut jobs: Vec<Job> = positions().into_iter().map(|board| checked(board, depth, grain)).collect();
+    jobs.retain(|job| job.ended.reply.is_some());
     let sum = |number: fn(&Job) -> u64| jobs.iter().map(number).sum::<u64>() as f64;
     let (nodes, steps, entered) = (sum(|job| job.ended.nodes), sum(|job| job.ended.steps), sum(|job| job.entered));
     let serially: f64 = jobs.iter().map(|job| searched(whole(job.board, depth)).visited as f64).sum();
     let [plain, proved, leaves, serial] = times(&jobs, depth, grain, rounds);
-    for (name, time) in [("plain", plain), ("proved", proved)] {
-        println!(
-            "  {name}: {:.0} nodes/s, {:.0} steps/s, {:.1} microseconds a position, {:.0} ns a step beside the leaves' own search",
-            nodes / time,
-            steps / time,
-            time * 1e6 / jobs.len() as f64,
-            (time - leaves) * 1e9 / steps,
-        );
-    }
-    println!(
-        "  {nodes} nodes, {steps} steps, {entered} positions entered ({serially} by one serial search); proved to plain {:.3}, without the leaves {:.3}",
+    let beside = |time: f64| (time - leaves) * 1e9 / steps;
+    let speeds = format!(
+        "| {depth}, {grain} | {} of {POSITIONS} | {nodes}, {steps} | {:.0}, {:.0} | {:.0}, {:.0} | {:.3} | {:.3} | {:.0}, {:.0} |",
+        jobs.len(),
+        nodes / plain,
+        steps / plain,
+        nodes / proved,
+        steps / proved,
         plain / proved,
-        (plain - leaves) / (proved - leaves),
+        beside(plain) / beside(proved),
+        beside(plain),
+        beside(proved),
     );
-    println!(
-        "  a position entered: {:.1} ns by the proved core, {:.1} by the plain one, {:.1} by one serial search: {:.3} of it by the proved core",
-        proved * 1e9 / entered,
+    let micros = |time: f64| time * 1e6 / jobs.len() as f64;
+    let costs = format!(
+        "| {depth}, {grain} | {entered}, {serially} | {:.0}, {:.0}, {:.0} | {:.1}, {:.1}, {:.1} | {:.3} |",
+        micros(plain),
+        micros(proved),
+        micros(serial),
         plain * 1e9 / entered,
+        proved * 1e9 / entered,
         serial * 1e9 / serially,
         (proved / entered) / (serial / serially),
     );
+    [speeds, costs]
 }
 
 /// All positions once, for a count of instructions: by the proved core, by the plain one, or by the plain one with

@@ -600,13 +600,11 @@ fn main() {
     let spent = AtomicUsize::new(0);
     let start = Instant::now();
     std::thread::scope(|scope| {
-        for worker in 1..=workers {
-            let pool = &pool;
-            scope.spawn(move || pool.work(worker));
-        }
+        let pool = &pool;
+        let workers: Vec<_> = (1..=workers).map(|worker| scope.spawn(move || pool.work(worker))).collect();
         std::thread::scope(|seats| {
             for seat in 0..SEATS {
-                let (pool, positions, wanted, spent) = (&pool, &positions, &wanted, &spent);
+                let (positions, wanted, spent) = (&positions, &wanted, &spent);
                 seats.spawn(move || {
                     for at in (seat..positions.len()).step_by(SEATS) {
                         match pool.ask(seat, positions[at], depth) {
@@ -622,6 +620,9 @@ fn main() {
         });
         pool.core.lock().unwrap().closed = true;
         pool.ready.notify_all();
+        for worker in workers {
+            worker.join().unwrap();
+        }
     });
     let micros = start.elapsed().as_micros();
     let steps = pool.core.lock().unwrap().steps;
