@@ -3,13 +3,16 @@
 //! typed values in a `Vec` for each tenant, with no words, journals or proofs. Leaves are searched by `vectors.rs`.
 //!
 //! usage: pool_peer WORKERS GRAIN DEPTH, which prints how many jobs were done, the steps, the microseconds, and how many
-//! positions a serial search of the same jobs enters; or pool_peer positions, which prints the positions
+//! positions a serial search of the same jobs enters; pool_peer WORKERS GRAIN DEPTH timed, which times each call of
+//! `lock` too, and prints last how much of the workers' time went to them, in 100; or pool_peer positions, which prints
+//! the positions
 #[path = "../search/vectors.rs"]
 mod vectors;
 
+use std::cell::Cell;
 use std::sync::atomic::{AtomicUsize, Ordering};
-use std::sync::{Condvar, Mutex};
-use std::time::Instant;
+use std::sync::{Condvar, Mutex, MutexGuard};
+use std::time::{Duration, Instant};
 
 const INF: i32 = 200_000;
 const NONE: u8 = 65;
@@ -461,6 +464,32 @@ struct Pool {
     ready: Condvar,
     ended: Condvar,
     list: Mutex<Vec<Task>>,
+    timed: bool,
+}
+
+/// How often a worker called `lock`, how long that took, and how long the worker worked.
+#[derive(Clone, Copy, Default)]
+struct Locked {
+    calls: u32,
+    taken: Duration,
+    worked: Duration,
+}
+
+thread_local! {
+    static LOCKED: Cell<Locked> = const { Cell::new(Locked { calls: 0, taken: Duration::ZERO, worked: Duration::ZERO }) };
+}
+
+/// What two looks at the clock cost: the least that was seen.
+fn clock_cost() -> Duration {
+    const LOOKS: u32 = 1_000;
+    let batch = || {
+        let start = Instant::now();
+        for _ in 0..LOOKS {
+            std::hint::black_box(Instant::now().elapsed());
+        }
+        start.elapsed() / LOOKS
+    };
+    (0..LOOKS).map(|_| batch()).min().expect("a batch")
 }
 
 enum Deed {
@@ -472,19 +501,33 @@ enum Deed {
 }
 
 impl Pool {
+    fn lock<'a, T>(&self, mutex: &'a Mutex<T>) -> MutexGuard<'a, T> {
+        if !self.timed {
+            return mutex.lock().unwrap();
+        }
+        let start = Instant::now();
+        let guard = mutex.lock().unwrap();
+        let taken = start.elapsed();
+        LOCKED.with(|cell| {
+            let so_far = cell.get();
+            cell.set(Locked { calls: so_far.calls + 1, taken: so_far.taken + taken, ..so_far });
+        });
+        guard
+    }
+
     fn push(&self, name: Name, home: u8) {
-        self.list.lock().unwrap().push(Task { name, home });
+        self.lock(&self.list).push(Task { name, home });
     }
 
     fn next_task(&self, worker: u8) -> Option<Task> {
         {
-            let mut list = self.list.lock().unwrap();
+            let mut list = self.lock(&self.list);
             if !list.is_empty() {
                 let place = list.iter().rposition(|task| task.home == worker).unwrap_or(0);
                 return Some(list.remove(place));
             }
         }
-        let mut core = self.core.lock().unwrap();
+        let mut core = self.lock(&self.core);
         loop {
             if core.closed {
                 return None;
@@ -497,7 +540,7 @@ impl Pool {
     }
 
     fn offer(&self, worker: u8, deed: &Deed) -> Did {
-        let mut core = self.core.lock().unwrap();
+        let mut core = self.lock(&self.core);
         let did = match deed {
             Deed::Get(task) => core.take(worker, *task),
             Deed::Run(name) => core.advance(worker, *name),
@@ -518,7 +561,8 @@ impl Pool {
         did
     }
 
-    fn work(&self, worker: u8) {
+    fn work(&self, worker: u8) -> Locked {
+        let start = Instant::now();
         while let Some(task) = self.next_task(worker) {
             let mut held = Some(Deed::Get(task));
             while let Some(deed) = held {
@@ -544,6 +588,7 @@ impl Pool {
                 };
             }
         }
+        Locked { worked: start.elapsed(), ..LOCKED.get() }
     }
 
     fn ask(&self, tenant: usize, board: (u64, u64), depth: u8) -> Outcome {
@@ -596,10 +641,11 @@ fn main() {
         ready: Condvar::new(),
         ended: Condvar::new(),
         list: Mutex::new(Vec::new()),
+        timed: words.get(4).is_some_and(|word| word == "timed"),
     };
     let spent = AtomicUsize::new(0);
     let start = Instant::now();
-    std::thread::scope(|scope| {
+    let locked = std::thread::scope(|scope| {
         let pool = &pool;
         let workers: Vec<_> = (1..=workers).map(|worker| scope.spawn(move || pool.work(worker))).collect();
         std::thread::scope(|seats| {
@@ -620,11 +666,16 @@ fn main() {
         });
         pool.core.lock().unwrap().closed = true;
         pool.ready.notify_all();
-        for worker in workers {
-            worker.join().unwrap();
-        }
+        workers.into_iter().map(|worker| worker.join().unwrap()).collect::<Vec<_>>()
     });
     let micros = start.elapsed().as_micros();
     let steps = pool.core.lock().unwrap().steps;
-    println!("{} {steps} {micros} {serial}", positions.len() - spent.load(Ordering::SeqCst));
+    print!("{} {steps} {micros} {serial}", positions.len() - spent.load(Ordering::SeqCst));
+    if pool.timed {
+        let cost = clock_cost();
+        let worked: Duration = locked.iter().map(|one| one.worked).sum();
+        let taken: Duration = locked.iter().map(|one| one.taken.saturating_sub(cost * one.calls)).sum();
+        print!(" {:.1}", 100.0 * taken.as_secs_f64() / worked.as_secs_f64());
+    }
+    println!();
 }
