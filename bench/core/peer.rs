@@ -76,25 +76,28 @@ pub fn processor_time() -> f64 {
     time.seconds as f64 + time.nanoseconds as f64 * 1e-9
 }
 
-/// Seconds a step, best of the rounds, of both cores in turns: a long run less a run of no turn.
+/// Seconds a step of both cores in turns: the best of the long runs less the best of those of no turn.
 fn measure(load: u32, tenants: u32, frames: u32, turns: u32, rounds: u32) -> (f64, f64) {
     let time = |run: Load, turns: u32| {
         let start = processor_time();
-        let (taken, left) = run(load, tenants, frames, turns);
-        (processor_time() - start, taken, left)
+        let came = run(load, tenants, frames, turns);
+        (processor_time() - start, came)
     };
-    let mut best = [f64::MAX; 2];
+    let mut best = [[f64::MAX; 2]; 2];
+    let mut steps = 0;
     for _ in 0..rounds {
         let mut ends = Vec::new();
-        for (at, run) in [own_load as Load, proved_load as Load].into_iter().enumerate() {
-            let (setup, taken_before, _) = time(run, 0);
-            let (whole, taken, left) = time(run, turns);
-            ends.push((taken, left));
-            best[at] = best[at].min((whole - setup).max(0.0) / (taken - taken_before) as f64);
+        for (run, least) in [own_load as Load, proved_load as Load].into_iter().zip(&mut best) {
+            let (setup, (taken_before, _)) = time(run, 0);
+            let (whole, came) = time(run, turns);
+            *least = [least[0].min(setup), least[1].min(whole)];
+            steps = came.0 - taken_before;
+            ends.push(came);
         }
         assert_eq!(ends[0], ends[1], "both cores take as many steps and leave as much");
     }
-    (best[0], best[1])
+    let [plain, proved] = best.map(|[setup, whole]| (whole - setup) / steps as f64);
+    (plain, proved)
 }
 
 /// Steps a second of both cores in each load of toy procedures.
