@@ -14,7 +14,7 @@ use std::arch::x86_64::*;
     let _ = l; let l2 = { let mut t = i & (own << 1); t |= i & (t << 1); let p = i & (i << 1); t |= p & (t << 2); t |= p & (t << 2); t << 1 };
     (lo | hi | r | l2) & !(own | opp)
 } }
-#[inline(always)] fn flips(own: u64, opp: u64, s: u32) -> u64 { unsafe {
+#[inline(always)] pub fn flips(own: u64, opp: u64, s: u32) -> u64 { unsafe {
     let m = 1u64 << s; let i = opp & A;
     let pp = _mm_set_epi64x(own.swap_bytes() as i64, own as i64); let oo = _mm_set_epi64x(opp.swap_bytes() as i64, opp as i64); let ii = _mm_set_epi64x(i.swap_bytes() as i64, i as i64); let mm = _mm_set_epi64x(m.swap_bytes() as i64, m as i64);
     let z = _mm_setzero_si128();

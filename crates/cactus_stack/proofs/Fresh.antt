@@ -70,3 +70,18 @@ fresh_chain_grows old mid new rest n words cut (suc count) some is room fresh fr
     let less : suc count - 1 ≡ count = omega arith in
     let before : IsFreshChain old mid (chain count mid rest) (drop cut words) count = rw less at fresh in
     rw after (fresh_chain_is_longer old mid rest n words cut count is room before free)
+
+-- a chain of one segment
+pub fresh_chain_of_one : (old new : Segments) (n : ℕ) (words : List ℕ) → length words ≤ 16 → IsFree old n → new ≡ set old n (Some (filled words None)) → IsFreshChain old new (chain 1 new (Some n)) words 1
+fresh_chain_of_one old new n words short free after =
+    let front : take (length words) words ≡ words = take_all (length words) words (omega arith) in
+    let back : drop (length words) words ≡ [] = drop_all (length words) words (omega arith) in
+    let nothing : IsFreshChain old old [] [] 0 = record {
+      same_count = refl;
+      counted = omega arith;
+      kept = λ s taken. refl;
+      is_chain = record { blocks = tt; whole = refl; once = tt };
+      were_free = tt;
+      holds = refl;
+    } in
+    fresh_chain_grows old old new None n words (length words) 1 (omega arith) (omega (arith, short)) (omega (arith, short)) (rw back nothing) free (rw front after)

@@ -46,6 +46,10 @@ pub fn fresh_chain<A: Allocator>(
     if count == 0 {
         return None;
     }
+    // Most nodes have one segment: no call for the rest, which has none.
+    if count == 1 {
+        return Some(fresh_segment(region, words, None));
+    }
     let (front, back) = words.split_at(words.len().min(16));
     let rest = fresh_chain(region, back, count - 1);
     Some(fresh_segment(region, front, rest))

@@ -15,7 +15,8 @@ use std::marker::Model;
 #[derive(Drop)]
 pub struct Lists<A: Allocator = Global> {
     region: Region<A>,
-    lens: Vec<usize, A>,
+    // The words of each list, at most 128, and 0 where there is none.
+    lens: Vec<u8, A>,
 }
 
 impl<A: Allocator> Model for Lists<A> {
@@ -60,7 +61,7 @@ impl<A: Allocator> Lists<A> {
         }
         match fresh_chain(&mut self.region, words, count) {
             Some(first) => {
-                self.lens[first.index()] = size;
+                self.lens[first.index()] = size as u8;
                 Ok(NodeNo::of_segment(first))
             }
             None => unreachable!(),
@@ -78,14 +79,14 @@ impl<A: Allocator> Lists<A> {
         ensures unchanged { OnErr result (self.new ≡ self.old) }
     {
         let at = node.first().index();
-        let len = self.lens[at];
+        let len = self.lens[at] as usize;
         let count = charge(len);
         let added = charge(len + more) - count;
         if self.region.free_count() < added {
             return Err(NoSegment);
         }
         grow_chain(&mut self.region, node.first(), count, added);
-        self.lens[at] = len + more;
+        self.lens[at] = (len + more) as u8;
         Ok(())
     }
 
@@ -105,7 +106,7 @@ impl<A: Allocator> Lists<A> {
         ensures { self.new ≡ slice_set self.old node None }
     {
         let at = node.first().index();
-        let count = charge(self.lens[at]);
+        let count = charge(self.lens[at] as usize);
         give_chain(&mut self.region, Some(node.first()), count);
         self.lens[at] = 0;
     }

@@ -47,7 +47,11 @@ impl<A: Allocator> Stack<A> {
         ensures { IfOk result (λ stack. stack ≡ replicate segments None) }
     {
         let lists = Lists::new(alloc.clone()?, segments)?;
-        let above = nothing_above(alloc, segments)?;
+        let nowhere = Above {
+            parent: None,
+            depth: 0,
+        };
+        let above = vec![in alloc; nowhere; segments]?;
         Ok(Stack { lists, above })
     }
 
@@ -158,18 +162,4 @@ impl<A: Allocator> Stack<A> {
     {
         self.lists.free_count()
     }
-}
-
-// Places in the tree for nodes to come.
-fn nothing_above<A: Allocator>(alloc: A, segments: usize) -> Result<Vec<Above, A>, AllocError>
-    ensures { IfOk result (λ above. length above.items ≡ segments) }
-{
-    let mut above = Vec::with_capacity(alloc, segments)?;
-    for _made in 0..segments {
-        above.push(Above {
-            parent: None,
-            depth: 0,
-        })?;
-    }
-    Ok(above)
 }

@@ -14,7 +14,7 @@ use std::marker::Model;
 #[derive(Drop)]
 pub struct ListsView<'a> {
     region: RegionView<'a>,
-    lens: &'a [usize],
+    lens: &'a [u8],
 }
 
 impl<'a> Model for ListsView<'a> {
@@ -31,7 +31,7 @@ impl<'a> Model for ListsView<'a> {
 
 impl<'a> ListsView<'a> {
     /// The lists of these lengths in a region.
-    pub fn of(region: RegionView<'a>, lens: &'a [usize]) -> ListsView<'a>
+    pub fn of(region: RegionView<'a>, lens: &'a [u8]) -> ListsView<'a>
         requires { IsSound region lens.now }
         ensures { result ≡ lists_from region.entry 0 lens.now }
     {
@@ -45,7 +45,7 @@ impl<'a> ListsView<'a> {
     {
         let first = node.first();
         let at = first.index();
-        let len = self.lens[at];
+        let len = self.lens[at] as usize;
         Words::of(self.region.view(), first, len)
     }
 }

@@ -17,7 +17,7 @@ use Rattle.sched_rules.specs.Trees.{Tenant, admitted_with, job_at}
 use Rattle.sched_laws.proofs.EndedJobs.{step-ended}
 use Rattle.sched_rules.specs.Lone.{Outcome, unless, refusal_in, lone, lone_step}
 use Rattle.sched_rules.specs.Runs.{tenant_of}
-use Rattle.sched_rules.specs.Cores.{Shared, tenant_in, judged, shared_refusal, shared_with, newest_after}
+use Rattle.sched_rules.specs.Cores.{Shared, tenant_in, judged, shared_by_nobody, shared_refusal, shared_with, newest_after}
 use Rattle.sched_rules.specs.Headline.{IsOneStep, IsKnown, IsAnswerTo, is_admission}
 use Rattle.sched_rules.proofs.Isolation.{IsTaken, step-taken, shared-after-taken, there, newest-stays}
 use Rattle.sched_rules.proofs.Tenants.{tenant_in-with_outcome}
@@ -34,12 +34,24 @@ use Rattle.jamboree_core.specs.Outcomes.{IsOutcomeIn, AnswersTo}
 use Rattle.jamboree_core.specs.Journals.{IsJournalOf}
 use Rattle.jamboree_core.proofs.JournalLemmas.{journal-searches, journal-goes-on, journal-begins, others-stay}
 use Rattle.hall.specs.Journals.{JournalOf, journal_in, places_in, has_journal, place_in, with_step, without_journal, total_length, places_for, admitted_journal, journals_after, gone_by, goes_on, AreBegun}
-use Rattle.hall.specs.Halls.{HallOf, hall_after, Explains, IsExplained, IsHall, lets_go, KeepsEndedJobs}
+use Rattle.hall.specs.Halls.{HallOf, empty_hall, hall_after, Explains, IsExplained, IsHall, lets_go, KeepsEndedJobs}
 use Rattle.hall.proofs.Lists.{none-there, step-own, step-other, step-length, step-total, step-rising, step-upto, step-begun, without-own, without-other, without-length, without-total, without-rising, without-upto, without-begun, push-own, push-other, push-total, push-rising, push-upto, push-begun, total-within, found-at, at-read, at-removed}
 use Rattle.hall.proofs.Using.{step-used, journal-short, journal-shaped}
 
 abbrev Step : Type 0
 Step = StepOf LeafAnswer
+
+-- a hall where nobody was yet
+pub empty-kept : (grain : ℕ) (totals : Quota) → IsKnown (shared_by_nobody totals) → IsHall (empty_hall grain totals) 0 0
+empty-kept grain totals known = record {
+  explained = record { tenants = λ number. refl; searches = λ number. tt; known = known; numbers = omega arith; few = omega arith };
+  rising = tt;
+  upto = tt;
+  begun = tt;
+  newest = refl;
+  counted = refl;
+  bounded = omega arith;
+}
 
 -- a tenant that is there has a journal
 pub has-one : (grain : ℕ) (tenant : Tenant) (journals : List JournalOf) (number : ℕ) → IsJournalOf (jamboree grain) (journal_in journals number) tenant → has_journal number journals ≡ true

@@ -1,5 +1,5 @@
 -- Journals by their tenants' numbers: one more step in one of them, one fewer of them, one more.
-use Rattle.std.proofs.Common.{◌≡◌, ◌≢◌, ℕ, suc, ◌+◌, ◌<◌, ◌≤◌, true, false, eqb, List, [], ◌∷◌, ◌++◌, length, get_or, refl, ap, sym, ◌∙◌, arith, inl, inr, length-append, ◌*◌, subst}
+use Rattle.std.proofs.Common.{◌≡◌, ◌≢◌, ℕ, zero, suc, ◌+◌, ◌<◌, ◌≤◌, true, false, eqb, List, [], ◌∷◌, ◌++◌, length, get_or, refl, ap, sym, ◌∙◌, arith, inl, inr, length-append, ◌*◌, subst}
 use Rattle.std.proofs.Math.ListN.{set}
 use Rattle.std.specs.List.{remove}
 use Rattle.std.proofs.lemmas.Bool.{cases_Bool, false≢true, eqb-true, ne_eqb, eq-eqb}
@@ -227,6 +227,19 @@ place-within n (j ∷ js) has = elim (cases_Bool (eqb j.tenant n)) [
   | inl same ↦ rw same (omega arith)
   | inr other ↦ (let rest = place-within n js (rw other at has) in rw other (omega (arith, rest)))
 ]
+
+above-at : (m : ℕ) (js : Js) (i : ℕ) (d : JournalOf) → AreAbove m js → i < length js → m < (get_or js i d).tenant
+above-at m [] i d above within = absurd (omega arith)
+above-at m (j ∷ js) zero d above within = above.0
+above-at m (j ∷ js) (suc i) d above within = above-at m js i d above.1 (omega (arith, within))
+
+-- where a journal of a tenant stands, that is its place
+pub place-found : (n : ℕ) (js : Js) (i : ℕ) (d : JournalOf) → AreRising js → i < length js → (get_or js i d).tenant ≡ n → i ≡ place_in n js
+place-found n [] i d rising within own = absurd (omega arith)
+place-found n (j ∷ js) zero d rising within own = rw (eq-eqb j.tenant n own) refl
+place-found n (j ∷ js) (suc i) d rising within own =
+    let below : j.tenant < (get_or js i d).tenant = above-at j.tenant js i d rising.0 (omega (arith, within)) in
+    rw (ne_eqb j.tenant n (λ e. omega (arith, e, below, own))) (ap (λ (k : ℕ). suc k) (place-found n js i d rising.1 (omega (arith, within)) own))
 
 -- what stands there
 pub record StandsAt (n : ℕ) (js : Js) (j : JournalOf) : Type 0 where

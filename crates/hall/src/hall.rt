@@ -9,7 +9,8 @@ ghost use Rattle.sched_rules.specs.Runs.{tenant_of};
 ghost use Rattle.hall.specs.Journals.{goes_on, admitted_journal};
 ghost use Rattle.hall.specs.Halls.{empty_hall, hall_after, count_of, IsExplained, KeepsEndedJobs};
 
-use crate::journal::{Journal, place_of, write};
+use crate::journal::{Journal, guess_anew, place_of, write};
+use guesses::Guesses;
 use jamboree::Jamboree;
 use sched_core::Core;
 use sched_rules::{Config, Did, Refusal, Step, StepOf};
@@ -17,12 +18,16 @@ use std::alloc::{AllocError, Allocator, Global};
 use std::marker::Model;
 use tenant_quota::Reserve;
 
+/// The number of guesses of where journals stand.
+const GUESSES: usize = 256;
+
 /// A core that searches, and the journals of the tenants that are there.
 #[derive(Drop)]
 pub struct Hall<A: Allocator = Global> {
     alloc: A,
     pub(crate) core: Core<Jamboree, A>,
     journals: Vec<Journal<A>, A>,
+    guesses: Guesses<A>,
     pub(crate) newest: u64,
     pub(crate) count: u128,
     pub(crate) gone: u128,
@@ -51,10 +56,12 @@ impl<A: Allocator> Hall<A> {
     {
         let core = Core::new(alloc.clone()?, config, Jamboree { grain })?;
         let journals = Vec::new(alloc.clone()?);
+        let guesses = Guesses::new(alloc.clone()?, GUESSES)?;
         Ok(Hall {
             alloc,
             core,
             journals,
+            guesses,
             newest: 0,
             count: 0,
             gone: 0,
@@ -141,6 +148,7 @@ impl<A: Allocator> Hall<A> {
         match room_for(&mut self.journals, &self.alloc, number, reserve) {
             Ok(journal) => match self.core.step(&StepOf::Admit(number, reserve)) {
                 Ok(did) => {
+                    self.guesses.put(number, self.journals.len());
                     self.journals.push_reserved(journal);
                     self.newest = number;
                     self.count += 1;
@@ -167,7 +175,7 @@ impl<A: Allocator> Hall<A> {
     {
         match self.core.step(step) {
             Ok(did) => {
-                write(&mut self.journals, number, step);
+                write(&self.guesses, &mut self.journals, number, step);
                 self.count += 1;
                 Ok(did)
             }
@@ -187,8 +195,9 @@ impl<A: Allocator> Hall<A> {
     {
         match self.core.step(&StepOf::Leave(number)) {
             Ok(did) => {
-                let at = place_of(self.journals.as_slice(), number);
+                let at = place_of(&self.guesses, self.journals.as_slice(), number);
                 let journal = self.journals.remove(at);
+                guess_anew(&mut self.guesses, self.journals.as_slice());
                 self.gone += journal.len() as u128 + 1;
                 self.count += 1;
                 Ok(did)

@@ -1,9 +1,10 @@
 //! The journal of one tenant, and where it stands among all.
 ghost use Rattle.std.specs.Prelude.{◌≡◌, ◌++◌, ◌∷◌, ◌<◌, ◌≤◌, [], true, length, IfOk};
 ghost use Rattle.jamboree_laws.specs.Replies.{IsSearch};
-ghost use Rattle.hall.specs.Journals.{admitted_journal, goes_on, has_journal, journal_in, place_in, places_in, with_step};
+ghost use Rattle.hall.specs.Journals.{admitted_journal, goes_on, has_journal, journal_in, place_in, places_in, with_step, AreRising};
 
 use crate::entry::Entry;
+use guesses::Guesses;
 use jamboree::Jamboree;
 use sched_rules::Step;
 use std::alloc::{AllocError, Allocator, Global};
@@ -75,8 +76,25 @@ impl<A: Allocator> Journal<A> {
     }
 }
 
-/// Where a tenant's journal stands; as many as there are where it has none.
-pub(crate) fn place_of<A: Allocator>(journals: &[Journal<A>], tenant: u64) -> usize
+/// Where a tenant's journal stands; as many as there are where it has none. The guess is looked at
+/// first.
+pub(crate) fn place_of<A: Allocator>(
+    guesses: &Guesses<A>,
+    journals: &[Journal<A>],
+    tenant: u64,
+) -> usize
+    requires { AreRising journals.now }
+    ensures { result ≡ place_in tenant journals.now }
+{
+    let guess = guesses.guess(tenant);
+    if guess < journals.len() && journals[guess].tenant() == tenant {
+        return guess;
+    }
+    scan(journals, tenant)
+}
+
+/// The same place, by a look at each journal up to it.
+fn scan<A: Allocator>(journals: &[Journal<A>], tenant: u64) -> usize
     ensures { result ≡ place_in tenant journals.now }
 {
     for (at, journal) in journals.iter().enumerate() {
@@ -87,19 +105,28 @@ pub(crate) fn place_of<A: Allocator>(journals: &[Journal<A>], tenant: u64) -> us
     journals.len()
 }
 
+/// Puts down where each journal stands.
+pub(crate) fn guess_anew<A: Allocator>(guesses: &mut Guesses<A>, journals: &[Journal<A>]) {
+    for (at, journal) in journals.iter().enumerate() {
+        guesses.put(journal.tenant(), at);
+    }
+}
+
 /// Adds a step to the journal of its tenant, which has one.
 pub(crate) fn write<A: Allocator>(
+    guesses: &Guesses<A>,
     journals: &mut Vec<Journal<A>, A>,
     tenant: u64,
     step: &Step<Jamboree>,
 )
+    requires rising { AreRising journals.old.items }
     requires there { has_journal tenant journals.old.items ≡ true }
     requires place { length (journal_in journals.old.items tenant) < places_in journals.old.items tenant }
     requires goes_on { goes_on step.now ≡ true }
     requires search { IsSearch step.now }
     ensures { journals.new.items ≡ with_step tenant step.now journals.old.items }
 {
-    let at = place_of(journals.as_slice(), tenant);
+    let at = place_of(guesses, journals.as_slice(), tenant);
     let journal = &mut journals[at];
     journal.write(step);
 }

@@ -1,12 +1,11 @@
--- The first choice that isn't settled, and what phases ask of a depth.
-use Rattle.std.specs.Prelude.{◌≡◌, ◌≢◌, ℕ, zero, suc, ◌<◌, List, [], ◌∷◌, map, length, slice_index, slice_index_or, refl}
-use Rattle.std.proofs.Common.{sym, ◌∙◌, ap, subst, arith}
-use Rattle.std.proofs.lemmas.Bool.Decides.{nat_tests}
+-- The first choice that isn't settled.
+use Rattle.std.specs.Prelude.{◌≡◌, ◌≢◌, ℕ, zero, suc, ◌+◌, ◌<◌, ◌≤◌, ◌==◌, Bool, true, false, List, [], ◌∷◌, ◌++◌, map, length, slice_index, refl, if◌then◌else◌}
+use Rattle.std.proofs.Common.{sym, ◌∙◌, ap, arith, zero-add}
 use Rattle.std.proofs.Math.ListN.{get_or-map}
+use Rattle.std.proofs.lemmas.Bool.{eqb-true, eq-eqb}
+use Rattle.jamboree_rules.specs.Places.{status_of}
+use Rattle.std.proofs.lemmas.Bool.Decides.{nat_tests}
 use Rattle.jamboree_rules.specs.Acts.{first_open}
-use Rattle.jamboree.specs.declared.phases.Status.{Status}
-use Rattle.jamboree.specs.declared.phases.Status.TheVariants.{NotSpawned, Runs, Settled, Failed, RunsAgain}
-use Rattle.jamboree.specs.Numbers.{status_number}
 
 -- all before a place are settled, and what stands there isn't
 pub open-at : (st : List ℕ) (i : ℕ) → ((k : ℕ) → k < i → slice_index st k ≡ 2) → i < length st → slice_index st i ≢ 2 → i ≡ first_open st
@@ -25,16 +24,26 @@ open-none (s ∷ st) before =
     let rest : length st ≡ first_open st = open-none st (λ k below. before (suc k) (omega arith)) in
     grind (arith, nat_tests, first, rest)
 
--- the number of the status at a place
-pub settled-number : (statuses : List Status) (i : ℕ) → slice_index_or statuses i NotSpawned ≡ Settled → slice_index (map status_number statuses) i ≡ 2
-settled-number statuses i e = get_or-map status_number statuses i NotSpawned ∙ ap status_number e
+-- the first that isn't settled stands in the front, or behind it
+early-step : (b : Bool) (n m k : ℕ) → (n < m → k ≡ n) → (if b then suc n else 0) < suc m → (if b then suc k else 0) ≡ (if b then suc n else 0)
+early-step true n m k rest inside = ap suc (rest (omega arith))
+early-step false n m k rest inside = refl
 
-other-number : (s : Status) → (s ≡ Settled → ⊥) → status_number s ≢ 2
-other-number NotSpawned h = λ (e : 0 ≡ 2). absurd (omega arith)
-other-number Runs h = λ (e : 1 ≡ 2). absurd (omega arith)
-other-number Settled h = λ e. h refl
-other-number Failed h = λ (e : 3 ≡ 2). absurd (omega arith)
-other-number RunsAgain h = λ (e : 4 ≡ 2). absurd (omega arith)
+later-step : (b : Bool) (n m k y : ℕ) → (m ≤ n → k ≡ m + y) → suc m ≤ (if b then suc n else 0) → (if b then suc k else 0) ≡ suc m + y
+later-step true n m k y rest past = let same : k ≡ m + y = rest (omega arith) in omega (arith, same)
+later-step false n m k y rest past = absurd (omega arith)
 
-pub open-number : (statuses : List Status) (i : ℕ) → (slice_index_or statuses i NotSpawned ≡ Settled → ⊥) → slice_index (map status_number statuses) i ≢ 2
-open-number statuses i h = subst (λ (n : ℕ). n ≢ 2) (sym (get_or-map status_number statuses i NotSpawned)) (other-number (slice_index_or statuses i NotSpawned) h)
+pub open-early : (xs ys : List ℕ) → first_open xs < length xs → first_open (xs ++ ys) ≡ first_open xs
+open-early [] ys inside = absurd (omega arith)
+open-early (x ∷ xs) ys inside = early-step (x == 2) (first_open xs) (length xs) (first_open (xs ++ ys)) (open-early xs ys) inside
+
+pub open-later : (xs ys : List ℕ) → length xs ≤ first_open xs → first_open (xs ++ ys) ≡ length xs + first_open ys
+open-later [] ys past = sym (zero-add (first_open ys))
+open-later (x ∷ xs) ys past = later-step (x == 2) (first_open xs) (length xs) (first_open (xs ++ ys)) (first_open ys) (open-later xs ys) past
+
+-- the status of the entry at a place
+pub settled-at : (entries : List ℕ) (i : ℕ) → true ≡ (status_of (slice_index entries i) == 2) → slice_index (map status_of entries) i ≡ 2
+settled-at entries i h = get_or-map status_of entries i 0 ∙ eqb-true (status_of (slice_index entries i)) 2 (sym h)
+
+pub open-entry : (entries : List ℕ) (i : ℕ) → false ≡ (status_of (slice_index entries i) == 2) → slice_index (map status_of entries) i ≢ 2
+open-entry entries i h = λ e. absurd (cc (h, eq-eqb (status_of (slice_index entries i)) 2 (sym (get_or-map status_of entries i 0) ∙ e)))

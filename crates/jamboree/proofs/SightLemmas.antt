@@ -1,11 +1,11 @@
 -- What a frame sees, level by level.
-use Rattle.std.specs.Prelude.{◌≡◌, ℕ, Bool, true, ◌&&◌, List, [], ◌∷◌, Option, Some, None, slice_get, unwrap_or, refl, if◌then◌else◌}
+use Rattle.std.specs.Prelude.{◌≡◌, ℕ, Bool, true, false, ◌==◌, ◌&&◌, neg_ℤ, int_le, int_lt, List, [], ◌∷◌, Option, Some, None, slice_get, unwrap_or, refl, if◌then◌else◌}
 use Rattle.std.proofs.Common.{sym, ◌∙◌, ap}
 use Rattle.sched_rules.specs.declared.act.Act.{Act}
 use Rattle.sched_rules.specs.declared.act.InletAct.{InletAct}
-use Rattle.jamboree_rules.specs.Frames.{Frame, may_be_child}
-use Rattle.jamboree_rules.specs.Places.{frame_of, is_formed, is_placed}
-use Rattle.jamboree_rules.specs.Acts.{returns, act_of, next_act, wakes, inlet_of, inlet_act}
+use Rattle.jamboree_rules.specs.Frames.{Frame, floor, may_be_child}
+use Rattle.jamboree_rules.specs.Places.{frame_of, is_formed, is_placed, Change, pairs_of}
+use Rattle.jamboree_rules.specs.Acts.{returns, act_of, next_act, wakes, seen, changes_by, inlet_of, inlet_act}
 use Rattle.jamboree.specs.Levels.{above_of}
 
 -- the act of what sees these levels depends on the first two
@@ -23,6 +23,22 @@ pub act-under-none : (grain : ℕ) (own : List ℕ) (f : Frame) (act : Act) → 
 act-under-none grain own f act formed is e =
     e ∙ ap (λ (g : Frame). if is_placed own [] then act_of grain g None else returns) is
     ∙ ap (λ (b : Bool). if b && is_placed own [] then act_of grain (frame_of own) None else returns) (sym formed)
+
+-- an inlet doesn't ask for statuses
+changes-with : (cuts test low higher : Bool) (f c : Frame) (xs ys : List ℕ) → changes_by cuts test low higher f c ≡ changes_by cuts test low higher (record f { statuses = xs }) (record c { statuses = ys })
+changes-with true test low higher f c xs ys = refl
+changes-with false true true higher f c xs ys = refl
+changes-with false true false higher f c xs ys = refl
+changes-with false false low true f c xs ys = refl
+changes-with false false low false f c xs ys = refl
+
+abbrev an-inlet : List Change → Bool → InletAct
+an-inlet changes abort = record { stores = pairs_of changes; abort = abort; wake = true }
+
+pub inlet-with : (f c : Frame) (xs ys : List ℕ) → inlet_of f c ≡ inlet_of (record f { statuses = xs }) (record c { statuses = ys })
+inlet-with f c xs ys =
+    ap (λ (changes : List Change). an-inlet changes (int_le f.beta (seen c)))
+    (changes-with (int_le f.beta (seen c)) (c.role == 2) (int_le (seen c) (neg_ℤ c.beta)) (int_lt (floor f) (seen c)) f c xs ys)
 
 -- the inlet of words of the form
 pub inlet-under : (own child : List ℕ) (f : Frame) (act : InletAct) → is_formed own ≡ true → f ≡ frame_of own →

@@ -1,49 +1,131 @@
--- Statuses read one after another.
-use Rattle.std.specs.Prelude.{◌≡◌, ℕ, ◌+◌, ◌<◌, ◌≤◌, nat_le, true, List, [], ◌∷◌, ◌++◌, drop, length, map, slice_index, refl}
-use Rattle.std.proofs.Common.{zero, suc, take, sym, ◌∙◌, ap, subst, arith}
-use Rattle.std.proofs.lemmas.Bool.{and_parts, and_from, le-leb, leb-true}
-use Rattle.std.proofs.lemmas.List.{take_more, take_all, get_or-drop, map-append, length-append, length-drop}
-use Rattle.std.proofs.lemmas.List.Recursion.{and_push}
+-- The entries of choices, segment by segment.
+use Rattle.std.specs.Prelude.{◌≡◌, ℕ, zero, suc, ◌+◌, ◌-◌, ◌*◌, ◌<◌, ◌≤◌, ◌==◌, ◌&&◌, nat_le, nat_lt, Bool, true, false, List, [], ◌∷◌, ◌++◌, drop, take, length, map, slice_get, slice_index, Option, Some, None, unwrap_or, refl}
+use Rattle.std.proofs.Common.{sym, ◌∙◌, ap, subst, arith, add-one, drop-cons, ⊎_elim}
+use Rattle.std.proofs.Math.Bool.{and_assoc}
+use Rattle.std.proofs.Math.ListN.{drop_of_length-le, get_or-map}
+use Rattle.std.proofs.lemmas.Bool.{le-leb, lt-leb, lt-ltb, le-ltb, cases_lt}
+use Rattle.std.proofs.lemmas.List.{take-append-drop, drop-take, drop-drop, length-append, length-drop, length-take, length-map, map-append, get_or-drop}
+use Rattle.std.proofs.lemmas.Option.{slice_get_within, unwrap_or-slice_get, slice_get-get_or}
 use Rattle.jamboree_rules.specs.Places.{status_of, are_statuses}
-use Rattle.jamboree.specs.declared.phases.Status.{Status}
-use Rattle.jamboree.specs.Numbers.{status_number}
+use Rattle.jamboree_rules.specs.Acts.{first_open}
+use Rattle.jamboree.specs.Views.{statuses_in, entries_in}
+use Rattle.jamboree.proofs.OpenLemmas.{open-early, open-later}
 
--- what has been read of these entries after i of them
-pub record AreRead (found : List Status) (entries : List ℕ) (i : ℕ) : Type 0 where
-  pub shown : map status_number found ≡ map status_of (take i entries)
-  pub good : are_statuses (take i entries) ≡ true
-  pub len : length found ≡ i
+-- entries that are statuses, from a place on
+statuses-step : (xs : List ℕ) (i : ℕ) → i < length xs → are_statuses (drop i xs) ≡ (nat_le (slice_index xs i) 4 && are_statuses (drop (i + 1) xs))
+statuses-step xs i below =
+    subst (λ (n : ℕ). are_statuses (drop i xs) ≡ (nat_le (slice_index xs i) 4 && are_statuses (drop n xs))) (sym (add-one i)) (ap are_statuses (drop-cons xs i 0 below))
 
-pub read-none : (entries : List ℕ) → AreRead [] entries 0
-read-none entries = record { shown = refl; good = refl; len = refl }
+pub statuses-good : (xs : List ℕ) (i x : ℕ) → i < length xs → x ≡ slice_index xs i → x ≤ 4 → are_statuses (drop i xs) ≡ are_statuses (drop (i + 1) xs)
+statuses-good xs i x below is small =
+    statuses-step xs i below ∙ ap (λ (b : Bool). b && are_statuses (drop (i + 1) xs)) (ap (λ (y : ℕ). nat_le y 4) (sym is) ∙ le-leb x 4 small)
 
-small-status : (word : ℕ) → word ≤ 4 → word ≡ status_of word
-small-status word small = omega arith
+pub statuses-bad : (xs : List ℕ) (i x : ℕ) → i < length xs → x ≡ slice_index xs i → 4 < x → are_statuses (drop i xs) ≡ false
+statuses-bad xs i x below is big =
+    statuses-step xs i below ∙ ap (λ (b : Bool). b && are_statuses (drop (i + 1) xs)) (ap (λ (y : ℕ). nat_le y 4) (sym is) ∙ lt-leb x 4 big)
 
-pub read-more : (found : List Status) (w : List ℕ) (i word : ℕ) (s : Status) → AreRead found (drop 12 w) i → 12 + i < length w → word ≡ slice_index w (12 + i) → word ≤ 4 → status_number s ≡ word →
-    AreRead (found ++ s ∷ []) (drop 12 w) (i + 1)
-read-more found w i word s r inside is small number =
-    let within : i < length (drop 12 w) = omega (arith, length-drop 12 w) in
-    let entry : slice_index (drop 12 w) i ≡ word = get_or-drop 12 w i 0 ∙ sym is in
-    let more : take (i + 1) (drop 12 w) ≡ take i (drop 12 w) ++ word ∷ [] = take_more (drop 12 w) i 0 within ∙ ap (λ (x : ℕ). take i (drop 12 w) ++ x ∷ []) entry in
-    let same : status_number s ≡ status_of word = number ∙ small-status word small in
-    record {
-      shown = map-append status_number found (s ∷ []) ∙ ap (λ (xs : List ℕ). xs ++ status_number s ∷ []) r.shown ∙ ap (λ (x : ℕ). map status_of (take i (drop 12 w)) ++ x ∷ []) same
-          ∙ sym (map-append status_of (take i (drop 12 w)) (word ∷ [])) ∙ ap (map status_of) (sym more);
-      good = ap are_statuses more ∙ and_push are_statuses (λ x. nat_le x 4) refl (λ x xs. refl) (take i (drop 12 w)) word ∙ and_from (are_statuses (take i (drop 12 w))) (nat_le word 4) r.good (le-leb word 4 small);
-      len = omega (arith, length-append found (s ∷ []), r.len);
-    }
+pub statuses-end : (xs : List ℕ) (i : ℕ) → length xs ≤ i → are_statuses (drop i xs) ≡ true
+statuses-end xs i past = ap are_statuses (drop_of_length-le xs past)
 
-entries-at : (xs : List ℕ) (i : ℕ) → are_statuses xs ≡ true → i < length xs → slice_index xs i ≤ 4
-entries-at [] i h below = absurd (omega arith)
-entries-at (x ∷ xs) zero h below = leb-true x 4 (and_parts (nat_le x 4) (are_statuses xs) h).0
-entries-at (x ∷ xs) (suc i) h below = entries-at xs i (and_parts (nat_le x 4) (are_statuses xs) h).1 (omega arith)
+statuses-append : (xs ys : List ℕ) → are_statuses (xs ++ ys) ≡ (are_statuses xs && are_statuses ys)
+statuses-append [] ys = refl
+statuses-append (x ∷ xs) ys = ap (λ (b : Bool). nat_le x 4 && b) (statuses-append xs ys) ∙ sym (and_assoc (nat_le x 4) (are_statuses xs) (are_statuses ys))
 
--- an entry that is no status
-pub read-other : (w : List ℕ) (i word : ℕ) → 12 + i < length w → word ≡ slice_index w (12 + i) → (word ≤ 4 → ⊥) → are_statuses (drop 12 w) ≡ true → ⊥
-read-other w i word inside is big h = big (subst (λ (x : ℕ). x ≤ 4) (get_or-drop 12 w i 0 ∙ sym is) (entries-at (drop 12 w) i h (omega (arith, length-drop 12 w))))
+pub few-entries : (w : List ℕ) (k : ℕ) → length (entries_in w k) ≤ 16
+few-entries w zero = omega (arith, length-drop 12 (take 16 w), length-take 16 w)
+few-entries w (suc k) = omega (arith, length-take 16 (drop (16 * suc k) w))
 
-pub read-all : (found : List Status) (w : List ℕ) (i : ℕ) → AreRead found (drop 12 w) i → length w ≤ 12 + i → (map status_number found ≡ map status_of (drop 12 w)) × (are_statuses (drop 12 w) ≡ true)
-read-all found w i r past =
-    let all : take i (drop 12 w) ≡ drop 12 w = take_all i (drop 12 w) (omega (arith, length-drop 12 w)) in
-    (r.shown ∙ ap (map status_of) all, sym (ap are_statuses all) ∙ r.good)
+-- the entries from a segment on
+abbrev pub left : List ℕ → ℕ → List ℕ
+left words zero = drop 12 words
+left words (suc number) = drop (16 * suc number) words
+
+-- they begin with those of the segment
+left-step : (w : List ℕ) (k : ℕ) → left w k ≡ entries_in w k ++ left w (suc k)
+left-step w zero =
+    sym (take-append-drop 4 (drop 12 w)) ∙ ap (λ (xs : List ℕ). xs ++ drop 4 (drop 12 w)) (sym (drop-take 12 4 w)) ∙ ap (λ (ys : List ℕ). drop 12 (take 16 w) ++ ys) (drop-drop 4 12 w)
+left-step w (suc k) =
+    let rest : List ℕ = drop (16 * suc k) w in
+    let next : 16 * suc k + 16 ≡ 16 * suc (suc k) = omega arith in
+    sym (take-append-drop 16 rest) ∙ ap (λ (ys : List ℕ). take 16 rest ++ ys) (drop-drop 16 (16 * suc k) w ∙ ap (λ (n : ℕ). drop n w) next)
+
+left-next : (w : List ℕ) (k : ℕ) → left w k ≡ entries_in w k ++ left w (k + 1)
+left-next w k = subst (λ (n : ℕ). left w k ≡ entries_in w k ++ left w n) (sym (add-one k)) (left-step w k)
+
+left-none : (w : List ℕ) (k : ℕ) → 0 < k → length w ≤ 16 * k → left w k ≡ []
+left-none w zero some past = absurd (omega arith)
+left-none w (suc k) some past = drop_of_length-le w past
+
+length-left : (w : List ℕ) (k : ℕ) → 0 < length (left w k) → 12 ≤ length w → length (left w k) + 12 + (16 * k - 12) ≡ length w
+length-left w zero some long = omega (arith, length-drop 12 w)
+length-left w (suc k) some long = omega (arith, length-drop (16 * suc k) w, some)
+
+pub left-good : (w entries : List ℕ) (k : ℕ) → entries ≡ entries_in w k → true ≡ are_statuses entries → are_statuses (drop 12 w) ≡ are_statuses (left w k) → are_statuses (drop 12 w) ≡ are_statuses (left w (k + 1))
+left-good w entries k is good so_far =
+    so_far ∙ ap are_statuses (left-next w k) ∙ statuses-append (entries_in w k) (left w (k + 1))
+    ∙ ap (λ (b : Bool). b && are_statuses (left w (k + 1))) (ap are_statuses (sym is) ∙ sym good)
+
+pub left-bad : (w entries : List ℕ) (k : ℕ) → entries ≡ entries_in w k → false ≡ are_statuses entries → are_statuses (drop 12 w) ≡ are_statuses (left w k) → false ≡ are_statuses (drop 12 w)
+left-bad w entries k is bad so_far =
+    sym (so_far ∙ ap are_statuses (left-next w k) ∙ statuses-append (entries_in w k) (left w (k + 1))
+    ∙ ap (λ (b : Bool). b && are_statuses (left w (k + 1))) (ap are_statuses (sym is) ∙ sym bad))
+
+pub left-all : (w : List ℕ) (k : ℕ) → 0 < k → length w ≤ 16 * k → are_statuses (drop 12 w) ≡ are_statuses (left w k) → true ≡ are_statuses (drop 12 w)
+left-all w k some past so_far = sym (so_far ∙ ap are_statuses (left-none w k some past))
+
+-- all choices before a segment are settled
+abbrev pub AreSettledBefore : List ℕ → ℕ → Type 0
+AreSettledBefore w k = first_open (statuses_in w) + length (left w k) ≡ length (drop 12 w) + first_open (map status_of (left w k))
+
+open-split : (w entries : List ℕ) (k : ℕ) → entries ≡ entries_in w k → map status_of (left w k) ≡ map status_of entries ++ map status_of (left w (k + 1))
+open-split w entries k is =
+    ap (map status_of) (left-next w k ∙ ap (λ (xs : List ℕ). xs ++ left w (k + 1)) (sym is)) ∙ map-append status_of entries (left w (k + 1))
+
+length-split : (w entries : List ℕ) (k : ℕ) → entries ≡ entries_in w k → length (left w k) ≡ length entries + length (left w (k + 1))
+length-split w entries k is =
+    ap length (left-next w k ∙ ap (λ (xs : List ℕ). xs ++ left w (k + 1)) (sym is)) ∙ length-append entries (left w (k + 1))
+
+pub open-found : (w entries : List ℕ) (k found : ℕ) → entries ≡ entries_in w k → found ≡ first_open (map status_of entries) → found < length entries → 12 ≤ length w → AreSettledBefore w k →
+    16 * k - 12 + found ≡ first_open (statuses_in w)
+open-found w entries k found is first inside long before =
+    let here : found < length (map status_of entries) = omega (arith, length-map entries status_of) in
+    let same : first_open (map status_of (left w k)) ≡ found =
+    ap first_open (open-split w entries k is) ∙ open-early (map status_of entries) (map status_of (left w (k + 1))) (subst (λ (n : ℕ). n < length (map status_of entries)) first here) ∙ sym first
+    in
+    let some : length (left w k) ≡ length entries + length (left w (k + 1)) = length-split w entries k is in
+    let at : length (left w k) + 12 + (16 * k - 12) ≡ length w = length-left w k (omega (arith, some)) long in
+    omega (arith, before, same, at, length-drop 12 w)
+
+pub open-passed : (w entries : List ℕ) (k found : ℕ) → entries ≡ entries_in w k → found ≡ first_open (map status_of entries) → length entries ≤ found → AreSettledBefore w k → AreSettledBefore w (k + 1)
+open-passed w entries k found is first all before =
+    let past : length (map status_of entries) ≤ first_open (map status_of entries) = omega (arith, length-map entries status_of, first) in
+    let same : first_open (map status_of (left w k)) ≡ length (map status_of entries) + first_open (map status_of (left w (k + 1))) =
+    ap first_open (open-split w entries k is) ∙ open-later (map status_of entries) (map status_of (left w (k + 1))) past
+    in
+    let some : length (left w k) ≡ length entries + length (left w (k + 1)) = length-split w entries k is in
+    omega (arith, before, same, some, length-map entries status_of)
+
+pub open-all : (w : List ℕ) (k : ℕ) → 0 < k → length w ≤ 16 * k → AreSettledBefore w k → length w - 12 ≡ first_open (statuses_in w)
+open-all w k some past before =
+    let none : left w k ≡ [] = left-none w k some past in
+    let len : length (left w k) ≡ 0 = ap length none in
+    let found : first_open (map status_of (left w k)) ≡ 0 = ap (λ (xs : List ℕ). first_open (map status_of xs)) none in
+    omega (arith, before, len, found, length-drop 12 w)
+
+-- the status of a choice, by its entry
+status-at : (w : List ℕ) (n : ℕ) → slice_index (statuses_in w) n ≡ status_of (slice_index w (12 + n))
+status-at w n = get_or-map status_of (drop 12 w) n 0 ∙ ap status_of (get_or-drop 12 w n 0)
+
+pub entry-some : (w : List ℕ) (n entry status : ℕ) → Some entry ≡ slice_get w (12 + n) → (status_of entry == status) ≡ (nat_lt n (length (statuses_in w)) && (slice_index (statuses_in w) n == status))
+entry-some w n entry status got =
+    let inside : 12 + n < length w = slice_get_within w (12 + n) entry (sym got) in
+    let is : entry ≡ slice_index w (12 + n) = ap (λ (o : Option ℕ). unwrap_or o 0) got ∙ unwrap_or-slice_get w (12 + n) 0 in
+    ap (λ (x : ℕ). x == status) (ap status_of is ∙ sym (status-at w n))
+    ∙ ap (λ (b : Bool). b && (slice_index (statuses_in w) n == status)) (sym (lt-ltb n (length (statuses_in w)) (omega (arith, length-map (drop 12 w) status_of, length-drop 12 w))))
+
+pub entry-none : (w : List ℕ) (n status : ℕ) → None ≡ slice_get w (12 + n) → false ≡ (nat_lt n (length (statuses_in w)) && (slice_index (statuses_in w) n == status))
+entry-none w n status got =
+    let past : length w ≤ 12 + n =
+    ⊎_elim (λ (inside : 12 + n < length w). absurd (cc (got, slice_get-get_or w (12 + n) 0 inside))) (λ (beyond : length w ≤ 12 + n). beyond) (cases_lt (12 + n) (length w))
+    in
+    ap (λ (b : Bool). b && (slice_index (statuses_in w) n == status)) (sym (le-ltb n (length (statuses_in w)) (omega (arith, length-map (drop 12 w) status_of, length-drop 12 w))))

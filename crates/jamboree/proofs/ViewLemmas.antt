@@ -1,6 +1,7 @@
 -- The numbers of the first words, where they have the form of a frame.
 use Rattle.std.specs.Prelude.{◌≡◌, ℕ, ◌+◌, ◌<◌, ◌≤◌, true, ℤ, pos, negsuc, ◌≤ℤ◌, ◌<ℤ◌, List, [], map, drop, length, slice_index, ◌==◌, ◌&&◌, bit_and, refl}
-use Rattle.std.proofs.Common.{to_z, of_z, w32, sym, subst, arith, ⊎_elim}
+use Rattle.std.proofs.Common.{to_z, of_z, w32, sym, ap, ◌∙◌, subst, take, arith, ⊎_elim}
+use Rattle.std.proofs.lemmas.List.{get_or-take}
 use Rattle.std.proofs.lemmas.Int.{ints}
 use Rattle.std.proofs.lemmas.Bool.{cases_lt, and_parts, and_from, eqb-true, eq-eqb}
 use Rattle.jamboree_rules.specs.Frames.{least, greatest, unscored, is_frame}
@@ -8,9 +9,8 @@ use Rattle.jamboree_rules.specs.Places.{score_of, status_of, frame_of, are_statu
 use Rattle.jamboree_rules.proofs.Forms.{IsFrame, frame-told}
 use Rattle.jamboree.specs.declared.phases.Phase.{Phase}
 use Rattle.jamboree.specs.declared.phases.Role.{Role}
-use Rattle.jamboree.specs.declared.phases.Status.{Status}
 use Rattle.jamboree.specs.declared.view.Head.{Head}
-use Rattle.jamboree.specs.Numbers.{phase_number, role_number, status_number, frame_by}
+use Rattle.jamboree.specs.Numbers.{phase_number, role_number, frame_by}
 use Rattle.jamboree.specs.Views.{head_of, frame_from}
 
 -- the ranges of these words
@@ -63,9 +63,13 @@ pub as-wide : (w : ℕ) (s : ℤ) → s ≡ score_of w → w ≤ 1200000 → to_
 as-wide w s e small = omega (arith, ints)
 
 -- the frame of parts that stand for these words
-pub frame-same : (h : Head) (statuses : List Status) (role : Role) (phase : Phase) (alpha beta best : ℤ) → alpha ≡ score_of h.alpha → beta ≡ score_of h.beta → role_number role ≡ h.role → phase_number phase ≡ h.phase → best ≡ score_of h.best →
-    frame_by h.own h.opp h.depth alpha beta role h.number phase best h.choice h.count h.spawned statuses ≡ frame_from h (map status_number statuses)
+pub frame-same : (h : Head) (statuses : List ℕ) (role : Role) (phase : Phase) (alpha beta best : ℤ) → alpha ≡ score_of h.alpha → beta ≡ score_of h.beta → role_number role ≡ h.role → phase_number phase ≡ h.phase → best ≡ score_of h.best →
+    frame_by h.own h.opp h.depth alpha beta role h.number phase best h.choice h.count h.spawned statuses ≡ frame_from h statuses
 frame-same h statuses role phase alpha beta best ea eb er ep es = rw (ea, eb, er, ep, es) refl
+
+-- the first words stand in the first segment
+pub front-word : (w front : List ℕ) → front ≡ take 16 w → (k : ℕ) → k < 16 → slice_index front k ≡ slice_index w k
+front-word w front is k inside = ap (λ (xs : List ℕ). slice_index xs k) is ∙ get_or-take 16 w k 0 inside
 
 -- words that have the form of a frame, part by part
 pub formed-by : (w : List ℕ) (h : Head) → h ≡ head_of w → (length w ≡ 12 + h.count) × (are_statuses (drop 12 w) ≡ true) → is_frame (frame_from h []) ≡ true → is_formed w ≡ true

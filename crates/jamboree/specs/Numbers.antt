@@ -1,5 +1,5 @@
 -- The numbers of phases, roles and statuses, and a frame by its parts.
-use Rattle.std.specs.Prelude.{ℕ, ℤ, List, map}
+use Rattle.std.specs.Prelude.{ℕ, ℤ, List}
 use Rattle.jamboree.specs.declared.phases.Phase.{Phase}
 use Rattle.jamboree.specs.declared.phases.Phase.TheVariants.{New, Computing, First, Tests, Done}
 use Rattle.jamboree.specs.declared.phases.Role.{Role}
@@ -32,7 +32,7 @@ status_number Failed = 3
 status_number RunsAgain = 4
 
 -- the frame of these parts
-abbrev pub frame_by : (own opp depth : ℕ) (alpha beta : ℤ) → Role → ℕ → Phase → ℤ → (choice count spawned : ℕ) → List Status → Frame
+abbrev pub frame_by : (own opp depth : ℕ) (alpha beta : ℤ) → Role → ℕ → Phase → ℤ → (choice count spawned : ℕ) → List ℕ → Frame
 frame_by own opp depth alpha beta role number phase best choice count spawned statuses = record {
   own = own;
   opp = opp;
@@ -46,5 +46,5 @@ frame_by own opp depth alpha beta role number phase best choice count spawned st
   choice = choice;
   count = count;
   spawned = spawned;
-  statuses = map status_number statuses;
+  statuses = statuses;
 }

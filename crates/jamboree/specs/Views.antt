@@ -1,9 +1,9 @@
 -- The typed view of a frame's words: which frame it stands for.
-use Rattle.std.specs.Prelude.{ℕ, List, slice_index}
+use Rattle.std.specs.Prelude.{ℕ, zero, suc, ◌*◌, List, [], map, drop, take, slice_index}
 use Rattle.jamboree.specs.declared.view.Head.{Head}
 use Rattle.jamboree.specs.declared.frame.View.{View}
 use Rattle.jamboree_rules.specs.Frames.{Frame}
-use Rattle.jamboree_rules.specs.Places.{score_of}
+use Rattle.jamboree_rules.specs.Places.{score_of, status_of}
 use Rattle.jamboree.specs.Numbers.{frame_by}
 
 -- the first twelve words
@@ -41,6 +41,19 @@ frame_from head statuses = record {
   statuses = statuses;
 }
 
--- the frame that a view shows
+-- the statuses of the choices in these words: one from place 12 on for each choice
+abbrev pub statuses_in : List ℕ → List ℕ
+statuses_in words = map status_of (drop 12 words)
+
+-- the frame that a view shows, of choices with these statuses
+abbrev pub frame_with : View → List ℕ → Frame
+frame_with v statuses = frame_by v.board.own v.board.opp v.depth v.alpha v.beta v.role v.number v.phase v.best v.choice v.count v.spawned statuses
+
+-- the same where nothing asks for the statuses
 abbrev pub frame_in : View → Frame
-frame_in v = frame_by v.board.own v.board.opp v.depth v.alpha v.beta v.role v.number v.phase v.best v.choice v.count v.spawned v.statuses.items
+frame_in v = frame_with v []
+
+-- the entries of choices in a segment of these words: in the first they stand behind the first twelve
+abbrev pub entries_in : List ℕ → ℕ → List ℕ
+entries_in words zero = drop 12 (take 16 words)
+entries_in words (suc number) = take 16 (drop (16 * suc number) words)

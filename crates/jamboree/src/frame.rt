@@ -1,16 +1,12 @@
-//! A frame of the search, typed.
-ghost use Rattle.std.specs.Prelude.{◌≡◌, ◌≤◌, ◌≤ℤ◌, ◌<ℤ◌, true, length, pos, negsuc};
+//! A frame of the search, typed. The statuses of its choices are read where they are asked for.
+ghost use Rattle.std.specs.Prelude.{◌≡◌, ◌≤◌, ◌≤ℤ◌, ◌<ℤ◌, true, [], pos, negsuc};
 ghost use Rattle.jamboree_rules.specs.Frames.{is_frame};
 ghost use Rattle.jamboree.specs.Numbers.{frame_by};
 
-use crate::phases::{Phase, Role, Status};
-use arrayvec::ArrayVec;
+use crate::phases::{Phase, Role};
 use othello_board::Board;
 
-/// The most choices that a frame of 128 words has places for.
-pub(crate) const MOST: usize = 116;
-
-/// A frame: what its words say.
+/// A frame: what its first twelve words say.
 #[derive(Drop)]
 pub(crate) struct View {
     /// The board, seen by the player to move. A new child doesn't know its own yet.
@@ -34,10 +30,7 @@ pub(crate) struct View {
     pub(crate) count: usize,
     /// How many of them were spawned.
     pub(crate) spawned: usize,
-    /// How each of them stands.
-    pub(crate) statuses: ArrayVec<Status, MOST>,
-    ghost form: { is_frame (frame_by board.own board.opp depth alpha beta role number phase best choice count spawned statuses.items) ≡ true },
-    ghost entries: { length statuses.items ≡ count },
+    ghost form: { is_frame (frame_by board.own board.opp depth alpha beta role number phase best choice count spawned []) ≡ true },
     ghost few: { count ≤ 116 },
     ghost least: { negsuc 199999 ≤ℤ alpha },
     ghost window: { alpha <ℤ beta },

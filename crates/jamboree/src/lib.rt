@@ -31,6 +31,7 @@ mod procedure;
 mod reading;
 mod reply;
 mod score;
+mod statuses;
 mod view;
 
 pub use jamboree_rules::{Leaf, LeafAnswer};

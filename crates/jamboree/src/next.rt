@@ -1,16 +1,18 @@
 //! What a frame does next.
-ghost use Rattle.std.specs.Prelude.{◌≡◌, ◌≢◌, ◌<◌, ◌≤ℤ◌, pos, negsuc, ◌==◌, ◌&&◌, nat_lt, ℕ, Bool, true, false, Option, List, [], map, length, slice_index};
+ghost use Rattle.std.specs.Prelude.{◌≡◌, ◌≢◌, ◌+◌, ◌<◌, ◌≤ℤ◌, pos, negsuc, ◌==◌, ℕ, Bool, true, false, Option, Some, None, List, [], length};
 ghost use Rattle.othello_board.specs.Words.{cells};
 ghost use Rattle.jamboree_rules.specs.Frames.{Frame, floor, may_be_child};
 ghost use Rattle.jamboree_rules.specs.Acts.{returns, spawns, opening_on, first_search, first_open, tests, tests_from, act_of};
 ghost use Rattle.sched_rules.specs.declared.act.Then.TheVariants.{Wait};
-ghost use Rattle.jamboree.specs.Numbers.{role_number, status_number};
-ghost use Rattle.jamboree.specs.Views.{frame_in};
+ghost use Rattle.jamboree.specs.Numbers.{role_number};
+ghost use Rattle.jamboree.specs.Views.{frame_in, frame_with, statuses_in};
 
 use crate::codes::NONE;
 use crate::frame::View;
 use crate::phases::{Phase, Role, Status};
+use crate::statuses::{first_open, has_failed};
 use crate::view::{Changes, spawn};
+use cactus_stack::Words;
 use leaf_search::INF;
 use othello_board::Board;
 use othello_moves::{after, choice, choice_count};
@@ -97,37 +99,15 @@ fn first_search(frame: &View) -> Act
     }
 }
 
-/// The number of the first choice that isn't settled, or how many choices there are.
-fn first_open(statuses: &[Status]) -> usize
-    ensures { result ≡ first_open (map status_number statuses.now) }
-{
-    for (number, status) in statuses.iter().enumerate() {
-        match status {
-            Status::Settled => {}
-            _ => return number,
-        }
-    }
-    statuses.len()
-}
-
-/// Whether the test of the choice of this number has failed.
-fn has_failed(statuses: &[Status], number: usize) -> bool
-    ensures { result ≡ (nat_lt number (length (map status_number statuses.now)) && (slice_index (map status_number statuses.now) number == 3)) }
-{
-    match statuses.get(number) {
-        Some(Status::Failed) => true,
-        _ => false,
-    }
-}
-
 /// The next act while choices are tested: the first choice that isn't settled is searched again,
 /// where its test has failed; else the next one is tested; else the frame is done, or waits.
-fn tests(frame: &View) -> Act
-    requires { 0 < frame.now.depth }
-    ensures { result ≡ tests_from (frame_in frame.now) (first_open (frame_in frame.now).statuses) }
+fn tests(frame: &View, words: &Words) -> Act
+    requires deep { 0 < frame.now.depth }
+    requires entries { length words.now ≡ 12 + frame.now.count }
+    ensures { result ≡ tests_from (frame_with frame.now (statuses_in words.now)) (first_open (statuses_in words.now)) }
 {
-    let open = first_open(frame.statuses.as_slice());
-    if has_failed(frame.statuses.as_slice(), open) {
+    let open = first_open(words);
+    if has_failed(words, open) {
         return search_again(frame, open);
     }
     if frame.spawned < frame.count {
@@ -146,7 +126,7 @@ fn tests(frame: &View) -> Act
 fn search_again(frame: &View, number: usize) -> Act
     requires deep { 0 < frame.now.depth }
     requires inside { number < frame.now.count }
-    ensures { (more all : Bool) → result ≡ tests true more all (frame_in frame.now) number }
+    ensures { (more all : Bool) (statuses : List ℕ) → result ≡ tests true more all (frame_with frame.now statuses) number }
 {
     Act {
         stores: Changes::new().status(number, Status::RunsAgain).stores(),
@@ -159,7 +139,7 @@ fn test(frame: &View, number: usize) -> Act
     requires deep { 0 < frame.now.depth }
     requires next { number ≡ (frame_in frame.now).spawned }
     requires inside { number < frame.now.count }
-    ensures { (all : Bool) → result ≡ tests false true all (frame_in frame.now) (first_open (frame_in frame.now).statuses) }
+    ensures { (all : Bool) (statuses : List ℕ) (first : ℕ) → result ≡ tests false true all (frame_with frame.now statuses) first }
 {
     let floor = floor(frame);
     Act {
@@ -171,10 +151,11 @@ fn test(frame: &View, number: usize) -> Act
     }
 }
 
-/// The next act of a frame that knows its board.
-fn later_act(frame: &View) -> Act
-    requires { (frame_in frame.now).phase ≢ 0 }
-    ensures { (grain : ℕ) (parent : Option Frame) → result ≡ act_of grain (frame_in frame.now) parent }
+/// The next act of a frame that knows its board, in these words.
+fn later_act(frame: &View, words: &Words) -> Act
+    requires later { (frame_in frame.now).phase ≢ 0 }
+    requires entries { length words.now ≡ 12 + frame.now.count }
+    ensures { (grain : ℕ) (parent : Option Frame) → result ≡ act_of grain (frame_with frame.now (statuses_in words.now)) parent }
 {
     match frame.phase {
         Phase::Computing => Act {
@@ -182,31 +163,33 @@ fn later_act(frame: &View) -> Act
             after: Then::Compute,
         },
         Phase::First => first_search(frame),
-        Phase::Tests => tests(frame),
+        Phase::Tests => tests(frame, words),
         Phase::New | Phase::Done => returns(),
     }
 }
 
-/// The next act of a root.
-pub(crate) fn root_act(grain: u8, frame: &View) -> Act
-    ensures { result ≡ act_of grain (frame_in frame.now) None }
+/// The next act of a root in these words.
+pub(crate) fn root_act(grain: u8, frame: &View, words: &Words) -> Act
+    requires { length words.now ≡ 12 + frame.now.count }
+    ensures { result ≡ act_of grain (frame_with frame.now (statuses_in words.now)) None }
 {
     match frame.phase {
         Phase::New => opening(grain, frame, frame.board),
-        _ => later_act(frame),
+        _ => later_act(frame, words),
     }
 }
 
-/// The next act of a child of this parent.
-pub(crate) fn child_act(grain: u8, frame: &View, parent: &View) -> Act
-    requires { may_be_child (frame_in parent.now) (frame_in frame.now) ≡ true }
-    ensures { result ≡ act_of grain (frame_in frame.now) (Some (frame_in parent.now)) }
+/// The next act of a child of this parent, in these words.
+pub(crate) fn child_act(grain: u8, frame: &View, words: &Words, parent: &View) -> Act
+    requires may_be { may_be_child (frame_in parent.now) (frame_in frame.now) ≡ true }
+    requires entries { length words.now ≡ 12 + frame.now.count }
+    ensures { (others : List ℕ) → result ≡ act_of grain (frame_with frame.now (statuses_in words.now)) (Some (frame_with parent.now others)) }
 {
     match frame.phase {
         Phase::New => {
             let chosen = choice(parent.board, frame.number as usize);
             opening(grain, frame, after(parent.board, chosen))
         }
-        _ => later_act(frame),
+        _ => later_act(frame, words),
     }
 }

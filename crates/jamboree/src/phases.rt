@@ -1,5 +1,5 @@
 //! How far a frame has come, what it is to its parent, and how each of its choices stands.
-ghost use Rattle.std.specs.Prelude.{◌≡◌, ◌≤◌, ◌↔◌, IsSome, IfSome};
+ghost use Rattle.std.specs.Prelude.{◌≡◌, ◌≤◌};
 ghost use Rattle.jamboree.specs.Numbers.{phase_number, role_number, status_number};
 
 /// How far a frame has come.
@@ -103,21 +103,6 @@ pub(crate) enum Status {
 }
 
 impl Status {
-    /// The status of this number, 0 to 4, or None.
-    pub(crate) fn of(number: u64) -> Option<Status>
-        ensures known { IsSome result ↔ (number ≤ 4) }
-        ensures value { IfSome result (λ status. status_number status ≡ number) }
-    {
-        match number {
-            0 => Some(Status::NotSpawned),
-            1 => Some(Status::Runs),
-            2 => Some(Status::Settled),
-            3 => Some(Status::Failed),
-            4 => Some(Status::RunsAgain),
-            _ => None,
-        }
-    }
-
     /// Its number.
     pub(crate) fn number(self) -> u64
         ensures value { result ≡ status_number self }

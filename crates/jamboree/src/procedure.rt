@@ -1,11 +1,13 @@
 //! The search procedure.
-ghost use Rattle.std.specs.Prelude.{◌≡◌, ◌≤◌, ◌↔◌, ◌==◌, ◌&&◌, ◌∷◌, IsSome, IfSome, true, if◌then◌else◌};
+ghost use Rattle.std.specs.Prelude.{◌≡◌, ◌≤◌, ◌+◌, ◌↔◌, ◌==◌, ◌&&◌, ◌∷◌, IsSome, IfSome, Some, None, List, ℕ, length, nat_lt, if◌then◌else◌};
+ghost use Rattle.othello_board.specs.Words.{cells};
+ghost use Rattle.othello_moves.specs.Choices.{choices};
 ghost use Rattle.jamboree_rules.specs.Frames.{may_be_child};
 ghost use Rattle.jamboree_rules.specs.Places.{frame_of, is_formed, pairs_of};
 ghost use Rattle.jamboree_rules.specs.Acts.{returns, act_of, next_act, wakes, inlet_of};
 ghost use Rattle.jamboree_rules.specs.Leaves.{changes_of_answer};
 ghost use Rattle.jamboree.specs.Levels.{above_of};
-ghost use Rattle.jamboree.specs.Views.{frame_in};
+ghost use Rattle.jamboree.specs.Views.{frame_in, frame_with, statuses_in};
 
 use crate::codes::coded;
 use crate::frame::View;
@@ -41,6 +43,20 @@ impl Jamboree {
 }
 
 impl View {
+    /// Whether there is a choice of this number. While choices are searched the frame's count is that
+    /// of its board, so that they aren't sought again.
+    fn has_choice(&self, number: u64) -> bool
+        ensures { result ≡ (nat_lt number self.now.count && nat_lt number (length (choices (cells self.now.board)))) }
+    {
+        if self.count as u64 <= number {
+            return false;
+        }
+        match self.phase {
+            Phase::First | Phase::Tests => true,
+            _ => number < choice_count(self.board) as u64,
+        }
+    }
+
     /// Whether this may be the frame of a child of that one: it is no root, and its number is that of
     /// a choice of the parent.
     fn may_be_under(&self, parent: &View) -> bool
@@ -48,31 +64,31 @@ impl View {
     {
         match self.role {
             Role::Root => false,
-            _ => {
-                self.number < parent.count as u64 && self.number < choice_count(parent.board) as u64
-            }
+            _ => parent.has_choice(self.number),
         }
     }
 }
 
-/// The next act of a frame with no level above it: only a root has one.
-fn act_alone(grain: u8, frame: &View) -> Act
-    ensures { result ≡ (if (frame_in frame.now).role == 0 then act_of grain (frame_in frame.now) None else returns) }
+/// The next act of a frame in these words with no level above it: only a root has one.
+fn act_alone(grain: u8, frame: &View, own: &Words) -> Act
+    requires { length own.now ≡ 12 + frame.now.count }
+    ensures { result ≡ (if (frame_in frame.now).role == 0 then act_of grain (frame_with frame.now (statuses_in own.now)) None else returns) }
 {
     match frame.role {
-        Role::Root => root_act(grain, frame),
+        Role::Root => root_act(grain, frame, own),
         _ => returns(),
     }
 }
 
-/// The next act of a frame under a parent of these words: only a child of it has one.
-fn act_below(grain: u8, frame: &View, words: &Words) -> Act
-    ensures { result ≡ (if is_formed words.now && may_be_child (frame_of words.now) (frame_in frame.now) then act_of grain (frame_in frame.now) (Some (frame_of words.now)) else returns) }
+/// The next act of a frame in these words under a parent in those: only a child of it has one.
+fn act_below(grain: u8, frame: &View, own: &Words, above: &Words) -> Act
+    requires { length own.now ≡ 12 + frame.now.count }
+    ensures { result ≡ (if is_formed above.now && may_be_child (frame_of above.now) (frame_in frame.now) then act_of grain (frame_with frame.now (statuses_in own.now)) (Some (frame_of above.now)) else returns) }
 {
-    match read(words) {
+    match read(above) {
         Some(parent) => {
             if frame.may_be_under(&parent) {
-                child_act(grain, frame, &parent)
+                child_act(grain, frame, own, &parent)
             } else {
                 returns()
             }
@@ -81,14 +97,14 @@ fn act_below(grain: u8, frame: &View, words: &Words) -> Act
     }
 }
 
-/// The next act of a frame of these words, under a parent of those, if there is one.
+/// The next act of a frame in these words, under a parent in those, if there is one.
 fn act_under(grain: u8, own: &Words, parent: Option<Words>) -> Act
     ensures { result ≡ next_act grain (own.now ∷ above_of parent.entry) }
 {
     match read(own) {
         Some(frame) => match parent {
-            Some(words) => act_below(grain, &frame, &words),
-            None => act_alone(grain, &frame),
+            Some(above) => act_below(grain, &frame, own, &above),
+            None => act_alone(grain, &frame, own),
         },
         None => returns(),
     }
@@ -159,7 +175,7 @@ impl Procedure for Jamboree {
 
 /// The inlet of a frame for a child of these words.
 fn inlet_at(frame: &View, words: &Words) -> InletAct
-    ensures { result ≡ (if is_formed words.now && may_be_child (frame_in frame.now) (frame_of words.now) then inlet_of (frame_in frame.now) (frame_of words.now) else wakes) }
+    ensures { (statuses : List ℕ) → result ≡ (if is_formed words.now && may_be_child (frame_with frame.now statuses) (frame_of words.now) then inlet_of (frame_with frame.now statuses) (frame_of words.now) else wakes) }
 {
     match read(words) {
         Some(child) => {

@@ -1,8 +1,9 @@
 //! A frame's words as a typed view, and stores by what they set: nothing else knows places.
 //!
 //! The words of a frame and what they stand for are in `specs/Places.antt` of `jamboree_rules`. [`read`]
-//! reads each word once, and gives a view exactly where the words have the form of a frame.
-ghost use Rattle.std.specs.Prelude.{◌≡◌, ◌<◌, ◌≤◌, ◌+◌, ◌++◌, ◌∷◌, [], ◌↔◌, ◌==◌, ◌&&◌, true, IsSome, IfSome, bit_and, drop, length, map, slice_index, ◌≤ℤ◌, pos, negsuc};
+//! reads the first twelve from their segment, in place, tests the entries of the choices behind them
+//! without a copy, and gives a view exactly where the words have the form of a frame.
+ghost use Rattle.std.specs.Prelude.{◌≡◌, ◌<◌, ◌≤◌, ◌+◌, ◌++◌, ◌∷◌, [], ◌↔◌, ◌==◌, ◌&&◌, true, IsSome, IfSome, List, ℕ, ◌*◌, ◌-◌, bit_and, drop, length, map, slice_get, slice_index, ◌≤ℤ◌, pos, negsuc};
 ghost use Rattle.jamboree_rules.specs.Frames.{is_leaf, is_frame, is_in_phase, counts_choices, least, greatest};
 ghost use Rattle.jamboree_rules.specs.Places.{score_of, status_of, frame_of, are_statuses, is_formed, pair_of, OwnBits, OppBits, Phase as ToPhase, Best, Chosen, Count, Spawned, Status as ToStatus, given_words, root_words, frame_size};
 ghost use Rattle.jamboree_rules.specs.Fits.{AreFitting, IsRoot};
@@ -11,12 +12,12 @@ ghost use Rattle.sched_rules.specs.Laws.{Neither};
 ghost use Rattle.sched_rules.specs.declared.act.Then.TheVariants.{Spawn};
 ghost use Rattle.jamboree_rules.specs.Leaves.{any_leaf, leaf_in, leaf_from};
 ghost use Rattle.jamboree.specs.Numbers.{role_number, phase_number, status_number};
-ghost use Rattle.jamboree.specs.Views.{head_of, frame_from, frame_in};
+ghost use Rattle.jamboree.specs.Views.{head_of, frame_from, frame_with, statuses_in, entries_in};
 
-use crate::frame::{MOST, View};
+use crate::frame::View;
 use crate::phases::{Phase, Role, Status};
 use crate::score::{score_of_word, word_of_score};
-use arrayvec::ArrayVec;
+use crate::statuses::are_statuses;
 use cactus_stack::Words;
 use jamboree_rules::Leaf;
 use leaf_search::INF;
@@ -26,8 +27,8 @@ use position_text::Position;
 use sched_rules::{GivenWords, Stores, Then};
 use std::marker::Model;
 
-/// The size of a new frame in words.
-const SIZE: usize = 12;
+/// The size of a new frame in words, behind which the entries of its choices stand.
+pub(crate) const SIZE: usize = 12;
 
 /// The first twelve words of a frame, by name.
 #[derive(Clone, Copy)]
@@ -47,51 +48,63 @@ pub(crate) struct Head {
 }
 
 /// The word at a place, and 0 where there is none.
-fn word(words: &Words, place: usize) -> u64
+fn word(words: &[u64], place: usize) -> u64
     ensures { result ≡ slice_index words.now place }
 {
-    words.get(place).unwrap_or(0)
+    match words.get(place) {
+        Some(word) => *word,
+        None => 0,
+    }
 }
 
-/// The first twelve words.
+/// The first twelve words, which stand in one segment.
 fn read_head(words: &Words) -> Head
     ensures { result ≡ head_of words.now }
 {
+    let front = words.segment(0);
     Head {
-        own: word(words, 0),
-        opp: word(words, 1),
-        depth: word(words, 2),
-        alpha: word(words, 3),
-        beta: word(words, 4),
-        role: word(words, 5),
-        number: word(words, 6),
-        phase: word(words, 7),
-        best: word(words, 8),
-        choice: word(words, 9),
-        count: word(words, 10),
-        spawned: word(words, 11),
+        own: word(front, 0),
+        opp: word(front, 1),
+        depth: word(front, 2),
+        alpha: word(front, 3),
+        beta: word(front, 4),
+        role: word(front, 5),
+        number: word(front, 6),
+        phase: word(front, 7),
+        best: word(front, 8),
+        choice: word(front, 9),
+        count: word(front, 10),
+        spawned: word(front, 11),
     }
 }
 
-/// The statuses behind the first twelve words, where there are as many as choices and each is one.
-fn read_statuses(words: &Words, count: u64) -> Option<ArrayVec<Status, MOST>>
-    ensures formed { IsSome result ↔ ((length words.now ≡ 12 + count) × (are_statuses (drop 12 words.now) ≡ true)) }
-    ensures entries { IfSome result (λ found. length found.items ≡ count) }
-    ensures few { IfSome result (λ _. count ≤ 116) }
-    ensures value { IfSome result (λ found. map status_number found.items ≡ map status_of (drop 12 words.now)) }
+/// The entries of choices in a segment: in the first they stand behind the twelve words.
+pub(crate) fn entries<'a>(words: &Words<'a>, number: usize) -> &'a [u64]
+    requires { 12 ≤ length words.now }
+    ensures { result.now ≡ entries_in words.now number }
 {
-    let len = words.len();
-    if len < 12 || (len - 12) as u64 != count {
-        return None;
+    let segment = words.segment(number);
+    if number == 0 {
+        &segment[SIZE..]
+    } else {
+        segment
     }
-    let mut found = ArrayVec::new();
-    for index in 0..len - 12 {
-        match Status::of(word(words, 12 + index)) {
-            Some(status) => found.push(status),
-            None => return None,
-        }
-    }
-    Some(found)
+}
+
+/// The number of the first choice whose entry stands in a segment.
+pub(crate) fn first_number(number: usize) -> usize
+    requires { number ≤ 8 }
+    ensures { result ≡ 16 * number - 12 }
+{
+    (16 * number).saturating_sub(SIZE)
+}
+
+/// The entry of a choice.
+pub(crate) fn entry(words: &Words, number: usize) -> Option<u64>
+    requires { number ≤ 128 }
+    ensures { result ≡ slice_get words.now (12 + number) }
+{
+    words.get(SIZE + number)
 }
 
 impl Head {
@@ -165,12 +178,12 @@ impl Head {
             && self.is_in_phase()
     }
 
-    /// The frame of these first words, with these statuses.
-    fn view(self, statuses: ArrayVec<Status, MOST>) -> View
+    /// The frame of these first words.
+    fn view(self) -> View
         requires form { is_frame (frame_from self []) ≡ true }
-        requires entries { length statuses.items ≡ self.count }
         requires few { self.count ≤ 116 }
-        ensures { frame_in result ≡ frame_from self (map status_number statuses.items) }
+        ensures frame { (statuses : List ℕ) → frame_with result statuses ≡ frame_from self statuses }
+        ensures count { result.count ≡ self.count }
     {
         View {
             board: Board {
@@ -187,7 +200,6 @@ impl Head {
             choice: self.choice,
             count: self.count as usize,
             spawned: self.spawned as usize,
-            statuses,
         }
     }
 }
@@ -195,12 +207,18 @@ impl Head {
 /// The frame in these words, or None where they haven't the form of one.
 pub(crate) fn read(words: &Words) -> Option<View>
     ensures formed { IsSome result ↔ (is_formed words.now ≡ true) }
-    ensures frame { IfSome result (λ view. frame_in view ≡ frame_of words.now) }
+    ensures frame { IfSome result (λ view. frame_with view (statuses_in words.now) ≡ frame_of words.now) }
+    ensures entries { IfSome result (λ view. length words.now ≡ 12 + view.count) }
 {
+    let len = words.len();
+    if len < SIZE {
+        return None;
+    }
     let head = read_head(words);
-    match read_statuses(words, head.count) {
-        Some(statuses) if head.is_frame() => Some(head.view(statuses)),
-        _ => None,
+    if (len - SIZE) as u64 == head.count && head.is_frame() && are_statuses(words) {
+        Some(head.view())
+    } else {
+        None
     }
 }
 

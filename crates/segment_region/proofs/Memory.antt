@@ -99,7 +99,7 @@ module _ (E : El) {M : Type 1} {𝓤 : Ura M} (𝓛 : Logic 𝓤) (block : ℕ) 
       use1 𝓛 (‵ (At byte None)) (𝓛.laws.room-raw (elτ E) block byte) $ frame ! $ by ! (emptied count (byte + size))
 
   -- a place is memory for one value; what lies there is forgotten
-  forgotten : (place : Place E) (byte : ℕ) → ent 𝓤 (sem 𝓛 (At byte place)) (H.room (elτ E) block byte)
+  pub forgotten : (place : Place E) (byte : ℕ) → ent 𝓤 (sem 𝓛 (At byte place)) (H.room (elτ E) block byte)
   forgotten None byte = 𝓛.laws.raw-room (elτ E) block byte
   forgotten (Some x) byte = qed 𝓛 (‵ (part_at (R E) full_share x block byte) ∷ []) ∵
       use1 𝓛 (some (λ (v : Val). ‵ (fat full_share (elτ E) block byte v) ⊛ ‵ (E.row.own_val x (v ∷ [])))) (part_out 𝓛 (R E) refl full_share x block byte) $

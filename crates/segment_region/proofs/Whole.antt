@@ -1,236 +1,246 @@
 -- What taking, giving and linking keep.
-use Rattle.std.proofs.Common.{◌≡◌, ◌≢◌, true, false, ℕ, zero, suc, ◌+◌, ◌-◌, ◌<◌, ◌≤◌, List, [], ◌∷◌, length, replicate, Option, None, Some, get_or, refl, ap, sym, subst, ◌∙◌, arith, get_or-set_same, get_or-set_other, ◌⊎◌, inl, inr}
+use Rattle.std.proofs.Common.{◌≡◌, ◌≢◌, true, false, ℕ, zero, suc, ◌+◌, ◌-◌, ◌<◌, ◌≤◌, List, [], ◌∷◌, length, replicate, Option, None, Some, get_or, refl, ap, sym, subst, ◌∙◌, arith, get_or-set_same, get_or-set_other}
 use Rattle.std.proofs.Math.ListN.{set}
-use Rattle.std.proofs.lemmas.List.{length-set, get_or-replicate, length-replicate}
+use Rattle.std.proofs.lemmas.List.{length-set, length-replicate}
 use Rattle.segment_region.specs.Segments.{Segment, Segments, IsTaken, IsFree, taken_count, with_words, with_link}
-use Rattle.segment_region.specs.Blocks.{WordBlock, place_entry, place_link, link_in, entry_of, entries_of, IsLink, next_of, IsFreeList, IsWhole}
+use Rattle.segment_region.specs.Blocks.{WordBlock, place_entry, place_link, link_in, entries_of, IsLink, next_of, IsFreeList, IsWhole}
 use Rattle.segment_region.specs.declared.block.Link.{Link}
 use Rattle.segment_region.proofs.Counts.{taken_count-take, taken_count-give, taken_count-write, taken_count-replicate, taken_count-le-length}
-use Rattle.segment_region.proofs.Entries.{length-entries_of, get_or-entries_of, entries_of-set, entry_of-free, entry_of-taken, taken_block, taken_is, words_is, link_is}
+use Rattle.segment_region.proofs.Entries.{length-entries_of, get_or-entries_of, none_from_mark, entries_of-set, entries_of-more, entries_of-less, entries_of-none, entry_of-free, entry_of-taken, TakenBlock, taken_block, taken_is, words_is, link_is}
 
--- a block that is not free is nowhere in a chain
-not_in_chain : (places : List (Option WordBlock)) (n m : ℕ) → (link_in places n).taken ≡ true → IsFreeList places (Some n) m → ⊥
-not_in_chain places n zero taken chain = cc
-not_in_chain places n (suc m) taken chain = let free = chain.0 in cc
+-- the number stands at the head of no chain
+abbrev IsUnlisted : ℕ → List (Option WordBlock) → ℕ → Type 0
+IsUnlisted mark places n = (m : ℕ) → IsFreeList mark places (Some n) m → ⊥
+
+-- so it is with one that is taken, and with one from the mark on
+taken_unlisted : (mark : ℕ) (places : List (Option WordBlock)) (n : ℕ) → TakenBlock mark places n → IsUnlisted mark places n
+taken_unlisted mark places n t zero chain = absurd (cc)
+taken_unlisted mark places n t (suc m) chain =
+    let taken : (link_in places n).taken ≡ true = ap (λ (place : Option WordBlock). (place_link place).taken) t.is ∙ t.taken in
+    let free = chain.1 in
+    absurd (cc)
+
+mark_unlisted : (mark : ℕ) (places : List (Option WordBlock)) → IsUnlisted mark places mark
+mark_unlisted mark places zero chain = absurd (cc)
+mark_unlisted mark places (suc m) chain = let below = chain.0 in absurd (omega (arith, below))
 
 -- two chains from one head are equally long
-one_length : (places : List (Option WordBlock)) (head : Option ℕ) (m n : ℕ) → IsFreeList places head m → IsFreeList places head n → m ≡ n
-one_length places head zero zero a b = refl
-one_length places None zero (suc n) a b = absurd b
-one_length places None (suc m) n a b = absurd a
-one_length places (Some h) zero (suc n) a b = absurd (cc)
-one_length places (Some h) (suc m) zero a b = absurd (cc)
-one_length places (Some h) (suc m) (suc n) a b = ap suc (one_length places (next_of (link_in places h)) m n a.1 b.1)
+one_length : (mark : ℕ) (places : List (Option WordBlock)) (head : Option ℕ) (m n : ℕ) → IsFreeList mark places head m → IsFreeList mark places head n → m ≡ n
+one_length mark places head zero zero a b = refl
+one_length mark places None zero (suc n) a b = absurd b
+one_length mark places None (suc m) n a b = absurd a
+one_length mark places (Some h) zero (suc n) a b = absurd (cc)
+one_length mark places (Some h) (suc m) zero a b = absurd (cc)
+one_length mark places (Some h) (suc m) (suc n) a b = ap suc (one_length mark places (next_of (link_in places h)) m n a.2 b.2)
 
--- a write to a place that is not in the chain leaves it
-chain-set : (places : List (Option WordBlock)) (n : ℕ) (place : Option WordBlock) (head : Option ℕ) (m : ℕ) → ((k : ℕ) → k ≤ m → IsFreeList places (Some n) k → ⊥) → IsFreeList places head m → IsFreeList (set places n place) head m
-chain-set places n place head zero out chain = chain
-chain-set places n place None (suc m) out chain = chain
-chain-set places n place (Some h) (suc m) out chain =
-    let other : h ≢ n = λ e. out (suc m) (omega arith) (subst (λ (k : ℕ). IsFreeList places (Some k) (suc m)) e chain) in
-    let same : link_in (set places n place) h ≡ link_in places h = ap place_link (get_or-set_other places n h place None other) in
-    let rest : IsFreeList (set places n place) (next_of (link_in places h)) m = chain-set places n place (next_of (link_in places h)) m (λ k le. out k (omega arith)) chain.1 in
-    subst (λ (l : Link). (l.taken ≡ false) × IsFreeList (set places n place) (next_of l) m) (sym same) (chain.0, rest)
+-- what changes under one number, and of the mark, leaves a chain that the number is not in
+chain-keeps : (mark new : ℕ) (places after : List (Option WordBlock)) (n : ℕ) → ((h : ℕ) → h < mark → h ≢ n → (h < new) × (link_in after h ≡ link_in places h)) →
+    (head : Option ℕ) (m : ℕ) → ((k : ℕ) → k ≤ m → IsFreeList mark places (Some n) k → ⊥) → IsFreeList mark places head m → IsFreeList new after head m
+chain-keeps mark new places after n same head zero out chain = chain
+chain-keeps mark new places after n same None (suc m) out chain = chain
+chain-keeps mark new places after n same (Some h) (suc m) out chain =
+    let other : h ≢ n = λ e. out (suc m) (omega arith) (subst (λ (k : ℕ). IsFreeList mark places (Some k) (suc m)) e chain) in
+    let there = same h chain.0 other in
+    let rest : IsFreeList new after (next_of (link_in places h)) m = chain-keeps mark new places after n same (next_of (link_in places h)) m (λ k le. out k (omega arith)) chain.2 in
+    subst (λ (l : Link). (h < new) × (l.taken ≡ false) × IsFreeList new after (next_of l) m) (sym there.1) (there.0, chain.1, rest)
+
+-- a write to one place leaves the links of the others
+links-set : (places : List (Option WordBlock)) (mark new n : ℕ) (place : Option WordBlock) → mark ≤ new → (h : ℕ) → h < mark → h ≢ n → (h < new) × (link_in (set places n place) h ≡ link_in places h)
+links-set places mark new n place up h below other = (omega arith, ap place_link (get_or-set_other places n h place None other))
 
 -- the block at the head of the free ones
-pub record HeadBlock (places : List (Option WordBlock)) (h : ℕ) : Type 0 where
+pub record HeadBlock (mark : ℕ) (places : List (Option WordBlock)) (h : ℕ) : Type 0 where
   pub block : WordBlock
   pub is : get_or places h None ≡ Some block
   pub free : block.link.taken ≡ false
+  pub marked : h < mark
   pub below : h < length places
 
-pub head_block : (places : List (Option WordBlock)) (h m : ℕ) → IsFreeList places (Some h) m → HeadBlock places h
-head_block places h zero chain = absurd (cc)
-head_block places h (suc m) chain = free_block places h chain.0
+head_block : (mark : ℕ) (places : List (Option WordBlock)) (h m : ℕ) → IsFreeList mark places (Some h) m → HeadBlock mark places h
+head_block mark places h zero chain = absurd (cc)
+head_block mark places h (suc m) chain = free_block mark places h chain.0 chain.1
   where
-    free_block : (places : List (Option WordBlock)) (h : ℕ) → (link_in places h).taken ≡ false → HeadBlock places h
-    free_block [] h free = absurd (cc)
-    free_block (None ∷ places) zero free = absurd (cc)
-    free_block (Some block ∷ places) zero free = record { block = block; is = refl; free = free; below = omega arith }
-    free_block (place ∷ places) (suc h) free = let rest = free_block places h free in record { block = rest.block; is = rest.is; free = rest.free; below = omega (arith, rest.below) }
-
-pub head_is_free : (places : List (Option WordBlock)) (h : ℕ) → HeadBlock places h → IsFree (entries_of places) h
-head_is_free places h t = (omega (arith, t.below, length-entries_of places), get_or-entries_of places h ∙ ap place_entry t.is ∙ entry_of-free t.block.link t.block.words t.free)
+    free_block : (mark : ℕ) (places : List (Option WordBlock)) (h : ℕ) → h < mark → (link_in places h).taken ≡ false → HeadBlock mark places h
+    free_block mark [] h marked free = absurd (cc)
+    free_block mark (None ∷ places) zero marked free = absurd (cc)
+    free_block mark (Some block ∷ places) zero marked free = record { block = block; is = refl; free = free; marked = marked; below = omega arith }
+    free_block zero (place ∷ places) (suc h) marked free = absurd (omega arith)
+    free_block (suc mark) (place ∷ places) (suc h) marked free =
+        let rest = free_block mark places h (omega arith) free in
+        record { block = rest.block; is = rest.is; free = rest.free; marked = marked; below = omega (arith, rest.below) }
 
 -- the block that the free ones are chained from
-pub listed_head : (places : List (Option WordBlock)) (count : ℕ) (free : Link) (free_len fresh h : ℕ) → IsWhole places count free free_len fresh → next_of free ≡ Some h → HeadBlock places h
-listed_head places count free free_len fresh h whole is = head_block places h whole.listed (subst (λ (o : Option ℕ). IsFreeList places o whole.listed) is whole.chain)
+pub listed_head : (places : List (Option WordBlock)) (count mark : ℕ) (free : Link) (listed h : ℕ) → IsWhole places count mark free listed → next_of free ≡ Some h → HeadBlock mark places h
+listed_head places count mark free listed h whole is = head_block mark places h listed (subst (λ (o : Option ℕ). IsFreeList mark places o listed) is whole.chain)
 
--- a place that is empty is free
-pub empty_is_free : (places : List (Option WordBlock)) (n : ℕ) → n < length places → get_or places n None ≡ None → IsFree (entries_of places) n
-empty_is_free places n below empty = (omega (arith, below, length-entries_of places), get_or-entries_of places n ∙ ap place_entry empty)
+pub head_is_free : (mark : ℕ) (places : List (Option WordBlock)) (h : ℕ) → HeadBlock mark places h → IsFree (entries_of mark places) h
+head_is_free mark places h t = (omega (arith, t.below, length-entries_of mark places), get_or-entries_of mark places h t.marked ∙ ap place_entry t.is ∙ entry_of-free t.block.link t.block.words t.free)
 
--- a write below a mark leaves what is empty from the mark on
-empty-set : (places : List (Option WordBlock)) (n mark : ℕ) (place : Option WordBlock) → n < mark → ((k : ℕ) → mark ≤ k → get_or places k None ≡ None) → (k : ℕ) → mark ≤ k → get_or (set places n place) k None ≡ None
-empty-set places n mark place below empty k le = get_or-set_other places n k place None (omega arith) ∙ empty k le
+-- what lies from the mark on is free
+pub mark_is_free : (mark : ℕ) (places : List (Option WordBlock)) → mark < length places → IsFree (entries_of mark places) mark
+mark_is_free mark places below = (omega (arith, below, length-entries_of mark places), none_from_mark mark places mark (omega arith))
 
-le-or-lt : (a b : ℕ) → (a ≤ b) ⊎ (b < a)
-le-or-lt zero b = inl (omega arith)
-le-or-lt (suc a) zero = inr (omega arith)
-le-or-lt (suc a) (suc b) = elim (le-or-lt a b) [ inl h ↦ inl (omega (arith, h)) | inr h ↦ inr (omega (arith, h)) ]
+-- the entries after a write below the mark, and at the mark
+pub entries-write : (mark : ℕ) (places : List (Option WordBlock)) (n : ℕ) (block : WordBlock) (next : Option ℕ) → n < mark → IsLink block.link true next →
+    entries_of mark (set places n (Some block)) ≡ set (entries_of mark places) n (Some (record { words = block.words; link = next }))
+entries-write mark places n block next below link =
+    entries_of-set mark places n (Some block) below ∙ ap (λ (e : Option Segment). set (entries_of mark places) n e) (entry_of-taken block.link block.words next link)
 
--- what is not empty lies below the mark
-below_mark : (places : List (Option WordBlock)) (n mark : ℕ) (block : WordBlock) → get_or places n None ≡ Some block → ((k : ℕ) → mark ≤ k → get_or places k None ≡ None) → n < mark
-below_mark places n mark block is empty =
-    elim (le-or-lt mark n) [
-      | inl le ↦ absurd (let none = empty n le in cc)
-      | inr lt ↦ lt
-    ]
+pub entries-mark : (mark : ℕ) (places : List (Option WordBlock)) (block : WordBlock) (next : Option ℕ) → IsLink block.link true next →
+    entries_of (mark + 1) (set places mark (Some block)) ≡ set (entries_of mark places) mark (Some (record { words = block.words; link = next }))
+entries-mark mark places block next link =
+    let up : mark + 1 ≡ suc mark = omega arith in
+    rw up (entries_of-more mark places (Some block)) ∙ ap (λ (e : Option Segment). set (entries_of mark places) mark e) (entry_of-taken block.link block.words next link)
 
--- the entries after a write
-pub entries-write : (places : List (Option WordBlock)) (n : ℕ) (block : WordBlock) (next : Option ℕ) → IsLink block.link true next → entries_of (set places n (Some block)) ≡ set (entries_of places) n (Some (record { words = block.words; link = next }))
-entries-write places n block next link = entries_of-set places n (Some block) ∙ ap (λ (e : Option Segment). set (entries_of places) n e) (entry_of-taken block.link block.words next link)
+-- the entries after a block is given back: below the mark by its link, and at the end by the mark
+pub entries-free : (mark : ℕ) (places : List (Option WordBlock)) (n : ℕ) (block : WordBlock) → IsTaken (entries_of mark places) n → block.link.taken ≡ false →
+    entries_of mark (set places n (Some block)) ≡ set (entries_of mark places) n None
+entries-free mark places n block taken free =
+    let t = taken_block mark places n taken in
+    entries_of-set mark places n (Some block) t.marked ∙ ap (λ (e : Option Segment). set (entries_of mark places) n e) (entry_of-free block.link block.words free)
 
-pub entries-free : (places : List (Option WordBlock)) (n : ℕ) (block : WordBlock) → block.link.taken ≡ false → entries_of (set places n (Some block)) ≡ set (entries_of places) n None
-entries-free places n block free = entries_of-set places n (Some block) ∙ ap (λ (e : Option Segment). set (entries_of places) n e) (entry_of-free block.link block.words free)
-
--- a number that was free is taken
-more_taken : (places : List (Option WordBlock)) (n : ℕ) (block : WordBlock) → IsLink block.link true None → IsFree (entries_of places) n → taken_count (entries_of (set places n (Some block))) ≡ taken_count (entries_of places) + 1
-more_taken places n block link free =
-    ap taken_count (entries-write places n block None link) ∙ taken_count-take (entries_of places) n (record { words = block.words; link = None }) free.0 free.1
+pub entries-less : (mark : ℕ) (places : List (Option WordBlock)) (n : ℕ) → n + 1 ≡ mark → entries_of n places ≡ set (entries_of mark places) n None
+entries-less mark places n last =
+    let up : mark ≡ suc n = omega (arith, last) in
+    rw up (entries_of-less n places)
 
 -- the head is taken
-pub whole-take : (places : List (Option WordBlock)) (count h : ℕ) (free next : Link) (free_len fresh : ℕ) (block : WordBlock) → IsWhole places count free free_len fresh → next_of free ≡ Some h → IsLink block.link true None → next ≡ link_in places h →
-    IsWhole (set places h (Some block)) count next (free_len - 1) fresh
-whole-take places count h free next free_len fresh block whole is link is_next =
-    take_head whole.listed whole.parts (subst (λ (o : Option ℕ). IsFreeList places o whole.listed) is whole.chain)
-  where
-    take_head : (listed : ℕ) → listed + count ≡ free_len + fresh → IsFreeList places (Some h) listed → IsWhole (set places h (Some block)) count next (free_len - 1) fresh
-    take_head zero parts chain = absurd (cc)
-    take_head (suc listed) parts chain =
-        let t = head_block places h (suc listed) chain in
-        let more = more_taken places h block link (head_is_free places h t) in
-        let some : 0 < free_len = omega (arith, parts, whole.below) in
-        record {
-          all_places = omega (arith, whole.all_places, length-set places h (Some block));
-          in_limits = whole.in_limits;
-          below = whole.below;
-          empty = empty-set places h fresh (Some block) (below_mark places h fresh t.block t.is whole.empty) whole.empty;
-          counted = omega (arith, whole.counted, more, some);
-          is_free = rw is_next chain.0;
-          listed = listed;
-          parts = omega (arith, parts, some);
-          chain = rw is_next (chain-set places h (Some block) (next_of (link_in places h)) listed (λ k le c. (let e = one_length places (Some h) k (suc listed) c chain in absurd (omega arith))) chain.1);
-        }
-
--- the first of the empty places is taken
-pub whole-fresh : (places : List (Option WordBlock)) (count : ℕ) (free : Link) (free_len fresh : ℕ) (block : WordBlock) → IsWhole places count free free_len fresh → fresh < count → IsLink block.link true None →
-    IsWhole (set places fresh (Some block)) count free (free_len - 1) (fresh + 1)
-whole-fresh places count free free_len fresh block whole below link =
-    let none : get_or places fresh None ≡ None = whole.empty fresh (omega arith) in
-    let more = more_taken places fresh block link (empty_is_free places fresh (omega (arith, below, whole.all_places)) none) in
-    let some : 0 < free_len = omega (arith, whole.parts, below) in
+pub whole-take : (places : List (Option WordBlock)) (count mark h : ℕ) (free next : Link) (listed : ℕ) (block : WordBlock) → IsWhole places count mark free listed → next_of free ≡ Some h → IsLink block.link true None → next ≡ link_in places h →
+    IsWhole (set places h (Some block)) count mark next (listed - 1)
+whole-take places count mark h free next zero block whole is link is_next = absurd (let ends = whole.chain in cc)
+whole-take places count mark h free next (suc listed) block whole is link is_next =
+    let chain : IsFreeList mark places (Some h) (suc listed) = subst (λ (o : Option ℕ). IsFreeList mark places o (suc listed)) is whole.chain in
+    let t = head_block mark places h (suc listed) chain in
+    let is_free = head_is_free mark places h t in
+    let more : taken_count (entries_of mark (set places h (Some block))) ≡ taken_count (entries_of mark places) + 1 =
+    ap taken_count (entries-write mark places h block None t.marked link) ∙ taken_count-take (entries_of mark places) h (record { words = block.words; link = None }) is_free.0 is_free.1 in
+    let kept : IsFreeList mark (set places h (Some block)) (next_of (link_in places h)) listed =
+    chain-keeps mark mark places (set places h (Some block)) h (links-set places mark mark h (Some block) (omega arith)) (next_of (link_in places h)) listed (λ k le c. (let e = one_length mark places (Some h) k (suc listed) c chain in absurd (omega arith))) chain.2 in
+    let one : listed ≡ suc listed - 1 = omega arith in
     record {
-      all_places = omega (arith, whole.all_places, length-set places fresh (Some block));
+      all_places = omega (arith, whole.all_places, length-set places h (Some block));
+      in_limits = whole.in_limits;
+      below = whole.below;
+      counted = omega (arith, whole.counted, more);
+      is_free = rw is_next chain.1;
+      chain = rw is_next (subst (λ (k : ℕ). IsFreeList mark (set places h (Some block)) (next_of (link_in places h)) k) one kept);
+    }
+
+-- the block at the mark is taken
+pub whole-mark : (places : List (Option WordBlock)) (count mark : ℕ) (free : Link) (listed : ℕ) (block : WordBlock) → IsWhole places count mark free listed → mark < count → IsLink block.link true None →
+    IsWhole (set places mark (Some block)) count (mark + 1) free listed
+whole-mark places count mark free listed block whole below link =
+    let is_free = mark_is_free mark places (omega (arith, below, whole.all_places)) in
+    let more : taken_count (entries_of (mark + 1) (set places mark (Some block))) ≡ taken_count (entries_of mark places) + 1 =
+    ap taken_count (entries-mark mark places block None link) ∙ taken_count-take (entries_of mark places) mark (record { words = block.words; link = None }) is_free.0 is_free.1 in
+    record {
+      all_places = omega (arith, whole.all_places, length-set places mark (Some block));
       in_limits = whole.in_limits;
       below = omega arith;
-      empty = empty-set places fresh (fresh + 1) (Some block) (omega arith) (λ k le. whole.empty k (omega arith));
-      counted = omega (arith, whole.counted, more, some);
+      counted = omega (arith, whole.counted, more);
       is_free = whole.is_free;
-      listed = whole.listed;
-      parts = omega (arith, whole.parts, some);
-      chain = chain-set places fresh (Some block) (next_of free) whole.listed (empty_not_in_chain none) whole.chain;
+      chain = chain-keeps mark (mark + 1) places (set places mark (Some block)) mark (links-set places mark (mark + 1) mark (Some block) (omega arith)) (next_of free) listed (λ k le c. mark_unlisted mark places k c) whole.chain;
     }
-  where
-    empty_not_in_chain : get_or places fresh None ≡ None → (k : ℕ) → k ≤ whole.listed → IsFreeList places (Some fresh) k → ⊥
-    empty_not_in_chain none k le c = not_in_chain places fresh k (ap (λ (place : Option WordBlock). (place_link place).taken) none) c
 
 -- a block that was taken becomes the head
-pub whole-give : (places : List (Option WordBlock)) (count n : ℕ) (free next : Link) (free_len fresh : ℕ) (block : WordBlock) → IsWhole places count free free_len fresh → IsTaken (entries_of places) n → block.link ≡ free → IsLink next false (Some n) →
-    IsWhole (set places n (Some block)) count next (free_len + 1) fresh
-whole-give places count n free next free_len fresh block whole taken link is_next =
-    let t = taken_block places n taken in
+pub whole-give : (places : List (Option WordBlock)) (count mark n : ℕ) (free next : Link) (listed : ℕ) (block : WordBlock) → IsWhole places count mark free listed → IsTaken (entries_of mark places) n → block.link ≡ free → IsLink next false (Some n) →
+    IsWhole (set places n (Some block)) count mark next (listed + 1)
+whole-give places count mark n free next listed block whole taken link is_next =
+    let t = taken_block mark places n taken in
     let is_free : block.link.taken ≡ false = rw link whole.is_free in
-    let less : taken_count (entries_of (set places n (Some block))) + 1 ≡ taken_count (entries_of places) =
-    ap (λ (r : Segments). taken_count r + 1) (entries-free places n block is_free) ∙ taken_count-give (entries_of places) n taken in
+    let less : taken_count (entries_of mark (set places n (Some block))) + 1 ≡ taken_count (entries_of mark places) =
+    ap (λ (r : Segments). taken_count r + 1) (entries-free mark places n block taken is_free) ∙ taken_count-give (entries_of mark places) n taken in
     let here : link_in (set places n (Some block)) n ≡ free = ap place_link (get_or-set_same places n (Some block) None t.below) ∙ link in
-    let was : (link_in places n).taken ≡ true = ap (λ (place : Option WordBlock). (place_link place).taken) t.is ∙ t.taken in
-    let rest : IsFreeList (set places n (Some block)) (next_of free) whole.listed = chain-set places n (Some block) (next_of free) whole.listed (λ k le c. not_in_chain places n k was c) whole.chain in
-    let all : IsFreeList (set places n (Some block)) (Some n) (suc whole.listed) =
-    subst (λ (l : Link). (l.taken ≡ false) × IsFreeList (set places n (Some block)) (next_of l) whole.listed) (sym here) (whole.is_free, rest) in
+    let rest : IsFreeList mark (set places n (Some block)) (next_of free) listed =
+    chain-keeps mark mark places (set places n (Some block)) n (links-set places mark mark n (Some block) (omega arith)) (next_of free) listed (λ k le c. taken_unlisted mark places n t k c) whole.chain in
+    let all : IsFreeList mark (set places n (Some block)) (Some n) (suc listed) =
+    subst (λ (l : Link). (n < mark) × (l.taken ≡ false) × IsFreeList mark (set places n (Some block)) (next_of l) listed) (sym here) (t.marked, whole.is_free, rest) in
+    let one : suc listed ≡ listed + 1 = omega arith in
     record {
       all_places = omega (arith, whole.all_places, length-set places n (Some block));
       in_limits = whole.in_limits;
       below = whole.below;
-      empty = empty-set places n fresh (Some block) (below_mark places n fresh t.block t.is whole.empty) whole.empty;
       counted = omega (arith, whole.counted, less);
       is_free = is_next.0;
-      listed = suc whole.listed;
-      parts = omega (arith, whole.parts);
-      chain = rw is_next.1 all;
+      chain = rw is_next.1 (subst (λ (k : ℕ). IsFreeList mark (set places n (Some block)) (Some n) k) one all);
+    }
+
+-- the last block below the mark is given back
+pub whole-less : (places : List (Option WordBlock)) (count mark n : ℕ) (free : Link) (listed : ℕ) → IsWhole places count mark free listed → IsTaken (entries_of mark places) n → n + 1 ≡ mark →
+    IsWhole places count n free listed
+whole-less places count mark n free listed whole taken last =
+    let t = taken_block mark places n taken in
+    let less : taken_count (entries_of n places) + 1 ≡ taken_count (entries_of mark places) =
+    ap (λ (r : Segments). taken_count r + 1) (entries-less mark places n last) ∙ taken_count-give (entries_of mark places) n taken in
+    record {
+      all_places = whole.all_places;
+      in_limits = whole.in_limits;
+      below = omega (arith, whole.below, last);
+      counted = omega (arith, whole.counted, less, last);
+      is_free = whole.is_free;
+      chain = chain-keeps mark n places places n (λ h below other. (omega (arith, below, other, last), refl)) (next_of free) listed (λ k le c. taken_unlisted mark places n t k c) whole.chain;
     }
 
 -- a taken block is written, and stays taken
-pub whole-write : (places : List (Option WordBlock)) (count n : ℕ) (free : Link) (free_len fresh : ℕ) (block : WordBlock) (next : Option ℕ) → IsWhole places count free free_len fresh → IsTaken (entries_of places) n → IsLink block.link true next →
-    IsWhole (set places n (Some block)) count free free_len fresh
-whole-write places count n free free_len fresh block next whole taken link =
-    let t = taken_block places n taken in
-    let same : taken_count (entries_of (set places n (Some block))) ≡ taken_count (entries_of places) =
-    ap taken_count (entries-write places n block next link) ∙ taken_count-write (entries_of places) n (record { words = block.words; link = next }) taken in
-    let was : (link_in places n).taken ≡ true = ap (λ (place : Option WordBlock). (place_link place).taken) t.is ∙ t.taken in
+pub whole-write : (places : List (Option WordBlock)) (count mark n : ℕ) (free : Link) (listed : ℕ) (block : WordBlock) (next : Option ℕ) → IsWhole places count mark free listed → IsTaken (entries_of mark places) n → IsLink block.link true next →
+    IsWhole (set places n (Some block)) count mark free listed
+whole-write places count mark n free listed block next whole taken link =
+    let t = taken_block mark places n taken in
+    let same : taken_count (entries_of mark (set places n (Some block))) ≡ taken_count (entries_of mark places) =
+    ap taken_count (entries-write mark places n block next t.marked link) ∙ taken_count-write (entries_of mark places) n (record { words = block.words; link = next }) taken in
     record {
       all_places = omega (arith, whole.all_places, length-set places n (Some block));
       in_limits = whole.in_limits;
       below = whole.below;
-      empty = empty-set places n fresh (Some block) (below_mark places n fresh t.block t.is whole.empty) whole.empty;
       counted = omega (arith, whole.counted, same);
       is_free = whole.is_free;
-      listed = whole.listed;
-      parts = whole.parts;
-      chain = chain-set places n (Some block) (next_of free) whole.listed (λ k le c. not_in_chain places n k was c) whole.chain;
+      chain = chain-keeps mark mark places (set places n (Some block)) n (links-set places mark mark n (Some block) (omega arith)) (next_of free) listed (λ k le c. taken_unlisted mark places n t k c) whole.chain;
     }
 
 -- the entries after a taken block's words, or its link, were written
-pub entries-words : (places : List (Option WordBlock)) (n : ℕ) (block : WordBlock) (words : List ℕ) → IsTaken (entries_of places) n → get_or places n None ≡ Some block
-    → entries_of (set places n (Some (record { words = words; link = block.link }))) ≡ with_words (entries_of places) n words
-entries-words places n block words taken is =
-    entries-write places n (record { words = words; link = block.link }) (next_of block.link) (taken_is places n block taken is, refl)
-    ∙ ap (λ (o : Option ℕ). set (entries_of places) n (Some (record { words = words; link = o }))) (sym (link_is places n block taken is))
+pub entries-words : (mark : ℕ) (places : List (Option WordBlock)) (n : ℕ) (block : WordBlock) (words : List ℕ) → IsTaken (entries_of mark places) n → get_or places n None ≡ Some block
+    → entries_of mark (set places n (Some (record { words = words; link = block.link }))) ≡ with_words (entries_of mark places) n words
+entries-words mark places n block words taken is =
+    let t = taken_block mark places n taken in
+    entries-write mark places n (record { words = words; link = block.link }) (next_of block.link) t.marked (taken_is mark places n block taken is, refl)
+    ∙ ap (λ (o : Option ℕ). set (entries_of mark places) n (Some (record { words = words; link = o }))) (sym (link_is mark places n block taken is))
 
-pub entries-link : (places : List (Option WordBlock)) (n : ℕ) (block : WordBlock) (link : Link) (next : Option ℕ) → IsTaken (entries_of places) n → get_or places n None ≡ Some block → IsLink link true next
-    → entries_of (set places n (Some (record { words = block.words; link = link }))) ≡ with_link (entries_of places) n next
-entries-link places n block link next taken is e =
-    entries-write places n (record { words = block.words; link = link }) next e
-    ∙ ap (λ (ws : List ℕ). set (entries_of places) n (Some (record { words = ws; link = next }))) (sym (words_is places n block taken is))
+pub entries-link : (mark : ℕ) (places : List (Option WordBlock)) (n : ℕ) (block : WordBlock) (link : Link) (next : Option ℕ) → IsTaken (entries_of mark places) n → get_or places n None ≡ Some block → IsLink link true next
+    → entries_of mark (set places n (Some (record { words = block.words; link = link }))) ≡ with_link (entries_of mark places) n next
+entries-link mark places n block link next taken is e =
+    let t = taken_block mark places n taken in
+    entries-write mark places n (record { words = block.words; link = link }) next t.marked e
+    ∙ ap (λ (ws : List ℕ). set (entries_of mark places) n (Some (record { words = ws; link = next }))) (sym (words_is mark places n block taken is))
 
--- all places are empty at first
-empty_entries : (count : ℕ) → entries_of (replicate count None) ≡ replicate count None
-empty_entries zero = refl
-empty_entries (suc count) = ap (λ (rest : Segments). None ∷ rest) (empty_entries count)
+-- none is taken at first
+pub first_entries : (places : List (Option WordBlock)) (count : ℕ) → places ≡ replicate count None → entries_of 0 places ≡ replicate count None
+first_entries places count are =
+    let none : Option WordBlock = None in
+    let nothing : Option Segment = None in
+    entries_of-none places ∙ ap (λ (k : ℕ). replicate k nothing) (ap (λ (ps : List (Option WordBlock)). length ps) are ∙ length-replicate count none)
 
-pub first_entries : (places : List (Option WordBlock)) (count : ℕ) → places ≡ replicate count None → entries_of places ≡ replicate count None
-first_entries places count are = rw are (empty_entries count)
-
-empty_at : (count k : ℕ) → get_or {A = Option WordBlock} (replicate count None) k None ≡ None
-empty_at zero k = refl
-empty_at (suc count) zero = refl
-empty_at (suc count) (suc k) = empty_at count k
-
-pub first_whole : (places : List (Option WordBlock)) (count : ℕ) (free : Link) → places ≡ replicate count None → count ≤ 65536 → IsLink free false None → IsWhole places count free count 0
+pub first_whole : (places : List (Option WordBlock)) (count : ℕ) (free : Link) → places ≡ replicate count None → count ≤ 65536 → IsLink free false None → IsWhole places count 0 free 0
 first_whole places count free are in_limits link =
     let none : Option WordBlock = None in
-    let no_taken : taken_count (entries_of places) ≡ 0 = ap taken_count (first_entries places count are) ∙ taken_count-replicate count in
+    let no_taken : taken_count (entries_of 0 places) ≡ 0 = ap taken_count (first_entries places count are) ∙ taken_count-replicate count in
     record {
       all_places = rw are (length-replicate count none);
       in_limits = in_limits;
       below = omega arith;
-      empty = λ k le. rw are (empty_at count k);
       counted = omega (arith, no_taken);
       is_free = link.0;
-      listed = 0;
-      parts = omega arith;
       chain = link.1;
     }
 
-no_head : (places : List (Option WordBlock)) (m : ℕ) → IsFreeList places None m → m ≡ 0
-no_head places zero chain = refl
-no_head places (suc m) chain = absurd chain
+no_head : (mark : ℕ) (places : List (Option WordBlock)) (m : ℕ) → IsFreeList mark places None m → m ≡ 0
+no_head mark places zero chain = refl
+no_head mark places (suc m) chain = absurd chain
 
--- all are taken where no free block is listed and none is fresh, and while some are free not all are
-pub none_free : (places : List (Option WordBlock)) (count : ℕ) (free : Link) (free_len fresh : ℕ) → IsWhole places count free free_len fresh → next_of free ≡ None → count ≤ fresh → taken_count (entries_of places) ≡ length (entries_of places)
-none_free places count free free_len fresh whole no_next no_fresh =
-    let none = no_head places whole.listed (subst (λ (o : Option ℕ). IsFreeList places o whole.listed) no_next whole.chain) in
-    omega (arith, none, whole.parts, whole.below, whole.counted, whole.all_places, length-entries_of places)
+-- all are taken where no free block is chained and the mark is at the end, and while one is free not all are
+pub none_free : (places : List (Option WordBlock)) (count mark : ℕ) (free : Link) (listed : ℕ) → IsWhole places count mark free listed → next_of free ≡ None → count ≤ mark → taken_count (entries_of mark places) ≡ length (entries_of mark places)
+none_free places count mark free listed whole no_next no_more =
+    let none = no_head mark places listed (subst (λ (o : Option ℕ). IsFreeList mark places o listed) no_next whole.chain) in
+    omega (arith, none, whole.below, whole.counted, whole.all_places, length-entries_of mark places)
 
 pub some_free : (region : Segments) (n : ℕ) → IsFree region n → taken_count region ≡ length region → ⊥
 some_free region n free all =

@@ -1,5 +1,5 @@
 -- How a region keeps its entries: a block for each number, whose link words chain the free ones.
-use Rattle.std.specs.Prelude.{◌≡◌, ℕ, zero, suc, ◌+◌, ◌≤◌, Bool, true, false, if◌then◌else◌, List, [], ◌∷◌, length, Option, Some, None, slice_index_or}
+use Rattle.std.specs.Prelude.{◌≡◌, ℕ, zero, suc, ◌+◌, ◌<◌, ◌≤◌, Bool, true, false, if◌then◌else◌, List, [], ◌∷◌, length, Option, Some, None, slice_index_or}
 use Rattle.segment_region.specs.Segments.{Segment, Segments, taken_count}
 use Rattle.segment_region.specs.declared.block.Link.{Link}
 use Rattle.segment_region.specs.declared.block.Block.{Block}
@@ -28,10 +28,11 @@ abbrev pub place_entry : Option WordBlock → Option Segment
 place_entry None = None
 place_entry (Some block) = entry_of block.link block.words
 
--- the entries of the places
-abbrev pub entries_of : List (Option WordBlock) → Segments
-entries_of [] = []
-entries_of (place ∷ places) = place_entry place ∷ entries_of places
+-- the entries of the places: from the mark on all are free, whatever lies there
+abbrev pub entries_of : ℕ → List (Option WordBlock) → Segments
+entries_of mark [] = []
+entries_of zero (place ∷ places) = None ∷ entries_of zero places
+entries_of (suc mark) (place ∷ places) = place_entry place ∷ entries_of mark places
 
 -- the link word at a place, and that of a taken block where nothing is written
 abbrev pub place_link : Option WordBlock → Link
@@ -42,23 +43,20 @@ place_link (Some block) = block.link
 abbrev pub link_in : List (Option WordBlock) → ℕ → Link
 link_in places number = place_link (slice_index_or places number None)
 
--- from head on, the links of free blocks lead through count blocks and end
-abbrev pub IsFreeList : List (Option WordBlock) → Option ℕ → ℕ → Type 0
-IsFreeList places head zero = head ≡ None
-IsFreeList places None (suc count) = ⊥
-IsFreeList places (Some number) (suc count) = ((link_in places number).taken ≡ false) × IsFreeList places (next_of (link_in places number)) count
+-- from head on, the links of free blocks below the mark lead through count blocks and end
+abbrev pub IsFreeList : ℕ → List (Option WordBlock) → Option ℕ → ℕ → Type 0
+IsFreeList mark places head zero = head ≡ None
+IsFreeList mark places None (suc count) = ⊥
+IsFreeList mark places (Some number) (suc count) = (number < mark) × ((link_in places number).taken ≡ false) × IsFreeList mark places (next_of (link_in places number)) count
 
--- the places from fresh on are empty, and of those below it the free ones are chained from the link free on: free_len are free in all, as many as are not taken
-pub record IsWhole (places : List (Option WordBlock)) (count : ℕ) (free : Link) (free_len fresh : ℕ) : Type 0 where
+-- the blocks from the mark on are free, and of those below it the free ones are chained from the link free on: listed many, all that are not taken
+pub record IsWhole (places : List (Option WordBlock)) (count mark : ℕ) (free : Link) (listed : ℕ) : Type 0 where
   pub all_places : length places ≡ count
   pub in_limits : count ≤ 65536
-  pub below : fresh ≤ count
-  pub empty : (number : ℕ) → fresh ≤ number → slice_index_or places number None ≡ None
-  pub counted : free_len + taken_count (entries_of places) ≡ count
+  pub below : mark ≤ count
+  pub counted : listed + taken_count (entries_of mark places) ≡ mark
   pub is_free : free.taken ≡ false
-  pub listed : ℕ
-  pub parts : listed + count ≡ free_len + fresh
-  pub chain : IsFreeList places (next_of free) listed
+  pub chain : IsFreeList mark places (next_of free) listed
 
 -- the places, and the right to free them, are those of one allocation of count blocks
 abbrev pub IsOneAllocation : {A : Type 0} → Base WordBlock → Cells WordBlock → Deed WordBlock A → ℕ → A → Type 0

@@ -118,9 +118,9 @@ pub(crate) fn deallocate<T, A: Allocator>(
 impl<T> Cells<T> {
     ghost use Rattle.segment_region.specs.Lends.{LendsPlace};
 
-    /// Writes to an empty place.
+    /// Writes to a place. What lay in it is forgotten.
     pub(crate) fn write(&mut self, base: Base<T>, index: usize, item: T)
-        requires { (base.ptr ≡ self.old.at) × (index < length self.old.slots) × (slice_index_or self.old.slots index None ≡ None) }
+        requires { (base.ptr ≡ self.old.at) × (index < length self.old.slots) }
         ensures { (self.new.at ≡ self.old.at) × (self.new.slots ≡ slice_set self.old.slots index (Some item)) }
     {
         unsafe { base.ptr.add(index).write(item) }

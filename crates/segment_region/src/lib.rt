@@ -10,12 +10,15 @@
 //! nothing of what the region is made of.
 //!
 //! **Why it holds.** A region is one allocation of as many blocks, each of sixteen words and one link
-//! word. The link word says whether the block is taken, and what follows it: in its owner's chain
-//! where it is taken, in the list of the free blocks where it is free. From the first free block on
-//! the links lead through as many free blocks as are not taken, and end. So none of them comes twice,
-//! the first is always free, and no block is ever lost.
+//! word. Blocks are taken from the first on, and a mark says how far: from the mark on all are free,
+//! nothing is written in them by [`Region::new`] and nothing is read of them. A block that is given
+//! back right below the mark lowers it. Any other keeps its place, and its link word says that it is
+//! free and which free block comes after it; that of a taken block says what follows it in its
+//! owner's chain. The links of the free blocks below the mark lead through as many as are not taken
+//! there, and end. So none of them comes twice, the first is always free, none lies from the mark on
+//! too, and no block is ever lost.
 //!
-//! Only [`Region::new`] takes memory, once; every other call takes constant time. Five short functions
+//! Only [`Region::new`] takes memory, once; every call takes constant time. Five short functions
 //! hold pointers: those of the module `cells`.
 //!
 //! ```text

@@ -20,11 +20,12 @@ pub struct Region<A: Allocator = Global> {
     cells: Cells<WordBlock>,
     deed: Deed<WordBlock, A>,
     alloc: A,
-    // The link word that the next block given back gets: it leads to the free blocks that were taken before.
+    // The blocks from the mark on are free, and nothing is read of them.
+    mark: usize,
+    // The link word that the next block below the mark gets as it is given back: it leads to the free ones
+    // there, and how many these are.
     free: Link,
-    // How many blocks are free, and how many were ever taken: nothing is written in those from `fresh` on.
-    free_len: usize,
-    fresh: usize,
+    listed: usize,
 }
 
 impl<A: Allocator> Model for Region<A> {
@@ -34,9 +35,9 @@ impl<A: Allocator> Model for Region<A> {
 
     ghost use Rattle.segment_region.specs.Blocks.{entries_of, IsWhole, IsOneAllocation};
 
-    ghost view = { λ region. entries_of region.cells.slots };
+    ghost view = { λ region. entries_of region.mark region.cells.slots };
 
-    ghost invariant = { λ region. IsOneAllocation region.base region.cells region.deed region.count region.alloc × IsWhole region.cells.slots region.count region.free region.free_len region.fresh };
+    ghost invariant = { λ region. IsOneAllocation region.base region.cells region.deed region.count region.alloc × IsWhole region.cells.slots region.count region.mark region.free region.listed };
 }
 
 // The allocation goes, with the blocks in it.
@@ -48,9 +49,9 @@ impl<A: Allocator> Drop for Region<A> {
             cells,
             deed,
             alloc,
+            mark: _,
             free: _,
-            free_len: _,
-            fresh: _,
+            listed: _,
         } = self;
         deallocate(&alloc, base, count, cells, deed);
     }
@@ -70,9 +71,9 @@ impl<A: Allocator> Region<A> {
             cells,
             deed,
             alloc,
+            mark: 0,
             free: Link::end(false),
-            free_len: count,
-            fresh: 0,
+            listed: 0,
         })
     }
 
@@ -84,22 +85,20 @@ impl<A: Allocator> Region<A> {
         ensures none_free { IsNone result ↔ (taken_count self.old ≡ segment_count self.old) }
         ensures unchanged { IfNone result (self.new ≡ self.old) }
     {
+        let link = Link::end(true);
         match self.free.next() {
             Some(segment) => {
                 let at = segment.index();
                 self.free = self.cells.get(self.base, at).link;
-                self.free_len -= 1;
-                let link = Link::end(true);
-                *self.cells.get_mut(self.base, at) = zeros(link);
+                self.listed -= 1;
+                self.cells.write(self.base, at, zeros(link));
                 Some(segment)
             }
-            None if self.fresh < self.count => {
-                let at = self.fresh;
-                let link = Link::end(true);
-                self.cells.write(self.base, at, zeros(link));
-                self.fresh += 1;
-                self.free_len -= 1;
-                Some(SegNo::from_number(at as u32))
+            None if self.mark < self.count => {
+                let number = self.mark as u32;
+                self.cells.write(self.base, self.mark, zeros(link));
+                self.mark += 1;
+                Some(SegNo::from_number(number))
             }
             None => None,
         }
@@ -111,16 +110,20 @@ impl<A: Allocator> Region<A> {
         ensures { self.new ≡ with_entry self.old segment None }
     {
         let at = segment.index();
-        self.cells.get_mut(self.base, at).link = self.free;
-        self.free = Link::before(false, segment);
-        self.free_len += 1;
+        if at + 1 == self.mark {
+            self.mark = at;
+        } else {
+            self.cells.get_mut(self.base, at).link = self.free;
+            self.free = Link::before(false, segment);
+            self.listed += 1;
+        }
     }
 
     /// The region as its readers see it.
     pub fn view(&self) -> RegionView<'_>
         ensures { result ≡ self.now }
     {
-        RegionView::of(self.base, &self.cells)
+        RegionView::of(self.base, self.mark, &self.cells)
     }
 
     /// The sixteen words of a taken segment.
@@ -164,7 +167,12 @@ impl<A: Allocator> Region<A> {
     pub fn free_count(&self) -> usize
         ensures { result + taken_count self.now ≡ segment_count self.now }
     {
-        let Region { free_len, .. } = self;
-        *free_len
+        let Region {
+            count,
+            mark,
+            listed,
+            ..
+        } = self;
+        *listed + (*count - *mark)
     }
 }

@@ -28,6 +28,31 @@ fn segments_are_taken_written_and_given_back(rt: HostRuntime) -> Result<(), Fail
     Ok(())
 }
 
+// The last segment that was taken comes back at the end, another one in between: both are taken again,
+// with zeros and no link, and none twice.
+#[test]
+fn segments_come_back_in_any_order(rt: HostRuntime) -> Result<(), Fail> {
+    let mut region = Region::new(rt.alloc(), 3)?;
+    let first = region.take().ok_or("three are free")?;
+    let second = region.take().ok_or("two are free")?;
+    let third = region.take().ok_or("one is free")?;
+    region.words_mut(second)[5] = 7;
+    region.set_link(second, Some(first));
+    region.words_mut(third)[5] = 8;
+    region.give(second);
+    region.give(third);
+    assert_eq!(rt; region.free_count(), 2);
+    let again = region.take().ok_or("two are free again")?;
+    let last = region.take().ok_or("one is free again")?;
+    assert_eq!(rt; region.take(), None);
+    assert!(rt; again != first && last != first && again != last);
+    assert_eq!(rt; region.words(again), [0; 16].as_slice());
+    assert_eq!(rt; region.words(last), [0; 16].as_slice());
+    assert_eq!(rt; region.link(again), None);
+    assert_eq!(rt; region.link(last), None);
+    Ok(())
+}
+
 #[test]
 fn a_region_of_the_greatest_count(rt: HostRuntime) -> Result<(), Fail> {
     let region = Region::new(rt.alloc(), 65536)?;

@@ -12,6 +12,7 @@ use std::marker::Model;
 #[derive(Drop)]
 pub struct RegionView<'a> {
     base: Base<WordBlock>,
+    mark: usize,
     cells: &'a Cells<WordBlock>,
 }
 
@@ -22,18 +23,22 @@ impl<'a> Model for RegionView<'a> {
 
     ghost use Rattle.segment_region.specs.Blocks.{entries_of, IsReadable};
 
-    ghost view = { λ region. entries_of region.cells.now.slots };
+    ghost view = { λ region. entries_of region.mark region.cells.now.slots };
 
     ghost invariant = { λ region. IsReadable region.base region.cells.now };
 }
 
 impl<'a> RegionView<'a> {
-    /// The region of these blocks.
-    pub(crate) fn of(base: Base<WordBlock>, cells: &'a Cells<WordBlock>) -> RegionView<'a>
+    /// The region of these blocks, of which those from the mark on are free.
+    pub(crate) fn of(
+        base: Base<WordBlock>,
+        mark: usize,
+        cells: &'a Cells<WordBlock>,
+    ) -> RegionView<'a>
         requires { IsReadable base cells.now }
-        ensures { result ≡ entries_of cells.now.slots }
+        ensures { result ≡ entries_of mark cells.now.slots }
     {
-        RegionView { base, cells }
+        RegionView { base, mark, cells }
     }
 
     /// The same region, for one more reader.
@@ -42,6 +47,7 @@ impl<'a> RegionView<'a> {
     {
         RegionView {
             base: self.base,
+            mark: self.mark,
             cells: self.cells,
         }
     }

@@ -117,6 +117,23 @@ fn sixty_four_tenants_and_no_more(rt: HostRuntime) -> Result<(), Fail> {
 }
 
 #[test]
+fn tenants_with_one_remainder_are_told_apart(rt: HostRuntime) -> Result<(), Fail> {
+    let mut book = Book::new(rt.alloc(), 64, 64)?;
+    for (tenant, segments) in [(513, 3), (1, 1), (2, 4), (257, 2)] {
+        assert_eq!(rt; reserve(&rt, &mut book, tenant, segments, 1), Ok(()));
+    }
+    for (tenant, segments) in [(1, 1), (257, 2), (513, 3), (2, 4)] {
+        assert_eq!(rt; book.left(tenant), left(segments, 1, 16), "tenant {tenant}");
+    }
+    assert_eq!(rt; book.left(769), None);
+    release(&rt, &mut book, 257);
+    assert_eq!(rt; book.left(1), left(1, 1, 16));
+    assert_eq!(rt; book.left(257), None);
+    assert_eq!(rt; book.left(513), left(3, 1, 16));
+    Ok(())
+}
+
+#[test]
 fn steps_and_nodes_run_out(rt: HostRuntime) -> Result<(), Fail> {
     let mut book = Book::new(rt.alloc(), 4, 4)?;
     assert_eq!(rt; reserve(&rt, &mut book, 7, 4, 1), Ok(()));

@@ -2,12 +2,12 @@ use Rattle.std.proofs.Common.{◌∙◌, arith, ap}
 use Rattle.std.proofs.lemmas.Int.{ints}
 use Rattle.std.specs.Prelude.{◌≤ℤ◌, ◌<ℤ◌, pos, negsuc, neg_ℤ}
 use Rattle.jamboree_rules.specs.Frames.{floor}
-use Rattle.jamboree.specs.Views.{frame_in}
+use Rattle.jamboree.specs.Views.{frame_in, frame_with}
 use Rattle.jamboree.proofs.ActLemmas.{negated, one-store, act-by, spawns-by}
 use Rattle.jamboree.proofs.next.search_again.Goals as goal
 
 pub returns : goal.returns
-returns c more all =
+returns c more all statuses =
     let v = c.args.frame.now in
     let low : negsuc 199999 ≤ℤ v.alpha = v.least in
     let window : v.alpha <ℤ v.beta = v.window in
@@ -15,5 +15,5 @@ returns c more all =
     let below : negsuc 199999 ≤ℤ c.floor.result = c.floor.ensures.low in
     let above : c.floor.result ≤ℤ pos 200000 = c.floor.ensures.high in
     act-by _ _ _ _ (one-store _ _ _ _ c.new.ensures c.status.ensures c.stores.ensures)
-    (spawns-by (frame_in v) 3 c.args.number _ (neg_ℤ v.beta) _ (neg_ℤ (floor (frame_in v))) c.opens.result c.opens.ensures (negated v.beta (omega (arith, ints)) (omega (arith, ints)))
+    (spawns-by (frame_with v statuses) 3 c.args.number _ (neg_ℤ v.beta) _ (neg_ℤ (floor (frame_in v))) c.opens.result c.opens.ensures (negated v.beta (omega (arith, ints)) (omega (arith, ints)))
     (negated c.floor.result (omega (arith, ints)) (omega (arith, ints)) ∙ ap neg_ℤ c.floor.ensures.value))

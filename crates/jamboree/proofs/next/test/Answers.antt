@@ -3,16 +3,16 @@ use Rattle.jamboree_rules.specs.Acts.{spawns}
 use Rattle.std.proofs.lemmas.Int.{ints}
 use Rattle.std.specs.Prelude.{◌≤ℤ◌, ◌+ℤ◌, ℤ, pos, negsuc, neg_ℤ}
 use Rattle.jamboree_rules.specs.Frames.{floor}
-use Rattle.jamboree.specs.Views.{frame_in}
+use Rattle.jamboree.specs.Views.{frame_with}
 use Rattle.jamboree.proofs.ActLemmas.{negated, negated-more, two-stores, act-by, spawns-by}
 use Rattle.jamboree.proofs.next.test.Goals as goal
 
 pub returns : goal.returns
-returns c all =
+returns c all statuses at =
     let v = c.args.frame.now in
     let below : negsuc 199999 ≤ℤ c.floor-floor.result = c.floor-floor.ensures.low in
     let above : c.floor-floor.result ≤ℤ pos 200000 = c.floor-floor.ensures.high in
-    let f = frame_in v in
+    let f = frame_with v statuses in
     act-by _ _ _ _
     (two-stores _ _ _ _ _ _ c.new.ensures c.spawned.ensures c.status.ensures c.stores.ensures ∙ ap (λ (n : ℕ). (11, n + 1) ∷ (12 + n, 1) ∷ []) c.requires.next)
     (spawns-by f 2 c.args.number _ (neg_ℤ (floor f +ℤ pos 1)) _ (neg_ℤ (floor f)) c.opens.result c.opens.ensures

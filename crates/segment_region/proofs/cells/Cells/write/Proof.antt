@@ -1,4 +1,4 @@
--- `write` goes to an empty place by its byte, and makes it the value's.
+-- `write` goes to a place by its byte, forgets what lies there, and makes it the value's.
 use mathlib.Core.Path.{◌≡◌, refl, sym, subst, ◌∙◌}
 use Prim.Native.Nat.{ℕ, ◌+◌, ◌*◌, ◌<◌, ◌^◌}
 use native.Mathlib.Omega.{arith}
@@ -10,7 +10,7 @@ use mir.Syntax.{Fn, w64}
 use mir.MapTy.{inst_fn}
 use mir.Val.{Val, vptr, vint, vunit}
 use base.Logic.{SProp, ent, never, id⊢}
-use base.Fml.{Lft, ftrue, fat, flft, fobs, fbor}
+use base.Fml.{Lft, ftrue, fat, flft, fobs, fbor, froom}
 use prog.Memory.{Memory}
 use prog.Routine.{Routine}
 use prog.Wp.{Calls, Loops, WpFn}
@@ -37,11 +37,10 @@ use Rattle.std.specs.Prelude.{None, Some}
 use Rattle.std.proofs.raw_atomic.Walks.{proved_at}
 use Rattle.core.proofs.mem.Param.{El, R, args, elτ}
 use Rattle.core.proofs.ptr.Rows.{times_below, one_below}
-use Rattle.std_alloc.proofs.RawLayout.{as_written}
 use Rattle.std_alloc.proofs.VecSteps.Shapes.{after}
 use Rattle.std_alloc.proofs.RcSteps.{Good, word, word-Good}
 use Rattle.segment_region.specs.Ownership.{place_owned, row_owned, places_owned}
-use Rattle.segment_region.proofs.Memory.{Place, place_size, Others, taken_out, put_back}
+use Rattle.segment_region.proofs.Memory.{place_size, Others, taken_out, forgotten, put_back}
 use Rattle.segment_region.proofs.Owners.{BaseRow, CellsRow, base_had, value_had}
 use Rattle.segment_region.specs.contracts.cells.Cells.write as its
 use Rattle.segment_region.proofs.cells.Cells.write.Statement.{statement}
@@ -55,7 +54,7 @@ module _ (E : El) where
   stayed = (stay_ref (0 ∷ []) tt (plain (λ _. CellsRow E)), (stay_dropped _ _, (stay_dropped _ _, (stay_dropped _ _, tt))))
 
   abbrev Asked : (CellsRow E).Denot → (BaseRow E).Denot → ℕ → Type 0
-  Asked cells start index = (start.ptr ≡ cells.at) × (index < length cells.slots) × (get_or cells.slots index None ≡ None)
+  Asked cells start index = (start.ptr ≡ cells.at) × (index < length cells.slots)
 
 module _ (E : El) {M : Type 1} {𝓤 : Ura M} (𝓛 : Logic 𝓤) (at_mem : Memory → SProp 𝓤) (run : Routine → Fun 𝓤) (C : Calls 𝓤 𝓛.H) (Λ : Loops 𝓤 𝓛.H) (y : (walk_of 𝓛 (its.ended E.row) (stayed E) (its.clauses E.row 𝓛 at_mem run)).Ghost) where
   open 𝓛 use {H}
@@ -117,7 +116,7 @@ module _ (E : El) {M : Type 1} {𝓤 : Ura M} (𝓛 : Logic 𝓤) (at_mem : Memo
       sets ! (bin ! (get ! refl) (size_lit ! (record { fits = size_fits })) (record { fits = byte_fits })) refl (tt, record { fits = byte_fits }) $
       sets ! (bin ! (get_in ! (fld ! refl (stop !)) (sub ! 0 refl (whole !))) (get ! refl) tt) refl (tt, tt) $
       use1 𝓛 (‵ (place_owned (R E) b at (get_or places index None)) ⊛ ‵ (Others E b index o places)) (taken_out E 𝓛 b places index o asked.1) $ split ! $
-      rewrite ! 0 (λ (place : Place E). ‵ (place_owned (R E) b at place)) asked.2 refl $ as_written ! (elτ E) b at $
+      use1 𝓛 (‵ (froom (elτ E) b at)) (forgotten E 𝓛 b (get_or places index None) at) $
       sets ! (of_opd ! (get ! refl)) refl good $ assigns_last ! (of_opd ! (get ! refl)) (through ! refl (stop !)) (init ! 0 refl good) $
       exec ! C Λ (env (function E).locals l) (after 1 (function E).body) (at_ret _ Post) $
       sets ! (of_opd ! (unit_lit !)) refl (tt, tt) $

@@ -4,13 +4,13 @@ use Rattle.segment_region.proofs.Whole.{whole-write, entries-link}
 use Rattle.segment_region.proofs.region.Region.set_link.Goals as goal
 
 pub get_mut-requires : goal.get_mut-requires
-get_mut-requires g c = (sym c.self.invariant.0.0, rw c.index-at.ensures (filled_at c.self.inside.cells.slots c.args.segment (rw c.self.view_is c.requires)))
+get_mut-requires g c = (sym c.self.invariant.0.0, rw c.index-at.ensures (filled_at c.self.inside.mark c.self.inside.cells.slots c.args.segment (rw c.self.view_is c.requires)))
 
 pub invariant_of-self : goal.invariant_of-self
 invariant_of-self g c =
     let r = c.self.inside in
-    (c.self.invariant.0, rw c.index-at.ensures (whole-write r.cells.slots r.count c.args.segment r.free r.free_len r.fresh _ c.args.link c.self.invariant.1 (rw (← c.self.view_is) at c.requires) c.taken.ensures))
+    (c.self.invariant.0, rw c.index-at.ensures (whole-write r.cells.slots r.count r.mark c.args.segment r.free r.listed _ c.args.link c.self.invariant.1 (rw (← c.self.view_is) at c.requires) c.taken.ensures))
 
 pub returns : goal.returns
 returns g c =
-    rw (c.index-at.ensures, ← c.self.view_is) (entries-link c.self.inside.cells.slots c.args.segment c.get_mut.result.now c.taken.result c.args.link (rw (← c.self.view_is) at c.requires) (rw c.index-at.ensures at c.get_mut.ensures.value) c.taken.ensures)
+    rw (c.index-at.ensures, ← c.self.view_is) (entries-link c.self.inside.mark c.self.inside.cells.slots c.args.segment c.get_mut.result.now c.taken.result c.args.link (rw (← c.self.view_is) at c.requires) (rw c.index-at.ensures at c.get_mut.ensures.value) c.taken.ensures)

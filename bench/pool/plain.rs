@@ -1,0 +1,445 @@
+//! The plain core: frames as typed values in a `Vec` for each tenant, and what each step does to them.
+use crate::vectors;
+
+pub const INF: i32 = 200_000;
+const NONE: u8 = 65;
+const PASS: u8 = 64;
+const NODES: u32 = 65_536;
+const CORNERS: u64 = 0x8100_0000_0000_0081;
+
+fn ray(own: u64, opp: u64, square: u32, column: i32, row: i32) -> u64 {
+    let (mut c, mut r, mut run) = (square as i32 % 8 + column, square as i32 / 8 + row, 0);
+    while (0..8).contains(&c) && (0..8).contains(&r) {
+        let disc = 1u64 << (8 * r + c);
+        if opp & disc == 0 {
+            return if own & disc != 0 { run } else { 0 };
+        }
+        run |= disc;
+        (c, r) = (c + column, r + row);
+    }
+    0
+}
+
+pub fn play(own: u64, opp: u64, choice: u8) -> (u64, u64) {
+    if choice == PASS {
+        return (opp, own);
+    }
+    let square = u32::from(choice);
+    let flips = [(1, 0), (-1, 0), (0, 1), (0, -1), (1, 1), (-1, 1), (1, -1), (-1, -1)]
+        .iter()
+        .fold(0, |all, (column, row)| all | ray(own, opp, square, *column, *row));
+    (opp & !flips, own | flips | 1 << square)
+}
+
+/// The choices in order: legal corners, then the others by rising index; a pass; none where the game is over.
+pub fn choices(own: u64, opp: u64) -> Vec<u8> {
+    let word = vectors::moves(own, opp);
+    if word == 0 {
+        return if vectors::moves(opp, own) == 0 { Vec::new() } else { vec![PASS] };
+    }
+    let squares = |part: u64| (0..64).filter(move |square| part >> square & 1 == 1);
+    squares(word & CORNERS).chain(squares(word & !CORNERS)).collect()
+}
+
+#[derive(Clone, Copy, PartialEq)]
+enum State {
+    Ready(u8),
+    Running(u8),
+    Computing(u8),
+    Waiting,
+    Returned,
+}
+
+#[derive(Clone, Copy, PartialEq)]
+enum Role {
+    Root,
+    First,
+    Test,
+    Again,
+}
+
+#[derive(Clone, Copy, PartialEq)]
+enum Phase {
+    New,
+    Computing,
+    First,
+    Tests,
+    Done,
+}
+
+#[derive(Clone, Copy, PartialEq)]
+enum Status {
+    Unspawned,
+    Runs,
+    Settled,
+    Failed,
+    RunsAgain,
+}
+
+struct Frame {
+    serial: u64,
+    parent: Option<usize>,
+    children: Vec<usize>,
+    state: State,
+    board: (u64, u64),
+    depth: u8,
+    alpha: i32,
+    beta: i32,
+    role: Role,
+    number: usize,
+    phase: Phase,
+    best: i32,
+    choice: u8,
+    choices: Vec<u8>,
+    statuses: Vec<Status>,
+}
+
+#[derive(Clone, Copy)]
+pub struct Name {
+    pub tenant: usize,
+    pub slot: usize,
+    serial: u64,
+}
+
+#[derive(Clone, Copy)]
+pub struct Task {
+    pub name: Name,
+    pub home: u8,
+}
+
+#[derive(Clone, Copy)]
+pub struct Leaf {
+    pub board: (u64, u64),
+    pub depth: u8,
+    pub alpha: i32,
+    pub beta: i32,
+}
+
+#[derive(Clone, Copy, PartialEq, Debug)]
+pub enum Outcome {
+    Pending,
+    Done(i32, u8),
+    Spent,
+}
+
+pub enum Did {
+    Took,
+    Went,
+    Spawned(Name),
+    Waited,
+    Computing(Leaf),
+    Returned(bool),
+    Answered,
+    TakenIn(Option<Name>),
+    Finished,
+    Refused,
+    Short,
+}
+
+#[derive(Default)]
+pub struct Tenant {
+    slots: Vec<Option<Frame>>,
+    free: Vec<usize>,
+    ready: Vec<usize>,
+    serials: u64,
+    nodes_left: u32,
+    steps_left: u32,
+    pub outcome: Option<Outcome>,
+}
+
+pub struct Core {
+    pub grain: u8,
+    pub tenants: Vec<Tenant>,
+    pub closed: bool,
+    pub steps: u64,
+}
+
+impl Tenant {
+    fn open(&mut self, mut frame: Frame) -> (usize, u64) {
+        self.serials += 1;
+        self.nodes_left -= 1;
+        frame.serial = self.serials;
+        let slot = self.free.pop().unwrap_or_else(|| {
+            self.slots.push(None);
+            self.slots.len() - 1
+        });
+        if let Some(parent) = frame.parent {
+            self.at(parent).children.push(slot);
+        }
+        self.slots[slot] = Some(frame);
+        self.ready.push(slot);
+        (slot, self.serials)
+    }
+
+    fn at(&mut self, slot: usize) -> &mut Frame {
+        self.slots[slot].as_mut().expect("a frame")
+    }
+
+    fn find(&mut self, name: Name) -> Option<&mut Frame> {
+        self.slots.get_mut(name.slot)?.as_mut().filter(|frame| frame.serial == name.serial)
+    }
+
+    fn set_state(&mut self, slot: usize, state: State) {
+        self.ready.retain(|other| *other != slot);
+        if let State::Ready(_) = state {
+            self.ready.push(slot);
+        }
+        self.at(slot).state = state;
+    }
+
+    fn remove(&mut self, slot: usize) {
+        let frame = self.slots[slot].take().expect("a frame");
+        self.ready.retain(|other| *other != slot);
+        self.free.push(slot);
+        if let Some(parent) = frame.parent {
+            if let Some(above) = self.slots[parent].as_mut() {
+                above.children.retain(|other| *other != slot);
+            }
+        }
+        for child in frame.children {
+            self.remove(child);
+        }
+    }
+}
+
+fn child_of(parent: &Frame, slot: usize, role: Role, number: usize, alpha: i32, beta: i32, home: u8) -> Frame {
+    Frame {
+        serial: 0,
+        parent: Some(slot),
+        children: Vec::new(),
+        state: State::Ready(home),
+        board: play(parent.board.0, parent.board.1, parent.choices[number]),
+        depth: parent.depth - 1,
+        alpha,
+        beta,
+        role,
+        number,
+        phase: Phase::New,
+        best: -1_000_000,
+        choice: NONE,
+        choices: Vec::new(),
+        statuses: Vec::new(),
+    }
+}
+
+impl Core {
+    pub fn submit(&mut self, tenant: usize, board: (u64, u64), depth: u8) {
+        let frame = Frame {
+            serial: 0,
+            parent: None,
+            children: Vec::new(),
+            state: State::Ready(0),
+            board,
+            depth,
+            alpha: -INF,
+            beta: INF,
+            role: Role::Root,
+            number: 0,
+            phase: Phase::New,
+            best: -1_000_000,
+            choice: NONE,
+            choices: Vec::new(),
+            statuses: Vec::new(),
+        };
+        self.tenants[tenant] = Tenant { nodes_left: NODES, steps_left: 16 * NODES, outcome: Some(Outcome::Pending), serials: self.tenants[tenant].serials, ..Tenant::default() };
+        self.tenants[tenant].open(frame);
+    }
+
+    pub fn any_ready(&mut self) -> Option<Task> {
+        for tenant in 0..self.tenants.len() {
+            if let Some(slot) = self.tenants[tenant].ready.last().copied() {
+                let frame = self.tenants[tenant].at(slot);
+                let State::Ready(home) = frame.state else { continue };
+                return Some(Task { name: Name { tenant, slot, serial: frame.serial }, home });
+            }
+        }
+        None
+    }
+
+    fn tick(&mut self, tenant: usize) {
+        self.tenants[tenant].steps_left -= 1;
+        self.steps += 1;
+    }
+
+    pub fn take(&mut self, worker: u8, task: Task) -> Did {
+        let own = &mut self.tenants[task.name.tenant];
+        let steps = own.steps_left;
+        match own.find(task.name) {
+            Some(frame) if frame.state == State::Ready(task.home) => {}
+            _ => return Did::Refused,
+        }
+        if steps == 0 {
+            return Did::Short;
+        }
+        own.set_state(task.name.slot, State::Running(worker));
+        self.tick(task.name.tenant);
+        Did::Took
+    }
+
+    pub fn advance(&mut self, worker: u8, name: Name) -> Did {
+        let grain = self.grain;
+        let own = &mut self.tenants[name.tenant];
+        let (steps, nodes) = (own.steps_left, own.nodes_left);
+        let Some(frame) = own.find(name).filter(|frame| frame.state == State::Running(worker)) else {
+            return Did::Refused;
+        };
+        if steps == 0 {
+            return Did::Short;
+        }
+        let floor = frame.alpha.max(frame.best);
+        let did = match frame.phase {
+            Phase::New => {
+                frame.choices = choices(frame.board.0, frame.board.1);
+                if frame.depth <= grain || frame.choices.is_empty() {
+                    frame.phase = Phase::Computing;
+                    frame.state = State::Computing(worker);
+                    Did::Computing(Leaf { board: frame.board, depth: frame.depth, alpha: frame.alpha, beta: frame.beta })
+                } else {
+                    frame.phase = Phase::First;
+                    frame.best = -INF;
+                    frame.statuses = vec![Status::Unspawned; frame.choices.len()];
+                    Did::Went
+                }
+            }
+            Phase::First if frame.statuses[0] == Status::Unspawned => {
+                if nodes == 0 {
+                    return Did::Short;
+                }
+                frame.statuses[0] = Status::Runs;
+                let child = child_of(frame, name.slot, Role::First, 0, -frame.beta, -frame.alpha, worker);
+                self.spawned(name.tenant, child)
+            }
+            Phase::Tests => {
+                let open = frame.statuses.iter().position(|status| *status != Status::Settled);
+                let next = frame.statuses.iter().position(|status| *status == Status::Unspawned);
+                match (open, next) {
+                    (None, _) => {
+                        frame.phase = Phase::Done;
+                        self.returned(name)
+                    }
+                    (Some(at), _) if frame.statuses[at] == Status::Failed => {
+                        if nodes == 0 {
+                            return Did::Short;
+                        }
+                        frame.statuses[at] = Status::RunsAgain;
+                        let child = child_of(frame, name.slot, Role::Again, at, -frame.beta, -floor, worker);
+                        self.spawned(name.tenant, child)
+                    }
+                    (_, Some(at)) => {
+                        if nodes == 0 {
+                            return Did::Short;
+                        }
+                        frame.statuses[at] = Status::Runs;
+                        let child = child_of(frame, name.slot, Role::Test, at, -(floor + 1), -floor, worker);
+                        self.spawned(name.tenant, child)
+                    }
+                    _ => self.waits(name),
+                }
+            }
+            Phase::First => self.waits(name),
+            Phase::Done | Phase::Computing => self.returned(name),
+        };
+        self.tick(name.tenant);
+        did
+    }
+
+    fn spawned(&mut self, tenant: usize, child: Frame) -> Did {
+        let (slot, serial) = self.tenants[tenant].open(child);
+        Did::Spawned(Name { tenant, slot, serial })
+    }
+
+    fn waits(&mut self, name: Name) -> Did {
+        let frame = self.tenants[name.tenant].at(name.slot);
+        if frame.children.is_empty() {
+            return Did::Went;
+        }
+        frame.state = State::Waiting;
+        Did::Waited
+    }
+
+    fn returned(&mut self, name: Name) -> Did {
+        let frame = self.tenants[name.tenant].at(name.slot);
+        if !frame.children.is_empty() {
+            frame.state = State::Waiting;
+            return Did::Waited;
+        }
+        frame.state = State::Returned;
+        Did::Returned(frame.parent.is_none())
+    }
+
+    pub fn answer(&mut self, worker: u8, name: Name, score: i32, choice: u8) -> Did {
+        let own = &mut self.tenants[name.tenant];
+        let steps = own.steps_left;
+        let Some(frame) = own.find(name).filter(|frame| frame.state == State::Computing(worker)) else {
+            return Did::Refused;
+        };
+        if steps == 0 {
+            return Did::Short;
+        }
+        (frame.best, frame.choice, frame.phase, frame.state) = (score, choice, Phase::Done, State::Running(worker));
+        self.tick(name.tenant);
+        Did::Answered
+    }
+
+    pub fn inlet(&mut self, worker: u8, name: Name) -> Did {
+        let own = &mut self.tenants[name.tenant];
+        let steps = own.steps_left;
+        let Some(child) = own.find(name).filter(|frame| frame.state == State::Returned) else {
+            return Did::Refused;
+        };
+        if steps == 0 {
+            return Did::Short;
+        }
+        let (score, role, number, least) = (-child.best, child.role, child.number, -child.beta);
+        let above = child.parent.expect("a parent");
+        own.remove(name.slot);
+        let parent = own.at(above);
+        let floor = parent.alpha.max(parent.best);
+        if score >= parent.beta {
+            (parent.best, parent.choice) = (score, parent.choices[number]);
+            parent.statuses[number] = Status::Settled;
+            parent.phase = Phase::Done;
+            for other in std::mem::take(&mut parent.children) {
+                own.remove(other);
+            }
+        } else if role != Role::Test {
+            if score > floor {
+                parent.choice = parent.choices[number];
+            }
+            parent.best = parent.best.max(score);
+            parent.statuses[number] = Status::Settled;
+            parent.phase = Phase::Tests;
+        } else if score <= least {
+            parent.best = parent.best.max(score);
+            parent.statuses[number] = Status::Settled;
+        } else {
+            parent.statuses[number] = Status::Failed;
+        }
+        let woken = own.at(above).state == State::Waiting;
+        if woken {
+            own.set_state(above, State::Ready(worker));
+        }
+        let serial = own.at(above).serial;
+        self.tick(name.tenant);
+        Did::TakenIn(woken.then_some(Name { tenant: name.tenant, slot: above, serial }))
+    }
+
+    pub fn finish(&mut self, name: Name) -> Did {
+        let own = &mut self.tenants[name.tenant];
+        let Some(frame) = own.find(name).filter(|frame| frame.state == State::Returned) else {
+            return Did::Refused;
+        };
+        let outcome = Outcome::Done(frame.best, frame.choice);
+        own.remove(name.slot);
+        own.outcome = Some(outcome);
+        self.tick(name.tenant);
+        Did::Finished
+    }
+
+    pub fn spend(&mut self, name: Name) {
+        let own = &mut self.tenants[name.tenant];
+        if own.find(name).is_some() {
+            *own = Tenant { outcome: Some(Outcome::Spent), serials: own.serials, ..Tenant::default() };
+        }
+    }
+}

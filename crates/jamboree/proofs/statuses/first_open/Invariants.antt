@@ -1,0 +1,5 @@
+use Rattle.jamboree.proofs.StatusLemmas.{AreSettledBefore}
+use Rattle.jamboree.proofs.statuses.first_open.Given as goal
+
+abbrev pub invariant-loop-number : goal.invariant-loop-number
+invariant-loop-number l = AreSettledBefore l.words l.number
