@@ -1,7 +1,7 @@
 -- A list that begins at a place of another.
-use Rattle.std.proofs.Common.{◌≡◌, ℕ, suc, ◌+◌, ◌-◌, ◌*◌, ◌<◌, ◌≤◌, List, [], ◌∷◌, ◌++◌, length, take, drop, refl, arith, append_assoc, add-suc}
+use Rattle.std.proofs.Common.{◌≡◌, ℕ, suc, ◌+◌, ◌-◌, ◌*◌, ◌<◌, ◌≤◌, List, [], ◌∷◌, ◌++◌, length, take, drop, refl, arith, append_assoc, append-nil, add-suc}
 use Rattle.std.specs.List.{insert, remove, copy_within}
-use Rattle.std.proofs.lemmas.List.{drop-take, drop-drop, drop_at, drop-append-le, length-take-le, length-drop}
+use Rattle.std.proofs.lemmas.List.{drop-take, drop-drop, drop_all, drop_at, drop-append-le, length-take-le, length-drop}
 use Rattle.frame_table.specs.Windows.{IsWindow}
 
 -- the length of what begins at a place
@@ -21,6 +21,10 @@ removed_front items start at lt =
     let long : length (take (start + 1) items) ≡ start + 1 = length-take-le (start + 1) items (omega arith) in
     let rest : start + 1 + at ≡ start + suc at = omega arith in
     rw (count, append_assoc, drop_at (take (start + 1) items) (take at (drop start items) ++ drop (start + 1 + at) items) (start + 1) long, drop-drop (suc at) start items, rest) refl
+
+-- the last element
+pub removed_last : {X : Type 0} (xs : List X) (at : ℕ) → at + 1 ≡ length xs → take at xs ≡ remove xs at
+removed_last xs at e = rw (drop_all (suc at) xs (omega arith), append-nil) refl
 
 -- an element that is put at a place
 pub inserted_back : {X : Type 0} (items : List X) (start at : ℕ) (x : X) → start + at ≤ length items → drop start (insert items (start + at) x) ≡ insert (drop start items) at x

@@ -13,6 +13,10 @@ use guesses::Guesses;
 use std::alloc::{AllocError, Allocator, Global};
 use std::marker::Model;
 
+/// How many places there are for guesses at least; else there are four for each serial, so that those
+/// of frames that live long seldom go to others.
+const FEWEST: usize = 64;
+
 /// How many serials that a removal moved get new guesses at once.
 const MOVED: usize = 8;
 
@@ -40,7 +44,7 @@ impl<A: Allocator> Serials<A> {
         ensures { IfOk result (λ s. s ≡ record { places = places; serials = [] }) }
     {
         let serials = Window::new(alloc.clone()?, places)?;
-        let guesses = Guesses::new(alloc, places)?;
+        let guesses = Guesses::new(alloc, (4 * places).max(FEWEST))?;
         Ok(Serials { serials, guesses })
     }
 
@@ -86,18 +90,22 @@ impl<A: Allocator> Serials<A> {
         }
     }
 
-    /// Adds a serial at the end.
-    pub(crate) fn push(&mut self, serial: u64)
+    /// Adds a serial at the end. That of its parent, at the place `above`, is guessed anew, as one that
+    /// is looked for most and may have lost its guess to another.
+    pub(crate) fn push(&mut self, serial: u64, above: Option<usize>)
         requires { length self.old.serials < self.old.places }
         ensures { self.new ≡ record self.old { serials = self.old.serials ++ serial ∷ [] } }
     {
         let start = self.serials.start();
         let at = self.serials.len();
         self.serials.push(serial);
-        if self.serials.start() == start {
-            self.guesses.put(serial, start.wrapping_add(at));
-        } else {
+        if self.serials.start() != start {
             guess_again(&mut self.guesses, &self.serials, 0, usize::MAX);
+            return;
+        }
+        self.guesses.put(serial, start.wrapping_add(at));
+        if let Some(parent) = above {
+            guess_at(&mut self.guesses, &self.serials, parent);
         }
     }
 
@@ -130,9 +138,15 @@ fn guess_again<A: Allocator>(
     from: usize,
     count: usize,
 ) {
-    let start = serials.start();
-    let list = serials.as_slice();
-    for (at, serial) in list.iter().enumerate().skip(from).take(count) {
-        guesses.put(*serial, start.wrapping_add(at));
+    let end = from.saturating_add(count).min(serials.len());
+    for at in from..end {
+        guess_at(guesses, serials, at);
+    }
+}
+
+/// Guesses anew where the serial at a place stands, if there is one.
+fn guess_at<A: Allocator>(guesses: &mut Guesses<A>, serials: &Window<u64, A>, at: usize) {
+    if at < serials.len() {
+        guesses.put(serials.at(at), serials.start().wrapping_add(at));
     }
 }

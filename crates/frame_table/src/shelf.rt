@@ -96,7 +96,7 @@ impl<T: Copy, A: Allocator> Shelf<T, A> {
         ensures { serials.new ≡ record serials.old { serials = serials.old.serials ++ serials_of (drop from self.now.slots) } }
     {
         for at in from..self.len() {
-            serials.push(self.at(at).serial);
+            serials.push(self.at(at).serial, None);
         }
     }
 

@@ -108,8 +108,13 @@ impl<T: Copy, A: Allocator> Window<T, A> {
         ensures left { self.new ≡ record self.old { list = remove self.old.list at } }
         ensures value { result ≡ get_or self.old.list at result }
     {
-        if at < self.len() - at {
-            let gone = self.at(at);
+        let gone = self.at(at);
+        let behind = self.len() - at - 1;
+        if behind == 0 {
+            self.truncate(at);
+            return gone;
+        }
+        if at < behind {
             self.remove_near_front(at);
             return gone;
         }
