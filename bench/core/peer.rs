@@ -6,6 +6,8 @@
 //! TURNS plain|proved, core_peer DEPTH GRAIN plain|proved|twice
 mod jamboree;
 mod plain;
+#[path = "../search/positions.rs"]
+mod positions;
 mod searches;
 mod segments;
 mod toys;

@@ -2,7 +2,7 @@
 //! and by the plain core with the same acts. Both search leaves by the proved search, so that they differ in the core
 //! and in the procedure alone. Beside them stand the search of the same leaves without a core, and one serial search.
 use crate::jamboree::{Board, Ended, INF, Leaf, LeafAnswer, solve};
-use crate::vectors::{flips, moves};
+use crate::positions::positions;
 use crate::{Came, processor_time};
 use std::hint::black_box;
 
@@ -22,33 +22,6 @@ unsafe extern "C" {
 }
 
 const POSITIONS: usize = 20;
-
-/// Mid-game positions: played out from the opening by choices that a generator picks, 24 to 38 plies.
-fn positions() -> Vec<Board> {
-    let mut random = 1u64;
-    let mut found = Vec::new();
-    while found.len() < POSITIONS {
-        let (mut own, mut opp) = (1 << 28 | 1 << 35, 1 << 27 | 1 << 36);
-        for _ in 0..24 + found.len() % 15 {
-            let mut part = moves(own, opp);
-            if part == 0 {
-                (own, opp) = (opp, own);
-                continue;
-            }
-            random = random.wrapping_mul(6_364_136_223_846_793_005).wrapping_add(1_442_695_040_888_963_407);
-            for _ in 0..(random >> 33) % u64::from(part.count_ones()) {
-                part &= part - 1;
-            }
-            let square = part.trailing_zeros();
-            let flipped = flips(own, opp, square);
-            (own, opp) = (opp & !flipped, own | flipped | 1 << square);
-        }
-        if moves(own, opp) | moves(opp, own) != 0 {
-            found.push((own, opp));
-        }
-    }
-    found
-}
 
 /// The proved search of a leaf.
 fn searched(leaf: Leaf) -> Found {
@@ -154,7 +127,7 @@ pub const COSTS: &str = "| depth, grain | positions entered: by jobs, serially |
 
 /// Measures the positions at a depth and a grain: a row of each table. Jobs that are spent are left out.
 pub fn measure(depth: u8, grain: u8, rounds: u32) -> [String; 2] {
-    let mut jobs: Vec<Job> = positions().into_iter().map(|board| checked(board, depth, grain)).collect();
+    let mut jobs: Vec<Job> = positions(POSITIONS).into_iter().map(|board| checked(board, depth, grain)).collect();
     jobs.retain(|job| job.ended.reply.is_some());
     let sum = |number: fn(&Job) -> u64| jobs.iter().map(number).sum::<u64>() as f64;
     let (nodes, steps, entered) = (sum(|job| job.ended.nodes), sum(|job| job.ended.steps), sum(|job| job.entered));
@@ -191,7 +164,7 @@ pub fn measure(depth: u8, grain: u8, rounds: u32) -> [String; 2] {
 /// each leaf searched twice, so that the difference is the leaves' own. How many steps it took.
 pub fn once(depth: u8, grain: u8, way: &str) -> u64 {
     let mut steps = 0;
-    for board in positions() {
+    for board in positions(POSITIONS) {
         match way {
             "proved" => _ = black_box(by_proved(board, depth, grain)),
             "twice" => {

@@ -5,6 +5,7 @@
 //! processor time; the best round of each counts.
 //!
 //! usage: search_peer DEPTH ROUNDS, or DEPTH ENGINE for one round of one engine (proved, plain, vectors)
+mod positions;
 mod vectors;
 
 #[repr(C)]
@@ -149,33 +150,6 @@ fn proved(own: u64, opp: u64, depth: u8) -> Found {
     found
 }
 
-/// Mid-game positions: played out from the opening by choices that a generator picks, 24 to 38 plies.
-fn positions() -> Vec<(u64, u64)> {
-    let mut random = 1u64;
-    let mut found = Vec::new();
-    while found.len() < POSITIONS {
-        let plies = 24 + found.len() % 15;
-        let (mut own, mut opp) = (1 << 28 | 1 << 35, 1 << 27 | 1 << 36);
-        for _ in 0..plies {
-            let word = moves(own, opp);
-            if word == 0 {
-                (own, opp) = (opp, own);
-                continue;
-            }
-            random = random.wrapping_mul(6_364_136_223_846_793_005).wrapping_add(1_442_695_040_888_963_407);
-            let mut part = word;
-            for _ in 0..(random >> 33) % u64::from(word.count_ones()) {
-                part &= part - 1;
-            }
-            (own, opp) = play(own, opp, part.trailing_zeros());
-        }
-        if moves(own, opp) | moves(opp, own) != 0 {
-            found.push((own, opp));
-        }
-    }
-    found
-}
-
 fn plain(own: u64, opp: u64, depth: u8) -> Found {
     search(own, opp, depth, -INF, INF)
 }
@@ -221,7 +195,7 @@ fn visited_of(found: &[Found]) -> u64 {
 fn main() {
     let words: Vec<String> = std::env::args().collect();
     let depth: u8 = words[1].parse().expect("a depth");
-    let positions = positions();
+    let positions = positions::positions(POSITIONS);
     if let Some(one) = ENGINES.iter().find(|(name, _)| *name == words[2]) {
         println!("{}", visited_of(&timed(&positions, depth, &[*one])[0].0));
         return;

@@ -1,5 +1,5 @@
 -- Places in lists that rise by a number.
-use Rattle.std.proofs.Common.{◌≡◌, ◌≢◌, ℕ, zero, suc, ◌+◌, ◌<◌, ◌≤◌, Bool, true, false, not, eqb, List, [], ◌∷◌, length, get_or, take, refl, ap, sym, ◌∙◌, inl, inr, arith, nat_lt}
+use Rattle.std.proofs.Common.{◌≡◌, ◌≢◌, ℕ, zero, suc, ◌+◌, ◌<◌, ◌≤◌, Bool, true, false, not, eqb, List, [], ◌∷◌, length, get_or, take, refl, ap, sym, subst, ◌∙◌, inl, inr, arith, nat_lt}
 use Rattle.std.specs.List.{filter, insert, remove}
 use Rattle.std.specs.List.Sorted.{IsNonDecreasingBy, IsPartitionPoint}
 use Rattle.std.proofs.lemmas.Bool.{cases_lt, cases_Bool, eq-eqb, ne_eqb, ltb-true, ltb-false, lt-ltb}
@@ -29,6 +29,45 @@ place_from_point number xs n zero le p = all number xs n (λ k d lt. p.1 k d (om
 place_from_point number [] n (suc at) le p = absurd (omega arith)
 place_from_point number (x ∷ xs) n (suc at) le p =
     (ltb-true (number x) n (p.0 0 x (omega arith) (omega arith)), place_from_point number xs n at (omega arith) (λ k d ge lt. p.0 (suc k) d (omega arith) (omega arith), λ k d ge lt. p.1 (suc k) d (omega arith) (omega arith)))
+
+-- what is above a number is not below it
+from_above : {X : Type 0} (number : X → ℕ) (n m : ℕ) (xs : List X) → n ≤ m → AllAboveBy number m xs → AllFromBy number n xs
+from_above number n m [] le above = tt
+from_above number n m (x ∷ xs) le above = (omega (arith, le, above.0), from_above number n m xs le above.1)
+
+-- an element stands at the place of its number
+pub place_of_element : {X : Type 0} (number : X → ℕ) (xs : List X) (n at : ℕ) (x : X) → RisesBy number xs → at < length xs → x ≡ get_or xs at x → number x ≡ n → IsPlaceFor number xs n at
+place_of_element number [] n at x rise lt is same = absurd (omega arith)
+place_of_element number (y ∷ ys) n zero x rise lt is same =
+    let here : number y ≡ n = sym (ap number is) ∙ same in
+    (omega (arith, here), from_above number n (number y) ys (omega (arith, here)) rise.0)
+place_of_element number (y ∷ ys) n (suc at) x rise lt is same =
+    let above = above_by_at number (number y) at ys x rise.0 (omega arith) in
+    let here : number (get_or ys at x) ≡ n = sym (ap number is) ∙ same in
+    (omega (arith, above, here), place_of_element number ys n at x rise.1 (omega arith) is same)
+
+-- the place among none, before all and behind all
+pub place_in_none : {X : Type 0} (number : X → ℕ) (xs : List X) (n : ℕ) → length xs ≡ 0 → IsPlaceFor number xs n 0
+place_in_none number [] n e = tt
+place_in_none number (x ∷ xs) n e = absurd (omega arith)
+
+pub place_before : {X : Type 0} (number : X → ℕ) (xs : List X) (n : ℕ) (x : X) → RisesBy number xs → 0 < length xs → x ≡ get_or xs 0 x → n ≤ number x → IsPlaceFor number xs n 0
+place_before number [] n x rise some is le = absurd (omega arith)
+place_before number (y ∷ ys) n x rise some is le =
+    let here : number x ≡ number y = ap number is in
+    (omega (arith, here), from_above number n (number y) ys (omega (arith, here)) rise.0)
+
+pub place_behind : {X : Type 0} (number : X → ℕ) (xs : List X) (n at count : ℕ) (x : X) → RisesBy number xs → count ≡ length xs → suc at ≡ length xs → x ≡ get_or xs at x → number x < n → IsPlaceFor number xs n count
+place_behind number xs n at count x rise all e is lt = let P : ℕ → Type 0 = λ k. IsPlaceFor number xs n k in subst P (e ∙ sym all) (behind number xs n at x rise e is lt)
+  where
+    behind : {X : Type 0} (number : X → ℕ) (xs : List X) (n at : ℕ) (x : X) → RisesBy number xs → suc at ≡ length xs → x ≡ get_or xs at x → number x < n → IsPlaceFor number xs n (suc at)
+    behind number [] n at x rise e is lt = absurd (omega arith)
+    behind number (y ∷ []) n zero x rise e is lt = let here : number x ≡ number y = ap number is in (omega (arith, here), tt)
+    behind number (y ∷ z ∷ zs) n zero x rise e is lt = absurd (omega arith)
+    behind number (y ∷ ys) n (suc at) x rise e is lt =
+        let above = above_by_at number (number y) at ys x rise.0 (omega arith) in
+        let here : number x ≡ number (get_or ys at x) = ap number is in
+        (omega (arith, above, here), behind number ys n at x rise.1 (omega arith) is lt)
 
 -- an element put at its place
 pub inserted-place : {X : Type 0} (number : X → ℕ) (new : X) (xs : List X) (at : ℕ) → IsPlaceFor number xs (number new) at → insert xs at new ≡ inserted number new xs

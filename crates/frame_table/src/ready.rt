@@ -1,12 +1,14 @@
 //! The ready frames of one tenant, each with its home.
 //!
-//! Seen as a list by rising serial, and a number of places. The last is the newest ready frame. A
-//! frame that becomes ready, or no longer is, is found by a binary search.
+//! Seen as a list by rising serial, and a number of places. The last is the newest ready frame. The
+//! place of a frame that becomes ready, or no longer is, is mostly at one of the ends: those are looked
+//! at before a binary search.
 ghost use Rattle.std.specs.Prelude.{◌≡◌, ◌+◌, ◌<◌, ◌≤◌, ◌++◌, [], ◌∷◌, length, filter, not, ◌==◌, nat_lt, IfOk};
 ghost use Rattle.frame_table.specs.Places.{RisesBy, IsPlaceFor, inserted};
 ghost use Rattle.frame_table.specs.Readies.{newest_of, without_ready, put_ready};
 
 use crate::names::State;
+use crate::window::Window;
 use std::alloc::{AllocError, Allocator, Global};
 use std::marker::Model;
 
@@ -20,28 +22,25 @@ pub(crate) struct ReadyFrame {
 /// The ready frames of one tenant.
 #[derive(Drop)]
 pub(crate) struct ReadyFrames<A: Allocator = Global> {
-    places: usize,
-    frames: Vec<ReadyFrame, A>,
+    frames: Window<ReadyFrame, A>,
 }
 
 impl<A: Allocator> Model for ReadyFrames<A> {
-    ghost use Rattle.std.specs.Prelude.{◌≤◌, vec_len, vec_capacity};
     ghost use Rattle.frame_table.specs.Readies.{ReadyList};
 
     ghost Value = { ReadyList };
 
-    ghost view = { λ r. record { places = r.places; frames = r.frames.items } };
-
-    ghost invariant = { λ r. (vec_len r.frames ≤ r.places) × (r.places ≤ vec_capacity r.frames) };
+    ghost view = { λ r. record { places = r.frames.places; frames = r.frames.list } };
 }
 
 impl<A: Allocator> ReadyFrames<A> {
     /// No ready frame, with places for this many.
     pub(crate) fn new(alloc: A, places: usize) -> Result<Self, AllocError>
+        requires { places ≤ 4096 }
         ensures { IfOk result (λ r. r ≡ record { places = places; frames = [] }) }
     {
-        let frames = Vec::with_capacity(alloc, places)?;
-        Ok(ReadyFrames { places, frames })
+        let frames = Window::new(alloc, places)?;
+        Ok(ReadyFrames { frames })
     }
 
     /// How many there are.
@@ -55,7 +54,7 @@ impl<A: Allocator> ReadyFrames<A> {
     pub(crate) fn newest(&self) -> Option<ReadyFrame>
         ensures { result ≡ newest_of self.now.frames }
     {
-        self.frames.last().copied()
+        self.frames.as_slice().last().copied()
     }
 
     /// Where the frame with this serial stands, or would stand.
@@ -64,7 +63,7 @@ impl<A: Allocator> ReadyFrames<A> {
         ensures within { result ≤ length self.now.frames }
         ensures place { IsPlaceFor (λ frame. frame.serial) self.now.frames serial result }
     {
-        self.frames.partition_point(|frame| frame.serial < serial)
+        place_in(self.frames.as_slice(), serial)
     }
 
     /// Adds a frame that is above all others.
@@ -72,7 +71,7 @@ impl<A: Allocator> ReadyFrames<A> {
         requires { length self.old.frames < self.old.places }
         ensures { self.new ≡ record self.old { frames = self.old.frames ++ record { serial = serial; home = home } ∷ [] } }
     {
-        self.frames.push_reserved(ReadyFrame { serial, home });
+        self.frames.push(ReadyFrame { serial, home });
     }
 
     /// Adds a frame that is not there.
@@ -82,9 +81,7 @@ impl<A: Allocator> ReadyFrames<A> {
         ensures { self.new ≡ record self.old { frames = inserted (λ frame. frame.serial) (record { serial = serial; home = home }) self.old.frames } }
     {
         let at = self.place_for(serial);
-        if self.frames.insert(at, ReadyFrame { serial, home }).is_err() {
-            unreachable!()
-        }
+        self.frames.insert(at, ReadyFrame { serial, home });
     }
 
     /// Removes the frame with this serial, where it is there.
@@ -93,7 +90,7 @@ impl<A: Allocator> ReadyFrames<A> {
         ensures { self.new ≡ record self.old { frames = filter (λ frame. not (frame.serial == serial)) self.old.frames } }
     {
         let at = self.place_for(serial);
-        if at < self.frames.len() && self.frames[at].serial == serial {
+        if at < self.frames.len() && self.frames.at(at).serial == serial {
             self.frames.remove(at);
         }
     }
@@ -135,4 +132,27 @@ impl<A: Allocator> ReadyFrames<A> {
     {
         self.frames.clear();
     }
+}
+
+/// Where the frame with this serial stands among these, or would stand.
+fn place_in(frames: &[ReadyFrame], serial: u64) -> usize
+    requires { RisesBy (λ frame. frame.serial) frames.now }
+    ensures within { result ≤ length frames.now }
+    ensures place { IsPlaceFor (λ frame. frame.serial) frames.now serial result }
+{
+    let count = frames.len();
+    if count == 0 {
+        return 0;
+    }
+    let last = frames[count - 1].serial;
+    if last < serial {
+        return count;
+    }
+    if last == serial {
+        return count - 1;
+    }
+    if serial <= frames[0].serial {
+        return 0;
+    }
+    frames.partition_point(|frame| frame.serial < serial)
 }

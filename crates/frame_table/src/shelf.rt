@@ -16,6 +16,7 @@ use crate::names::State;
 use crate::ready::ReadyFrames;
 use crate::serials::Serials;
 use crate::slot::Slot;
+use crate::window::Window;
 use slab::Slab;
 use std::alloc::{AllocError, Allocator, Global};
 use std::marker::Model;
@@ -35,18 +36,17 @@ pub(crate) struct Kept<T> {
 pub(crate) struct Shelf<T, A: Allocator = Global> {
     places: usize,
     slab: Slab<Kept<T>, A>,
-    order: Vec<usize, A>,
+    order: Window<usize, A>,
 }
 
 impl<T, A: Allocator> Model for Shelf<T, A> {
-    ghost use Rattle.std.specs.Prelude.{vec_capacity};
     ghost use Rattle.frame_table.specs.Shelves.{Shelved, slots_in, IsShelf};
 
     ghost Value = { Shelved T };
 
-    ghost view = { λ s. record { places = s.places; slots = slots_in s.slab s.order.items } };
+    ghost view = { λ s. record { places = s.places; slots = slots_in s.slab s.order.list } };
 
-    ghost invariant = { λ s. IsShelf s.slab s.order.items (vec_capacity s.order) s.places };
+    ghost invariant = { λ s. IsShelf s.slab s.order.list s.order.places s.places };
 }
 
 impl<T: Copy, A: Allocator> Shelf<T, A> {
@@ -54,10 +54,11 @@ impl<T: Copy, A: Allocator> Shelf<T, A> {
     pub(crate) fn new(alloc: A, places: usize) -> Result<Self, AllocError>
     where
         A: Clone,
+        requires { places ≤ 4096 }
         ensures { IfOk result (λ s. s ≡ record { places = places; slots = [] }) }
     {
         let slab = Slab::with_capacity(alloc.clone()?, places)?;
-        let order = Vec::with_capacity(alloc, places)?;
+        let order = Window::new(alloc, places)?;
         Ok(Shelf {
             places,
             slab,
@@ -84,7 +85,8 @@ impl<T: Copy, A: Allocator> Shelf<T, A> {
         requires { at < length self.now.slots }
         ensures { result ≡ get_or self.now.slots at result }
     {
-        self.slab[self.order[at]].slot
+        let key = self.order.at(at);
+        self.slab[key].slot
     }
 
     /// Adds the serials of the slots from a place on.
@@ -94,7 +96,7 @@ impl<T: Copy, A: Allocator> Shelf<T, A> {
         ensures { serials.new ≡ record serials.old { serials = serials.old.serials ++ serials_of (drop from self.now.slots) } }
     {
         for at in from..self.len() {
-            serials.push(self.at(at).serial);
+            serials.push(self.at(at).serial, None);
         }
     }
 
@@ -119,7 +121,8 @@ impl<T: Copy, A: Allocator> Shelf<T, A> {
         requires parent { slot.parent ≡ (get_or self.old.slots at slot).parent }
         ensures { self.new ≡ record self.old { slots = set self.old.slots at slot } }
     {
-        put_kept(&mut self.slab, self.order[at], slot);
+        let key = self.order.at(at);
+        put_kept(&mut self.slab, key, slot);
     }
 
     /// Puts a slot behind the others, under the parent that stands at the place `above`.
@@ -129,7 +132,7 @@ impl<T: Copy, A: Allocator> Shelf<T, A> {
         ensures { self.new ≡ record self.old { slots = self.old.slots ++ slot ∷ [] } }
     {
         let above = match above {
-            Some(at) => Some(self.order[at]),
+            Some(at) => Some(self.order.at(at)),
             None => None,
         };
         let key = self.slab.insert_reserved(Kept {
@@ -137,7 +140,7 @@ impl<T: Copy, A: Allocator> Shelf<T, A> {
             above,
             marked: false,
         });
-        self.order.push_reserved(key);
+        self.order.push(key);
     }
 
     /// Removes the slots under the one with this serial, which stands at a place, and adds their values
@@ -258,31 +261,31 @@ fn mark_under<T: Copy, A: Allocator>(
 /// before the place is marked.
 fn sweep<T: Copy, A: Allocator>(
     slab: &mut Slab<Kept<T>, A>,
-    order: &mut Vec<usize, A>,
+    order: &mut Window<usize, A>,
     from: usize,
     removed: &mut Vec<T, A>,
 )
-    requires there { AreThere slab.old order.old.items }
-    requires apart { AreApartKeys order.old.items }
-    requires within { from ≤ length order.old.items }
-    requires early { NoneMarked slab.old (take from order.old.items) }
-    requires room { vec_len removed.old + vec_len order.old ≤ vec_capacity removed.old }
-    ensures kept { order.new.items ≡ filter (λ key. not (is_marked (get slab.old key))) order.old.items }
-    ensures slots { (key : ℕ) → get slab.new key ≡ swept_in slab.old order.old.items key }
-    ensures values { removed.new.items ≡ removed.old.items ++ values_in slab.old (filter (λ key. is_marked (get slab.old key)) order.old.items) }
-    ensures len { slab_len slab.new + length order.old.items ≡ slab_len slab.old + length order.new.items }
+    requires there { AreThere slab.old order.old.list }
+    requires apart { AreApartKeys order.old.list }
+    requires within { from ≤ length order.old.list }
+    requires early { NoneMarked slab.old (take from order.old.list) }
+    requires room { vec_len removed.old + length order.old.list ≤ vec_capacity removed.old }
+    ensures kept { order.new.list ≡ filter (λ key. not (is_marked (get slab.old key))) order.old.list }
+    ensures slots { (key : ℕ) → get slab.new key ≡ swept_in slab.old order.old.list key }
+    ensures values { removed.new.items ≡ removed.old.items ++ values_in slab.old (filter (λ key. is_marked (get slab.old key)) order.old.list) }
+    ensures len { slab_len slab.new + length order.old.list ≡ slab_len slab.old + length order.new.list }
     ensures capacity { slab.new.capacity ≡ slab.old.capacity }
-    ensures order_room { vec_capacity order.new ≡ vec_capacity order.old }
+    ensures order_places { order.new.places ≡ order.old.places }
     ensures removed_room { vec_capacity removed.new ≡ vec_capacity removed.old }
 {
     let mut kept = from;
     for at in from..order.len() {
-        let key = order[at];
+        let key = order.at(at);
         if slab[key].marked {
             let gone = slab.remove(key);
             removed.push_reserved(gone.slot.value);
         } else {
-            order[kept] = key;
+            order.put(kept, key);
             kept += 1;
         }
     }

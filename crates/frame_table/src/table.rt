@@ -13,6 +13,7 @@ ghost use Rattle.frame_table.specs.Places.{RisesBy, IsPlaceFor};
 use crate::names::{Entry, FrameId, State};
 use crate::tree::TenantFrames;
 use crate::walk::{Children, Frames};
+use guesses::Guesses;
 use std::alloc::{AllocError, Allocator, Global};
 use std::marker::Model;
 
@@ -22,11 +23,15 @@ pub const TENANTS: usize = 64;
 /// How many places a tenant can have.
 pub const PLACES: usize = 4096;
 
+/// How many places there are for guesses of where tenants' trees stand.
+const GUESSES: usize = 256;
+
 /// The frames of many tenants, each with a value.
 #[derive(Drop)]
 pub struct FrameTable<T, A: Allocator = Global> {
     alloc: A,
     trees: Vec<TenantFrames<T, A>, A>,
+    guesses: Guesses<A>,
     removed: Vec<T, A>,
     ready: usize,
 }
@@ -54,10 +59,12 @@ impl<T: Copy, A: Allocator> FrameTable<T, A> {
         ensures places { IfOk result (λ table. (tenant : ℕ) → places_of table tenant ≡ 0) }
     {
         let trees = Vec::with_capacity(alloc.clone()?, TENANTS)?;
+        let guesses = Guesses::new(alloc.clone()?, GUESSES)?;
         let removed = Vec::new(alloc.clone()?);
         Ok(FrameTable {
             alloc,
             trees,
+            guesses,
             removed,
             ready: 0,
         })
@@ -74,7 +81,7 @@ impl<T: Copy, A: Allocator> FrameTable<T, A> {
     pub fn places(&self, tenant: u64) -> usize
         ensures { result ≡ places_of self.now tenant }
     {
-        match find_tree(self.trees.as_slice(), tenant) {
+        match find_tree(self.trees.as_slice(), &self.guesses, tenant) {
             Some(tree) => tree.places(),
             None => 0,
         }
@@ -84,7 +91,7 @@ impl<T: Copy, A: Allocator> FrameTable<T, A> {
     pub fn frame_count(&self, tenant: u64) -> usize
         ensures { result ≡ length (frames_of self.now tenant) }
     {
-        match find_tree(self.trees.as_slice(), tenant) {
+        match find_tree(self.trees.as_slice(), &self.guesses, tenant) {
             Some(tree) => tree.len(),
             None => 0,
         }
@@ -102,7 +109,7 @@ impl<T: Copy, A: Allocator> FrameTable<T, A> {
     pub fn ready_count(&self, tenant: u64) -> usize
         ensures { result ≡ length (ready_frames (frames_of self.now tenant)) }
     {
-        match find_tree(self.trees.as_slice(), tenant) {
+        match find_tree(self.trees.as_slice(), &self.guesses, tenant) {
             Some(tree) => tree.ready(),
             None => 0,
         }
@@ -113,7 +120,7 @@ impl<T: Copy, A: Allocator> FrameTable<T, A> {
         ensures entry { result ≡ entry_of f.tenant (frame_at (frames_of self.now f.tenant) f.serial) }
         ensures tree { IsTree (frames_of self.now f.tenant) }
     {
-        match find_tree(self.trees.as_slice(), f.tenant) {
+        match find_tree(self.trees.as_slice(), &self.guesses, f.tenant) {
             Some(tree) => tree.find(f.serial),
             None => None,
         }
@@ -123,7 +130,7 @@ impl<T: Copy, A: Allocator> FrameTable<T, A> {
     pub fn contains(&self, f: FrameId) -> bool
         ensures { IsTrue result ↔ IsTrue (has_frame (frames_of self.now f.tenant) f.serial) }
     {
-        match find_tree(self.trees.as_slice(), f.tenant) {
+        match find_tree(self.trees.as_slice(), &self.guesses, f.tenant) {
             Some(tree) => tree.contains(f.serial),
             None => false,
         }
@@ -138,7 +145,7 @@ impl<T: Copy, A: Allocator> FrameTable<T, A> {
         ensures otherwise { AllBelow f.serial (frames_of self.now f.tenant) → IsParentIn (frames_of self.now f.tenant) f.tenant parent
             → length (frames_of self.now f.tenant) < places_of self.now f.tenant → IsTrue result }
     {
-        match find_tree(self.trees.as_slice(), f.tenant) {
+        match find_tree(self.trees.as_slice(), &self.guesses, f.tenant) {
             Some(tree) => {
                 may_follow(tree, f.tenant, parent)
                     && tree.len() < tree.places()
@@ -153,7 +160,7 @@ impl<T: Copy, A: Allocator> FrameTable<T, A> {
         requires { IsTrue (has_frame (frames_of self.now f.tenant) f.serial) }
         ensures { result ≡ record { tenant = f.tenant; serial = root_of (path_in (frames_of self.now f.tenant) f.serial) } }
     {
-        let at = known_tenant(self.trees.as_slice(), f.tenant);
+        let at = known_tenant(self.trees.as_slice(), &self.guesses, f.tenant);
         let tree = &self.trees[at];
         FrameId {
             tenant: f.tenant,
@@ -166,7 +173,7 @@ impl<T: Copy, A: Allocator> FrameTable<T, A> {
         ensures child { IsTrue result ↔ (0 < length (children_of (frames_of self.now f.tenant) f.serial)) }
         ensures leaf { result ≡ false → children_of (frames_of self.now f.tenant) f.serial ≡ [] }
     {
-        match find_tree(self.trees.as_slice(), f.tenant) {
+        match find_tree(self.trees.as_slice(), &self.guesses, f.tenant) {
             Some(tree) => tree.has_child(f.serial),
             None => false,
         }
@@ -176,7 +183,7 @@ impl<T: Copy, A: Allocator> FrameTable<T, A> {
     pub fn children(&self, f: FrameId) -> Children<'_, T, A>
         ensures { result ≡ names_of f.tenant (children_of (frames_of self.now f.tenant) f.serial) }
     {
-        match find_tree(self.trees.as_slice(), f.tenant) {
+        match find_tree(self.trees.as_slice(), &self.guesses, f.tenant) {
             Some(tree) => Children::new(f, Some(tree.shelf())),
             None => Children::new(f, None),
         }
@@ -187,7 +194,7 @@ impl<T: Copy, A: Allocator> FrameTable<T, A> {
         ensures names { result ≡ names_of tenant (frames_of self.now tenant) }
         ensures tree { IsTree (frames_of self.now tenant) }
     {
-        match find_tree(self.trees.as_slice(), tenant) {
+        match find_tree(self.trees.as_slice(), &self.guesses, tenant) {
             Some(tree) => Frames::new(tenant, Some(tree.shelf())),
             None => Frames::new(tenant, None),
         }
@@ -197,7 +204,7 @@ impl<T: Copy, A: Allocator> FrameTable<T, A> {
     pub fn newest_ready(&self, tenant: u64) -> Option<(FrameId, u8)>
         ensures { result ≡ newest_ready_of tenant (frames_of self.now tenant) }
     {
-        match find_tree(self.trees.as_slice(), tenant) {
+        match find_tree(self.trees.as_slice(), &self.guesses, tenant) {
             Some(tree) => tree.newest_ready(),
             None => None,
         }
@@ -237,6 +244,7 @@ impl<T: Copy, A: Allocator> FrameTable<T, A> {
         if self.trees.insert(at, tree).is_err() {
             unreachable!()
         }
+        guess_again(&mut self.guesses, self.trees.as_slice());
         Ok(())
     }
 
@@ -249,8 +257,9 @@ impl<T: Copy, A: Allocator> FrameTable<T, A> {
         ensures kept { KeepsOtherTenants self.old self.new tenant }
         ensures count { tenant_count self.new + 1 ≡ tenant_count self.old }
     {
-        let at = known_tenant(self.trees.as_slice(), tenant);
+        let at = known_tenant(self.trees.as_slice(), &self.guesses, tenant);
         self.trees.remove(at);
+        guess_again(&mut self.guesses, self.trees.as_slice());
     }
 
     /// Adds a frame that is ready at this home, in one of its tenant's places. Takes no memory.
@@ -264,7 +273,7 @@ impl<T: Copy, A: Allocator> FrameTable<T, A> {
         ensures others { (serial : ℕ) → serial ≢ f.serial → has_frame (frames_of self.new f.tenant) serial ≡ has_frame (frames_of self.old f.tenant) serial }
         ensures kept { KeepsOthers self.old self.new f.tenant }
     {
-        let at = known_tenant(self.trees.as_slice(), f.tenant);
+        let at = known_tenant(self.trees.as_slice(), &self.guesses, f.tenant);
         let above = parent_serial(parent);
         let tree = &mut self.trees[at];
         tree.add(f.serial, above, home, value);
@@ -277,7 +286,7 @@ impl<T: Copy, A: Allocator> FrameTable<T, A> {
         ensures frames { frames_of self.new f.tenant ≡ with_state f.serial state (frames_of self.old f.tenant) }
         ensures kept { KeepsOthers self.old self.new f.tenant }
     {
-        let at = known_tenant(self.trees.as_slice(), f.tenant);
+        let at = known_tenant(self.trees.as_slice(), &self.guesses, f.tenant);
         let tree = &mut self.trees[at];
         let before = tree.ready();
         tree.set_state(f.serial, state);
@@ -291,7 +300,7 @@ impl<T: Copy, A: Allocator> FrameTable<T, A> {
         ensures* ends { sem 𝓛 (EndsAborted T.row A.row A.Allocator self.entry f) }
         ensures values { result.now ≡ values_of (frames_under f.serial (frames_of self.old f.tenant)) }
     {
-        let at = known_tenant(self.trees.as_slice(), f.tenant);
+        let at = known_tenant(self.trees.as_slice(), &self.guesses, f.tenant);
         let tree = &mut self.trees[at];
         let before = tree.ready();
         self.removed.clear();
@@ -307,7 +316,7 @@ impl<T: Copy, A: Allocator> FrameTable<T, A> {
         ensures* ends { sem 𝓛 (EndsEmptied T.row A.row A.Allocator self.entry tenant) }
         ensures values { result.now ≡ values_of (frames_of self.old tenant) }
     {
-        let at = known_tenant(self.trees.as_slice(), tenant);
+        let at = known_tenant(self.trees.as_slice(), &self.guesses, tenant);
         let tree = &mut self.trees[at];
         let before = tree.ready();
         self.removed.clear();
@@ -324,7 +333,7 @@ impl<T: Copy, A: Allocator> FrameTable<T, A> {
         ensures value { HasValue (frame_at (frames_of self.old f.tenant) f.serial) result }
         ensures kept { KeepsOthers self.old self.new f.tenant }
     {
-        let at = known_tenant(self.trees.as_slice(), f.tenant);
+        let at = known_tenant(self.trees.as_slice(), &self.guesses, f.tenant);
         let tree = &mut self.trees[at];
         let before = tree.ready();
         let value = tree.remove(f.serial);
@@ -367,8 +376,33 @@ fn place_for<T: Copy, A: Allocator>(trees: &[TenantFrames<T, A>], tenant: u64) -
     trees.partition_point(|tree| tree.tenant() < tenant)
 }
 
-/// Where a tenant's tree stands.
-fn tenant_place<T: Copy, A: Allocator>(trees: &[TenantFrames<T, A>], tenant: u64) -> Option<usize>
+/// Guesses anew where the trees stand.
+fn guess_again<T: Copy, A: Allocator>(guesses: &mut Guesses<A>, trees: &[TenantFrames<T, A>]) {
+    for (at, tree) in trees.iter().enumerate() {
+        guesses.put(tree.tenant(), at);
+    }
+}
+
+/// Where a tenant's tree stands: where it is guessed to, or else where a search finds it.
+fn tenant_place<T: Copy, A: Allocator>(
+    trees: &[TenantFrames<T, A>],
+    guesses: &Guesses<A>,
+    tenant: u64,
+) -> Option<usize>
+    requires { RisesBy (λ tree. tree.tenant) trees.now }
+    ensures within { IfSome result (λ at. at < length trees.now) }
+    ensures found { IfSome result (IsAt trees.now tenant) }
+    ensures none { IfNone result (has_tenant trees.now tenant ≡ false) }
+{
+    let guess = guesses.guess(tenant);
+    if guess < trees.len() && trees[guess].tenant() == tenant {
+        return Some(guess);
+    }
+    search_tenant(trees, tenant)
+}
+
+/// Where a tenant's tree stands, wherever it was guessed.
+fn search_tenant<T: Copy, A: Allocator>(trees: &[TenantFrames<T, A>], tenant: u64) -> Option<usize>
     requires { RisesBy (λ tree. tree.tenant) trees.now }
     ensures within { IfSome result (λ at. at < length trees.now) }
     ensures found { IfSome result (IsAt trees.now tenant) }
@@ -382,28 +416,33 @@ fn tenant_place<T: Copy, A: Allocator>(trees: &[TenantFrames<T, A>], tenant: u64
 }
 
 /// A tenant's tree.
-fn find_tree<T: Copy, A: Allocator>(
-    trees: &[TenantFrames<T, A>],
+fn find_tree<'a, T: Copy, A: Allocator>(
+    trees: &'a [TenantFrames<T, A>],
+    guesses: &Guesses<A>,
     tenant: u64,
-) -> Option<&TenantFrames<T, A>>
+) -> Option<&'a TenantFrames<T, A>>
     requires { RisesBy (λ tree. tree.tenant) trees.now }
     ensures found { IfSome result (λ tree. IsTreeOf trees.now tenant tree.now) }
     ensures none { IfNone result (HasNoTree trees.now tenant) }
 {
-    match tenant_place(trees, tenant) {
+    match tenant_place(trees, guesses, tenant) {
         Some(at) => Some(&trees[at]),
         None => None,
     }
 }
 
 /// Where the tree of a tenant stands that has places.
-fn known_tenant<T: Copy, A: Allocator>(trees: &[TenantFrames<T, A>], tenant: u64) -> usize
+fn known_tenant<T: Copy, A: Allocator>(
+    trees: &[TenantFrames<T, A>],
+    guesses: &Guesses<A>,
+    tenant: u64,
+) -> usize
     requires rise { RisesBy (λ tree. tree.tenant) trees.now }
     requires there { has_tenant trees.now tenant ≡ true }
     ensures within { result < length trees.now }
     ensures found { IsAt trees.now tenant result }
 {
-    match tenant_place(trees, tenant) {
+    match tenant_place(trees, guesses, tenant) {
         Some(at) => at,
         None => unreachable!(),
     }

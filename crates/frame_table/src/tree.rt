@@ -179,7 +179,7 @@ impl<T: Copy, A: Allocator> TenantFrames<T, A> {
             },
             above,
         );
-        self.serials.push(serial);
+        self.serials.push(serial, above);
         self.ready.push(serial, home);
     }
 

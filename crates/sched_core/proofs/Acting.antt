@@ -1,10 +1,11 @@
 -- What a procedure makes of a frame, done.
-use Rattle.std.proofs.Common.{◌≡◌, ℕ, ◌+◌, ◌⊎◌, inl, inr, Bool, true, false, List, ◌++◌, Some, None, refl}
+use Rattle.std.proofs.Common.{◌≡◌, ℕ, ◌+◌, ◌⊎◌, inl, inr, Bool, true, false, List, ◌++◌, Some, None, Ok, refl, sym, ◌∙◌}
 use Rattle.std.specs.Prelude.{◌||◌, not, replicate}
 use Rattle.frame_table.specs.declared.names.FrameId.{FrameId}
 use Rattle.frame_table.specs.declared.names.State.{State}
 use Rattle.frame_table.specs.declared.names.State.TheVariants.{Ready, Running, Computing, Waiting, Returned}
 use Rattle.frame_table.specs.Frames.{Frame, frame_at}
+use Rattle.sched_rules.specs.declared.act.Act.{Act}
 use Rattle.sched_rules.specs.declared.act.Then.{Then}
 use Rattle.sched_rules.specs.declared.act.Then.TheVariants.{Grow, Spawn, Go, Wait, Compute, Return}
 use Rattle.sched_rules.specs.declared.step.StepOf.TheVariants.{Advance, Answer}
@@ -12,15 +13,17 @@ use Rattle.sched_rules.specs.declared.step.DidOf.{DidOf}
 use Rattle.sched_rules.specs.declared.step.DidOf.TheVariants.{Went, Grew, Spawned, Waited, Computing as IsComputing, Returned as HasReturned}
 use Rattle.sched_rules.specs.Functions.{Functions}
 use Rattle.sched_rules.specs.Trees.{Tenant, has_child, is_held_by, is_root}
-use Rattle.sched_rules.specs.Lone.{is_computed_by, is_run_by, holding, opened, in_state, answer_tests, answered, advance_tests, advanced, act_of, then_done}
+use Rattle.sched_rules.specs.Lone.{unless, act_tests, is_computed_by, is_run_by, holding, opened, in_state, answer_tests, answered, advance_tests, advanced, act_of, then_done}
 use Rattle.sched_rules.specs.Changes.{on_tenant}
 use Rattle.sched_rules.specs.Views.{named}
-use Rattle.sched_rules.specs.Cores.{Shared, tenant_in, shared_refusal}
+use Rattle.sched_rules.specs.Cores.{Shared, tenant_in, judged, shared_refusal}
 use Rattle.sched_laws.proofs.Words.{frame_at-with_words}
-use Rattle.sched_store.specs.Reads.{frames_in, path_of, serials_in, words_under, may_hold, holds, is_busy_among}
+use Rattle.sched_store.specs.Reads.{frames_in, serials_in, words_under, sight_of, may_hold, holds, is_busy_among}
 use Rattle.sched_core.specs.Judging.{IsCome}
-use Rattle.sched_core.specs.Seeing.{GoesOn}
-use Rattle.sched_core.proofs.Going.{IsWith, IsGoing, going, begins, then-changed}
+use Rattle.sched_core.specs.declared.engine.Seen.{Seen}
+use Rattle.sched_core.specs.Seeing.{GoesOn, IsRunning}
+use Rattle.sched_core.proofs.Deciding.{some-is, advance-told}
+use Rattle.sched_core.proofs.Going.{IsWith, IsGoing, AllPass, going, begins, then-changed}
 use Rattle.sched_core.proofs.Ending.{named-words}
 
 -- Answer and Advance
@@ -34,6 +37,34 @@ pub advance-going : {I A : Type 0} (functions : Functions I A) (shared : Shared)
 advance-going functions shared worker name none =
     going functions shared (Advance worker name) name false (λ tenant frame. advance_tests tenant worker frame (act_of functions tenant frame)) (λ tenant frame. advanced functions tenant worker name frame (act_of functions tenant frame))
     refl refl (λ tenant. refl) none
+
+-- an act that may be done: no test applies, and this comes of it
+pub record IsSetOut {I A : Type 0} (functions : Functions I A) (shared : Shared) (worker : ℕ) (name : FrameId) (tenant : Tenant) (frame : Frame (List ℕ)) (act : Act) : Type 0 where
+  pub owner : tenant_in shared.tenants name.tenant ≡ Some tenant
+  pub found : frame_at tenant.frames name.serial ≡ Some frame
+  pub passes : AllPass (advance_tests tenant worker frame act)
+  pub among : judged functions shared (Advance worker name) ≡ Ok (advanced functions tenant worker name frame act)
+
+sets-out-as : {I A : Type 0} (functions : Functions I A) (shared : Shared) (worker : ℕ) (name : FrameId) (tenant other : Tenant) (frame another : Frame (List ℕ)) (act : Act) →
+    tenant_in shared.tenants name.tenant ≡ Some tenant → frame_at tenant.frames name.serial ≡ Some frame → other ≡ tenant → another ≡ frame → act ≡ act_of functions tenant frame →
+    AllPass (advance_tests other worker another (act_of functions other another)) → judged functions shared (Advance worker name) ≡ Ok (advanced functions other worker name another (act_of functions other another)) →
+    IsSetOut functions shared worker name tenant frame act
+sets-out-as functions shared worker name tenant other frame another act owner found own same next passes among =
+    record { owner = owner; found = found; passes = rw (own, same, ← next) at passes; among = rw (own, same, ← next) at among }
+
+pub sets-out : {I A : Type 0} (functions : Functions I A) (shared : Shared) (worker : ℕ) (name : FrameId) (tenant : Tenant) (frame : Frame (List ℕ)) (seen : Seen) (act : Act) →
+    IsRunning shared name worker tenant frame seen → act ≡ functions.next (sight_of shared name) → Ok (tt {0}) ≡ unless (act_tests tenant frame act) (tt {0}) →
+    IsSetOut functions shared worker name tenant frame act
+sets-out functions shared worker name tenant frame seen act is same told =
+    let t = advance-going functions shared worker name (advance-told functions shared worker name tenant frame seen act (Ok (tt {0})) is same told) in
+    let owner = is.seen_so.owner in
+    let found = is.seen_so.found in
+    let own : t.tenant ≡ tenant = some-is t.tenant tenant (sym t.owner ∙ owner) in
+    let next : act ≡ act_of functions tenant frame = rw (owner, found) at same in
+    sets-out-as functions shared worker name tenant t.tenant frame t.frame act owner found own (one-frame name tenant t.tenant frame t.frame own found t.found) next t.passes t.among
+  where
+    one-frame : (name : FrameId) (tenant other : Tenant) (frame another : Frame (List ℕ)) → other ≡ tenant → frame_at tenant.frames name.serial ≡ Some frame → frame_at other.frames name.serial ≡ Some another → another ≡ frame
+    one-frame name tenant other frame another own found at = let at' : frame_at tenant.frames name.serial ≡ Some another = rw own at at in some-is another frame (sym at' ∙ found)
 
 -- a test that doesn't apply
 pub not-false : (b : Bool) → not b ≡ false → b ≡ true
@@ -132,12 +163,11 @@ wait-came functions shared worker name tenant frame act is owner leaf =
 
 pub return-came : {I A : Type 0} (functions : Functions I A) (shared now : Shared) (worker : ℕ) (name : FrameId) (tenant : Tenant) (frame : Frame (List ℕ)) (act : Then) (top : Bool) → act ≡ Return →
     tenant_in shared.tenants name.tenant ≡ Some tenant → frame_at tenant.frames name.serial ≡ Some frame → has_child (frames_in shared name.tenant) name.serial ≡ false →
-    now ≡ on_tenant name.tenant (in_state name.serial Returned) shared → top ≡ is_root (path_of (named shared name)) →
+    now ≡ on_tenant name.tenant (in_state name.serial Returned) shared → top ≡ is_root frame.path →
     IsCome name.tenant (then_done functions tenant worker name frame.path frame.value act) shared (HasReturned top) now
 return-came {I = I} functions shared now worker name tenant frame act top is owner found leaf changes same =
     let own : has_child tenant.frames name.serial ≡ false = rw owner at leaf in
-    let root : top ≡ is_root frame.path = rw (owner, found) at same in
-    let told : ◌≡◌ {A = DidOf I} (HasReturned top) (HasReturned (is_root frame.path)) = rw root refl in
+    let told : ◌≡◌ {A = DidOf I} (HasReturned top) (HasReturned (is_root frame.path)) = rw same refl in
     rw (is, own) (came name.tenant (in_state name.serial Returned tenant) shared (HasReturned (is_root frame.path)) (HasReturned top) now
     (then-changed _ _ _ _ now (in_state name.serial Returned) (begins shared name.tenant tenant owner) changes) told)
 

@@ -51,6 +51,10 @@ act-can : (outside rest : Bool) → (outside || rest) ≡ false → rest ≡ fal
 act-can true rest is = absurd cc
 act-can false rest is = is
 
+pub act-inside : (outside rest : Bool) → (outside || rest) ≡ false → outside ≡ false
+act-inside true rest is = absurd cc
+act-inside false rest is = refl
+
 segments-as : (frame : Frame (List ℕ)) (words : List ℕ) (after : Then) → length words ≡ length frame.value → segments_for (record frame { value = words }) after ≡ segments_for frame after
 segments-as frame words (Grow more) same = rw same refl
 segments-as frame words (Spawn given size) same = refl

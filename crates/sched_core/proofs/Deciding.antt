@@ -1,6 +1,6 @@
 -- The tests of a step, read off its definition.
 use Rattle.std.proofs.Common.{◌≡◌, ◌≢◌, ℕ, ◌==◌, Bool, true, false, List, [], ◌∷◌, ◌++◌, Option, Some, None, Result, Ok, Err, refl, sym, ◌∙◌, ap, arith}
-use Rattle.std.specs.Prelude.{◌||◌, not, is_err}
+use Rattle.std.specs.Prelude.{◌||◌, not, is_err, is_some, MatchResult}
 use Rattle.std.proofs.lemmas.Bool.Decides.{nat_tests}
 use Rattle.std.proofs.Math.Bool.{or-false}
 use Rattle.frame_table.specs.declared.names.FrameId.{FrameId}
@@ -13,11 +13,10 @@ use Rattle.sched_rules.specs.declared.step.StepOf.TheVariants.{Take, Steal, Adva
 use Rattle.sched_rules.specs.Functions.{Functions}
 use Rattle.sched_rules.specs.Trees.{Tenant, left, is_busy_in, is_outside, is_root, has_child}
 use Rattle.sched_rules.specs.Lone.{Outcome, unless, lone, refusal_in, is_ready_at, is_run_by, is_computed_by, is_returned, taken_by, finished, no_step, act_of, act_tests, advanced, answer_tests, answered, applies, is_spendable}
-use Rattle.sched_rules.specs.Views.{named}
 use Rattle.sched_rules.specs.Cores.{Shared, tenant_in, is_busy_elsewhere, unless_busy, shared_refusal}
 use Rattle.sched_core.specs.declared.engine.Seen.{Seen}
-use Rattle.sched_store.specs.Reads.{is_busy_among, AreAfter, AreRising, frames_in, path_of, sight_of, words_under}
-use Rattle.sched_core.specs.Seeing.{IsSeen, missing_in, missing}
+use Rattle.sched_store.specs.Reads.{is_busy_among, AreAfter, AreRising, frames_in, sight_of, words_under}
+use Rattle.sched_core.specs.Seeing.{IsSeen, IsRunning, missing_in, missing}
 
 -- no frame of a tenant that is there has a serial that isn't found
 unfound : (tenant : Tenant) (serial : ℕ) (found : Option (Frame (List ℕ))) → frame_at tenant.frames serial ≡ found → has_frame tenant.frames serial ≡ false → found ≡ None
@@ -170,7 +169,7 @@ steal-decided {I = I} functions shared worker from name tenant frame seen is ris
 -- Finish
 pub finish-decided : {I A : Type 0} (functions : Functions I A) (shared : Shared) (worker : ℕ) (name : FrameId) (tenant : Tenant) (frame : Frame (List ℕ)) (seen : Seen) →
     IsSeen shared name tenant frame seen → AreRising shared.tenants →
-    refusal_in (unless ((not (is_returned seen.state) || not (is_root (path_of (named shared name))), NotReturned) ∷ (seen.left.steps == 0, NoSteps) ∷ (is_busy_among worker shared.tenants, Busy) ∷ []) (tt {0}))
+    refusal_in (unless ((not (is_returned seen.state) || not (is_root frame.path), NotReturned) ∷ (seen.left.steps == 0, NoSteps) ∷ (is_busy_among worker shared.tenants, Busy) ∷ []) (tt {0}))
     ≡ shared_refusal functions shared (Finish worker name)
 finish-decided {I = I} functions shared worker name tenant frame seen is rising =
     rw (is.state, is.left, is.owner, is.found)
@@ -200,6 +199,10 @@ answer-decided functions shared worker name answer tenant frame seen is =
 pub passed-on : {X : Type 0} (answer : Result X Refusal) (told refusal : Refusal) (right : Option Refusal) → answer ≡ Err told → told ≡ refusal → right ≡ Some refusal → refusal_in answer ≡ right
 passed-on answer told refusal right is same e = rw (is, same, e) refl
 
+-- and so with what it means
+pub told-on : {X : Type 0} (P : X → Type 0) (Q : Refusal → Type 0) (answer : Result X Refusal) (told refusal : Refusal) → answer ≡ Err told → told ≡ refusal → Q refusal → MatchResult answer P Q
+told-on P Q answer told refusal is same right = rw (is, same) right
+
 -- what is seen of a frame
 pub seen-serial : (frames : List (Frame (List ℕ))) (serial : ℕ) (frame : Frame (List ℕ)) → frame_at frames serial ≡ Some frame → frame.serial ≡ serial
 seen-serial [] serial frame is = absurd cc
@@ -226,6 +229,23 @@ advance-goes functions shared worker name tenant frame seen act runs answer is s
     let passes' : unless ((not (is_run_by worker seen.state), NotRunning) ∷ (seen.left.steps == 0, NoSteps) ∷ []) (tt {0}) ≡ Ok (tt {0}) = rw (← run) (sym passes) in
     ap refusal_in (told ∙ sym (second-part ((not (is_run_by worker seen.state), NotRunning) ∷ (seen.left.steps == 0, NoSteps) ∷ []) (act_tests tenant frame act) passes'))
     ∙ advance-decided functions shared worker name tenant frame seen act is same
+
+pub advance-told : {I A : Type 0} (functions : Functions I A) (shared : Shared) (worker : ℕ) (name : FrameId) (tenant : Tenant) (frame : Frame (List ℕ)) (seen : Seen) (act : Act) (answer : Result (Unit {0}) Refusal) →
+    IsRunning shared name worker tenant frame seen → act ≡ functions.next (sight_of shared name) → answer ≡ unless (act_tests tenant frame act) (tt {0}) →
+    refusal_in answer ≡ shared_refusal functions shared (Advance worker name)
+advance-told functions shared worker name tenant frame seen act answer is same told =
+    let left = is.some in
+    advance-goes functions shared worker name tenant frame seen act true answer is.seen_so same (sym is.runs) (rw left refl) told
+
+-- a frame with no parent is a root
+pub root-is : (top : Bool) (seen : Seen) (path : List ℕ) → is_some seen.parent ≡ not top → is_some seen.parent ≡ not (is_root path) → top ≡ is_root path
+root-is top seen path is root = unnot top (is_root path) (sym is ∙ root)
+  where
+    unnot : (a b : Bool) → not a ≡ not b → a ≡ b
+    unnot true true e = refl
+    unnot true false e = absurd cc
+    unnot false true e = absurd cc
+    unnot false false e = refl
 
 -- Answer, by its tests
 pub answer-told : {I A : Type 0} (functions : Functions I A) (shared : Shared) (worker : ℕ) (name : FrameId) (answer : A) (tenant : Tenant) (frame : Frame (List ℕ)) (seen : Seen)

@@ -11,18 +11,24 @@ use Rattle.frame_table.specs.TreeLaws.{is_child_of, Each}
 use Rattle.frame_table.proofs.TreeLaws.{tree-rising, found-each, found-serial, there-found, under-there, under-below}
 use Rattle.frame_table.proofs.TreeChanges.{child-under-parent, aborted-itself, frame_at_other-without}
 use Rattle.sched_rules.specs.declared.refusal.Refusal.{Refusal}
-use Rattle.sched_rules.specs.declared.refusal.Refusal.TheVariants.{NoTenant, NoFrame, NotReturned}
+use Rattle.sched_rules.specs.declared.refusal.Refusal.TheVariants.{NoTenant, NoFrame, NotReturned, BadAct, Busy}
 use Rattle.sched_rules.specs.declared.act.InletAct.{InletAct}
 use Rattle.sched_rules.specs.declared.step.StepOf.TheVariants.{Inlet}
+use Rattle.sched_rules.specs.declared.step.DidOf.{DidOf}
 use Rattle.sched_rules.specs.declared.step.DidOf.TheVariants.{TakenIn}
 use Rattle.sched_rules.specs.Functions.{Functions}
-use Rattle.sched_rules.specs.Trees.{Tenant, words_in, has_child, stored}
+use Rattle.sched_rules.specs.Trees.{Tenant, words_in, is_outside, has_child, stored}
 use Rattle.sched_rules.specs.Lone.{Outcome, unless, lone, refusal_in, inlet_tests, taken_in, staying, aborted_beside, does_wait, is_returned, holding, counted, in_state}
+use Rattle.sched_rules.specs.Views.{named}
 use Rattle.sched_rules.specs.Cores.{Shared, tenant_in, is_busy_elsewhere, unless_busy, judged, shared_refusal}
 use Rattle.sched_laws.specs.Shapes.{IsShaped}
 use Rattle.sched_laws.proofs.Consequences.{returned-leaf}
-use Rattle.sched_core.specs.Seeing.{MayBeTakenIn}
+use Rattle.sched_store.specs.Reads.{is_busy_among, AreRising, words_under}
+use Rattle.sched_core.specs.declared.engine.Seen.{Seen}
+use Rattle.sched_core.specs.Seeing.{MayBeTakenIn, IsReturnedUnder}
 use Rattle.sched_core.specs.Judging.{staying_with}
+use Rattle.sched_core.proofs.Deciding.{some-is}
+use Rattle.sched_core.proofs.Parents.{inlet-told}
 use Rattle.sched_core.proofs.Going.{AllPass, all-pass}
 
 -- what an inlet that is taken comes to
@@ -64,6 +70,46 @@ inlet-going {I = I} {A = A} functions shared worker name none = by-owner (tenant
 pub parent-is : (number parent : ℕ) (above : FrameId) → name_of number (Some parent) ≡ Some above → above ≡ record { tenant = number; serial = parent }
 parent-is number parent above is = cc
 
+pub same-tenant : (x y : Tenant) → Some x ≡ Some y → x ≡ y
+same-tenant x y e = cc
+
+-- an inlet that may be done: no test applies, and this comes of it
+pub record IsTakingIn {I A : Type 0} (functions : Functions I A) (shared : Shared) (worker : ℕ) (name above : FrameId) (tenant : Tenant) (frame : Frame (List ℕ)) (act : InletAct) : Type 0 where
+  pub parent : ℕ
+  pub is : above ≡ record { tenant = name.tenant; serial = parent }
+  pub owner : tenant_in shared.tenants name.tenant ≡ Some tenant
+  pub found : frame_at tenant.frames name.serial ≡ Some frame
+  pub path : parent_of frame.path ≡ Some parent
+  pub passes : AllPass (inlet_tests tenant worker frame parent act)
+  pub among : judged functions shared (Inlet worker name) ≡ Ok (taken_in tenant worker name parent act)
+
+takes-in-as : {I A : Type 0} (functions : Functions I A) (shared : Shared) (worker : ℕ) (name above : FrameId) (tenant other : Tenant) (frame another : Frame (List ℕ)) (act : InletAct) (parent : ℕ) →
+    tenant_in shared.tenants name.tenant ≡ Some tenant → frame_at tenant.frames name.serial ≡ Some frame → other ≡ tenant → another ≡ frame →
+    name_of name.tenant (parent_of frame.path) ≡ Some above → parent_of another.path ≡ Some parent → act ≡ functions.inlet (words_under shared above) (words_under shared name) →
+    AllPass (inlet_tests other worker another parent (functions.inlet (words_in other.frames parent) another.value)) →
+    judged functions shared (Inlet worker name) ≡ Ok (taken_in other worker name parent (functions.inlet (words_in other.frames parent) another.value)) →
+    IsTakingIn functions shared worker name above tenant frame act
+takes-in-as functions shared worker name above tenant other frame another act parent owner found own same names path does passes among =
+    let path' : parent_of frame.path ≡ Some parent = rw same at path in
+    let is : above ≡ record { tenant = name.tenant; serial = parent } = parent-is name.tenant parent above (rw path' at names) in
+    let does' : act ≡ functions.inlet (words_in tenant.frames parent) frame.value = does ∙ rw (is, owner, found) refl in
+    record { parent = parent; is = is; owner = owner; found = found; path = path'; passes = rw (own, same, ← does') at passes; among = rw (own, same, ← does') at among }
+
+pub takes-in : {I A : Type 0} (functions : Functions I A) (shared : Shared) (worker : ℕ) (name above : FrameId) (tenant : Tenant) (frame : Frame (List ℕ)) (seen : Seen) (act : InletAct) →
+    IsReturnedUnder shared name above tenant frame seen → AreRising shared.tenants → act ≡ functions.inlet (words_under shared above) (words_under shared name) →
+    Ok (tt {0}) ≡ unless ((is_outside act.stores (words_under shared above), BadAct) ∷ (is_busy_among worker shared.tenants, Busy) ∷ []) (tt {0}) →
+    IsTakingIn functions shared worker name above tenant frame act
+takes-in functions shared worker name above tenant frame seen act is rising same told =
+    let t = inlet-going functions shared worker name (inlet-told functions shared worker name tenant frame seen above act (Ok (tt {0})) is rising same told) in
+    let owner = is.seen_so.owner in
+    let found = is.seen_so.found in
+    let own : t.tenant ≡ tenant = same-tenant t.tenant tenant (sym t.owner ∙ owner) in
+    takes-in-as functions shared worker name above tenant t.tenant frame t.frame act t.parent owner found own (one-frame name tenant t.tenant frame t.frame own found t.found)
+    (sym is.seen_so.parent ∙ is.above) t.path same t.passes t.among
+  where
+    one-frame : (name : FrameId) (tenant other : Tenant) (frame another : Frame (List ℕ)) → other ≡ tenant → frame_at tenant.frames name.serial ≡ Some frame → frame_at other.frames name.serial ≡ Some another → another ≡ frame
+    one-frame name tenant other frame another own found at = let at' : frame_at tenant.frames name.serial ≡ Some another = rw own at at in some-is another frame (sym at' ∙ found)
+
 has-returned : (state : State) → is_returned state ≡ true → state ≡ Returned
 has-returned (Ready home) is = absurd cc
 has-returned (Running worker) is = absurd cc
@@ -76,18 +122,18 @@ not-false true is = refl
 not-false false is = absurd cc
 
 -- it may be taken in
-pub may-be-taken-in : {I A : Type 0} (functions : Functions I A) (shared : Shared) (worker : ℕ) (name above : FrameId) (t : IsInlet functions shared worker name) → IsShaped t.tenant → above ≡ record { tenant = name.tenant; serial = t.parent } →
-    MayBeTakenIn shared name above t.tenant t.frame
-may-be-taken-in functions shared worker name above t shape is =
-    let returned = has-returned t.frame.state (not-false (is_returned t.frame.state) t.passes.0) in
-    let serial : above.serial ≡ t.parent = ap (λ n. n.serial) is in
+pub may-be-taken-in : {I A : Type 0} (functions : Functions I A) (shared : Shared) (worker : ℕ) (name above : FrameId) (tenant : Tenant) (frame : Frame (List ℕ)) (act : InletAct) →
+    IsTakingIn functions shared worker name above tenant frame act → IsShaped tenant → MayBeTakenIn shared name above tenant frame
+may-be-taken-in functions shared worker name above tenant frame act t shape =
+    let returned = has-returned frame.state (not-false (is_returned frame.state) t.passes.0) in
+    let serial : above.serial ≡ t.parent = ap (λ n. n.serial) t.is in
     record {
       owner = t.owner;
       found = t.found;
       tree = shape.tree;
       under = rw serial t.path;
-      same = ap (λ n. n.tenant) is;
-      leaf = returned-leaf t.tenant name.serial t.frame shape t.found returned;
+      same = ap (λ n. n.tenant) t.is;
+      leaf = returned-leaf tenant name.serial frame shape t.found returned;
     }
 
 -- the parent stays
@@ -97,6 +143,10 @@ other p c low is = omega (arith, low, is)
 pub parent-found : (frames : List (Frame (List ℕ))) (child parent : ℕ) (frame : Frame (List ℕ)) → IsTree frames → frame_at frames child ≡ Some frame → parent_of frame.path ≡ Some parent →
     (above : Frame (List ℕ)) × (frame_at frames parent ≡ Some above)
 parent-found frames child parent frame tree found path = there-found frames parent (under-there frames child parent frame tree found path)
+
+pub parent-named-so : (shared : Shared) (name above : FrameId) (parent : ℕ) (tenant : Tenant) (frame : Frame (List ℕ)) → above ≡ record { tenant = name.tenant; serial = parent } → tenant_in shared.tenants name.tenant ≡ Some tenant →
+    frame_at tenant.frames parent ≡ Some frame → named shared above ≡ Some frame
+parent-named-so shared name above parent tenant frame is owner found = rw (is, owner, found) refl
 
 pub stays-beside : (frames : List (Frame (List ℕ))) (child parent : ℕ) (frame above : Frame (List ℕ)) → IsTree frames → frame_at frames child ≡ Some frame → parent_of frame.path ≡ Some parent → frame_at frames parent ≡ Some above →
     frame_at (frames_without child frames) parent ≡ Some above
@@ -127,9 +177,6 @@ dropped parent child (frame ∷ frames) each =
 some-same : (x y : Frame (List ℕ)) → Some x ≡ Some y → x ≡ y
 some-same x y e = cc
 
-pub same-tenant : (x y : Tenant) → Some x ≡ Some y → x ≡ y
-same-tenant x y e = cc
-
 pub aborts-child : (frames : List (Frame (List ℕ))) (child parent : ℕ) (frame : Frame (List ℕ)) → IsTree frames → frame_at frames child ≡ Some frame → parent_of frame.path ≡ Some parent →
     aborted parent (frames_without child frames) ≡ aborted parent frames
 aborts-child frames child parent frame tree found path =
@@ -157,3 +204,8 @@ pub taken-awake : {I : Type 0} (tenant : Tenant) (worker : ℕ) (name : FrameId)
       TakenIn (Some (record name { serial = parent })) (aborted_beside tenant.frames name.serial parent act.abort),
     )
 taken-awake tenant worker name parent act awake = rw awake refl
+
+-- which is told by the parent's name
+pub woken-told : {I : Type 0} (name above : FrameId) (parent told gone : ℕ) → above ≡ record { tenant = name.tenant; serial = parent } → told ≡ gone →
+    ◌≡◌ {A = Result (DidOf I) Refusal} (Ok (TakenIn (Some above) told)) (Ok (TakenIn (Some (record name { serial = parent })) gone))
+woken-told name above parent told gone is same = rw (is, same) refl

@@ -1,5 +1,5 @@
 -- The parent of a frame that is seen.
-use Rattle.std.proofs.Common.{◌≡◌, ℕ, Bool, List, [], ◌∷◌, Option, Some, None, Result, Ok, refl, sym, ◌∙◌, ap}
+use Rattle.std.proofs.Common.{◌≡◌, ℕ, Bool, true, List, [], ◌∷◌, Option, Some, None, Result, Ok, refl, sym, ◌∙◌, ap}
 use Rattle.std.specs.Prelude.{IsSome, not, ◌==◌}
 use Rattle.frame_table.specs.declared.names.FrameId.{FrameId}
 use Rattle.frame_table.specs.Frames.{Frame, frame_at, name_of, parent_of}
@@ -15,7 +15,7 @@ use Rattle.sched_rules.specs.Views.{named}
 use Rattle.sched_rules.specs.Cores.{Shared, shared_refusal}
 use Rattle.sched_core.specs.declared.engine.Seen.{Seen}
 use Rattle.sched_store.specs.Reads.{is_busy_among, AreRising, words_under}
-use Rattle.sched_core.specs.Seeing.{IsSeen}
+use Rattle.sched_core.specs.Seeing.{IsSeen, IsReturnedUnder}
 use Rattle.sched_core.proofs.Deciding.{busy-anywhere, second-part, seen-words}
 
 -- the parent that is named
@@ -84,3 +84,12 @@ inlet-goes functions shared worker name tenant frame seen above act returned out
     let told' : answer ≡ unless ((is_outside act.stores (words_under shared above), BadAct) ∷ (is_busy_among worker shared.tenants, Busy) ∷ []) (tt {0}) = rw (← o, ← b) told in
     ap refusal_in (told' ∙ sym (second-part ((not (is_returned seen.state), NotReturned) ∷ (seen.left.steps == 0, NoSteps) ∷ []) ((is_outside act.stores (words_under shared above), BadAct) ∷ (is_busy_among worker shared.tenants, Busy) ∷ []) passes'))
     ∙ inlet-decided functions shared worker name tenant frame seen above act is rising at same
+
+pub inlet-told : {I A : Type 0} (functions : Functions I A) (shared : Shared) (worker : ℕ) (name : FrameId) (tenant : Tenant) (frame : Frame (List ℕ)) (seen : Seen) (above : FrameId) (act : InletAct) (answer : Result (Unit {0}) Refusal) →
+    IsReturnedUnder shared name above tenant frame seen → AreRising shared.tenants → act ≡ functions.inlet (words_under shared above) (words_under shared name) →
+    answer ≡ unless ((is_outside act.stores (words_under shared above), BadAct) ∷ (is_busy_among worker shared.tenants, Busy) ∷ []) (tt {0}) →
+    refusal_in answer ≡ shared_refusal functions shared (Inlet worker name)
+inlet-told functions shared worker name tenant frame seen above act answer is rising same told =
+    let left = is.some in
+    inlet-goes functions shared worker name tenant frame seen above act true (is_outside act.stores (words_under shared above)) (is_busy_among worker shared.tenants) answer
+    is.seen_so rising is.above same (sym is.returned) refl refl (rw left refl) told

@@ -1,23 +1,37 @@
 -- What a step reads of the frame that it names.
-use Rattle.std.specs.Prelude.{◌≡◌, ℕ, true, false, ◌&&◌, ◌==◌, nat_lt, List, [], length, Option, Some, None, if◌then◌else◌}
+use Rattle.std.specs.Prelude.{◌≡◌, ℕ, true, false, not, ◌&&◌, ◌==◌, nat_lt, List, [], length, Option, Some, None, is_some, if◌then◌else◌}
 use Rattle.frame_table.specs.declared.names.FrameId.{FrameId}
 use Rattle.frame_table.specs.Frames.{Frame, frame_at, has_frame, name_of, parent_of, children_of, IsTree}
 use Rattle.sched_rules.specs.declared.refusal.Refusal.{Refusal}
 use Rattle.sched_rules.specs.declared.refusal.Refusal.TheVariants.{NoTenant, NoFrame}
 use Rattle.sched_rules.specs.declared.act.Then.{Then}
-use Rattle.sched_rules.specs.Trees.{Tenant, has_child, left as left_for}
-use Rattle.sched_rules.specs.Lone.{is_run_by, is_bad_then, is_spawn, segments_for}
+use Rattle.sched_rules.specs.Trees.{Tenant, has_child, is_root, left as left_for}
+use Rattle.sched_rules.specs.Lone.{is_run_by, is_returned, is_bad_then, is_spawn, segments_for}
 use Rattle.sched_rules.specs.Cores.{Shared, tenant_in}
 use Rattle.sched_core.specs.declared.engine.Seen.{Seen}
 
--- what a look at a frame that is there tells: its parent's name, its state and what its tenant has left, whose frames are a tree
+-- what a look at a frame that is there tells: its parent's name, which a root alone has not, its state and what its tenant has left, whose frames are a tree
 pub record IsSeen (shared : Shared) (name : FrameId) (tenant : Tenant) (frame : Frame (List ℕ)) (seen : Seen) : Type 0 where
   pub owner : tenant_in shared.tenants name.tenant ≡ Some tenant
   pub found : frame_at tenant.frames name.serial ≡ Some frame
   pub parent : seen.parent ≡ name_of name.tenant (parent_of frame.path)
   pub state : seen.state ≡ frame.state
   pub left : seen.left ≡ left_for tenant
+  pub root : is_some seen.parent ≡ not (is_root frame.path)
   pub tree : IsTree tenant.frames
+
+-- the worker runs the frame that is seen, and its tenant has a step left
+pub record IsRunning (shared : Shared) (name : FrameId) (worker : ℕ) (tenant : Tenant) (frame : Frame (List ℕ)) (seen : Seen) : Type 0 where
+  pub seen_so : IsSeen shared name tenant frame seen
+  pub runs : is_run_by worker seen.state ≡ true
+  pub some : (seen.left.steps == 0) ≡ false
+
+-- the frame that is seen has returned to this parent, and its tenant has a step left
+pub record IsReturnedUnder (shared : Shared) (name parent : FrameId) (tenant : Tenant) (frame : Frame (List ℕ)) (seen : Seen) : Type 0 where
+  pub seen_so : IsSeen shared name tenant frame seen
+  pub above : seen.parent ≡ Some parent
+  pub returned : is_returned seen.state ≡ true
+  pub some : (seen.left.steps == 0) ≡ false
 
 -- why no frame of a tenant has this serial
 abbrev pub missing_in : Option Tenant → ℕ → Option Refusal

@@ -1,37 +1,50 @@
 //! Advance, Answer and Inlet: what a procedure makes of a frame.
-ghost use Rattle.std.specs.Prelude.{◌≡◌, false, true, IfOk, IsSome, Some, ℕ, List, not};
+ghost use Rattle.std.specs.Prelude.{◌≡◌, ◌≢◌, ◌==◌, ◌||◌, ◌∷◌, false, true, IfOk, MatchResult, IsSome, Some, ℕ, List, [], not};
 ghost use Rattle.frame_table.specs.Frames.{Frame, name_of, parent_of};
 ghost use Rattle.sched_rules.specs.Cores.{shared_refusal};
 ghost use Rattle.sched_rules.specs.Trees.{Tenant, left as left_for, has_child as has_child_in, is_outside as is_outside_of};
-ghost use Rattle.sched_rules.specs.Lone.{refusal_in, is_spendable as is_spendable_of, is_bad_inlet as is_bad_inlet_of, is_bad_then as is_bad_then_of};
+ghost use Rattle.sched_rules.specs.Lone.{unless, act_tests, refusal_in, is_spendable as is_spendable_of, is_bad_inlet as is_bad_inlet_of, is_bad_then as is_bad_then_of};
 ghost use Rattle.sched_rules.specs.Views.{named, frame_of};
+ghost use Rattle.sched_rules.specs.declared.refusal.Refusal.TheVariants.{BadAct, Busy};
 ghost use Rattle.sched_rules.specs.declared.step.StepOf.TheVariants.{Advance as AdvanceStep, Answer as AnswerStep, Inlet as InletStep};
 ghost use Rattle.sched_store.specs.Reads.{sight_of, words_under, frames_in, is_busy_among};
-ghost use Rattle.sched_core.specs.Seeing.{IsSeen};
+ghost use Rattle.sched_core.specs.Seeing.{IsSeen, IsRunning, IsReturnedUnder};
 
 use crate::decide::{first_of, is_computed_by, is_outside, is_returned, is_run_by, may_act};
-use crate::engine::{Engine, Seen, look_in, own};
+use crate::engine::{Engine, Found, Seen, known, look_in, own};
+use cactus_stack::Words;
 use frame_table::{FrameId, State};
 use sched_rules::{Act, InletAct, Procedure, Refusal, Stores, Then, Worker};
 use sched_store::Store;
 use std::alloc::Allocator;
 
 impl<P: Procedure, A: Allocator> Engine<P, A> {
-    /// The next act of a frame that the worker runs, if it can be done.
-    pub(crate) fn next_act(&self, worker: Worker, name: FrameId) -> Result<Act, Refusal>
-        ensures refusal { refusal_in result ≡ shared_refusal (P.functions self.now.procedure) self.now.store (AdvanceStep worker name) }
-        ensures act { IfOk result (λ act. act ≡ (P.functions self.now.procedure).next (sight_of self.now.store name)) }
+    /// A frame that the worker runs, where its tenant has a step left.
+    #[inline(always)]
+    pub(crate) fn running(&self, worker: Worker, name: FrameId) -> Result<Found<'_>, Refusal>
+        ensures frame { MatchResult result
+            (λ found. (tenant : Tenant) × (frame : Frame (List ℕ)) × IsRunning self.now.store name worker tenant frame found.seen)
+            (λ refusal. shared_refusal (P.functions self.now.procedure) self.now.store (AdvanceStep worker name) ≡ Some refusal) }
+        ensures words { IfOk result (λ found. found.words ≡ words_under self.now.store name) }
+        ensures sight { IfOk result (λ found. found.sight ≡ sight_of self.now.store name) }
     {
         let found = look_in(&self.store, name)?;
-        let seen = found.seen;
-        first_of(&[
-            (!is_run_by(seen.state, worker.number()), Refusal::NotRunning),
-            (seen.left.steps == 0, Refusal::NoSteps),
-        ])?;
+        if !is_run_by(found.seen.state, worker.number()) {
+            return Err(Refusal::NotRunning);
+        }
+        if found.seen.left.steps == 0 {
+            return Err(Refusal::NoSteps);
+        }
+        Ok(found)
+    }
+
+    /// Whether a frame that the worker runs may do its next act.
+    pub(crate) fn may_advance(&self, worker: Worker, name: FrameId) -> Result<(), Refusal>
+        ensures refusal { refusal_in result ≡ shared_refusal (P.functions self.now.procedure) self.now.store (AdvanceStep worker name) }
+    {
+        let found = self.running(worker, name)?;
         let act = self.procedure.next(&found.sight);
-        let has_child = has_child_for(&self.store, name, &act.after);
-        may_act(&found.words, has_child, seen.left, &act)?;
-        Ok(act)
+        may_do(&self.store, name, &found, &act)
     }
 
     /// What a frame that the worker computes stores of an answer, if it may be brought.
@@ -62,32 +75,35 @@ impl<P: Procedure, A: Allocator> Engine<P, A> {
         Ok(stores)
     }
 
-    /// The parent of a returned frame, and what it does about it, if the frame may be taken in.
-    pub(crate) fn inlet_act(
-        &self,
-        worker: Worker,
-        name: FrameId,
-    ) -> Result<(FrameId, InletAct), Refusal>
-        ensures refusal { refusal_in result ≡ shared_refusal (P.functions self.now.procedure) self.now.store (InletStep worker name) }
-        ensures parent { IfOk result (λ found. (frame : Frame (List ℕ)) → named self.now.store name ≡ Some frame → name_of name.tenant (parent_of frame.path) ≡ Some found.0) }
-        ensures act { IfOk result (λ found. found.1 ≡ (P.functions self.now.procedure).inlet (words_under self.now.store found.0) (words_under self.now.store name)) }
+    /// A returned frame and its parent's name, where its tenant has a step left.
+    #[inline(always)]
+    pub(crate) fn returned(&self, name: FrameId) -> Result<(Found<'_>, FrameId), Refusal>
+        ensures frame { MatchResult result
+            (λ found. (tenant : Tenant) × (frame : Frame (List ℕ)) × IsReturnedUnder self.now.store name found.1 tenant frame found.0.seen)
+            (λ refusal. (worker : ℕ) → shared_refusal (P.functions self.now.procedure) self.now.store (InletStep worker name) ≡ Some refusal) }
+        ensures words { IfOk result (λ found. found.0.words ≡ words_under self.now.store name) }
     {
         let found = look_in(&self.store, name)?;
-        let seen = found.seen;
-        let Some(parent) = seen.parent else {
+        let Some(parent) = found.seen.parent else {
             return Err(Refusal::NotReturned);
         };
-        first_of(&[
-            (!is_returned(seen.state), Refusal::NotReturned),
-            (seen.left.steps == 0, Refusal::NoSteps),
-        ])?;
-        let above = own(&self.store, parent);
-        let act = self.procedure.inlet(&above, &found.words);
-        first_of(&[
-            (is_outside(act.stores.as_slice(), &above), Refusal::BadAct),
-            (self.store.is_busy(worker), Refusal::Busy),
-        ])?;
-        Ok((parent, act))
+        if !is_returned(found.seen.state) {
+            return Err(Refusal::NotReturned);
+        }
+        if found.seen.left.steps == 0 {
+            return Err(Refusal::NoSteps);
+        }
+        Ok((found, parent))
+    }
+
+    /// Whether a returned frame may be taken in by its parent.
+    pub(crate) fn may_inlet(&self, worker: Worker, name: FrameId) -> Result<(), Refusal>
+        ensures refusal { refusal_in result ≡ shared_refusal (P.functions self.now.procedure) self.now.store (InletStep worker name) }
+    {
+        let (found, parent) = self.returned(name)?;
+        let above = known(&self.store, parent);
+        let act = self.procedure.inlet(&above.words, &found.words);
+        may_take_in(&self.store, worker, &above.words, &act)
     }
 
     /// Whether a frame's job may be given up: no step is left, or what the frame does next can't be done.
@@ -129,6 +145,7 @@ impl<P: Procedure, A: Allocator> Engine<P, A> {
 }
 
 /// Whether a frame has a child, where what it does next asks for that: only a frame with none computes.
+#[inline(always)]
 fn has_child_for<A: Allocator>(store: &Store<A>, name: FrameId, after: &Then) -> bool
     ensures { (words : ℕ) → is_bad_then_of words (has_child_in (frames_in store.now name.tenant) name.serial) after.now ≡ is_bad_then_of words result after.now }
 {
@@ -136,4 +153,38 @@ fn has_child_for<A: Allocator>(store: &Store<A>, name: FrameId, after: &Then) ->
         Then::Compute => store.has_child(name),
         Then::Grow(_) | Then::Spawn(_, _) | Then::Go | Then::Wait | Then::Return => false,
     }
+}
+
+/// Whether a frame that was looked up may do this act.
+#[inline(always)]
+pub(crate) fn may_do<A: Allocator>(
+    store: &Store<A>,
+    name: FrameId,
+    found: &Found<'_>,
+    act: &Act,
+) -> Result<(), Refusal>
+    ensures { (tenant : Tenant) (frame : Frame (List ℕ)) → IsSeen store.now name tenant frame found.now.seen → found.now.words ≡ words_under store.now name
+        → result ≡ unless (act_tests tenant frame act.now) tt }
+{
+    let has_child = has_child_for(store, name, &act.after);
+    may_act(&found.words, has_child, found.seen.left, act)
+}
+
+/// Whether a parent of these words may take a child in so, by this worker.
+#[inline(always)]
+pub(crate) fn may_take_in<A: Allocator>(
+    store: &Store<A>,
+    worker: Worker,
+    above: &Words,
+    act: &InletAct,
+) -> Result<(), Refusal>
+    ensures { result ≡ unless ((is_outside_of act.now.stores above.now, BadAct) ∷ (is_busy_among worker store.now.tenants, Busy) ∷ []) tt }
+{
+    if is_outside(act.stores.as_slice(), above) {
+        return Err(Refusal::BadAct);
+    }
+    if store.is_busy(worker) {
+        return Err(Refusal::Busy);
+    }
+    Ok(())
 }

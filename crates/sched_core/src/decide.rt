@@ -15,6 +15,7 @@ use tenant_quota::Left;
 pub const MOST_WORDS: usize = 128;
 
 /// The refusal of the first test that applies, if one does.
+#[inline(always)]
 pub fn first_of(tests: &[(bool, Refusal)]) -> Result<(), Refusal>
     ensures { result ≡ unless tests.now tt }
 {
@@ -34,6 +35,7 @@ pub fn is_frame_size(words: &[u64], size: usize) -> bool
 }
 
 /// Whether some store is at a place that the words haven't.
+#[inline(always)]
 pub fn is_outside(stores: &[(usize, u64)], words: &Words) -> bool
     ensures { result ≡ is_outside_of stores.now words.now }
 {
@@ -152,6 +154,7 @@ pub fn segments_for(words: usize, after: &Then) -> usize
 
 /// Whether a frame of these words, with a child or none (which is asked only of one that computes), may
 /// do this act with what its tenant has left.
+#[inline(always)]
 pub fn may_act(words: &Words, has_child: bool, left: Left, act: &Act) -> Result<(), Refusal>
     ensures { (tenant : Tenant) (frame : Frame (List ℕ)) → frame.value ≡ words.now
         → is_bad_then_of (length words.now) (has_child_of tenant.frames frame.serial) act.now.after ≡ is_bad_then_of (length words.now) has_child act.now.after → left_of tenant ≡ left

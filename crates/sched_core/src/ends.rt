@@ -25,7 +25,7 @@ impl<P: Procedure, A: Allocator> Engine<P, A> {
         let seen = look(&self.store, name)?;
         first_of(&[
             (
-                is_unfinished(seen.state, self.store.is_root(name)),
+                is_unfinished(seen.state, seen.parent.is_none()),
                 Refusal::NotReturned,
             ),
             (seen.left.steps == 0, Refusal::NoSteps),

@@ -3,7 +3,7 @@ ghost use Rattle.std.specs.Prelude.{◌≡◌, ℕ, List, Some, None, IsSome, If
 ghost use Rattle.frame_table.specs.Frames.{Frame};
 ghost use Rattle.sched_rules.specs.Trees.{Tenant};
 ghost use Rattle.sched_rules.specs.Views.{named};
-ghost use Rattle.sched_store.specs.Reads.{words_under, sight_of};
+ghost use Rattle.sched_store.specs.Reads.{words_under, sight_of, AreRising};
 ghost use Rattle.sched_core.specs.Seeing.{IsSeen, missing};
 
 use cactus_stack::{Sight, Words};
@@ -43,6 +43,7 @@ pub(crate) struct Found<'a> {
 }
 
 /// What is there of a frame, or why there is none: its tenant isn't there, or it isn't.
+#[inline(always)]
 pub(crate) fn look<A: Allocator>(store: &Store<A>, name: FrameId) -> Result<Seen, Refusal>
     ensures { MatchResult result
         (λ seen. (tenant : Tenant) × (frame : Frame (List ℕ)) × IsSeen store.now name tenant frame seen)
@@ -62,6 +63,7 @@ pub(crate) fn look<A: Allocator>(store: &Store<A>, name: FrameId) -> Result<Seen
 }
 
 /// The same with the frame's words and what it sees, by one look-up.
+#[inline(always)]
 pub(crate) fn look_in<A: Allocator>(store: &Store<A>, name: FrameId) -> Result<Found<'_>, Refusal>
     ensures frame { MatchResult result
         (λ found. (tenant : Tenant) × (frame : Frame (List ℕ)) × IsSeen store.now name tenant frame found.seen)
@@ -90,12 +92,27 @@ pub(crate) fn look_in<A: Allocator>(store: &Store<A>, name: FrameId) -> Result<F
 }
 
 /// The words of a frame that is there.
+#[inline(always)]
 pub(crate) fn own<A: Allocator>(store: &Store<A>, name: FrameId) -> Words<'_>
     requires { IsSome (named store.now name) }
     ensures { result ≡ words_under store.now name }
 {
     match store.words(name) {
         Some(words) => words,
+        None => unreachable!(),
+    }
+}
+
+/// What a frame that is there is doing, its words, and what it sees.
+#[inline(always)]
+pub(crate) fn known<A: Allocator>(store: &Store<A>, name: FrameId) -> Sighted<'_>
+    requires { IsSome (named store.now name) }
+    ensures state { (frame : Frame (List ℕ)) → named store.now name ≡ Some frame → result.state ≡ frame.state }
+    ensures words { result.words ≡ words_under store.now name }
+    ensures rising { AreRising store.now.tenants }
+{
+    match store.look_up(name) {
+        Some(sighted) => sighted,
         None => unreachable!(),
     }
 }

@@ -1,7 +1,7 @@
 //! Advance, Answer and Inlet, done: what a procedure makes of a frame is stored, and the frame goes on.
 ghost use Rattle.std.specs.Prelude.{◌≡◌, ◌||◌, ◌&&◌, not, ℕ, List, Some};
 ghost use Rattle.frame_table.specs.Frames.{Frame, frame_at};
-ghost use Rattle.sched_rules.specs.Trees.{Tenant, has_child as has_child_in};
+ghost use Rattle.sched_rules.specs.Trees.{Tenant, has_child as has_child_in, is_root as is_root_path};
 ghost use Rattle.sched_rules.specs.Lone.{does_wait, then_done, aborted_beside};
 ghost use Rattle.sched_rules.specs.Cores.{tenant_in};
 ghost use Rattle.sched_rules.specs.Changes.{on_tenant};
@@ -11,8 +11,9 @@ ghost use Rattle.sched_store.specs.Reads.{frames_in};
 ghost use Rattle.sched_core.specs.Seeing.{GoesOn, MayBeTakenIn};
 ghost use Rattle.sched_core.specs.Judging.{IsJudged, IsCome, staying_with};
 
+use crate::acts::{may_do, may_take_in};
 use crate::decide::is_waiting;
-use crate::engine::{Engine, own};
+use crate::engine::{Engine, known, own};
 use frame_table::{FrameId, State};
 use sched_rules::{Did, DidOf, InletAct, Procedure, Refusal, Then, Worker};
 use sched_store::Store;
@@ -42,16 +43,20 @@ impl<P: Procedure, A: Allocator> Engine<P, A> {
         ensures judged { IsJudged (P.functions self.old.procedure) self.old.store (AdvanceStep worker name) result self.new.store }
         ensures procedure { self.new.procedure ≡ self.old.procedure }
     {
-        let act = self.next_act(worker, name)?;
+        let found = self.running(worker, name)?;
+        let act = self.procedure.next(&found.sight);
+        may_do(&self.store, name, &found, &act)?;
+        let is_root = found.seen.parent.is_none();
         self.store.store_all(name, act.stores.as_slice());
         self.store.count_step(name.tenant);
-        Ok(self.go_on(worker, name, &act.after))
+        Ok(self.go_on(worker, name, is_root, &act.after))
     }
 
-    /// What comes after the stores of an act.
-    fn go_on(&mut self, worker: Worker, name: FrameId, after: &Then) -> Did<P>
+    /// What comes after the stores of an act, of a root or a child.
+    #[inline(always)]
+    fn go_on(&mut self, worker: Worker, name: FrameId, is_root: bool, after: &Then) -> Did<P>
         requires { (tenant : Tenant) × (frame : Frame (List ℕ)) × GoesOn self.old.store name worker after.now tenant frame }
-        ensures came { (tenant : Tenant) (frame : Frame (List ℕ)) → GoesOn self.old.store name worker after.now tenant frame
+        ensures came { (tenant : Tenant) (frame : Frame (List ℕ)) → GoesOn self.old.store name worker after.now tenant frame → is_root ≡ is_root_path frame.path
             → IsCome name.tenant (then_done (P.functions self.old.procedure) tenant worker name frame.path frame.value after.now) self.old.store result self.new.store }
         ensures procedure { self.new.procedure ≡ self.old.procedure }
     {
@@ -87,7 +92,6 @@ impl<P: Procedure, A: Allocator> Engine<P, A> {
                     self.store.let_go(worker, name, State::Waiting);
                     return DidOf::Waited;
                 }
-                let is_root = self.store.is_root(name);
                 self.store.let_go(worker, name, State::Returned);
                 DidOf::Returned(is_root)
             }
@@ -100,9 +104,13 @@ impl<P: Procedure, A: Allocator> Engine<P, A> {
         ensures judged { IsJudged (P.functions self.old.procedure) self.old.store (InletStep worker name) result self.new.store }
         ensures procedure { self.new.procedure ≡ self.old.procedure }
     {
-        let (parent, act) = self.inlet_act(worker, name)?;
+        let (found, parent) = self.returned(name)?;
+        let above = known(&self.store, parent);
+        let act = self.procedure.inlet(&above.words, &found.words);
+        may_take_in(&self.store, worker, &above.words, &act)?;
+        let was_waiting = is_waiting(above.state);
         let aborted = take_out(&mut self.store, name, parent, act.abort);
-        let is_woken = is_to_wake(&self.store, parent, &act);
+        let is_woken = is_to_wake(&self.store, parent, was_waiting, &act);
         self.store.store_all(parent, act.stores.as_slice());
         self.store.count_step(name.tenant);
         if !is_woken {
@@ -127,11 +135,13 @@ fn take_out<A: Allocator>(store: &mut Store<A>, child: FrameId, parent: FrameId,
 }
 
 /// Whether a frame waits, and an inlet wakes it: it says so, or no child is left.
-fn is_to_wake<A: Allocator>(store: &Store<A>, name: FrameId, act: &InletAct) -> bool
-    ensures { result ≡ (does_wait (frame_at (frames_in store.now name.tenant) name.serial) && (act.now.abort || act.now.wake || not (has_child_in (frames_in store.now name.tenant) name.serial))) }
+fn is_to_wake<A: Allocator>(
+    store: &Store<A>,
+    name: FrameId,
+    is_waiting: bool,
+    act: &InletAct,
+) -> bool
+    ensures { result ≡ (is_waiting && (act.now.abort || act.now.wake || not (has_child_in (frames_in store.now name.tenant) name.serial))) }
 {
-    match store.find(name) {
-        Some((_, state)) => is_waiting(state) && (act.abort || act.wake || !store.has_child(name)),
-        None => false,
-    }
+    is_waiting && (act.abort || act.wake || !store.has_child(name))
 }

@@ -43,9 +43,9 @@ impl<P: Procedure, A: Allocator> Engine<P, A> {
             }
             StepOf::Take(worker, name) => self.may_take(*worker, *name).err(),
             StepOf::Steal(worker, from, name) => self.may_steal(*worker, *from, *name).err(),
-            StepOf::Advance(worker, name) => self.next_act(*worker, *name).err(),
+            StepOf::Advance(worker, name) => self.may_advance(*worker, *name).err(),
             StepOf::Answer(worker, name, answer) => self.accepted(*worker, *name, answer).err(),
-            StepOf::Inlet(worker, name) => self.inlet_act(*worker, *name).err(),
+            StepOf::Inlet(worker, name) => self.may_inlet(*worker, *name).err(),
             StepOf::Finish(worker, name) => self.may_finish(*worker, *name).err(),
             StepOf::Spend(name) => self.may_spend(*name).err(),
             StepOf::Cancel(number, job) => self.live_root(*number, *job).err(),

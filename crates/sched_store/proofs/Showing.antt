@@ -1,5 +1,5 @@
 -- What a frame's words are, seen through its node.
-use Rattle.std.proofs.Common.{◌≡◌, ◌≢◌, ℕ, suc, ◌<◌, ◌≤◌, inl, inr, Bool, true, false, IsTrue, List, [], ◌∷◌, length, Option, Some, None, IsSome, refl, ap, sym, ◌∙◌, arith, option_map}
+use Rattle.std.proofs.Common.{◌≡◌, ◌≢◌, ℕ, suc, ◌<◌, ◌≤◌, inl, inr, Bool, true, false, IsTrue, List, [], ◌∷◌, length, Option, Some, None, IsSome, is_some, not, refl, ap, sym, ◌∙◌, arith, option_map}
 use Rattle.std.specs.Option.{is_none}
 use Rattle.std.proofs.Math.Dec.{ltb}
 use Rattle.std.proofs.lemmas.Bool.{ne_eqb, lt-ltb, le-ltb, false≢true}
@@ -69,6 +69,14 @@ root-shown parts stored name entry is =
     ap is_none parent ∙ nobody-above name.tenant (parent_of f.frame.path)
     ∙ root-by-length F f.frame (stored.forest name.tenant) (placed F name.serial f.frame (stored.forest name.tenant) f.there)
     ∙ sym (ap (λ (o : Option (Frame (List ℕ))). is_root (path_of o)) f.named)
+
+-- so it has one where it is no root
+pub child-or-root : (parts : Parts) → IsStored parts → (name : FrameId) (entry : Entry ℕ) → Some entry ≡ entry_of name.tenant (frame_in parts.trees name.tenant name.serial) → is_some entry.parent ≡ not (is_root (path_of (named (shared_of parts) name)))
+child-or-root parts stored name entry is = some-not-none entry.parent ∙ ap not (root-shown parts stored name entry is)
+  where
+    some-not-none : (parent : Option FrameId) → is_some parent ≡ not (is_none parent)
+    some-not-none None = refl
+    some-not-none (Some parent) = refl
 
 -- a frame has a child exactly where it has one in the table
 pub child-shown : (parts : Parts) → IsStored parts → (name : FrameId) (has : Bool) → (IsTrue has → 0 < length (children_of (frames_of parts.trees name.tenant) name.serial)) × (0 < length (children_of (frames_of parts.trees name.tenant) name.serial) → IsTrue has) →

@@ -1,6 +1,6 @@
 //! The calls that only read: the tests by which steps are decided, and what a core shows. Each is
 //! total or asks for a frame that is there; none takes memory.
-ghost use Rattle.std.specs.Prelude.{◌≡◌, ◌↔◌, ◌+◌, ◌≤◌, ◌^◌, ℕ, [], length, is_some, IfSome, IsSome, IsNone, Some, option_copied, option_map};
+ghost use Rattle.std.specs.Prelude.{◌≡◌, ◌↔◌, ◌+◌, ◌≤◌, ◌^◌, ℕ, [], length, not, is_some, IfSome, IsSome, IsNone, Some, option_copied, option_map};
 ghost use Rattle.frame_table.specs.declared.names.State.TheVariants.{Ready};
 ghost use Rattle.frame_table.specs.Frames.{root_of, IsTree};
 ghost use Rattle.sched_rules.specs.Trees.{is_held_by, has_child as has_child_in, is_root as is_root_path, job_under as number_under};
@@ -31,6 +31,7 @@ pub struct Sighted<'a> {
 
 impl<A: Allocator> Store<A> {
     /// Whether a tenant is there.
+    #[inline(always)]
     pub fn has_tenant(&self, number: u64) -> bool
         ensures there { result ≡ is_some (tenant_in self.now.tenants number) }
         ensures known { IsKnown self.now }
@@ -66,6 +67,7 @@ impl<A: Allocator> Store<A> {
     }
 
     /// What a tenant has left; `None` where it isn't there.
+    #[inline(always)]
     pub fn left(&self, tenant: u64) -> Option<Left>
         ensures left { result ≡ left_of self.now tenant }
 
@@ -86,8 +88,10 @@ impl<A: Allocator> Store<A> {
     }
 
     /// The parent and the state of a frame; `None` where it isn't there. A root has no parent.
+    #[inline(always)]
     pub fn find(&self, name: FrameId) -> Option<(Option<FrameId>, State)>
         ensures frame { result ≡ frame_of self.now name }
+        ensures root { IfSome result (λ found. is_some found.0 ≡ not (is_root_path (path_of (named self.now name)))) }
         ensures tree { IsTree (frames_in self.now name.tenant) }
     {
         match self.table.find(name) {
@@ -97,11 +101,14 @@ impl<A: Allocator> Store<A> {
     }
 
     /// A frame with its words and its sight, by one look-up; `None` where it isn't there.
+    #[inline(always)]
     pub fn look_up(&self, name: FrameId) -> Option<Sighted<'_>>
         ensures frame { option_map (λ found. (found.parent, found.state)) result ≡ frame_of self.now name }
+        ensures root { IfSome result (λ found. is_some found.parent ≡ not (is_root_path (path_of (named self.now name)))) }
         ensures words { IfSome result (λ found. found.words ≡ words_under self.now name) }
         ensures sight { IfSome result (λ found. found.sight ≡ sight_of self.now name) }
         ensures tree { IsTree (frames_in self.now name.tenant) }
+        ensures rising { AreRising self.now.tenants }
     {
         match self.table.find(name) {
             Some(entry) => Some(Sighted {
@@ -115,6 +122,7 @@ impl<A: Allocator> Store<A> {
     }
 
     /// The words of a frame; `None` where it isn't there.
+    #[inline(always)]
     pub fn words(&self, name: FrameId) -> Option<Words<'_>>
         ensures { result ≡ words_of_frame self.now name }
     {
@@ -125,6 +133,7 @@ impl<A: Allocator> Store<A> {
     }
 
     /// What a frame that is there sees: its own words, its parent's, and so on to its root's.
+    #[inline(always)]
     pub fn sight(&self, name: FrameId) -> Sight<'_>
         requires { IsSome (named self.now name) }
         ensures { result ≡ sight_of self.now name }
@@ -143,18 +152,8 @@ impl<A: Allocator> Store<A> {
         self.table.root(name)
     }
 
-    /// Whether a frame that is there is a root.
-    pub fn is_root(&self, name: FrameId) -> bool
-        requires { IsSome (named self.now name) }
-        ensures { result ≡ is_root_path (path_of (named self.now name)) }
-    {
-        match self.table.find(name) {
-            Some(entry) => entry.parent.is_none(),
-            None => unreachable!(),
-        }
-    }
-
     /// Whether a frame has a child, from a kept count.
+    #[inline(always)]
     pub fn has_child(&self, name: FrameId) -> bool
         ensures { result ≡ has_child_in (frames_in self.now name.tenant) name.serial }
     {
@@ -162,6 +161,7 @@ impl<A: Allocator> Store<A> {
     }
 
     /// Whether a worker runs or computes a frame of some tenant: one look at its place.
+    #[inline(always)]
     pub fn is_busy(&self, worker: Worker) -> bool
         ensures busy { result ≡ is_busy_among worker self.now.tenants }
         ensures rising { AreRising self.now.tenants }
@@ -232,6 +232,7 @@ impl<A: Allocator> Store<A> {
     }
 
     /// Whether this frame is there and held by this worker.
+    #[inline(always)]
     fn is_held_by(&self, name: FrameId, worker: Worker) -> bool
         ensures { result ≡ holds worker (named self.now name) }
     {

@@ -1,4 +1,6 @@
 use Rattle.std.proofs.Common.{◌≡◌, ◌+◌, length, [], refl, sym, arith}
+use Rattle.std.specs.List.{remove}
+use Rattle.std.proofs.lemmas.List.Edits.{length-remove}
 use Rattle.frame_table.proofs.Forest.{linked_rises}
 use Rattle.frame_table.proofs.Shelves.{slots_in-length, contains_read, slot_read}
 use Rattle.frame_table.proofs.Cutting.{HasTaken, taken_slots, taken_shelf}
@@ -7,37 +9,37 @@ use Rattle.frame_table.proofs.shelf.Shelf.take.Goals as goal
 pub remove-key-requires : goal.remove-key-requires
 remove-key-requires g c =
     let within = rw (← c.self.view_is) at c.requires.within in
-    let long = slots_in-length c.self.inside.slab [] c.self.inside.order.items c.self.invariant.here in
-    omega (arith, within, long, c.self.inside.order.ok.0)
+    let long = slots_in-length c.self.inside.slab [] c.self.inside.order.list c.self.invariant.here in
+    omega (arith, within, long)
 
 pub remove-requires : goal.remove-requires
 remove-requires g c =
-    let within = rw (← c.self.view_is, slots_in-length c.self.inside.slab [] c.self.inside.order.items c.self.invariant.here) at c.requires.within in
-    contains_read c.self.inside.slab c.self.inside.order.items c.args.at c.remove-key.result c.self.invariant.here within c.remove-key.ensures.value
+    let within = rw (← c.self.view_is, slots_in-length c.self.inside.slab [] c.self.inside.order.list c.self.invariant.here) at c.requires.within in
+    contains_read c.self.inside.slab c.self.inside.order.list c.args.at c.remove-key.result c.self.invariant.here within c.remove-key.ensures.value
 
 pub invariant_of-self : goal.invariant_of-self
 invariant_of-self g c =
     let slab = c.self.inside.slab in
-    let order = c.self.inside.order.items in
+    let order = c.self.inside.order.list in
     let within = rw (← c.self.view_is, slots_in-length slab [] order c.self.invariant.here) at c.requires.within in
     let linked = rw (← c.self.view_is) at c.requires.linked in
     let leaf = rw (← c.self.view_is) at c.requires.leaf in
     let taken : HasTaken slab c.remove.new.self order c.args.at c.remove-key.result c.remove.result = record { within = within; read = c.remove-key.ensures.value; was = c.remove.ensures.value; others = c.remove.ensures.updates.others } in
-    let long : length c.remove-key.new.self.items + 1 ≡ length order = omega (arith, c.remove-key.ensures.len, c.remove-key.new.self.ok.0, c.self.inside.order.ok.0) in
-    let shelf = taken_shelf slab c.remove.new.self order c.remove-key.new.self.items _ _ c.args.at c.remove-key.result c.remove.result taken c.self.invariant (linked_rises [] _ linked) leaf c.remove-key.ensures.items long c.remove.ensures.len c.remove.ensures.capacity in
-    rw c.remove-key.ensures.capacity shelf
+    let long : length (remove order c.args.at) + 1 ≡ length order = omega (arith, length-remove order c.args.at within) in
+    let shelf = taken_shelf slab c.remove.new.self order (remove order c.args.at) _ _ c.args.at c.remove-key.result c.remove.result taken c.self.invariant (linked_rises [] _ linked) leaf refl long c.remove.ensures.len c.remove.ensures.capacity in
+    rw c.remove-key.ensures.left shelf
 
 pub returns-clause-left : goal.returns-clause-left
 returns-clause-left g c =
     let slab = c.self.inside.slab in
-    let order = c.self.inside.order.items in
+    let order = c.self.inside.order.list in
     let within = rw (← c.self.view_is, slots_in-length slab [] order c.self.invariant.here) at c.requires.within in
     let linked = rw (← c.self.view_is) at c.requires.linked in
     let taken : HasTaken slab c.remove.new.self order c.args.at c.remove-key.result c.remove.result = record { within = within; read = c.remove-key.ensures.value; was = c.remove.ensures.value; others = c.remove.ensures.updates.others } in
     let slots = taken_slots slab c.remove.new.self order c.args.at c.remove-key.result c.remove.result taken c.self.invariant.here c.self.invariant.apart (linked_rises [] _ linked) in
-    rw (← c.self.view_is, c.remove-key.ensures.items, slots) refl
+    rw (← c.self.view_is, c.remove-key.ensures.left, slots) refl
 
 pub returns-clause-value : goal.returns-clause-value
 returns-clause-value g c =
-    let within = rw (← c.self.view_is, slots_in-length c.self.inside.slab [] c.self.inside.order.items c.self.invariant.here) at c.requires.within in
-    rw (← c.self.view_is) (sym (slot_read c.self.inside.slab c.self.inside.order.items c.args.at c.remove-key.result c.remove.result c.remove.result.slot c.self.invariant.here within c.remove-key.ensures.value c.remove.ensures.value))
+    let within = rw (← c.self.view_is, slots_in-length c.self.inside.slab [] c.self.inside.order.list c.self.invariant.here) at c.requires.within in
+    rw (← c.self.view_is) (sym (slot_read c.self.inside.slab c.self.inside.order.list c.args.at c.remove-key.result c.remove.result c.remove.result.slot c.self.invariant.here within c.remove-key.ensures.value c.remove.ensures.value))

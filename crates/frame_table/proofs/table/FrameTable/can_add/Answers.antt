@@ -1,7 +1,35 @@
 use Rattle.std.proofs.Common.{◌∙◌, sym, arith}
-use Rattle.std.proofs.lemmas.Bool.{lt-ltb, false≢true}
+use Rattle.std.proofs.lemmas.Bool.{lt-ltb, ltb-true, false≢true}
 use Rattle.frame_table.proofs.table.FrameTable.can_add.Goals as goal
 use Rattle.frame_table.proofs.table.FrameTable.can_add.Goals.{then-may_follow, else-may_follow}
+
+pub returns-then-len-places-clause-above : goal.returns-then-len-places-clause-above
+returns-then-len-places-clause-above g c =
+    let tree = rw c.as_slice.ensures.value at c.in-Some.ensures.found in
+    rw (← c.self.view_is, tree.frames) c.is_above.ensures.above
+
+pub returns-then-len-places-clause-parent : goal.returns-then-len-places-clause-parent
+returns-then-len-places-clause-parent g c =
+    let tree = rw c.as_slice.ensures.value at c.in-Some.ensures.found in
+    rw (← c.self.view_is, tree.frames) (λ _. elim c.if-may_follow.branch [
+      | then-may_follow w ↦ c.may_follow.ensures.parent w.if-may_follow.true
+      | else-may_follow w ↦ absurd (false≢true (sym w.if-may_follow.false ∙ sym w.value-is ∙ c.if-len-places.true))
+    ])
+
+pub returns-then-len-places-clause-room : goal.returns-then-len-places-clause-room
+returns-then-len-places-clause-room g c =
+    let tree = rw c.as_slice.ensures.value at c.in-Some.ensures.found in
+    rw (← c.self.view_is, tree.frames, tree.places) (λ _. elim c.if-may_follow.branch [
+      | then-may_follow w ↦ (
+          let less = ltb-true _ _ (sym w.value-is ∙ c.if-len-places.true) in
+          omega (arith, less, w.len.ensures, w.places.ensures))
+      | else-may_follow w ↦ absurd (false≢true (sym w.if-may_follow.false ∙ sym w.value-is ∙ c.if-len-places.true))
+    ])
+
+pub returns-then-len-places-clause-otherwise : goal.returns-then-len-places-clause-otherwise
+returns-then-len-places-clause-otherwise g c =
+    let tree = rw c.as_slice.ensures.value at c.in-Some.ensures.found in
+    rw (← c.self.view_is, tree.frames, tree.places) (λ above parent room. c.is_above.ensures.otherwise above)
 
 pub returns-else-len-places-clause-otherwise : goal.returns-else-len-places-clause-otherwise
 returns-else-len-places-clause-otherwise g c =

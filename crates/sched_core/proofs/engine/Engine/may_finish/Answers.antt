@@ -1,5 +1,5 @@
 use Rattle.std.proofs.lemmas.Result.{err_from_is_err_and}
-use Rattle.sched_core.proofs.Deciding.{passed-on, lost-finish, finish-decided}
+use Rattle.sched_core.proofs.Deciding.{passed-on, lost-finish, root-is, finish-decided}
 use Rattle.sched_core.proofs.engine.Engine.may_finish.Goals as goal
 
 pub returns-in_err-seen : goal.returns-in_err-seen
@@ -10,8 +10,9 @@ returns-in_err-seen g c =
 pub returns : goal.returns
 returns g c =
     let s = c.in_ok-seen.ensures in
+    let root = root-is c.is_none.result c.in_ok-seen.seen s.1.path c.is_none.ensures s.2.root in
     record {
       refusal =
-          rw (c.first_of.ensures, c.is_unfinished.ensures, c.is_root.ensures, c.is_busy.ensures.busy)
+          rw (c.first_of.ensures, c.is_unfinished.ensures, root, c.is_busy.ensures.busy)
           (finish-decided (g.P.Procedure.functions c.args.self.now.procedure) c.args.self.now.store c.args.worker c.args.name s.0 s.1 c.in_ok-seen.seen s.2 c.is_busy.ensures.rising);
     }

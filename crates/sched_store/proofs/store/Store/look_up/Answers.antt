@@ -1,10 +1,13 @@
-use Rattle.std.proofs.Common.{ap, ◌∙◌}
+use Rattle.std.proofs.Common.{not, ap, ◌∙◌}
 use Rattle.sched_rules.specs.Cores.{Shared}
+use Rattle.sched_rules.specs.Trees.{is_root}
+use Rattle.sched_rules.specs.Views.{named}
 use Rattle.sched_store.specs.Inside.{parts_of}
-use Rattle.sched_store.specs.Reads.{sight_of, words_under}
+use Rattle.sched_store.specs.Reads.{path_of, sight_of, words_under}
 use Rattle.sched_store.proofs.Frames.{frame-found, no-frame-found, tree-found}
+use Rattle.sched_store.proofs.Lookups.{rising-found}
 use Rattle.sched_store.proofs.Seeing.{sight-found, entry-open}
-use Rattle.sched_store.proofs.Showing.{own-words-shown}
+use Rattle.sched_store.proofs.Showing.{child-or-root, own-words-shown}
 use Rattle.sched_store.proofs.store.Store.look_up.Goals as goal
 
 pub own-requires : goal.own-requires
@@ -15,6 +18,11 @@ sight-requires g c = entry-open (parts_of c.self.inside) c.self.invariant c.args
 
 pub returns-in-Some-clause-frame : goal.returns-in-Some-clause-frame
 returns-in-Some-clause-frame g c = rw (← c.self.view_is) (frame-found (parts_of c.self.inside) c.self.invariant c.args.name c.in-Some.entry c.in-Some.ensures.entry)
+
+pub returns-in-Some-clause-root : goal.returns-in-Some-clause-root
+returns-in-Some-clause-root g c =
+    child-or-root (parts_of c.self.inside) c.self.invariant c.args.name c.in-Some.entry c.in-Some.ensures.entry
+    ∙ ap (λ (s : Shared). not (is_root (path_of (named s c.args.name)))) c.self.view_is
 
 pub returns-in-Some-clause-words : goal.returns-in-Some-clause-words
 returns-in-Some-clause-words g c =
@@ -34,3 +42,9 @@ returns-in-None-clause-frame g c = rw (← c.self.view_is) (no-frame-found (part
 
 pub returns-in-None-clause-tree : goal.returns-in-None-clause-tree
 returns-in-None-clause-tree g c = rw (← c.self.view_is) (tree-found (parts_of c.self.inside) c.self.invariant c.args.name.tenant)
+
+pub returns-in-Some-clause-rising : goal.returns-in-Some-clause-rising
+returns-in-Some-clause-rising g c = rw (← c.self.view_is) (rising-found (parts_of c.self.inside) c.self.invariant)
+
+pub returns-in-None-clause-rising : goal.returns-in-None-clause-rising
+returns-in-None-clause-rising g c = rw (← c.self.view_is) (rising-found (parts_of c.self.inside) c.self.invariant)

@@ -1,0 +1,8 @@
+use Rattle.std.proofs.Common.{sym, ◌∙◌}
+use Rattle.sched_core.proofs.Deciding.{seen-words, seen-child}
+use Rattle.sched_core.proofs.acts.may_do.Goals as goal
+
+pub returns : goal.returns
+returns g c tenant frame is words =
+    c.may_act.ensures tenant frame (seen-words c.args.store.now c.args.name tenant frame c.args.found.now.seen is ∙ sym words)
+    (rw (seen-child c.args.store.now c.args.name tenant frame c.args.found.now.seen is) (c.has_child_for-has_child.ensures _)) (sym is.left)
