@@ -33,10 +33,11 @@ use Rattle.jamboree_core.specs.Searching.{TenantSearches, ServesSearches, origin
 use Rattle.jamboree_core.specs.Outcomes.{IsOutcomeIn, AnswersTo}
 use Rattle.jamboree_core.specs.Journals.{IsJournalOf}
 use Rattle.jamboree_core.proofs.JournalLemmas.{journal-searches, journal-goes-on, journal-begins, others-stay}
+use Rattle.hall.specs.Entries.{serial_in}
 use Rattle.hall.specs.Journals.{JournalOf, journal_in, places_in, has_journal, place_in, with_step, without_journal, total_length, places_for, admitted_journal, journals_after, gone_by, goes_on, AreBegun}
 use Rattle.hall.specs.Halls.{HallOf, empty_hall, hall_after, Explains, IsExplained, IsHall, lets_go, KeepsEndedJobs}
 use Rattle.hall.proofs.Lists.{none-there, step-own, step-other, step-length, step-total, step-rising, step-upto, step-begun, without-own, without-other, without-length, without-total, without-rising, without-upto, without-begun, push-own, push-other, push-total, push-rising, push-upto, push-begun, total-within, found-at, at-read, at-removed}
-use Rattle.hall.proofs.Using.{step-used, journal-short, journal-shaped}
+use Rattle.hall.proofs.Using.{step-used, serial-given, journal-reserves, journal-short, journal-shaped}
 
 abbrev Step : Type 0
 Step = StepOf LeafAnswer
@@ -99,6 +100,17 @@ has-place grain journals number step next has begun is =
     let places : places_in journals number ≡ places_for b.quota = at.places ∙ b.places in
     omega (arith, short, one, long, places)
 
+-- a tenant with a journal reserves at most 65,536 nodes
+few-nodes : (grain : ℕ) (journals : List JournalOf) (number : ℕ) (tenant : Tenant) → has_journal number journals ≡ true → AreBegun journals → IsJournalOf (jamboree grain) (journal_in journals number) tenant → tenant.reserve.nodes ≤ 65536
+few-nodes grain journals number tenant has begun is =
+    let at = found-at number journals has begun in
+    let b = at.begun in
+    let P : List Step → Type 0 = λ js. IsJournalOf (jamboree grain) js tenant in
+    let own : IsJournalOf (jamboree grain) (Admit at.journal.tenant b.quota ∷ b.later) tenant = subst P (at.steps ∙ b.begins) is in
+    let nodes : tenant.reserve.nodes ≡ b.quota.nodes = ap (λ (q : Quota). q.nodes) (journal-reserves (jamboree grain) at.journal.tenant b.quota b.later tenant own) in
+    let limit = b.limit in
+    omega (arith, nodes, limit)
+
 -- a tenant that was there, and what it came to by a step
 record WentOn (grain : ℕ) (before after : Shared) (step : Step) : Type 0 where
   tenant : Tenant
@@ -149,6 +161,7 @@ newest-after grain before after step did known one =
 pub record GoesOn (hall : HallOf) (latest count : ℕ) (step : Step) (after : Shared) : Type 0 where
   pub has : has_journal (tenant_of step) hall.journals ≡ true
   pub place : length (journal_in hall.journals (tenant_of step)) < places_in hall.journals (tenant_of step)
+  pub serial : serial_in step < 2 ^ 32
   pub left : hall_after hall step after ≡ record hall { shared = after; journals = with_step (tenant_of step) step hall.journals }
   pub keeps : IsHall (record hall { shared = after; journals = with_step (tenant_of step) step hall.journals }) latest (count + 1)
 
@@ -164,6 +177,10 @@ goes-on hall latest count step did after keeps one goes search known =
     let on = journal-goes-on (jamboree hall.grain) hall.shared step did after (journal_in hall.journals n) went.tenant went.next explained.known one went.was went.is own in
     let place = has-place hall.grain hall.journals n step went.next has keeps.begun on in
     let journals = with_step n step hall.journals in
+    let shape = journal-shaped (jamboree hall.grain) (journal_in hall.journals n) went.tenant own in
+    let given = serial-given (jamboree hall.grain) went.tenant step (Some went.next, went.told) went.taken shape in
+    let opened = shape.opened in
+    let nodes = few-nodes hall.grain hall.journals n went.tenant has keeps.begun own in
     let same : after.newest ≡ hall.shared.newest = newest-after hall.grain hall.shared after step did explained.known one ∙ newest-stays hall.shared.newest step stays.2 in
     let begun = step-begun n step hall.journals place keeps.begun in
     let bounded : length journals * 2 ^ 21 + hall.gone ≤ latest * 2 ^ 21 = rw (step-length n step hall.journals) keeps.bounded in
@@ -173,6 +190,7 @@ goes-on hall latest count step did after keeps one goes search known =
     record {
       has = has;
       place = place;
+      serial = omega (arith, given, opened, nodes);
       left = ap (λ (js : List JournalOf). record { grain = hall.grain; shared = after; journals = js; gone = hall.gone + gone_by step hall.journals; kept = hall.kept }) stays.0
           ∙ ap (λ (k : ℕ). record { grain = hall.grain; shared = after; journals = journals; gone = k; kept = hall.kept }) (let none = stays.1 in omega (arith, none));
       keeps = record {

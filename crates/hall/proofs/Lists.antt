@@ -243,15 +243,16 @@ place-found n (j ∷ js) (suc i) d rising within own =
 
 -- what stands there
 pub record StandsAt (n : ℕ) (js : Js) (j : JournalOf) : Type 0 where
+  pub own : j.tenant ≡ n
   pub steps : journal_in js n ≡ j.steps
   pub places : places_in js n ≡ j.places
 
 pub place-read : (n : ℕ) (js : Js) (d : JournalOf) → has_journal n js ≡ true → StandsAt n js (get_or js (place_in n js) d)
 place-read n [] d has = absurd (false≢true has)
 place-read n (j ∷ js) d has = elim (cases_Bool (eqb j.tenant n)) [
-  | inl same ↦ rw same (record { steps = rw same refl; places = rw same refl })
+  | inl same ↦ rw same (record { own = eqb-true j.tenant n same; steps = rw same refl; places = rw same refl })
   | inr other ↦ (let rest = place-read n js d (rw other at has) in
-      rw other (record { steps = rw other rest.steps; places = rw other rest.places }))
+      rw other (record { own = rest.own; steps = rw other rest.steps; places = rw other rest.places }))
 ]
 
 pub place-written : (n : ℕ) (step : Step) (js : Js) (d : JournalOf) → has_journal n js ≡ true → set js (place_in n js) (longer step (get_or js (place_in n js) d)) ≡ with_step n step js

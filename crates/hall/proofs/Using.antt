@@ -1,9 +1,9 @@
 -- Each taken step of a tenant uses one of what it may do, so a journal stays within its places.
-use Rattle.std.proofs.Common.{◌≡◌, ℕ, ◌+◌, ◌*◌, ◌≤◌, inl, inr, Bool, false, true, not, ◌||◌, ◌&&◌, eqb, List, [], ◌∷◌, ◌++◌, length, Option, Some, None, Result, Ok, Err, refl, subst, ap, sym, ◌∙◌, arith, length-append}
+use Rattle.std.proofs.Common.{◌≡◌, ℕ, ◌+◌, ◌*◌, ◌<◌, ◌≤◌, inl, inr, Bool, false, true, not, ◌||◌, ◌&&◌, eqb, List, [], ◌∷◌, ◌++◌, length, Option, Some, None, Result, Ok, Err, refl, subst, ap, sym, ◌∙◌, arith, length-append}
 use Rattle.std.proofs.lemmas.Bool.{cases_Bool, eqb-true}
 use Rattle.tenant_quota.specs.Quota.{Quota}
 use Rattle.frame_table.specs.declared.names.FrameId.{FrameId}
-use Rattle.frame_table.specs.Frames.{Frame, frame_at, parent_of, root_of, path_in}
+use Rattle.frame_table.specs.Frames.{AllBelow, Frame, frame_at, parent_of, root_of, path_in}
 use Rattle.sched_rules.specs.declared.act.InletAct.{InletAct}
 use Rattle.sched_rules.specs.declared.act.Then.{Then}
 use Rattle.sched_rules.specs.declared.act.Then.TheVariants.{Grow, Spawn, Go, Wait, Compute, Return}
@@ -16,7 +16,7 @@ use Rattle.sched_rules.specs.declared.step.StepOf.TheVariants.{Admit, Submit, Ta
 use Rattle.sched_rules.specs.declared.step.DidOf.TheVariants.{Cancelled, Left}
 use Rattle.sched_rules.specs.Functions.{Functions}
 use Rattle.sched_rules.specs.Trees.{Tree, Tenant, admitted_with, words_in, has_child, is_root, job_at, with_ended}
-use Rattle.sched_rules.specs.Lone.{Outcome, unless, lone, lone_step, counted, holding, submit_tests, submitted, take_tests, steal_tests, taken_by, act_of, advance_tests, then_done, advanced, answer_tests, answered, inlet_tests, does_wait, staying, taken_in, inlet_under, finish_tests, finished, is_spendable, spent, cancelled, ended}
+use Rattle.sched_rules.specs.Lone.{Outcome, at_frame, unless, lone, lone_step, counted, holding, submit_tests, submitted, take_tests, steal_tests, taken_by, act_of, advance_tests, then_done, advanced, answer_tests, answered, inlet_tests, does_wait, staying, taken_in, inlet_under, finish_tests, finished, is_spendable, spent, cancelled, ended}
 use Rattle.sched_rules.specs.Runs.{state_after, alone_from}
 use Rattle.sched_laws.specs.Ended.{HasEnded}
 use Rattle.sched_laws.specs.Shapes.{IsShaped, AreRootsLive, live_count}
@@ -25,6 +25,7 @@ use Rattle.sched_laws.proofs.Answers.{lone-shaped}
 use Rattle.sched_laws.proofs.Parts.{length-with_ended}
 use Rattle.sched_laws.proofs.Consequences.{live-root, root-above}
 use Rattle.jamboree_core.specs.Journals.{StaysTaken, AreTakenFrom, IsJournalOf}
+use Rattle.hall.specs.Entries.{serial_in}
 use Rattle.hall.specs.Journals.{goes_on}
 use Rattle.hall.specs.Uses.{ended_count, uses}
 
@@ -158,6 +159,41 @@ step-used functions tenant (Cancel number job) outcome is shape = cancel-used te
 step-used {I} functions tenant (Leave number) outcome is shape =
     let e : ◌≡◌ {A = Result (Outcome I) Refusal} (Ok (None, Left)) (Ok outcome) = is in let own : ◌≡◌ {A = Outcome I} (None, Left) outcome = cc in came-used false tenant (None, Left) outcome own refl
 
+-- a frame's serial is below what all are below
+serial-below : (n : ℕ) (frames : Tree) (s : ℕ) (f : Frame (List ℕ)) → AllBelow n frames → frame_at frames s ≡ Some f → s < n
+serial-below n [] s f below at = absurd cc
+serial-below n (x ∷ xs) s f below at = elim (cases_Bool (eqb x.serial s)) [
+  | inl same ↦ (let first : x.serial < n = below.0 in let is = eqb-true x.serial s same in omega (arith, first, is))
+  | inr other ↦ serial-below n xs s f below.1 (rw other at at)
+]
+
+-- a step at a frame that was found is at a serial that was given
+frame-given : {X : Type 0} (tenant : Tenant) (s : ℕ) (step : Frame (List ℕ) → Result X Refusal) (outcome : X) → at_frame (frame_at tenant.frames s) step ≡ Ok outcome → IsShaped tenant → s ≤ tenant.serials
+frame-given tenant s step outcome is shape =
+    let f = frame-found tenant.frames s step outcome is in
+    let below = serial-below (tenant.serials + 1) tenant.frames s f.0 shape.given f.1 in omega (arith, below)
+
+-- a taken step names no serial that wasn't given
+pub serial-given : {I A : Type 0} (functions : Functions I A) (tenant : Tenant) (step : StepOf A) (outcome : Outcome I) → lone_step functions tenant step ≡ Ok outcome → IsShaped tenant → serial_in step ≤ tenant.serials
+serial-given functions tenant (Admit number quota) outcome is shape = omega arith
+serial-given functions tenant (Submit number words size) outcome is shape = omega arith
+serial-given functions tenant (Take worker name) outcome is shape =
+    frame-given tenant name.serial (λ frame. unless (take_tests tenant worker frame) (taken_by tenant worker frame)) outcome is shape
+serial-given functions tenant (Steal worker from name) outcome is shape =
+    frame-given tenant name.serial (λ frame. unless (steal_tests tenant worker from frame) (taken_by tenant worker frame)) outcome is shape
+serial-given functions tenant (Advance worker name) outcome is shape =
+    frame-given tenant name.serial (λ frame. unless (advance_tests tenant worker frame (act_of functions tenant frame)) (advanced functions tenant worker name frame (act_of functions tenant frame))) outcome is shape
+serial-given functions tenant (Answer worker name answer) outcome is shape =
+    frame-given tenant name.serial (λ frame. unless (answer_tests functions tenant worker frame answer) (answered functions tenant worker frame answer)) outcome is shape
+serial-given functions tenant (Inlet worker name) outcome is shape =
+    frame-given tenant name.serial (λ frame. inlet_under functions tenant worker name frame (parent_of frame.path)) outcome is shape
+serial-given functions tenant (Finish worker name) outcome is shape =
+    frame-given tenant name.serial (λ frame. unless (finish_tests tenant worker frame) (finished tenant frame)) outcome is shape
+serial-given functions tenant (Spend name) outcome is shape =
+    frame-given tenant name.serial (λ frame. unless ((not (is_spendable functions tenant frame), NotSpent) ∷ []) (spent tenant frame)) outcome is shape
+serial-given functions tenant (Cancel number job) outcome is shape = omega arith
+serial-given functions tenant (Leave number) outcome is shape = omega arith
+
 -- no more jobs have ended than there are
 ended-few : (jobs : List Job) → ended_count jobs ≤ length jobs
 ended-few [] = omega arith
@@ -191,6 +227,10 @@ used-from {I} {A} functions before tenant (step ∷ steps) taken comes shape =
         let rest = later next on to (step-shaped functions before step (Some next, did) is shape) in
         let more = rest.used in
         record { used = omega (arith, one, more); same = rest.same ∙ used.1; shape = rest.shape }
+
+-- what a tenant reserves is what its journal admitted it with
+pub journal-reserves : {I A : Type 0} (functions : Functions I A) (number : ℕ) (quota : Quota) (later : List (StepOf A)) (tenant : Tenant) → IsJournalOf functions (Admit number quota ∷ later) tenant → tenant.reserve ≡ quota
+journal-reserves functions number quota later tenant is = (used-from functions (admitted_with quota) tenant later is.taken.1 is.comes (admitted-shaped quota)).same
 
 -- a journal is no longer than this
 pub journal-short : {I A : Type 0} (functions : Functions I A) (number : ℕ) (quota : Quota) (later : List (StepOf A)) (tenant : Tenant) → IsJournalOf functions (Admit number quota ∷ later) tenant →

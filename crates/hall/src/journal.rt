@@ -1,6 +1,8 @@
 //! The journal of one tenant, and where it stands among all.
-ghost use Rattle.std.specs.Prelude.{◌≡◌, ◌++◌, ◌∷◌, ◌<◌, ◌≤◌, [], true, length, IfOk};
+ghost use Rattle.std.specs.Prelude.{◌≡◌, ◌++◌, ◌∷◌, ◌<◌, ◌≤◌, ◌^◌, [], true, length, IfOk};
 ghost use Rattle.jamboree_laws.specs.Replies.{IsSearch};
+ghost use Rattle.sched_rules.specs.Runs.{tenant_of};
+ghost use Rattle.hall.specs.Entries.{serial_in};
 ghost use Rattle.hall.specs.Journals.{admitted_journal, goes_on, has_journal, journal_in, place_in, places_in, with_step, AreRising};
 
 use crate::entry::Entry;
@@ -25,12 +27,13 @@ pub(crate) struct Journal<A: Allocator = Global> {
 
 // Clauses see the tenant's number, the number of places, and the steps.
 impl<A: Allocator> Model for Journal<A> {
-    ghost use Rattle.std.specs.Prelude.{◌≤◌, vec_capacity};
+    ghost use Rattle.std.specs.Prelude.{◌≤◌, map, vec_capacity};
+    ghost use Rattle.hall.specs.Entries.{step_in};
     ghost use Rattle.hall.specs.Journals.{JournalOf};
 
     ghost Value = { JournalOf };
 
-    ghost view = { λ j. record { tenant = j.tenant; places = j.places; steps = j.entries.items } };
+    ghost view = { λ j. record { tenant = j.tenant; places = j.places; steps = map (step_in j.tenant) j.entries.items } };
 
     ghost invariant = { λ j. j.places ≤ vec_capacity j.entries };
 }
@@ -43,7 +46,7 @@ impl<A: Allocator> Journal<A> {
     {
         let places = 16 * reserve.nodes() as usize + BESIDE_NODES;
         let mut entries = Vec::with_capacity(alloc, places)?;
-        entries.push_reserved(Entry::admitted(tenant, reserve));
+        entries.push_reserved(Entry::Admitted(reserve));
         Ok(Journal {
             tenant,
             places,
@@ -65,8 +68,10 @@ impl<A: Allocator> Journal<A> {
         self.entries.len()
     }
 
-    /// Adds a step, in a place that is there.
+    /// Adds a step of its tenant, in a place that is there.
     pub(crate) fn write(&mut self, step: &Step<Jamboree>)
+        requires own { tenant_of step.now ≡ self.old.tenant }
+        requires serial { serial_in step.now < 2 ^ 32 }
         requires place { length self.old.steps < self.old.places }
         requires goes_on { goes_on step.now ≡ true }
         requires search { IsSearch step.now }
@@ -120,6 +125,8 @@ pub(crate) fn write<A: Allocator>(
     step: &Step<Jamboree>,
 )
     requires rising { AreRising journals.old.items }
+    requires own { tenant_of step.now ≡ tenant }
+    requires serial { serial_in step.now < 2 ^ 32 }
     requires there { has_journal tenant journals.old.items ≡ true }
     requires place { length (journal_in journals.old.items tenant) < places_in journals.old.items tenant }
     requires goes_on { goes_on step.now ≡ true }

@@ -18,10 +18,10 @@ fn opening() -> Result<Position, Fail> {
     })
 }
 
-/// An entry of a journal takes at most 64 bytes.
+/// An entry of a journal takes at most 48 bytes.
 #[test]
 fn entries_are_small(rt: HostRuntime) {
-    assert!(rt; size_of::<Entry>() <= 64);
+    assert!(rt; size_of::<Entry>() <= 48);
 }
 
 /// The five steps of a worker that compute and finish the job under this root.

@@ -1,4 +1,4 @@
-use Rattle.std.proofs.Common.{length, ap, arith}
+use Rattle.std.proofs.Common.{length, ap, sym, ◌∙◌, arith}
 use Rattle.hall.proofs.Lists.{at-within, at-read, at-written}
 use Rattle.hall.proofs.journal.write.Goals as goal
 
@@ -12,6 +12,11 @@ pub write-requires-clause-place : goal.write-requires-clause-place
 write-requires-clause-place g c =
     let stands = at-read c.args.tenant c.args.journals.now.items _ c.place_of-at.result c.index_mut-journal.result.now c.requires.there c.as_slice.ensures.value c.place_of-at.ensures c.index_mut-journal.ensures.value in
     rw (ap length stands.steps, stands.places) at c.requires.place
+
+pub write-requires-clause-own : goal.write-requires-clause-own
+write-requires-clause-own g c =
+    let stands = at-read c.args.tenant c.args.journals.now.items _ c.place_of-at.result c.index_mut-journal.result.now c.requires.there c.as_slice.ensures.value c.place_of-at.ensures c.index_mut-journal.ensures.value in
+    c.requires.own ∙ sym stands.own
 
 pub returns : goal.returns
 returns g c =

@@ -12,6 +12,11 @@ write-requires-clause-place g c =
     let on = goes-on _ _ _ c.args.step.now c.in-Ok.did c.step.new.self.shared c.self.invariant (rw c.in-Ok.is at c.step.ensures.one) c.requires.goes_on c.requires.search c.step.ensures.known in
     rw (← c.requires.own) on.place
 
+pub write-requires-clause-serial : goal.write-requires-clause-serial
+write-requires-clause-serial g c =
+    let on = goes-on _ _ _ c.args.step.now c.in-Ok.did c.step.new.self.shared c.self.invariant (rw c.in-Ok.is at c.step.ensures.one) c.requires.goes_on c.requires.search c.step.ensures.known in
+    on.serial
+
 pub invariant_of-self : goal.invariant_of-self
 invariant_of-self g c =
     let on = goes-on _ _ _ c.args.step.now c.in-Ok.did c.step.new.self.shared c.self.invariant (rw c.in-Ok.is at c.step.ensures.one) c.requires.goes_on c.requires.search c.step.ensures.known in
