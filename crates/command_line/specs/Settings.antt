@@ -1,5 +1,5 @@
 -- The options of the commands that have a number for their value.
-use Rattle.std.specs.Prelude.{ℕ, Bool, ◌&&◌, Option, Some, None, List, if◌then◌else◌, nat_le, option_and_then}
+use Rattle.std.specs.Prelude.{ℕ, Bool, ◌&&◌, ◌++◌, Option, Some, None, List, if◌then◌else◌, codes, decimal, nat_le, option_and_then}
 use Rattle.std.specs.Option.{option_map_or}
 use Rattle.clap.specs.Words.{Row, Rule, Text, first_of, new_rule}
 use Rattle.line_words.specs.Words.{number_of}
@@ -27,6 +27,10 @@ number_asked option rows = option_map_or number_of (first_of option.name rows) o
 -- the same, where it is within the limits
 abbrev pub value_asked : NumberOption → List Row → Option ℕ
 value_asked option rows = option_and_then (within option) (number_asked option rows)
+
+-- what is said of a value outside its limits
+abbrev pub limits_text : NumberOption → Text
+limits_text option = codes "--" ++ (option.name ++ (codes " takes a number from " ++ (decimal option.least ++ (codes " to " ++ decimal option.most))))
 
 -- what `clap` knows of such an option: its word, and that it has a value
 abbrev pub number_rule : Text → Bool → Rule

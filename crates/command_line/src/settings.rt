@@ -1,5 +1,5 @@
 //! The options of the commands that have a number for their value, and their limits.
-ghost use Rattle.std.specs.Prelude.{◌≡◌, ◌≤◌, IfOk, OnErr};
+ghost use Rattle.std.specs.Prelude.{◌≡◌, ◌≤◌, IfErr, IfOk, OnErr};
 ghost use Rattle.clap.specs.Words.{found_of, rows_of};
 
 use clap::ArgMatches;
@@ -21,6 +21,11 @@ pub(crate) struct Setting {
 
 /// What is said of a value outside its limits.
 impl Display for Setting {
+    ghost use Rattle.std.specs.Prelude.{Some};
+    ghost use Rattle.command_line.specs.Settings.{limits_text, setting_of};
+
+    ghost output = { λ setting. Some (limits_text (setting_of setting)) };
+
     fn fmt<W: fmt::Write>(&self, f: &mut fmt::Formatter<W>) -> fmt::Result {
         write!(
             f,
@@ -47,6 +52,7 @@ impl Setting {
     pub fn value_in(&self, given: &ArgMatches<'_>) -> Result<u32, Missing>
         ensures value { IfOk result (λ n. value_asked (setting_of self.now) (rows_of (found_of given.now)) ≡ Some n) }
         ensures none { OnErr result (value_asked (setting_of self.now) (rows_of (found_of given.now)) ≡ None) }
+        ensures fault { IfErr result (λ missing. missing ≡ Missing.Value self.now) }
         ensures least { IfOk result (λ n. self.now.least ≤ n) }
         ensures most { IfOk result (λ n. n ≤ self.now.most) }
     {

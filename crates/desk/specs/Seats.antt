@@ -1,7 +1,7 @@
 -- What contracts see of a seat, and what is shown of its jobs.
-use Rattle.std.specs.Prelude.{◌≡◌, ℕ, ◌+◌, ◌-◌, ◌==◌, List, [], ◌∷◌, ◌++◌, Option, Some, None, Result, Ok, Err, if◌then◌else◌}
+use Rattle.std.specs.Prelude.{◌≡◌, ◌≢◌, ℕ, ◌+◌, ◌-◌, ◌==◌, List, [], ◌∷◌, ◌++◌, length, Option, Some, None, Result, Ok, Err, if◌then◌else◌}
 use Rattle.sched_rules.specs.declared.refusal.Refusal.{Refusal}
-use Rattle.sched_rules.specs.declared.refusal.Refusal.TheVariants.{NoJob}
+use Rattle.sched_rules.specs.declared.refusal.Refusal.TheVariants.{NoTenant, NoSegments, NoNodes, NoJobsLeft, Full, NoJob, OldTenant, OutOfMemory}
 use Rattle.jamboree.specs.Replies.{board_of, depth_of}
 use Rattle.jamboree_core.specs.declared.outcomes.Outcome.{Outcome}
 use Rattle.jamboree_core.specs.declared.outcomes.Outcome.TheVariants.{Pending, Done, Spent, Cancelled}
@@ -20,6 +20,24 @@ stepped seat = record { tenant = seat.tenant; share = seat.share + 1; asked = se
 -- the seat after it asked this
 abbrev pub with_asked : Asked → SeatOf → SeatOf
 with_asked asked seat = record { tenant = seat.tenant; share = seat.share + 1; asked = seat.asked ++ asked ∷ [] }
+
+-- as what an admission can be refused: 64 tenants are there or too little is left, all 2^62 numbers were given, no memory
+abbrev pub admit_refusals : List Refusal
+admit_refusals = Full ∷ OldTenant ∷ OutOfMemory ∷ []
+
+-- as what an ask can be refused
+abbrev pub ask_refusals : List Refusal
+ask_refusals = NoTenant ∷ NoJobsLeft ∷ NoNodes ∷ NoSegments ∷ []
+
+-- as what a cancel can be refused
+abbrev pub cancel_refusals : List Refusal
+cancel_refusals = NoTenant ∷ NoJob ∷ []
+
+-- how a seat's ask is answered: it stands in the list then, whose new length is the number of the job; or the seat is as it was, and the
+-- refusal is NoJobsLeft where the list is full
+abbrev pub IsAsked : Asked → SeatOf → Result ℕ Refusal → SeatOf → Type 0
+IsAsked asked before (Ok job) after = (after ≡ with_asked asked before) × (job ≡ length after.asked) × (length before.asked ≢ 256)
+IsAsked asked before (Err refusal) after = (after ≡ before) × (length before.asked ≡ 256 → refusal ≡ NoJobsLeft)
 
 -- what was asked by the job of this number, from 1 on; nothing where the number is 0 or over the length
 abbrev pub asked_at : List Asked → ℕ → Option Asked

@@ -1,9 +1,9 @@
 //! The desk.
-ghost use Rattle.std.specs.Prelude.{◌≡◌, ◌≢◌, ◌+◌, ◌≤◌, [], true, length, Err, Some, None, IfOk, IfSome, MatchResult};
-ghost use Rattle.sched_rules.specs.declared.refusal.Refusal.TheVariants.{NoJob, NoJobsLeft, OutOfMemory};
+ghost use Rattle.std.specs.Prelude.{◌≡◌, ◌≢◌, ◌+◌, ◌≤◌, [], true, Err, Some, None, Contains, IfErr, IfOk, IfSome, MatchResult};
+ghost use Rattle.sched_rules.specs.declared.refusal.Refusal.TheVariants.{NoJob, NoTenant, OutOfMemory};
 ghost use Rattle.hall.specs.Journals.{is_worker_step};
 ghost use Rattle.hall.specs.Halls.{count_of};
-ghost use Rattle.desk.specs.Seats.{stepped, with_asked, asked_at, IsShown};
+ghost use Rattle.desk.specs.Seats.{admit_refusals, ask_refusals, cancel_refusals, stepped, asked_at, IsAsked, IsShown};
 
 use crate::kept::{Ends, Kept};
 use crate::seat::Seat;
@@ -36,16 +36,18 @@ impl<L: Hands> Desk<L> {
         }
     }
 
-    /// Admits a tenant under the number after the greatest so far: its seat, whose share is 1.
+    /// Admits a tenant under the number after the greatest so far: its seat, whose share is 1. Refused at most as
+    /// `Full`, `OutOfMemory`, and `OldTenant` after 2^62 tenants.
     pub fn admit<R: Wait>(&self, rt: &R, reserve: Reserve) -> Result<Seat<L>, Refusal>
-        ensures { IfOk result (λ seat. (seat.share ≡ 1) × (seat.asked ≡ [])) }
+        ensures seat { IfOk result (λ seat. (seat.share ≡ 1) × (seat.asked ≡ [])) }
+        ensures refused { IfErr result (Contains admit_refusals) }
     {
         self.lock.lock(rt).admit(reserve)
     }
 
     /// Asks for the value of a position to a depth of 0 to 12 plies: the number of the job, which is
-    /// the new length of the seat's list. Refused as `NoJobsLeft` where the list is full, and else as
-    /// the core refuses a Submit; then seat and hall are as they were.
+    /// the new length of the seat's list. Refused as `NoJobsLeft` where the list is full, and else at most as
+    /// `NoNodes`, `NoSegments` and `NoTenant`; then seat and hall are as they were.
     pub fn ask<R: Wait>(
         &self,
         rt: &R,
@@ -54,11 +56,8 @@ impl<L: Hands> Desk<L> {
         depth: u8,
     ) -> Result<u64, Refusal>
         requires { depth ≤ 12 }
-        ensures asked { MatchResult result
-            (λ job. (seat.new ≡ with_asked (record { board = position.now.board; depth = depth }) seat.old) × (job ≡ length seat.new.asked))
-            (λ _. seat.new ≡ seat.old) }
-        ensures full { length seat.old.asked ≡ 256 → result ≡ Err NoJobsLeft }
-        ensures memory { result ≢ Err OutOfMemory }
+        ensures asked { IsAsked (record { board = position.now.board; depth = depth }) seat.old result seat.new }
+        ensures refused { IfErr result (Contains ask_refusals) }
     {
         let job = self.lock.lock(rt).ask(seat, position, depth)?;
         self.ready.notify_one();
@@ -87,27 +86,27 @@ impl<L: Hands> Desk<L> {
     }
 
     /// Cancels a job. Refused as `NoJob` where its number is 0 or over the length of the seat's list,
-    /// or it has ended.
+    /// or it has ended, and else at most as `NoTenant`.
     pub fn cancel<R: Wait>(&self, rt: &R, seat: &mut Seat<L>, job: u64) -> Result<(), Refusal>
         ensures share { MatchResult result (λ _. seat.new ≡ stepped seat.old) (λ _. seat.new ≡ seat.old) }
         ensures none { asked_at seat.old.asked job ≡ None → result ≡ Err NoJob }
-        ensures memory { result ≢ Err OutOfMemory }
+        ensures refused { IfErr result (Contains cancel_refusals) }
     {
         self.lock.lock(rt).cancel(seat, job)?;
         self.ended.notify_all();
         Ok(())
     }
 
-    /// What the seat's tenant has left.
+    /// What the seat's tenant has left. Refused at most as `NoTenant`.
     pub fn quota<R: Wait>(&self, rt: &R, seat: &Seat<L>) -> Result<Left, Refusal>
-        ensures { result ≢ Err OutOfMemory }
+        ensures { IfErr result (λ refusal. refusal ≡ NoTenant) }
     {
         self.lock.lock(rt).quota(seat.tenant())
     }
 
-    /// How many frames the seat's tenant has, and how many words they have.
+    /// How many frames the seat's tenant has, and how many words they have. Refused at most as `NoTenant`.
     pub fn live<R: Wait>(&self, rt: &R, seat: &Seat<L>) -> Result<(usize, usize), Refusal>
-        ensures { result ≢ Err OutOfMemory }
+        ensures { IfErr result (λ refusal. refusal ≡ NoTenant) }
     {
         self.lock.lock(rt).live(seat.tenant())
     }

@@ -1,6 +1,6 @@
 //! What lies under the lock: the hall, and the book of the shares.
-ghost use Rattle.std.specs.Prelude.{◌≡◌, ◌≢◌, ◌+◌, ◌^◌, ◌<◌, ◌≤◌, ◌↔◌, [], true, false, length, Ok, Err, Some, None, IfOk, IfSome, IsNone, Option, MatchResult, option_copied};
-ghost use Rattle.sched_rules.specs.declared.refusal.Refusal.TheVariants.{NoJob, NoJobsLeft, OutOfMemory};
+ghost use Rattle.std.specs.Prelude.{◌≡◌, ◌≢◌, ◌+◌, ◌^◌, ◌<◌, ◌≤◌, ◌↔◌, [], true, false, length, Ok, Err, Some, None, Contains, IfErr, IfOk, IfSome, IsNone, Option, MatchResult, option_copied};
+ghost use Rattle.sched_rules.specs.declared.refusal.Refusal.TheVariants.{NoJob, OutOfMemory};
 ghost use Rattle.sched_rules.specs.declared.step.StepOf.TheVariants.{Admit, Submit, Cancel, Leave};
 ghost use Rattle.sched_rules.specs.declared.step.DidOf.{DidOf};
 ghost use Rattle.jamboree_rules.specs.declared.leaf.Leaf.{Leaf as LeafOf};
@@ -12,7 +12,7 @@ ghost use Rattle.sched_rules.specs.Views.{left_of, live_of, job_of};
 ghost use Rattle.jamboree_laws.specs.Replies.{IsSearch};
 ghost use Rattle.jamboree_core.specs.declared.outcomes.Outcome.{Outcome as OutcomeOf};
 ghost use Rattle.jamboree_core.specs.Outcomes.{IsOutcomeIn};
-ghost use Rattle.desk.specs.Seats.{stepped, with_asked, asked_at, Shows, IsShown, IsShownOf, IsToldBy};
+ghost use Rattle.desk.specs.Seats.{admit_refusals, ask_refusals, cancel_refusals, stepped, asked_at, IsAsked, Shows, IsShown, IsShownOf, IsToldBy};
 ghost use Rattle.desk.specs.Counts.{IsOffered, IsLeft, with_kept, found_or_no_tenant};
 
 use crate::seat::{Asked, JOBS, Seat};
@@ -129,6 +129,7 @@ impl<L: Hands> Kept<L> {
         ensures step { MatchResult result
             (λ _. (did : DidOf LeafOf) × IsOffered self.old.hall (Admit (self.old.hall.shared.newest + 1) reserve) (Ok did) self.new.hall)
             (λ refusal. IsOffered self.old.hall (Admit (self.old.hall.shared.newest + 1) reserve) (Err refusal) self.new.hall) }
+        ensures refused { IfErr result (Contains admit_refusals) }
         ensures closed { self.new.closed ≡ self.old.closed }
     {
         let Kept {
@@ -163,15 +164,13 @@ impl<L: Hands> Kept<L> {
         depth: u8,
     ) -> Result<u64, Refusal>
         requires { depth ≤ 12 }
-        ensures asked { MatchResult result
-            (λ job. (seat.new ≡ with_asked (record { board = position.now.board; depth = depth }) seat.old) × (job ≡ length seat.new.asked))
-            (λ _. seat.new ≡ seat.old) }
-        ensures full { length seat.old.asked ≡ 256 → (result ≡ Err NoJobsLeft) × (self.new ≡ self.old) }
+        ensures asked { IsAsked (record { board = position.now.board; depth = depth }) seat.old result seat.new }
+        ensures refused { IfErr result (Contains ask_refusals) }
+        ensures full { length seat.old.asked ≡ 256 → self.new ≡ self.old }
         ensures step { MatchResult result
             (λ _. (did : DidOf LeafOf) × IsOffered self.old.hall (Submit seat.old.tenant (root_words position.now.board.own position.now.board.opp depth) frame_size) (Ok did) self.new.hall)
             (λ refusal. length seat.old.asked ≢ 256 → IsOffered self.old.hall (Submit seat.old.tenant (root_words position.now.board.own position.now.board.opp depth) frame_size) (Err refusal) self.new.hall) }
         ensures closed { self.new.closed ≡ self.old.closed }
-        ensures memory { result ≢ Err OutOfMemory }
     {
         if seat.asked.len() == JOBS {
             return Err(Refusal::NoJobsLeft);
@@ -194,7 +193,7 @@ impl<L: Hands> Kept<L> {
             (λ _. (did : DidOf LeafOf) × IsOffered self.old.hall (Cancel seat.old.tenant job) (Ok did) self.new.hall)
             (λ refusal. asked_at seat.old.asked job ≢ None → IsOffered self.old.hall (Cancel seat.old.tenant job) (Err refusal) self.new.hall) }
         ensures closed { self.new.closed ≡ self.old.closed }
-        ensures memory { result ≢ Err OutOfMemory }
+        ensures refused { IfErr result (Contains cancel_refusals) }
     {
         if asked_at(seat.asked.as_slice(), job).is_none() {
             return Err(Refusal::NoJob);

@@ -1,19 +1,25 @@
 -- What a seat shows of its jobs, as a session has it.
-use Rattle.std.proofs.Common.{◌≡◌, ℕ, ◌-◌, List, [], ◌∷◌, map, true, false, Option, Some, None, refl, sym, subst, ap, ap₂, ◌∙◌, Ok}
-use Rattle.std.specs.Prelude.{◌==◌, if◌then◌else◌}
+use Rattle.std.proofs.Common.{◌≡◌, ℕ, ◌-◌, ◌<◌, List, [], ◌∷◌, map, true, false, Option, Some, None, refl, sym, subst, ap, ap₂, ◌∙◌, Result, Ok, Err}
+use Rattle.std.specs.Prelude.{◌==◌, if◌then◌else◌, Contains, IfErr, MatchResult}
 use Rattle.std.specs.Option.{option_map}
+use Rattle.std.proofs.Math.ListN.{get_or-map}
+use Rattle.std.proofs.lemmas.List.{length-map}
 use Rattle.othello_board.specs.Words.{cells, cells_of}
 use Rattle.othello_eval.specs.Minimax.{minimax, best_choice}
 use Rattle.jamboree.specs.declared.reply.Reply.{Reply}
 use Rattle.jamboree.specs.Replies.{board_of, depth_of}
 use Rattle.jamboree_core.specs.declared.outcomes.Outcome.{Outcome}
 use Rattle.jamboree_core.specs.declared.outcomes.Outcome.TheVariants.{Pending, Done, Spent, Cancelled}
-use Rattle.session.specs.Asks.{asked_at, IsFound, ShowsFound}
+use Rattle.sched_rules.specs.declared.refusal.Refusal.{Refusal}
+use Rattle.sched_rules.specs.declared.refusal.Refusal.TheVariants.{NoJob}
+use Rattle.sched_rules.specs.Refusals.{number_of}
+use Rattle.session.specs.Calls.{Call, Cancel, Ended, Told as ToldOf, Refused, reply_of}
+use Rattle.session.specs.Asks.{Asked as SessionAsked, asked_at, asks_after, IsFound, IsToldOf, KeepsAsks, SaysTrue, ShowsFound}
 use Rattle.session.specs.declared.outcome.Finding.{Finding}
 use Rattle.session.specs.declared.outcome.Outcome.{Outcome as Told}
 use Rattle.desk.specs.declared.seat.Asked.{Asked}
-use Rattle.desk.specs.Seats.{SeatOf, IsShown, asked_at as seat_asked_at}
-use Rattle.desk_office.specs.Offices.{ask_of, asks_of, told}
+use Rattle.desk.specs.Seats.{SeatOf, cancel_refusals, stepped, IsShown, asked_at as seat_asked_at}
+use Rattle.desk_office.specs.Offices.{ask_of, asks_of, told, told_answer}
 
 -- what was asked under a number
 asked_at-map : (asks : List Asked) (job : ℕ) → asked_at (map ask_of asks) job ≡ option_map ask_of (seat_asked_at asks job)
@@ -43,7 +49,52 @@ shown_found asks job (Done reply) h = found asks job reply (seat_asked_at asks j
 shown_found asks job Spent h = tt
 shown_found asks job Cancelled h = tt
 
+-- how a job stands is told where something was asked under its number, and else refused
+told_of : (job : ℕ) (o : Option Asked) (answer : Result Outcome Refusal) → IsShown o answer → IsToldOf job (option_map ask_of o) (reply_of (ToldOf job) (told_answer answer))
+told_of job None (Ok outcome) h = absurd (cc h)
+told_of job None (Err refusal) h = let is : refusal ≡ NoJob = cc h in ap (λ r. Refused (number_of r)) is
+told_of job (Some asked) (Ok outcome) h = (told outcome, refl)
+told_of job (Some asked) (Err refusal) h = absurd h
+
+-- what a seat's list makes of an answer
+says : (asks : List Asked) (job : ℕ) (answer : Result Outcome Refusal) → IsShown (seat_asked_at asks job) answer → SaysTrue (map ask_of asks) (reply_of (ToldOf job) (told_answer answer))
+says asks job (Ok outcome) h = shown_found asks job outcome h
+says asks job (Err refusal) h = tt
+
+-- an answer about a job changes no ask
+pub same_asks : (asks : List SessionAsked) (call : Call) (job : ℕ) (said : Result Told Refusal) → asks ≡ asks_after asks call (reply_of (ToldOf job) said)
+same_asks asks call job (Ok outcome) = refl
+same_asks asks call job (Err refusal) = refl
+
 -- what the seat that is there shows of a job
-pub seat_shows : (here : Option SeatOf) (seat : SeatOf) (job : ℕ) (outcome : Outcome) (said : Told) → here ≡ Some seat → IsShown (seat_asked_at seat.asked job) (Ok outcome) → said ≡ told outcome → ShowsFound (asks_of here) job said
-seat_shows here seat job outcome said is shown says =
-    subst (λ o. ShowsFound (asks_of o) job said) (sym is) (subst (λ t. ShowsFound (map ask_of seat.asked) job t) (sym says) (shown_found seat.asked job outcome shown))
+pub seat_shows : (here : Option SeatOf) (seat : SeatOf) (job : ℕ) (answer : Result Outcome Refusal) (said : Result Told Refusal) → here ≡ Some seat → IsShown (seat_asked_at seat.asked job) answer → said ≡ told_answer answer
+    → SaysTrue (asks_of here) (reply_of (ToldOf job) said) × IsToldOf job (asked_at (asks_of here) job) (reply_of (ToldOf job) said)
+seat_shows here seat job answer said is shown says_so =
+    let tells : IsToldOf job (asked_at (map ask_of seat.asked) job) (reply_of (ToldOf job) (told_answer answer)) =
+    subst (λ o. IsToldOf job o (reply_of (ToldOf job) (told_answer answer))) (sym (asked_at-map seat.asked job)) (told_of job (seat_asked_at seat.asked job) answer shown) in
+    subst (λ o. SaysTrue (asks_of o) (reply_of (ToldOf job) said) × IsToldOf job (asked_at (asks_of o) job) (reply_of (ToldOf job) said)) (sym is)
+    (subst (λ t. SaysTrue (map ask_of seat.asked) (reply_of (ToldOf job) t) × IsToldOf job (asked_at (map ask_of seat.asked) job) (reply_of (ToldOf job) t)) (sym says_so) (says seat.asked job answer shown, tells))
+
+-- the numbers of refusals
+refused_by : (refusals : List Refusal) (refusal : Refusal) → Contains refusals refusal → Contains (map number_of refusals) (number_of refusal)
+refused_by refusals refusal h = (h.0, subst (λ n. h.0 < n) (sym (length-map refusals number_of)) h.1, get_or-map number_of refusals h.0 refusal ∙ ap number_of h.2)
+
+-- nothing is asked under a number where the seat has nothing
+unasked : (o : Option Asked) → option_map ask_of o ≡ None → o ≡ None
+unasked None h = refl
+unasked (Some asked) h = absurd (cc h)
+
+-- a seat cancels a job
+cancels : (before after : SeatOf) (job : ℕ) (answer : Result (Unit {0}) Refusal) → MatchResult answer (λ _. after ≡ stepped before) (λ _. after ≡ before) → (seat_asked_at before.asked job ≡ None → answer ≡ Err NoJob) → IfErr answer (Contains cancel_refusals)
+    → KeepsAsks (map ask_of before.asked) (Cancel job) (reply_of (λ _. Ended job) answer) (map ask_of after.asked)
+cancels before after job (Ok done) share none refused =
+    (ap (λ s. map ask_of s.asked) share, tt, (tt, λ h. absurd (cc (none (unasked (seat_asked_at before.asked job) (sym (asked_at-map before.asked job) ∙ h))))))
+cancels before after job (Err refusal) share none refused =
+    let missing : seat_asked_at before.asked job ≡ None → refusal ≡ NoJob = λ h. cc (none h) in
+    (ap (λ s. map ask_of s.asked) share, tt, (refused_by cancel_refusals refusal refused, λ h. ap (λ r. Refused (number_of r)) (missing (unasked (seat_asked_at before.asked job) (sym (asked_at-map before.asked job) ∙ h)))))
+
+-- what becomes of the asks by it
+pub seat_cancels : (here : Option SeatOf) (before after : SeatOf) (job : ℕ) (answer : Result (Unit {0}) Refusal) → here ≡ Some before → MatchResult answer (λ _. after ≡ stepped before) (λ _. after ≡ before)
+    → (seat_asked_at before.asked job ≡ None → answer ≡ Err NoJob) → IfErr answer (Contains cancel_refusals) → KeepsAsks (asks_of here) (Cancel job) (reply_of (λ _. Ended job) answer) (map ask_of after.asked)
+seat_cancels here before after job answer is share none refused =
+    subst (λ o. KeepsAsks (asks_of o) (Cancel job) (reply_of (λ _. Ended job) answer) (map ask_of after.asked)) (sym is) (cancels before after job answer share none refused)

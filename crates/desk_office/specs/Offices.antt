@@ -1,7 +1,8 @@
 -- What a session sees of a seat: its asks, and how its jobs stand.
-use Rattle.std.specs.Prelude.{List, [], map, Option, Some, None}
+use Rattle.std.specs.Prelude.{List, [], map, Option, Some, None, Result, Ok, Err}
 use Rattle.othello_board.specs.Words.{cells}
 use Rattle.othello_eval.specs.Minimax.{minimax, best_choice}
+use Rattle.sched_rules.specs.declared.refusal.Refusal.{Refusal}
 use Rattle.jamboree.specs.Replies.{board_of, depth_of}
 use Rattle.jamboree_core.specs.declared.outcomes.Outcome.{Outcome}
 use Rattle.jamboree_core.specs.declared.outcomes.Outcome.TheVariants.{Pending, Done, Spent, Cancelled}
@@ -26,3 +27,8 @@ told Pending = pending
 told (Done reply) = done (record { value = minimax (depth_of reply) (cells (board_of reply)); choice = best_choice (depth_of reply) (cells (board_of reply)) })
 told Spent = spent
 told Cancelled = cancelled
+
+-- what is answered of a job
+abbrev pub told_answer : Result Outcome Refusal → Result Told Refusal
+told_answer (Ok outcome) = Ok (told outcome)
+told_answer (Err refusal) = Err refusal

@@ -3,14 +3,14 @@ ghost use Rattle.std.specs.Prelude.{◌==◌};
 ghost use Rattle.session.specs.Asks.{KeepsAsks};
 ghost use Rattle.desk_office.specs.Offices.{asks_of};
 
-use crate::outcomes::told;
+use crate::outcomes::told_answer;
 use desk::{Desk, Hands, Refusal, Seat};
 use position_text::Position;
 use session::{Live, Office, Outcome};
 use std::sync::Wait;
 use tenant_quota::{Left, Reserve};
 
-/// The office of one tenant at a desk: its seat, once it has one.
+/// The office of one tenant at a desk: its seat, once it has one. Without a tenant it has no job.
 pub struct DeskOffice<'a, L: Hands, R: Wait> {
     rt: &'a R,
     desk: &'a Desk<L>,
@@ -63,22 +63,22 @@ impl<L: Hands, R: Wait> Office for DeskOffice<'_, L, R> {
 
     fn get(&mut self, job: u64) -> Result<Outcome, Refusal> {
         match &self.seat {
-            Some(seat) => Ok(told(self.desk.get(self.rt, seat, job)?)),
-            None => Err(Refusal::NoTenant),
+            Some(seat) => told_answer(self.desk.get(self.rt, seat, job)),
+            None => Err(Refusal::NoJob),
         }
     }
 
     fn wait(&mut self, job: u64) -> Result<Outcome, Refusal> {
         match &self.seat {
-            Some(seat) => Ok(told(self.desk.wait(self.rt, seat, job)?)),
-            None => Err(Refusal::NoTenant),
+            Some(seat) => told_answer(self.desk.wait(self.rt, seat, job)),
+            None => Err(Refusal::NoJob),
         }
     }
 
     fn cancel(&mut self, job: u64) -> Result<(), Refusal> {
         match &mut self.seat {
             Some(seat) => self.desk.cancel(self.rt, seat, job),
-            None => Err(Refusal::NoTenant),
+            None => Err(Refusal::NoJob),
         }
     }
 

@@ -13,7 +13,7 @@ use Rattle.session.proofs.DoneLemmas.{each_done}
 -- calls through which the asks are led are true
 all_true : (asks : List Asked) (made : List (Call × Reply)) (asks' : List Asked) → Leads (Called KeepsAsks) asks made asks' → AllTrue asks made
 all_true asks [] asks' h = tt
-all_true asks (made ∷ more) asks' h = (h.1.1, all_true (asks_after asks made.0 made.1) more asks' (subst (λ z. Leads (Called KeepsAsks) z more asks') h.1.0 h.2))
+all_true asks (made ∷ more) asks' h = (h.1.1, all_true (asks_after asks made.0 made.1) more asks' (subst (λ z. Leads (Called KeepsAsks) z more asks') h.1.0 h.2), h.1.2)
 
 module _ {O : Type 0} (does : O → Call → Reply → O → Type 0) (asks : O → List Asked) (keeps : (from : O) (call : Call) (reply : Reply) (to : O) → does from call reply to → KeepsAsks (asks from) call reply (asks to)) where
   -- a chain of calls, seen by the asks of its states

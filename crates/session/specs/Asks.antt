@@ -1,5 +1,5 @@
 -- An office that keeps what its tenant asked for, and shows the values of just that.
-use Rattle.std.specs.Prelude.{◌≡◌, ℕ, ◌+◌, ◌-◌, ◌==◌, List, [], ◌∷◌, ◌++◌, length, Option, Some, None, if◌then◌else◌}
+use Rattle.std.specs.Prelude.{◌≡◌, ℕ, ◌+◌, ◌-◌, ◌==◌, List, [], ◌∷◌, ◌++◌, length, Option, Some, None, if◌then◌else◌, Contains}
 use Rattle.othello_board.specs.declared.cells.Cell.{Cell}
 use Rattle.othello_eval.specs.Minimax.{minimax, best_choice}
 use Rattle.session.specs.declared.outcome.Finding.{Finding}
@@ -65,12 +65,34 @@ SaysTrue asks (Alive live) = Unit {0}
 SaysTrue asks Gone = Unit {0}
 SaysTrue asks (Refused number) = Unit {0}
 
+-- what is replied of a job by what was asked under its number: how the job stands, and the refusal 17 exactly where nothing was
+abbrev pub IsToldOf : ℕ → Option Asked → Reply → Type 0
+IsToldOf job None reply = reply ≡ Refused 17
+IsToldOf job (Some asked) reply = (outcome : Outcome) × (reply ≡ Told job outcome)
+
+-- a reply that is a refusal has one of these numbers
+abbrev pub RefusedBy : List ℕ → Reply → Type 0
+RefusedBy numbers (Refused number) = Contains numbers number
+RefusedBy numbers _ = Unit {0}
+
+-- when a call is refused, and by which numbers: ASK by 13 where 256 jobs were asked, GET and WAIT by 17 exactly where nothing was asked
+-- under their number, CANCEL by 17 there too. No call but HELLO is refused by 19
+abbrev pub IsRefusedWhere : List Asked → Call → Reply → Type 0
+IsRefusedWhere asks (Hello quota) reply = RefusedBy (14 ∷ 18 ∷ 19 ∷ []) reply
+IsRefusedWhere asks (Ask depth board side) reply = RefusedBy (1 ∷ 13 ∷ 11 ∷ 10 ∷ []) reply × (length asks ≡ 256 → reply ≡ Refused 13)
+IsRefusedWhere asks (Get job) reply = IsToldOf job (asked_at asks job) reply
+IsRefusedWhere asks (Wait job) reply = IsToldOf job (asked_at asks job) reply
+IsRefusedWhere asks (Cancel job) reply = RefusedBy (1 ∷ 17 ∷ []) reply × (asked_at asks job ≡ None → reply ≡ Refused 17)
+IsRefusedWhere asks AskQuota reply = RefusedBy (1 ∷ []) reply
+IsRefusedWhere asks AskLive reply = RefusedBy (1 ∷ []) reply
+IsRefusedWhere asks Leave reply = reply ≡ Gone
+
 -- what a call of such an office may reply, by its asks before and after it
 abbrev pub KeepsAsks : List Asked → Call → Reply → List Asked → Type 0
-KeepsAsks asks call reply asks' = (asks' ≡ asks_after asks call reply) × SaysTrue asks reply
+KeepsAsks asks call reply asks' = (asks' ≡ asks_after asks call reply) × SaysTrue asks reply × IsRefusedWhere asks call reply
 
--- of these calls, in order, each ASK that is answered by JOB gets the next number, and each DONE shows the minimax value and the best
--- choice of what was asked by the ASK that was answered by JOB and its number
+-- of these calls, in order, each ASK that is answered by JOB gets the next number, each DONE shows the minimax value and the best choice
+-- of what was asked by the ASK that was answered by JOB and its number, and each is refused where its asks say so
 abbrev pub AllTrue : List Asked → List (Call × Reply) → Type 0
 AllTrue asks [] = Unit {0}
-AllTrue asks (made ∷ more) = SaysTrue asks made.1 × AllTrue (asks_after asks made.0 made.1) more
+AllTrue asks (made ∷ more) = SaysTrue asks made.1 × AllTrue (asks_after asks made.0 made.1) more × IsRefusedWhere asks made.0 made.1

@@ -77,28 +77,15 @@ fn serve_and_close<L: Hands + Send + Sync, R: Threads + Wait + Sync>(
 ) -> io::Result<()>
     requires { L.all ≡ L.parts }
 {
-    let taken = serve_sessions(rt, desk, listener, sessions, stop);
-    desk.close(rt);
-    taken
-}
-
-/// Serves so many connections, and returns when all of them have ended.
-fn serve_sessions<L: Hands + Send + Sync, R: Threads + Wait + Sync>(
-    rt: &R,
-    desk: &Desk<L>,
-    listener: TcpListener,
-    sessions: u16,
-    stop: &AtomicBool,
-) -> io::Result<()>
-    requires { L.all ≡ L.parts }
-{
-    thread::scope(
+    let taken = thread::scope(
         thread::scope_env(),
         rt,
         |scope|
             requires { L.all ≡ L.parts }
         { take_all(scope, rt, desk, listener, sessions, stop) },
-    )
+    );
+    desk.close(rt);
+    taken
 }
 
 /// Takes so many connections, each with a thread of its own, and closes the listener. A connection for which no

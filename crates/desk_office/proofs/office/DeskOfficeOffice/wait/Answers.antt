@@ -1,8 +1,9 @@
-use Rattle.std.proofs.Common.{refl}
-use Rattle.desk_office.proofs.SeatLemmas.{seat_shows}
+use Rattle.session.specs.Calls.{Wait}
+use Rattle.desk_office.specs.Offices.{asks_of}
+use Rattle.desk_office.proofs.SeatLemmas.{same_asks, seat_shows}
 use Rattle.desk_office.proofs.office.DeskOfficeOffice.wait.Goals as goal
 
-pub returns-in_ok-wait-in-Some : goal.returns-in_ok-wait-in-Some
-returns-in_ok-wait-in-Some g c =
-    let shown = c.in_ok-wait-in-Some in
-    (refl, seat_shows c.args.self.now.seat c.in-Some.seat c.args.job shown.field-0 c.told.result c.in-Some.is shown.ensures c.told.ensures)
+pub returns-in-Some : goal.returns-in-Some
+returns-in-Some g c =
+    let shows = seat_shows c.args.self.now.seat c.in-Some.seat c.args.job c.wait.result c.told_answer.result c.in-Some.is c.wait.ensures c.told_answer.ensures in
+    (same_asks (asks_of c.args.self.now.seat) (Wait c.args.job) c.args.job c.told_answer.result, shows.0, shows.1)
