@@ -47,6 +47,16 @@ point-is_count_below t (e ∷ es) (suc i) point within =
     (λ below. ap suc rest)
     (λ above. let below : e.0 < t = ltb-true e.0 t (point.0 0 e (omega arith) (omega arith)) in absurd (omega arith))
 
+-- where an entry of a tenant stands, that is its place
+pub count_below-found : (t : ℕ) (es : List (ℕ × Account)) (i : ℕ) (d : ℕ × Account) → IsRising es → i < length es → (get_or es i d).0 ≡ t → i ≡ count_below t es
+count_below-found t [] i d rising within own = absurd (omega arith)
+count_below-found t (e ∷ es) zero d rising within own = count_below_cases t e es (λ n. 0 ≡ n) (λ below. absurd (omega arith)) (λ above. refl)
+count_below-found t (e ∷ es) (suc i) d rising within own =
+    let first : e.0 < (get_or es i d).0 = AllEntries-at (λ later. e.0 < later.0) es i d rising.0 (omega (arith, within)) in
+    count_below_cases t e es (λ n. suc i ≡ n)
+    (λ below. ap suc (count_below-found t es i d rising.1 (omega (arith, within)) own))
+    (λ above. absurd (omega arith))
+
 -- an entry is its tenant with its account
 pub entry_is : (e : ℕ × Account) (t : ℕ) (a : Account) → e.0 ≡ t → e.1 ≡ a → e ≡ (t, a)
 entry_is e t a p q = λ i. (p i, q i)

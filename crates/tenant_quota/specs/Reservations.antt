@@ -32,6 +32,10 @@ released b tenant = record b { accounts = without tenant b.accounts }
 abbrev pub left_of : ℕ → Reservations → Option Left
 left_of tenant b = option_map left_in (account_of tenant b.accounts)
 
+-- how many nodes a tenant that is there ever opened
+abbrev pub opened_of : ℕ → Reservations → Option ℕ
+opened_of tenant b = option_map (λ a. a.opened) (account_of tenant b.accounts)
+
 -- what a tenant that is there has reserved
 abbrev pub reserve_of : ℕ → Reservations → Option Quota
 reserve_of tenant b = option_map (λ a. a.reserve) (account_of tenant b.accounts)

@@ -10,6 +10,13 @@ use std::marker::Model;
 /// The number of places for tenants.
 const PLACES: usize = 64;
 
+/// The number of guesses.
+const GUESSES: u64 = 256;
+
+/// Where tenants may stand: the guess of a tenant is what its number's remainder by the count of guesses
+/// has. It may be of another tenant with the same remainder, so who uses it looks at what stands there.
+type Guesses = [u8; GUESSES as usize];
+
 /// What isn't reserved yet.
 #[derive(Clone, Copy, Debug, PartialEq, Eq)]
 pub struct Rest {
@@ -32,6 +39,7 @@ pub struct Book<A: Allocator = Global> {
     reserved_segments: u32,
     reserved_nodes: u32,
     accounts: Vec<(u64, Account), A>,
+    guesses: Guesses,
 }
 
 // Clauses see the totals and the accounts in rising order of tenants.
@@ -47,8 +55,21 @@ impl<A: Allocator> Model for Book<A> {
     ghost invariant = { λ book. IsKept book };
 }
 
-/// The place of the tenant's account, or that where it would stand.
-fn place_of(accounts: &[(u64, Account)], tenant: u64) -> usize
+/// The place of the tenant's account, or that where it would stand. The guess is looked at first, so
+/// that a tenant that is there is seldom searched for.
+fn place_of(guesses: &Guesses, accounts: &[(u64, Account)], tenant: u64) -> usize
+    requires { IsRising accounts.now }
+    ensures { result ≡ count_below tenant accounts.now }
+{
+    let guess = guesses[(tenant % GUESSES) as usize] as usize;
+    if guess < accounts.len() && accounts[guess].0 == tenant {
+        return guess;
+    }
+    search(accounts, tenant)
+}
+
+/// The same place, by halves.
+fn search(accounts: &[(u64, Account)], tenant: u64) -> usize
     requires { IsRising accounts.now }
     ensures { result ≡ count_below tenant accounts.now }
 {
@@ -59,9 +80,18 @@ fn place_of(accounts: &[(u64, Account)], tenant: u64) -> usize
     )
 }
 
+/// The guesses for these accounts: each tenant's place, or that of a later one with the same remainder.
+fn guesses_for(accounts: &[(u64, Account)]) -> Guesses {
+    let mut guesses = [0; GUESSES as usize];
+    for (place, entry) in accounts.iter().enumerate() {
+        guesses[(entry.0 % GUESSES) as usize] = (place % PLACES) as u8;
+    }
+    guesses
+}
+
 impl<A: Allocator> Book<A> {
     ghost use Rattle.tenant_quota.specs.Accounts.{fresh, charged_by, credited_by, ticked, charged_segments};
-    ghost use Rattle.tenant_quota.specs.Reservations.{empty_of, left_of, reserve_of, rest_of, HasRoom, IsFull, HasLeft, IsShort, HasStepLeft, IsOutOfSteps, HasCharged, KeepsOthers, Admits, ChangesOnly, Releases, IsSound};
+    ghost use Rattle.tenant_quota.specs.Reservations.{empty_of, left_of, opened_of, reserve_of, rest_of, HasRoom, IsFull, HasLeft, IsShort, HasStepLeft, IsOutOfSteps, HasCharged, KeepsOthers, Admits, ChangesOnly, Releases, IsSound};
 
     /// A book of so many segments (1 to 65,536) and nodes (1 to 4,194,304) in all, with no tenant.
     /// It makes the places of all 64 tenants, so no other call takes memory.
@@ -80,6 +110,7 @@ impl<A: Allocator> Book<A> {
             reserved_segments: 0,
             reserved_nodes: 0,
             accounts,
+            guesses: [0; GUESSES as usize],
         })
     }
 
@@ -101,9 +132,10 @@ impl<A: Allocator> Book<A> {
         if rest.tenants == 0 || rest.segments < segments || rest.nodes < nodes {
             return Err(Refusal::Full);
         }
-        let place = place_of(&self.accounts, tenant);
+        let place = place_of(&self.guesses, &self.accounts, tenant);
         let account = Account::new(reserve);
         self.accounts.insert(place, (tenant, account)).unwrap();
+        self.guesses = guesses_for(&self.accounts);
         self.reserved_segments += segments;
         self.reserved_nodes += nodes;
         Ok(())
@@ -123,15 +155,27 @@ impl<A: Allocator> Book<A> {
         ensures err { OnErr result (self.new ≡ self.old) }
         ensures sound { IsSound self.new }
     {
-        let place = place_of(&self.accounts, tenant);
-        let account = &mut self.accounts[place].1;
-        let left = account.left();
-        if left.segments < segments || left.nodes < nodes {
-            return Err(Refusal::Short);
-        }
-        account.charged += segments;
-        account.opened += nodes;
+        self.charge_nodes(tenant, segments, nodes)?;
         Ok(())
+    }
+
+    /// Charges the tenant so many segments for a newly opened node, and answers how many nodes it had
+    /// opened before.
+    ///
+    /// Refused as `Short` exactly where the tenant hasn't as many segments left, or no node.
+    pub fn open(&mut self, tenant: u64, segments: u32) -> Result<u32, Refusal>
+        requires { IsSome (account_of tenant self.old.accounts) }
+        ensures ok { IsOk result ↔ HasLeft self.old tenant segments 1 }
+        ensures short { (result ≡ Err Refusal.Short) ↔ IsShort self.old tenant segments 1 }
+        ensures opened { IfOk result (λ before. opened_of tenant self.old ≡ Some before) }
+        ensures charges { OnOk result (ChangesOnly self.old self.new tenant (charged_by segments 1)) }
+        ensures sum { OnOk result (
+            charged_segments self.new.accounts ≡ charged_segments self.old.accounts + segments) }
+        ensures others { KeepsOthers self.old self.new tenant }
+        ensures err { OnErr result (self.new ≡ self.old) }
+        ensures sound { IsSound self.new }
+    {
+        self.charge_nodes(tenant, segments, 1)
     }
 
     /// Gives back so many of the segments that the tenant is charged. Its nodes stay opened.
@@ -142,7 +186,7 @@ impl<A: Allocator> Book<A> {
         ensures others { KeepsOthers self.old self.new tenant }
         ensures sound { IsSound self.new }
     {
-        let place = place_of(&self.accounts, tenant);
+        let place = place_of(&self.guesses, &self.accounts, tenant);
         self.accounts[place].1.charged -= segments;
     }
 
@@ -159,7 +203,7 @@ impl<A: Allocator> Book<A> {
         ensures err { OnErr result (self.new ≡ self.old) }
         ensures sound { IsSound self.new }
     {
-        let place = place_of(&self.accounts, tenant);
+        let place = place_of(&self.guesses, &self.accounts, tenant);
         let account = &mut self.accounts[place].1;
         if account.left().steps == 0 {
             return Err(Refusal::Short);
@@ -175,8 +219,9 @@ impl<A: Allocator> Book<A> {
         ensures others { KeepsOthers self.old self.new tenant }
         ensures sound { IsSound self.new }
     {
-        let place = place_of(&self.accounts, tenant);
+        let place = place_of(&self.guesses, &self.accounts, tenant);
         let (_, account) = self.accounts.remove(place);
+        self.guesses = guesses_for(&self.accounts);
         self.reserved_segments -= account.reserve.segments();
         self.reserved_nodes -= account.reserve.nodes();
     }
@@ -192,6 +237,15 @@ impl<A: Allocator> Book<A> {
     {
         let account = self.account(tenant)?;
         Some(account.left())
+    }
+
+    /// How many nodes the tenant ever opened, or None where it isn't there.
+    pub fn opened(&self, tenant: u64) -> Option<u32>
+        ensures opened { result ≡ opened_of tenant self.now }
+        ensures sound { IsSound self.now }
+    {
+        let account = self.account(tenant)?;
+        Some(account.opened)
     }
 
     /// What the tenant has reserved, or None where it isn't there.
@@ -215,12 +269,38 @@ impl<A: Allocator> Book<A> {
         }
     }
 
+    /// Charges the tenant so many segments, counts so many newly opened nodes, and answers how many it
+    /// had opened before.
+    fn charge_nodes(&mut self, tenant: u64, segments: u32, nodes: u32) -> Result<u32, Refusal>
+        requires { IsSome (account_of tenant self.old.accounts) }
+        ensures ok { IsOk result ↔ HasLeft self.old tenant segments nodes }
+        ensures short { (result ≡ Err Refusal.Short) ↔ IsShort self.old tenant segments nodes }
+        ensures opened { IfOk result (λ before. opened_of tenant self.old ≡ Some before) }
+        ensures charges { OnOk result (ChangesOnly self.old self.new tenant (charged_by segments nodes)) }
+        ensures sum { OnOk result (
+            charged_segments self.new.accounts ≡ charged_segments self.old.accounts + segments) }
+        ensures others { KeepsOthers self.old self.new tenant }
+        ensures err { OnErr result (self.new ≡ self.old) }
+        ensures sound { IsSound self.new }
+    {
+        let place = place_of(&self.guesses, &self.accounts, tenant);
+        let account = &mut self.accounts[place].1;
+        let left = account.left();
+        if left.segments < segments || left.nodes < nodes {
+            return Err(Refusal::Short);
+        }
+        let before = account.opened;
+        account.charged += segments;
+        account.opened += nodes;
+        Ok(before)
+    }
+
     /// The tenant's account, or None where it isn't there.
     fn account(&self, tenant: u64) -> Option<Account>
         ensures account { result ≡ account_of tenant self.now.accounts }
         ensures sound { IsSound self.now }
     {
-        let place = place_of(&self.accounts, tenant);
+        let place = place_of(&self.guesses, &self.accounts, tenant);
         if place < self.accounts.len() && self.accounts[place].0 == tenant {
             return Some(self.accounts[place].1);
         }

@@ -10,7 +10,8 @@
 //! The invariant that makes a reservation worth something is that the reservations of all tenants
 //! together never exceed the totals, and that no tenant uses more than it reserved (`IsSound`). So a
 //! segment that a tenant has left is there whatever others do, and each call leaves the accounts of
-//! all other tenants as they were. Only [`Book::new`] takes memory.
+//! all other tenants as they were. Only [`Book::new`] takes memory. Where a tenant's account stands is
+//! guessed and looked at, and searched for only where the guess is wrong.
 //!
 //! ```text
 //! let mut book = Book::new(alloc, 8, 32)?;

@@ -1,7 +1,7 @@
 //! The definitions of the book, tried on one small book: each contract is computed from the definitions alone.
 ghost use Rattle.std.specs.Prelude.{◌≡◌, ◌+◌, ◌≤◌, Some, None, [], ◌∷◌, true, false};
 ghost use Rattle.tenant_quota.specs.Accounts.{account_of, fresh, charged_by, charged_segments, reserved_segments, reserved_nodes};
-ghost use Rattle.tenant_quota.specs.Reservations.{empty_of, admitted, left_of, reserve_of, rest_of, HasRoom, IsFull, HasLeft, IsShort, IsOutOfSteps};
+ghost use Rattle.tenant_quota.specs.Reservations.{empty_of, admitted, left_of, opened_of, reserve_of, rest_of, HasRoom, IsFull, HasLeft, IsShort, IsOutOfSteps};
 ghost use Rattle.tenant_quota.specs.Rows.{quota, left, rest, two_tenants, after_charge, after_tick, after_credit, after_release};
 
 /// Two tenants reserve all 8 segments, in either order; a third finds no room.
@@ -20,6 +20,7 @@ pub fn one_tenant_uses()
     ensures short { IsShort two_tenants 1 6 0 }
     ensures enough { HasLeft two_tenants 1 5 1 }
     ensures charged { left_of 1 after_charge ≡ Some (left 0 7 128) }
+    ensures opened { opened_of 1 after_charge ≡ Some 1 }
     ensures ticked { left_of 1 after_tick ≡ Some (left 0 7 127) }
     ensures credited { left_of 1 after_credit ≡ Some (left 5 7 127) }
     ensures other { left_of 2 after_credit ≡ Some (left 3 8 128) }

@@ -28,6 +28,12 @@ fn charge(
     book.charge(tenant, segments, nodes)
 }
 
+/// Opens a node of a tenant that is there.
+fn open(rt: &impl Abort, book: &mut Book, tenant: u64, segments: u32) -> Result<u32, Refusal> {
+    assert!(rt; book.left(tenant).is_some());
+    book.open(tenant, segments)
+}
+
 /// Counts a step of a tenant that is there.
 fn tick(rt: &impl Abort, book: &mut Book, tenant: u64) -> Result<(), Refusal> {
     assert!(rt; book.left(tenant).is_some());
@@ -111,6 +117,23 @@ fn sixty_four_tenants_and_no_more(rt: HostRuntime) -> Result<(), Fail> {
 }
 
 #[test]
+fn tenants_with_one_remainder_are_told_apart(rt: HostRuntime) -> Result<(), Fail> {
+    let mut book = Book::new(rt.alloc(), 64, 64)?;
+    for (tenant, segments) in [(513, 3), (1, 1), (2, 4), (257, 2)] {
+        assert_eq!(rt; reserve(&rt, &mut book, tenant, segments, 1), Ok(()));
+    }
+    for (tenant, segments) in [(1, 1), (257, 2), (513, 3), (2, 4)] {
+        assert_eq!(rt; book.left(tenant), left(segments, 1, 16), "tenant {tenant}");
+    }
+    assert_eq!(rt; book.left(769), None);
+    release(&rt, &mut book, 257);
+    assert_eq!(rt; book.left(1), left(1, 1, 16));
+    assert_eq!(rt; book.left(257), None);
+    assert_eq!(rt; book.left(513), left(3, 1, 16));
+    Ok(())
+}
+
+#[test]
 fn steps_and_nodes_run_out(rt: HostRuntime) -> Result<(), Fail> {
     let mut book = Book::new(rt.alloc(), 4, 4)?;
     assert_eq!(rt; reserve(&rt, &mut book, 7, 4, 1), Ok(()));
@@ -122,6 +145,25 @@ fn steps_and_nodes_run_out(rt: HostRuntime) -> Result<(), Fail> {
     assert_eq!(rt; charge(&rt, &mut book, 7, 1, 1), Err(Refusal::Short));
     give_back(&rt, &mut book, 7, 1);
     assert_eq!(rt; book.left(7), left(4, 0, 0));
+    Ok(())
+}
+
+#[test]
+fn each_node_is_opened_after_those_before(rt: HostRuntime) -> Result<(), Fail> {
+    let mut book = Book::new(rt.alloc(), 8, 8)?;
+    assert_eq!(rt; book.opened(5), None);
+    assert_eq!(rt; reserve(&rt, &mut book, 5, 4, 3), Ok(()));
+    assert_eq!(rt; reserve(&rt, &mut book, 4, 4, 2), Ok(()));
+    assert_eq!(rt; open(&rt, &mut book, 5, 2), Ok(0));
+    assert_eq!(rt; open(&rt, &mut book, 5, 3), Err(Refusal::Short));
+    assert_eq!(rt; charge(&rt, &mut book, 5, 1, 0), Ok(()));
+    assert_eq!(rt; open(&rt, &mut book, 5, 1), Ok(1));
+    assert_eq!(rt; open(&rt, &mut book, 4, 4), Ok(0));
+    give_back(&rt, &mut book, 5, 4);
+    assert_eq!(rt; open(&rt, &mut book, 5, 1), Ok(2));
+    assert_eq!(rt; open(&rt, &mut book, 5, 1), Err(Refusal::Short));
+    assert_eq!(rt; book.opened(5), Some(3));
+    assert_eq!(rt; book.left(5), left(3, 0, 48));
     Ok(())
 }
 

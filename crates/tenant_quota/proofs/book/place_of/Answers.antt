@@ -1,9 +1,7 @@
-use Rattle.std.proofs.Common.{ltb, rules}
-use Rattle.std.proofs.lemmas.List.Sorted.{IsPartitionPoint-from_clause}
-use Rattle.tenant_quota.proofs.Places.{partitioned-rising, point-is_count_below}
+-- Where the guess is right, it is the place.
+use Rattle.tenant_quota.proofs.Places.{count_below-found}
 use Rattle.tenant_quota.proofs.book.place_of.Goals as goal
 
-pub returns : goal.returns
-returns c =
-    let point = IsPartitionPoint-from_clause (λ e. ltb e.0 c.args.tenant) c.args.accounts.now c.partition_point.result c.partition_point.ensures.partitioned (partitioned-rising c.args.tenant c.args.accounts.now c.requires) (λ a r f called. search rules) in
-    point-is_count_below c.args.tenant c.args.accounts.now c.partition_point.result point c.partition_point.ensures.bound
+pub returns-then-accounts-guess : goal.returns-then-accounts-guess
+returns-then-accounts-guess c =
+    count_below-found c.args.tenant c.args.accounts.now _ c.index-accounts-guess.result c.requires c.if-guess-accounts.true c.if-accounts-guess.true

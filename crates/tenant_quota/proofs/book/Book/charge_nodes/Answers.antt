@@ -1,12 +1,13 @@
 -- A charge that the tenant has left is written into its account; one that it hasn't is refused.
-use Rattle.std.proofs.Common.{◌≡◌, ℕ, ◌+◌, ◌<◌, ◌≤◌, ◌⊎◌, inl, inr, length, List, get_or, set, IsSome, ap, sym, ◌∙◌, refl, arith}
+use Rattle.std.proofs.Common.{◌≡◌, ℕ, ◌+◌, ◌<◌, ◌≤◌, ◌⊎◌, inl, inr, length, List, get_or, set, IsSome, ap, sym, ◌∙◌, refl, Some, arith}
+use Rattle.std.specs.Prelude.{option_map}
 use Rattle.tenant_quota.specs.declared.account.Account.{Account}
 use Rattle.tenant_quota.specs.declared.account.Left.{Left}
 use Rattle.tenant_quota.specs.Accounts.{account_of, count_below, charged_by, left_in, charged_segments, IsWithinReserve}
-use Rattle.tenant_quota.specs.Reservations.{Reservations, HasLeft, IsShort, left_of, IsSound}
+use Rattle.tenant_quota.specs.Reservations.{Reservations, HasLeft, IsShort, left_of, opened_of, IsSound}
 use Rattle.tenant_quota.specs.Keeping.{held_by}
 use Rattle.tenant_quota.proofs.Standing.{and_at, and_from, left_is, place_within, stands_for, IsChange, change_by_write, sum_by_write}
-use Rattle.tenant_quota.proofs.book.Book.charge.Goals as goal
+use Rattle.tenant_quota.proofs.book.Book.charge_nodes.Goals as goal
 
 charged_within : (a : Account) (l : Left) (segments nodes : ℕ) → l ≡ left_in a → segments ≤ l.segments → nodes ≤ l.nodes → IsWithinReserve a → IsWithinReserve (charged_by segments nodes a)
 charged_within a l segments nodes is some_left more_left within =
@@ -56,6 +57,9 @@ refuses b t i segments nodes read e l sound there same is at left less =
       short = and_from (left_of t b) (λ (x : Left). (x.segments < segments) ⊎ (x.nodes < nodes)) l left_here less;
     }
 
+opened_is : (b : Reservations) (t i : ℕ) (read : List (ℕ × Account)) (e : ℕ × Account) → IsSound b → IsSome (account_of t b.accounts) → read ≡ b.accounts → i ≡ count_below t read → e ≡ get_or b.accounts i e → opened_of t b ≡ Some e.1.opened
+opened_is b t i read e sound there same is at = ap (option_map (λ (a : Account). a.opened)) (stands_for b t i read e sound there same is at).account
+
 one_less : (a b m n : ℕ) → (a < m) ⊎ ((m ≤ a) × (b < n)) → (a < m) ⊎ (b < n)
 one_less a b m n (inl less) = inl less
 one_less a b m n (inr less) = inr less.1
@@ -103,6 +107,7 @@ returns g c =
       ok = rw (← c.self.view_is) (λ _. does.has, λ _. refl);
       short = rw (← c.self.view_is) (λ never. absurd cc, λ short. absurd (does.enough short));
       charges = rw (← c.self.view_is) does.change.changes;
+      opened = rw (← c.self.view_is) (opened_is (held_by c.self.inside) c.args.tenant _ _ c.index_mut.result.now c.self.invariant.sound (rw (← c.self.view_is) at c.requires) c.deref.ensures.value c.place_of-place.ensures c.index_mut.ensures.value);
       sum = rw (← c.self.view_is) does.sum;
       others = rw (← c.self.view_is) does.change.others;
       err = tt;
