@@ -17,11 +17,13 @@
 //! What makes it true: `sched_store` keeps the tenants as one finite map, and each of its calls says
 //! its effect as one equation. `engine` has the procedure beside that store. Each kind of step has two
 //! functions there: one decides, by the tests of the definitions in their order, and `refusal` asks
-//! the same; the other does the change, which can't be refused any more (`moves`: Take and Steal;
-//! `acts` and `performing`: Advance, Answer and Inlet; `begins`: Admit and Submit; `ends`: Finish,
-//! Spend, Cancel and Leave). The invariant (`specs/Keeping.antt`) is that each tenant has its shape,
-//! which every step keeps: a tree by rising serial, no frame under one that computes or has returned,
-//! live jobs and roots one to one, nothing used beyond what is reserved.
+//! it; the other decides by the same tests and does the change, which can't be refused any more
+//! (`moves`: Take and Steal; `acts` and `performing`: Advance, Answer and Inlet; `begins`: Admit and
+//! Submit; `ends`: Finish, Spend, Cancel and Leave). What a step makes of the procedure's answer it
+//! does where that answer stands: an act is large, and handing it back would copy it. The invariant
+//! (`specs/Keeping.antt`) is that each tenant has its shape, which every step keeps: a tree by rising
+//! serial, no frame under one that computes or has returned, live jobs and roots one to one, nothing
+//! used beyond what is reserved.
 //!
 //! ```text
 //! let mut core = Core::new(alloc, config, Fan)?;

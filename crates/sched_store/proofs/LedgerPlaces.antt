@@ -177,3 +177,16 @@ place-changed n ledgers at ledger changed change rising there place is new =
     let here : ledger ≡ get_or ledgers (count_below n (numbers_of ledgers)) ledger = is ∙ ap (λ (k : ℕ). get_or ledgers k ledger) place in
     ap (λ (k : ℕ). set ledgers k changed) place
     ∙ set-place n ledgers ledger changed change rising there (new ∙ ap (λ (l : Ledger). (l.0, change l.1)) here)
+
+-- a ledger of this number stands at its place
+guessed : (n : ℕ) (ledgers : All) (i : ℕ) (d : Ledger) → AreRising (numbers_of ledgers) → i < length ledgers → (get_or ledgers i d).0 ≡ n → i ≡ count_below n (numbers_of ledgers)
+guessed n [] i d rising within own = absurd (omega arith)
+guessed n (ledger ∷ ledgers) zero d rising within own = count_below_cases n ledger ledgers (λ k. 0 ≡ k) (λ below. absurd (omega arith)) (λ above. refl)
+guessed n (ledger ∷ ledgers) (suc i) d rising within own =
+    let first : ledger.0 < (get_or ledgers i d).0 = above-at ledger.0 ledgers i d rising.0 (omega (arith, within)) in
+    count_below_cases n ledger ledgers (λ k. suc i ≡ k)
+    (λ below. ap suc (guessed n ledgers i d rising.1 (omega (arith, within)) own))
+    (λ above. absurd (omega arith))
+
+pub place-guessed : (n : ℕ) (ledgers : All) (i : ℕ) (ledger : Ledger) → AreRising (numbers_of ledgers) → i < length ledgers → ledger ≡ get_or ledgers i ledger → ledger.0 ≡ n → i ≡ count_below n (numbers_of ledgers)
+place-guessed n ledgers i ledger rising within is own = guessed n ledgers i ledger rising within (ap (λ (l : Ledger). l.0) (sym is) ∙ own)

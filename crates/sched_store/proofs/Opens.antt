@@ -2,11 +2,8 @@
 use Rattle.std.proofs.Common.{◌≡◌, ℕ, ◌<◌, ◌≤◌, ◌+◌, ◌-◌, true, ◌&&◌, leb, List, [], ◌∷◌, length, Option, Some, None, IfSome, option_map, refl, ap, sym, subst, ◌∙◌, arith}
 use Rattle.std.proofs.lemmas.Bool.{and_parts, leb-true}
 use Rattle.cactus_stack.specs.Nodes.{Nodes, node_words, IsOpen, charge}
-use Rattle.tenant_quota.specs.Accounts.{account_of, left_in, IsWithinReserve}
-use Rattle.tenant_quota.specs.Quota.{Quota}
-use Rattle.tenant_quota.specs.declared.account.Left.{Left}
-use Rattle.tenant_quota.specs.Reservations.{left_of, reserve_of}
-use Rattle.tenant_quota.proofs.Edits.{AllEntries-of}
+use Rattle.tenant_quota.specs.Accounts.{account_of, left_in}
+use Rattle.tenant_quota.specs.Reservations.{opened_of}
 use Rattle.tenant_quota.specs.declared.account.Account.{Account}
 use Rattle.frame_table.specs.declared.names.FrameId.{FrameId}
 use Rattle.frame_table.specs.Frames.{Frame, has_parent, name_of}
@@ -74,18 +71,9 @@ size-some words size is =
     let first = and_parts (leb 1 size) (leb size 128) both.0 in
     (leb-true 1 size first.0, (leb-true size 128 first.1, leb-true (length words) size both.1))
 
--- the next serial, from what is left
-
-pub book-knows : (parts : Parts) (number : ℕ) (account : Account) → account_of number parts.book.accounts ≡ Some account → (left_of number parts.book ≡ Some (left_in account)) × (reserve_of number parts.book ≡ Some account.reserve)
-book-knows parts number account there = (ap (option_map left_in) there, ap (option_map (λ (a : Account). a.reserve)) there)
-
-pub next-serial : (parts : Parts) → IsStored parts → (number nodes : ℕ) (account : Account) (reserve : Quota) (left : Left) → account_of number parts.book.accounts ≡ Some account → left_of number parts.book ≡ Some left → reserve_of number parts.book ≡ Some reserve → nodes ≡ reserve.nodes →
-    (nodes - left.nodes) + 1 ≡ serials_in (shared_of parts) number + 1
-next-serial parts stored number nodes account reserve left there left_is reserve_is is =
-    let knows = book-knows parts number account there in
-    let l : left_in account ≡ left = cc (knows.0, left_is) in
-    let r : account.reserve ≡ reserve = cc (knows.1, reserve_is) in
-    let left_nodes : account.reserve.nodes - account.opened ≡ left.nodes = ap (λ (x : Left). x.nodes) l in
-    let all_nodes : account.reserve.nodes ≡ reserve.nodes = ap (λ (q : Quota). q.nodes) r in
-    let within = (AllEntries-of (λ e. IsWithinReserve e.1) number account parts.book.accounts there stored.book.within).opened_within in
-    omega (arith, is, left_nodes, all_nodes, within, serials-found parts number account there)
+-- the next serial is one more than the nodes that were opened
+pub opened-next : (parts : Parts) (number before : ℕ) (account : Account) → account_of number parts.book.accounts ≡ Some account → opened_of number parts.book ≡ Some before → before + 1 ≡ account.opened + 1
+opened-next parts number before account there is =
+    let own : Some account.opened ≡ Some before = rw there at is in
+    let same : account.opened ≡ before = cc in
+    ap (λ n. n + 1) (sym same)

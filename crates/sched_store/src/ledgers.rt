@@ -11,10 +11,18 @@ use std::marker::Model;
 /// How many tenants can be there.
 const TENANTS: usize = 64;
 
+/// The number of guesses.
+const GUESSES: u64 = 256;
+
+/// Where ledgers may stand: the guess of a tenant is what its number's remainder by the count of guesses
+/// has. It may be of another tenant with the same remainder, so who uses it looks at what stands there.
+type Guesses = [u8; GUESSES as usize];
+
 /// The ledgers of all tenants, by rising number, in the places that were made for 64.
 #[derive(Drop)]
 pub(crate) struct Ledgers<A: Allocator = Global> {
     all: Vec<Ledger<A>, A>,
+    guesses: Guesses,
 }
 
 // Clauses see the list of numbers and jobs.
@@ -37,7 +45,10 @@ impl<A: Allocator> Ledgers<A> {
         ensures { IfOk result (λ ledgers. ledgers ≡ []) }
     {
         let all = Vec::with_capacity(alloc, TENANTS)?;
-        Ok(Ledgers { all })
+        Ok(Ledgers {
+            all,
+            guesses: [0; GUESSES as usize],
+        })
     }
 
     /// Adds the ledger of a tenant whose number is above all others.
@@ -47,6 +58,7 @@ impl<A: Allocator> Ledgers<A> {
         ensures { self.new ≡ self.old ++ ledger ∷ [] }
     {
         self.all.push_reserved(ledger);
+        self.guesses = guesses_for(self.all.as_slice());
     }
 
     /// Takes out the ledger of a tenant that is there.
@@ -54,8 +66,9 @@ impl<A: Allocator> Ledgers<A> {
         requires { is_there number self.old ≡ true }
         ensures { self.new ≡ without_ledger number self.old }
     {
-        let at = place_of(self.all.as_slice(), number);
+        let at = place_of(&self.guesses, self.all.as_slice(), number);
         self.all.remove(at);
+        self.guesses = guesses_for(self.all.as_slice());
     }
 
     /// How many jobs a tenant has.
@@ -96,7 +109,7 @@ impl<A: Allocator> Ledgers<A> {
         requires fresh { job_under root (jobs_of self.old number) ≡ 0 }
         ensures { self.new ≡ with_jobs number (λ jobs. jobs ++ Job.Live root ∷ []) self.old }
     {
-        let at = place_of(self.all.as_slice(), number);
+        let at = place_of(&self.guesses, self.all.as_slice(), number);
         let ledger = &mut self.all[at];
         ledger.begin(root);
     }
@@ -107,7 +120,7 @@ impl<A: Allocator> Ledgers<A> {
         requires ended { is_live ended ≡ false }
         ensures { self.new ≡ with_jobs number (with_ended root ended) self.old }
     {
-        let at = place_of(self.all.as_slice(), number);
+        let at = place_of(&self.guesses, self.all.as_slice(), number);
         let ledger = &mut self.all[at];
         ledger.end(root, ended);
     }
@@ -117,7 +130,7 @@ impl<A: Allocator> Ledgers<A> {
         ensures found { IfSome result (λ ledger. jobs_of self.now number ≡ ledger.now.1) }
         ensures none { IfNone result (jobs_of self.now number ≡ []) }
     {
-        let at = place_of(self.all.as_slice(), number);
+        let at = place_of(&self.guesses, self.all.as_slice(), number);
         if at >= self.all.len() {
             return None;
         }
@@ -130,8 +143,24 @@ impl<A: Allocator> Ledgers<A> {
     }
 }
 
-/// Where the ledger of this number stands, or would stand.
-fn place_of<A: Allocator>(ledgers: &[Ledger<A>], number: u64) -> usize
+/// Where the ledger of this number stands, or would stand. The guess is looked at first, so that a
+/// tenant that is there is seldom searched for.
+fn place_of<A: Allocator>(guesses: &Guesses, ledgers: &[Ledger<A>], number: u64) -> usize
+    requires { AreRising (numbers_of ledgers.now) }
+    ensures { result ≡ count_below number (numbers_of ledgers.now) }
+{
+    let guess = guesses[(number % GUESSES) as usize] as usize;
+    if guess < ledgers.len() {
+        let guessed = &ledgers[guess];
+        if guessed.number() == number {
+            return guess;
+        }
+    }
+    search(ledgers, number)
+}
+
+/// The same place, by halves.
+fn search<A: Allocator>(ledgers: &[Ledger<A>], number: u64) -> usize
     requires { AreRising (numbers_of ledgers.now) }
     ensures { result ≡ count_below number (numbers_of ledgers.now) }
 {
@@ -140,4 +169,13 @@ fn place_of<A: Allocator>(ledgers: &[Ledger<A>], number: u64) -> usize
             ensures { result ≡ nat_lt ledger.now.0 number }
         { ledger.number() < number },
     )
+}
+
+/// The guesses for these ledgers: each one's place, or that of a later one with the same remainder.
+fn guesses_for<A: Allocator>(ledgers: &[Ledger<A>]) -> Guesses {
+    let mut guesses = [0; GUESSES as usize];
+    for (place, ledger) in ledgers.iter().enumerate() {
+        guesses[(ledger.number() % GUESSES) as usize] = (place % TENANTS) as u8;
+    }
+    guesses
 }

@@ -30,13 +30,13 @@ impl<A: Allocator> Store<A> {
         ensures name { result ≡ record { tenant = tenant; serial = serials_in self.old tenant + 1 } }
         ensures opened { self.new ≡ on_tenant tenant (opened parent words.now size home) self.old }
     {
-        let serial = self.next_serial(tenant);
-        let name = FrameId { tenant, serial };
         let above = parent_node(&self.table, tenant, parent);
+        let before = self.book.open(tenant, charge(size) as u32).unwrap();
+        let serial = before as u64 + 1;
+        let name = FrameId { tenant, serial };
         let node = self.stack.open(above, words, size).unwrap();
         self.table
             .add(name, parent_name(tenant, parent), home, node);
-        self.book.charge(tenant, charge(size) as u32, 1).unwrap();
         name
     }
 }

@@ -77,16 +77,6 @@ impl<A: Allocator> Store<A> {
         self.book.left(tenant)
     }
 
-    /// The serial that the tenant's next frame is given.
-    pub fn next_serial(&self, tenant: u64) -> u64
-        requires { IsSome (tenant_in self.now.tenants tenant) }
-        ensures { result ≡ serials_in self.now tenant + 1 }
-    {
-        let reserve = self.book.reserved(tenant).unwrap();
-        let left = self.book.left(tenant).unwrap();
-        (reserve.nodes() - left.nodes) as u64 + 1
-    }
-
     /// The parent and the state of a frame; `None` where it isn't there. A root has no parent.
     #[inline(always)]
     pub fn find(&self, name: FrameId) -> Option<(Option<FrameId>, State)>

@@ -47,6 +47,7 @@ impl<A: Allocator> Store<A> {
     }
 
     /// One more step of the tenant is counted.
+    #[inline(always)]
     pub fn count_step(&mut self, tenant: u64)
         requires { HasStepLeft self.old tenant }
         ensures { self.new ≡ on_tenant tenant counted self.old }

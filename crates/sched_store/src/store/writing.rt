@@ -15,17 +15,29 @@ use sched_rules::Worker;
 use std::alloc::Allocator;
 
 impl<A: Allocator> Store<A> {
-    /// Stores words at places of a frame that has these places, in order.
+    /// Stores words at places of a frame that has these places, in order. Where there is none, the frame
+    /// isn't looked up.
+    #[inline(always)]
     pub fn store_all(&mut self, name: FrameId, stores: &[(usize, u64)])
         requires there { IsSome (named self.old name) }
         requires inside { is_outside stores.now (words_under self.old name) ≡ false }
         ensures { self.new ≡ on_tenant name.tenant (holding name.serial (stored stores.now (words_under self.old name))) self.old }
     {
-        let table = &self.table;
+        // What a store keeps is known from here on.
+        let _ = &self.table;
         if stores.is_empty() {
             return;
         }
-        let node = node_of(table, name);
+        self.store_some(name, stores);
+    }
+
+    /// The same, where there may be some.
+    fn store_some(&mut self, name: FrameId, stores: &[(usize, u64)])
+        requires there { IsSome (named self.old name) }
+        requires inside { is_outside stores.now (words_under self.old name) ≡ false }
+        ensures { self.new ≡ on_tenant name.tenant (holding name.serial (stored stores.now (words_under self.old name))) self.old }
+    {
+        let node = node_of(&self.table, name);
         store_words(&mut self.stack, node, stores);
     }
 
@@ -43,6 +55,7 @@ impl<A: Allocator> Store<A> {
     }
 
     /// Puts a frame into a state that names no worker: Ready, Waiting or Returned.
+    #[inline(always)]
     pub fn set_state(&mut self, name: FrameId, state: State)
         requires there { IsSome (named self.old name) }
         requires nobody { is_held state ≡ false }
@@ -53,6 +66,7 @@ impl<A: Allocator> Store<A> {
 
     /// The worker that holds a frame lets it go into a state that names no worker: Ready, Waiting or
     /// Returned. Its place is empty then, so that it is seen to be free at one look.
+    #[inline(always)]
     pub fn let_go(&mut self, worker: Worker, name: FrameId, state: State)
         requires there { IsSome (named self.old name) }
         requires held { holds worker (named self.old name) ≡ true }
@@ -66,6 +80,7 @@ impl<A: Allocator> Store<A> {
     }
 
     /// The worker runs the frame. It held none before, or this one.
+    #[inline(always)]
     pub fn run(&mut self, worker: Worker, name: FrameId)
         requires there { IsSome (named self.old name) }
         requires free { may_hold self.old worker name ≡ true }
@@ -77,6 +92,7 @@ impl<A: Allocator> Store<A> {
     }
 
     /// The worker computes for the frame. It held none before, or this one.
+    #[inline(always)]
     pub fn compute(&mut self, worker: Worker, name: FrameId)
         requires there { IsSome (named self.old name) }
         requires free { may_hold self.old worker name ≡ true }

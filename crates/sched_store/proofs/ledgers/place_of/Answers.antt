@@ -1,9 +1,7 @@
-use Rattle.std.proofs.Common.{ltb, rules}
-use Rattle.std.proofs.lemmas.List.Sorted.{IsPartitionPoint-from_clause}
-use Rattle.sched_store.proofs.LedgerPlaces.{partitioned-rising, point-is_count_below}
+use Rattle.std.proofs.Common.{sym, ◌∙◌}
+use Rattle.sched_store.proofs.LedgerPlaces.{place-guessed}
 use Rattle.sched_store.proofs.ledgers.place_of.Goals as goal
 
-pub returns : goal.returns
-returns g c =
-    let point = IsPartitionPoint-from_clause (λ ledger. ltb ledger.0 c.args.number) c.args.ledgers.now c.partition_point.result c.partition_point.ensures.partitioned (partitioned-rising c.args.number c.args.ledgers.now c.requires) (λ a r f called. search rules) in
-    point-is_count_below c.args.number c.args.ledgers.now c.partition_point.result point c.partition_point.ensures.bound
+pub returns-then-number : goal.returns-then-number
+returns-then-number g c =
+    place-guessed c.args.number c.args.ledgers.now _ c.index-ledgers-guess.result c.requires c.if-guess-ledgers.true c.index-ledgers-guess.is (sym c.number.ensures ∙ c.if-number.true)

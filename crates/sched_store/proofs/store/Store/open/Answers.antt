@@ -1,10 +1,10 @@
-use Rattle.std.proofs.Common.{◌≤◌, ◌+◌, ap, ◌∙◌, refl, arith}
+use Rattle.std.proofs.Common.{◌≤◌, ◌+◌, ap, ◌∙◌, refl, sym, arith}
 use Rattle.cactus_stack.specs.Nodes.{charge}
 use Rattle.frame_table.specs.Tables.{frames_of}
 use Rattle.sched_store.specs.Inside.{parts_of}
 use Rattle.sched_store.proofs.Tenants.{left-account, book-left}
 use Rattle.sched_store.proofs.Writing.{has-free, not-refused}
-use Rattle.sched_store.proofs.Opens.{serials-found, parent-found, parent-open, parent-in, serial-of-name, place-left, size-some}
+use Rattle.sched_store.proofs.Opens.{serials-found, opened-next, parent-found, parent-open, parent-in, serial-of-name, place-left, size-some}
 use Rattle.sched_store.proofs.Opening.{open-step}
 use Rattle.sched_store.proofs.store.Store.open.Goals as goal
 
@@ -13,8 +13,8 @@ parent_node-above-requires g c =
     let parent = (let there = rw (← c.self.view_is) at c.requires.parent in parent-found (parts_of c.self.inside) c.self.invariant c.args.tenant c.args.parent there) in
     parent
 
-pub open-requires-clause-parent_is_open : goal.open-requires-clause-parent_is_open
-open-requires-clause-parent_is_open g c =
+pub open-requires-2-clause-parent_is_open : goal.open-requires-2-clause-parent_is_open
+open-requires-2-clause-parent_is_open g c =
     let parent = (let there = rw (← c.self.view_is) at c.requires.parent in parent-found (parts_of c.self.inside) c.self.invariant c.args.tenant c.args.parent there) in
     parent-open (parts_of c.self.inside) c.self.invariant c.args.tenant c.args.parent c.parent_node-above.result parent c.parent_node-above.ensures
 
@@ -22,13 +22,13 @@ pub unwrap-node-requires : goal.unwrap-node-requires
 unwrap-node-requires g c =
     let left = rw (← c.self.view_is) at c.requires.left in
     let free = has-free (parts_of c.self.inside) c.self.invariant c.args.tenant (charge c.args.size) 1 left in
-    not-refused c.open.result (λ refused. let short = c.open.ensures.refused.0 refused in omega (arith, short, free))
+    not-refused c.open-2.result (λ refused. let short = c.open-2.ensures.refused.0 refused in omega (arith, short, free))
 
 pub add-requires-clause-above : goal.add-requires-clause-above
 add-requires-clause-above g c =
     let left = rw (← c.self.view_is) at c.requires.left in
     let own = left-account (parts_of c.self.inside) c.self.invariant c.args.tenant (λ l. (charge c.args.size ≤ l.segments) × (1 ≤ l.nodes)) left in
-    let serial = (let next = rw (← c.self.view_is) at c.next_serial-serial.ensures in next ∙ ap (λ n. n + 1) (serials-found (parts_of c.self.inside) c.args.tenant own.0 own.1.0)) in
+    let serial = opened-next (parts_of c.self.inside) c.args.tenant c.unwrap-before.result own.0 own.1.0 (rw c.unwrap-before.ensures at c.open.ensures.opened) in
     rw serial (c.self.invariant.accounts c.args.tenant own.0 own.1.0).serials
 
 pub add-requires-clause-parent : goal.add-requires-clause-parent
@@ -43,30 +43,30 @@ add-requires-clause-room g c =
     let size = size-some c.args.words.now c.args.size c.requires.size in
     place-left (parts_of c.self.inside) c.self.invariant c.args.tenant c.args.size own.0 own.1.0 size.0 own.1.1.0
 
-pub charge-requires-2 : goal.charge-requires-2
-charge-requires-2 g c =
+pub open-requires : goal.open-requires
+open-requires g c =
     let left = rw (← c.self.view_is) at c.requires.left in
     let own = left-account (parts_of c.self.inside) c.self.invariant c.args.tenant (λ l. (charge c.args.size ≤ l.segments) × (1 ≤ l.nodes)) left in
     rw own.1.0 refl
 
-pub unwrap-requires : goal.unwrap-requires
-unwrap-requires g c =
+pub unwrap-before-requires : goal.unwrap-before-requires
+unwrap-before-requires g c =
     let left = rw (← c.self.view_is) at c.requires.left in
-    c.charge-2.ensures.ok.1 (rw c.charge.ensures (book-left (parts_of c.self.inside) c.self.invariant c.args.tenant (λ l. (charge c.args.size ≤ l.segments) × (1 ≤ l.nodes)) left))
+    c.open.ensures.ok.1 (rw c.charge.ensures (book-left (parts_of c.self.inside) c.self.invariant c.args.tenant (λ l. (charge c.args.size ≤ l.segments) × (1 ≤ l.nodes)) left))
 
 pub invariant_of-self : goal.invariant_of-self
 invariant_of-self g c =
     let left = rw (← c.self.view_is) at c.requires.left in
     let own = left-account (parts_of c.self.inside) c.self.invariant c.args.tenant (λ l. (charge c.args.size ≤ l.segments) × (1 ≤ l.nodes)) left in
     let parent = (let there = rw (← c.self.view_is) at c.requires.parent in parent-found (parts_of c.self.inside) c.self.invariant c.args.tenant c.args.parent there) in
-    let serial = (let next = rw (← c.self.view_is) at c.next_serial-serial.ensures in next ∙ ap (λ n. n + 1) (serials-found (parts_of c.self.inside) c.args.tenant own.0 own.1.0)) in
+    let serial = opened-next (parts_of c.self.inside) c.args.tenant c.unwrap-before.result own.0 own.1.0 (rw c.unwrap-before.ensures at c.open.ensures.opened) in
     let size = size-some c.args.words.now c.args.size c.requires.size in
     let frames = rw (serial, serial-of-name c.args.tenant c.args.parent c.parent_name.result c.parent_name.ensures) at c.add.ensures.frames in
-    let unused = rw c.unwrap-node.ensures at c.open.ensures.was_unused in
-    let nodes = rw c.unwrap-node.ensures at c.open.ensures.opened in
-    let changes = rw (c.unwrap.ensures, c.charge.ensures) at c.charge-2.ensures.charges in
-    let sum = rw (c.unwrap.ensures, c.charge.ensures) at c.charge-2.ensures.sum in
-    let step = open-step (parts_of c.self.inside) c.open.new.self c.add.new.self c.charge-2.new.self c.args.tenant c.args.parent c.parent_node-above.result c.args.words.now c.args.size c.args.home c.unwrap-node.result own.0 c.self.invariant (record {
+    let unused = rw c.unwrap-node.ensures at c.open-2.ensures.was_unused in
+    let nodes = rw c.unwrap-node.ensures at c.open-2.ensures.opened in
+    let changes = rw (c.unwrap-before.ensures, c.charge.ensures) at c.open.ensures.charges in
+    let sum = rw (c.unwrap-before.ensures, c.charge.ensures) at c.open.ensures.sum in
+    let step = open-step (parts_of c.self.inside) c.open-2.new.self c.add.new.self c.open.new.self c.args.tenant c.args.parent c.parent_node-above.result c.args.words.now c.args.size c.args.home c.unwrap-node.result own.0 c.self.invariant (record {
       there = own.1.0;
       parent_there = parent;
       above_is = c.parent_node-above.ensures;
@@ -77,28 +77,33 @@ invariant_of-self g c =
       nodes_is = nodes;
       frames = frames;
       kept = c.add.ensures.kept;
-      sound = c.charge-2.ensures.sound;
+      sound = c.open.ensures.sound;
       changes = changes;
       sum = sum;
     }) in
     step.stored
 
 pub returns-clause-name : goal.returns-clause-name
-returns-clause-name g c = (let next = c.next_serial-serial.ensures in ap (λ n. record { tenant = c.args.tenant; serial = n }) next)
+returns-clause-name g c =
+    let left = rw (← c.self.view_is) at c.requires.left in
+    let own = left-account (parts_of c.self.inside) c.self.invariant c.args.tenant (λ l. (charge c.args.size ≤ l.segments) × (1 ≤ l.nodes)) left in
+    let serial = opened-next (parts_of c.self.inside) c.args.tenant c.unwrap-before.result own.0 own.1.0 (rw c.unwrap-before.ensures at c.open.ensures.opened) in
+    let given = serials-found (parts_of c.self.inside) c.args.tenant own.0 own.1.0 in
+    rw (← c.self.view_is) (ap (λ n. record { tenant = c.args.tenant; serial = n }) (serial ∙ ap (λ n. n + 1) (sym given)))
 
 pub returns-clause-opened : goal.returns-clause-opened
 returns-clause-opened g c =
     let left = rw (← c.self.view_is) at c.requires.left in
     let own = left-account (parts_of c.self.inside) c.self.invariant c.args.tenant (λ l. (charge c.args.size ≤ l.segments) × (1 ≤ l.nodes)) left in
     let parent = (let there = rw (← c.self.view_is) at c.requires.parent in parent-found (parts_of c.self.inside) c.self.invariant c.args.tenant c.args.parent there) in
-    let serial = (let next = rw (← c.self.view_is) at c.next_serial-serial.ensures in next ∙ ap (λ n. n + 1) (serials-found (parts_of c.self.inside) c.args.tenant own.0 own.1.0)) in
+    let serial = opened-next (parts_of c.self.inside) c.args.tenant c.unwrap-before.result own.0 own.1.0 (rw c.unwrap-before.ensures at c.open.ensures.opened) in
     let size = size-some c.args.words.now c.args.size c.requires.size in
     let frames = rw (serial, serial-of-name c.args.tenant c.args.parent c.parent_name.result c.parent_name.ensures) at c.add.ensures.frames in
-    let unused = rw c.unwrap-node.ensures at c.open.ensures.was_unused in
-    let nodes = rw c.unwrap-node.ensures at c.open.ensures.opened in
-    let changes = rw (c.unwrap.ensures, c.charge.ensures) at c.charge-2.ensures.charges in
-    let sum = rw (c.unwrap.ensures, c.charge.ensures) at c.charge-2.ensures.sum in
-    let step = open-step (parts_of c.self.inside) c.open.new.self c.add.new.self c.charge-2.new.self c.args.tenant c.args.parent c.parent_node-above.result c.args.words.now c.args.size c.args.home c.unwrap-node.result own.0 c.self.invariant (record {
+    let unused = rw c.unwrap-node.ensures at c.open-2.ensures.was_unused in
+    let nodes = rw c.unwrap-node.ensures at c.open-2.ensures.opened in
+    let changes = rw (c.unwrap-before.ensures, c.charge.ensures) at c.open.ensures.charges in
+    let sum = rw (c.unwrap-before.ensures, c.charge.ensures) at c.open.ensures.sum in
+    let step = open-step (parts_of c.self.inside) c.open-2.new.self c.add.new.self c.open.new.self c.args.tenant c.args.parent c.parent_node-above.result c.args.words.now c.args.size c.args.home c.unwrap-node.result own.0 c.self.invariant (record {
       there = own.1.0;
       parent_there = parent;
       above_is = c.parent_node-above.ensures;
@@ -109,7 +114,7 @@ returns-clause-opened g c =
       nodes_is = nodes;
       frames = frames;
       kept = c.add.ensures.kept;
-      sound = c.charge-2.ensures.sound;
+      sound = c.open.ensures.sound;
       changes = changes;
       sum = sum;
     }) in
