@@ -1,7 +1,7 @@
 use Rattle.std.proofs.Common.{◌≡◌, get_or, sym, ◌∙◌, rules}
 use Rattle.cactus_stack.proofs.Sound.{list_in-some}
 use Rattle.cactus_stack.proofs.Changes.{list_at-lists_from}
-use Rattle.cactus_stack.proofs.Steps.{listed, read_len}
+use Rattle.cactus_stack.proofs.Steps.{listed}
 use Rattle.cactus_stack.proofs.view.ListsView.own.Goals as goal
 
 pub bounds-self-inside-at : goal.bounds-self-inside-at
