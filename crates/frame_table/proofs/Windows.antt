@@ -1,8 +1,7 @@
 -- A list that begins at a place of another.
-use Rattle.std.proofs.Common.{◌≡◌, ℕ, suc, ◌+◌, ◌-◌, ◌*◌, ◌<◌, ◌≤◌, List, [], ◌∷◌, ◌++◌, length, take, drop, refl, arith, append_assoc, append-nil, add-suc}
+use Rattle.std.proofs.Common.{◌≡◌, ℕ, suc, ◌+◌, ◌-◌, ◌<◌, ◌≤◌, List, ◌∷◌, ◌++◌, length, take, drop, refl, arith, append_assoc, append-nil, add-suc}
 use Rattle.std.specs.List.{insert, remove, copy_within}
 use Rattle.std.proofs.lemmas.List.{drop-take, drop-drop, drop_all, drop_at, drop-append-le, length-take-le, length-drop}
-use Rattle.frame_table.specs.Windows.{IsWindow}
 
 -- the length of what begins at a place
 pub length_from : {X : Type 0} (items : List X) (start n : ℕ) → n ≡ length (drop start items) → start ≤ length items → n + start ≡ length items

@@ -1,5 +1,7 @@
 //! The command `serve`: a listener on 127.0.0.1, a hall under a desk, and what is said at the start and at the end.
-ghost use Rattle.std.specs.Prelude.{◌≡◌, ◌≤◌};
+ghost use Rattle.std.specs.Prelude.{◌≡◌, ◌≤◌, true, Ok};
+ghost use Rattle.line_io.specs.Writes.{IsWritten};
+ghost use Rattle.othello_server.specs.Running.{IsServed, ended_text, listening_text};
 
 use crate::running::{DONE, FAILED, say};
 use desk::{Config, Desk, Hall, Hands, PARTS};
@@ -7,12 +9,15 @@ use line_io::{Sink, write_text};
 use sched_rules::Worker;
 use std::alloc::Global;
 use std::fmt::Display;
-use std::net::{Ipv4Addr, Net, TcpListener, TcpStream};
+use std::net::{Ipv4Addr, Net, SocketAddr, TcpListener, TcpStream};
 use std::sync::Wait;
 use std::sync::ledger::Blank;
 use std::thread::Threads;
 use steal_pool::Open;
 use tcp_server::serve;
+
+/// What is said where a line could not be written.
+const UNWRITTEN: &str = "the output could not be written";
 
 /// What a server is asked to be.
 #[derive(Clone, Copy)]
@@ -31,7 +36,8 @@ pub struct Asked {
 }
 
 /// Serves so many sessions, and gives the exit status. The output gets `listening 127.0.0.1:port` before the first
-/// and `ended k` after the last. Where there is no port, no memory, no thread or no output, the errors get why.
+/// and `ended k` after the last: at status 0 both were written, and nothing else. Where there is no port, no memory,
+/// no thread or no output, the errors get why.
 pub fn serve_as_asked<L, R, K: Sink, E: Sink>(
     rt: &R,
     alloc: Global,
@@ -45,7 +51,8 @@ where
     R: Net<Listener = TcpListener, Stream = TcpStream> + Threads + Wait + Sync,
     requires name { blank.name ≡ L.name }
     requires parts { (blank.parts ≡ L.parts) × (L.all ≡ L.parts) × (L.all ≡ PARTS) }
-    ensures { result ≤ 1 }
+    ensures status { result ≤ 1 }
+    ensures told { result ≡ 0 → IsServed K.takes sink.old asked.sessions sink.new }
 {
     let listener = match TcpListener::bind(rt, (Ipv4Addr::LOCALHOST, asked.port)) {
         Ok(listener) => listener,
@@ -56,8 +63,8 @@ where
     };
     let desk: Desk<L> = Desk::new(hall, blank);
     match listener.local_addr() {
-        Ok(address) if is_told(alloc, sink, "listening", address) => {}
-        Ok(_) => return failed(errors, "the output could not be written"),
+        Ok(address) if is_begun(alloc, sink, address) => {}
+        Ok(_) => return failed(errors, UNWRITTEN),
         Err(error) => return failed(errors, error),
     }
     if let Err(fault) = serve(
@@ -71,10 +78,10 @@ where
     ) {
         return failed(errors, fault);
     }
-    if is_told(alloc, sink, "ended", asked.sessions) {
+    if is_ended(alloc, sink, asked.sessions) {
         DONE
     } else {
-        failed(errors, "the output could not be written")
+        failed(errors, UNWRITTEN)
     }
 }
 
@@ -86,9 +93,21 @@ fn failed<E: Sink, D: Display + Drop>(errors: &mut E, why: D) -> u8
     FAILED
 }
 
-/// Writes a line of two words by one call, and tells whether it was written.
-fn is_told<K: Sink, D: Display + Drop>(alloc: Global, sink: &mut K, word: &str, what: D) -> bool {
-    match format!(in alloc; "{word} {what}\n") {
+/// Writes where the server listens, by one call, and tells whether it was written.
+fn is_begun<K: Sink>(alloc: Global, sink: &mut K, address: SocketAddr) -> bool
+    ensures { result ≡ true → IsWritten K.takes sink.old (listening_text address) sink.new (Ok tt) }
+{
+    match format!(in alloc; "listening {address}\n") {
+        Ok(line) => write_text(sink, line.as_bytes()).is_ok(),
+        Err(_) => false,
+    }
+}
+
+/// Writes how many sessions have ended, by one call, and tells whether it was written.
+fn is_ended<K: Sink>(alloc: Global, sink: &mut K, sessions: u16) -> bool
+    ensures { result ≡ true → IsWritten K.takes sink.old (ended_text sessions) sink.new (Ok tt) }
+{
+    match format!(in alloc; "ended {sessions}\n") {
         Ok(line) => write_text(sink, line.as_bytes()).is_ok(),
         Err(_) => false,
     }

@@ -1,4 +1,4 @@
-use Rattle.std.proofs.Common.{◌+◌, ◌<◌, ◌≤◌, length, vec_len, vec_capacity, IsOk, not, refl, sym, ap, ◌∙◌, arith}
+use Rattle.std.proofs.Common.{IsOk, not, refl, sym, ap, ◌∙◌, arith}
 use Rattle.std.proofs.lemmas.Bool.{false≢true}
 use Rattle.std.proofs.lemmas.List.{length-drop}
 use Rattle.frame_table.proofs.Windows.{inserted_back}
