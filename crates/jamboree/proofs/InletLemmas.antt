@@ -87,9 +87,9 @@ pub and-right : (a b : Bool) → b ≡ false → (a && b) ≡ false
 and-right true b e = e
 and-right false b e = refl
 
-pub and-left : (a b : Bool) → (a ≡ true → ⊥) → (a && b) ≡ false
-and-left true b h = absurd (h refl)
-and-left false b h = refl
+pub and-left : (a b : Bool) → a ≡ false → (a && b) ≡ false
+and-left true b e = absurd (cc e)
+and-left false b e = refl
 
 pub not-true : (a : Bool) → (a ≡ true → ⊥) → a ≡ false
 not-true true h = absurd (h refl)

@@ -1,5 +1,5 @@
 -- The numbers of the first words, where they have the form of a frame.
-use Rattle.std.specs.Prelude.{◌≡◌, ℕ, ◌+◌, ◌<◌, ◌≤◌, true, ℤ, pos, negsuc, ◌≤ℤ◌, ◌<ℤ◌, List, [], map, drop, length, slice_index, ◌==◌, ◌&&◌, bit_and, refl}
+use Rattle.std.specs.Prelude.{◌≡◌, ℕ, ◌+◌, ◌<◌, ◌≤◌, Bool, true, false, ℤ, pos, negsuc, ◌≤ℤ◌, ◌<ℤ◌, List, [], map, drop, length, slice_index, ◌==◌, ◌&&◌, bit_and, refl}
 use Rattle.std.proofs.Common.{to_z, of_z, w32, sym, ap, ◌∙◌, subst, take, arith, ⊎_elim}
 use Rattle.std.proofs.lemmas.List.{get_or-take}
 use Rattle.std.proofs.lemmas.Int.{ints}
@@ -72,11 +72,18 @@ pub front-word : (w front : List ℕ) → front ≡ take 16 w → (k : ℕ) → 
 front-word w front is k inside = ap (λ (xs : List ℕ). slice_index xs k) is ∙ get_or-take 16 w k 0 inside
 
 -- words that have the form of a frame, part by part
-pub formed-by : (w : List ℕ) (h : Head) → h ≡ head_of w → (length w ≡ 12 + h.count) × (are_statuses (drop 12 w) ≡ true) → is_frame (frame_from h []) ≡ true → is_formed w ≡ true
-formed-by w h e places frame =
-    subst (λ (k : Head). (length w ≡ 12 + k.count) × (are_statuses (drop 12 w) ≡ true) → is_frame (frame_from k []) ≡ true → is_formed w ≡ true) (sym e)
-    (λ at test. and_from (length w == 12 + slice_index w 10) (are_statuses (drop 12 w) && is_frame (frame_of w)) (eq-eqb (length w) (12 + slice_index w 10) at.0)
-    (and_from (are_statuses (drop 12 w)) (is_frame (frame_of w)) at.1 test)) places frame
+and-true : (a : Bool) → a ≡ (a && true)
+and-true true = refl
+and-true false = refl
+
+-- the rest of the test of the form
+pub formed-rest : (w : List ℕ) (h : Head) → h ≡ head_of w → length w ≡ 12 + h.count → is_frame (frame_from h []) ≡ true → are_statuses (drop 12 w) ≡ is_formed w
+formed-rest w h e places frame =
+    subst (λ (k : Head). length w ≡ 12 + k.count → is_frame (frame_from k []) ≡ true → are_statuses (drop 12 w) ≡ is_formed w) (sym e)
+    (λ at test.
+    and-true (are_statuses (drop 12 w)) ∙ ap (λ (b : Bool). are_statuses (drop 12 w) && b) (sym test)
+    ∙ ap (λ (b : Bool). b && (are_statuses (drop 12 w) && is_frame (frame_of w))) (sym (eq-eqb (length w) (12 + slice_index w 10) at)))
+    places frame
 
 pub formed-parts : (w : List ℕ) (h : Head) → h ≡ head_of w → is_formed w ≡ true → ((length w ≡ 12 + h.count) × (are_statuses (drop 12 w) ≡ true)) × (is_frame (frame_from h []) ≡ true)
 formed-parts w h e formed =

@@ -14,7 +14,7 @@ use crate::frame::View;
 use crate::inlet::{takes_in, wakes};
 use crate::next::{child_act, returns, root_act};
 use crate::phases::{Phase, Role};
-use crate::view::{Changes, read, read_leaf};
+use crate::view::{Changes, is_formed, read_leaf, view};
 use cactus_stack::{Sight, Words};
 use jamboree_rules::{Leaf, LeafAnswer};
 use othello_moves::choice_count;
@@ -85,28 +85,27 @@ fn act_below(grain: u8, frame: &View, own: &Words, above: &Words) -> Act
     requires { length own.now ≡ 12 + frame.now.count }
     ensures { result ≡ (if is_formed above.now && may_be_child (frame_of above.now) (frame_in frame.now) then act_of grain (frame_with frame.now (statuses_in own.now)) (Some (frame_of above.now)) else returns) }
 {
-    match read(above) {
-        Some(parent) => {
-            if frame.may_be_under(&parent) {
-                child_act(grain, frame, own, &parent)
-            } else {
-                returns()
-            }
-        }
-        None => returns(),
+    if !is_formed(above) {
+        return returns();
     }
+    let parent = view(above);
+    if !frame.may_be_under(&parent) {
+        return returns();
+    }
+    child_act(grain, frame, own, &parent)
 }
 
 /// The next act of a frame in these words, under a parent in those, if there is one.
 fn act_under(grain: u8, own: &Words, parent: Option<Words>) -> Act
     ensures { result ≡ next_act grain (own.now ∷ above_of parent.entry) }
 {
-    match read(own) {
-        Some(frame) => match parent {
-            Some(above) => act_below(grain, &frame, own, &above),
-            None => act_alone(grain, &frame, own),
-        },
-        None => returns(),
+    if !is_formed(own) {
+        return returns();
+    }
+    let frame = view(own);
+    match parent {
+        Some(above) => act_below(grain, &frame, own, &above),
+        None => act_alone(grain, &frame, own),
     }
 }
 
@@ -138,10 +137,10 @@ impl Procedure for Jamboree {
 
     /// What the child's score says of its choice; words of no frame and child only wake.
     fn inlet(&self, own: &Words, child: &Words) -> InletAct {
-        match read(own) {
-            Some(frame) => inlet_at(&frame, child),
-            None => wakes(),
+        if !is_formed(own) {
+            return wakes();
         }
+        inlet_at(&view(own), child)
     }
 
     /// The frame's board, depth and window.
@@ -156,10 +155,10 @@ impl Procedure for Jamboree {
 
     /// The answer's score and choice, and the frame is done; words of no frame store nothing.
     fn accept(&self, own: &Words, answer: &LeafAnswer) -> Stores {
-        match read(own) {
-            Some(_) => answered(answer),
-            None => Stores::new(),
+        if !is_formed(own) {
+            return Stores::new();
         }
+        answered(answer)
     }
 
     ghost compares = { λ procedure. refl };
@@ -177,16 +176,14 @@ impl Procedure for Jamboree {
 fn inlet_at(frame: &View, words: &Words) -> InletAct
     ensures { (statuses : List ℕ) → result ≡ (if is_formed words.now && may_be_child (frame_with frame.now statuses) (frame_of words.now) then inlet_of (frame_with frame.now statuses) (frame_of words.now) else wakes) }
 {
-    match read(words) {
-        Some(child) => {
-            if child.may_be_under(frame) {
-                takes_in(frame, &child)
-            } else {
-                wakes()
-            }
-        }
-        None => wakes(),
+    if !is_formed(words) {
+        return wakes();
     }
+    let child = view(words);
+    if !child.may_be_under(frame) {
+        return wakes();
+    }
+    takes_in(frame, &child)
 }
 
 /// What a frame stores of an answer.

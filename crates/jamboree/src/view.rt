@@ -1,8 +1,8 @@
 //! A frame's words as a typed view, and stores by what they set: nothing else knows places.
 //!
-//! The words of a frame and what they stand for are in `specs/Places.antt` of `jamboree_rules`. [`read`]
-//! reads the first twelve from their segment, in place, tests the entries of the choices behind them
-//! without a copy, and gives a view exactly where the words have the form of a frame.
+//! The words of a frame and what they stand for are in `specs/Places.antt` of `jamboree_rules`.
+//! [`is_formed`] tests exactly whether words have the form of a frame, in place, and [`view`] reads the
+//! frame in words that have it.
 ghost use Rattle.std.specs.Prelude.{◌≡◌, ◌<◌, ◌≤◌, ◌+◌, ◌++◌, ◌∷◌, [], ◌↔◌, ◌==◌, ◌&&◌, true, IsSome, IfSome, List, ℕ, ◌*◌, ◌-◌, bit_and, drop, length, map, slice_get, slice_index, ◌≤ℤ◌, pos, negsuc};
 ghost use Rattle.jamboree_rules.specs.Frames.{is_leaf, is_frame, is_in_phase, counts_choices, least, greatest};
 ghost use Rattle.jamboree_rules.specs.Places.{score_of, status_of, frame_of, are_statuses, is_formed, pair_of, OwnBits, OppBits, Phase as ToPhase, Best, Chosen, Count, Spawned, Status as ToStatus, given_words, root_words, frame_size};
@@ -58,6 +58,7 @@ fn word(words: &[u64], place: usize) -> u64
 }
 
 /// The first twelve words, which stand in one segment.
+#[inline(always)]
 fn read_head(words: &Words) -> Head
     ensures { result ≡ head_of words.now }
 {
@@ -178,12 +179,14 @@ impl Head {
             && self.is_in_phase()
     }
 
-    /// The frame of these first words.
-    fn view(self) -> View
+    /// The frame of these first words, behind which so many entries stand.
+    #[inline(always)]
+    fn view(self, count: usize) -> View
         requires form { is_frame (frame_from self []) ≡ true }
-        requires few { self.count ≤ 116 }
+        requires few { count ≤ 116 }
+        requires counted { count ≡ self.count }
         ensures frame { (statuses : List ℕ) → frame_with result statuses ≡ frame_from self statuses }
-        ensures count { result.count ≡ self.count }
+        ensures count { result.count ≡ count }
     {
         View {
             board: Board {
@@ -198,28 +201,39 @@ impl Head {
             phase: Phase::of(self.phase),
             best: score_of_word(self.best),
             choice: self.choice,
-            count: self.count as usize,
+            count,
             spawned: self.spawned as usize,
         }
     }
 }
 
-/// The frame in these words, or None where they haven't the form of one.
-pub(crate) fn read(words: &Words) -> Option<View>
-    ensures formed { IsSome result ↔ (is_formed words.now ≡ true) }
-    ensures frame { IfSome result (λ view. frame_with view (statuses_in words.now) ≡ frame_of words.now) }
-    ensures entries { IfSome result (λ view. length words.now ≡ 12 + view.count) }
+/// Whether these words have the form of a frame.
+pub(crate) fn is_formed(words: &Words) -> bool
+    ensures { result ≡ is_formed words.now }
 {
     let len = words.len();
     if len < SIZE {
-        return None;
+        return false;
     }
     let head = read_head(words);
-    if (len - SIZE) as u64 == head.count && head.is_frame() && are_statuses(words) {
-        Some(head.view())
-    } else {
-        None
+    if (len - SIZE) as u64 != head.count {
+        return false;
     }
+    if !head.is_frame() {
+        return false;
+    }
+    are_statuses(words)
+}
+
+/// The frame in words that have the form of one.
+#[inline(always)]
+pub(crate) fn view(words: &Words) -> View
+    requires { is_formed words.now ≡ true }
+    ensures frame { frame_with result (statuses_in words.now) ≡ frame_of words.now }
+    ensures entries { length words.now ≡ 12 + result.count }
+{
+    let count = words.len() - SIZE;
+    read_head(words).view(count)
 }
 
 /// An empty board to depth 0.

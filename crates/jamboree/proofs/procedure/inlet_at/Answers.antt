@@ -1,4 +1,4 @@
-use Rattle.std.proofs.Common.{sym, ◌∙◌, ap, refl, ◌&&◌}
+use Rattle.std.proofs.Common.{sym, ◌∙◌, ap, ◌&&◌}
 use Rattle.std.proofs.lemmas.Bool.{and_from}
 use Rattle.jamboree_rules.specs.Frames.{Frame, may_be_child}
 use Rattle.jamboree_rules.specs.Places.{frame_of, is_formed}
@@ -8,24 +8,25 @@ use Rattle.jamboree.proofs.InletLemmas.{then-by, else-by, and-right, and-left}
 use Rattle.jamboree.proofs.SightLemmas.{inlet-with}
 use Rattle.jamboree.proofs.procedure.inlet_at.Goals as goal
 
-pub returns-then-may_be_under : goal.returns-then-may_be_under
-returns-then-may_be_under c statuses =
+pub returns-then-not-is_formed : goal.returns-then-not-is_formed
+returns-then-not-is_formed c statuses =
     let w = c.args.words.now in
     let f = frame_with c.args.frame.now statuses in
-    let same = c.in-Some.ensures.frame in
-    then-by (is_formed w && may_be_child f (frame_of w)) _ _ _
-    (and_from (is_formed w) (may_be_child f (frame_of w)) (c.in-Some.ensures.formed.0 refl) (ap (λ (q : Frame). may_be_child f q) (sym same) ∙ sym c.may_be_under.ensures ∙ c.if-may_be_under.true))
-    (c.takes_in.ensures ∙ inlet-with (frame_in c.args.frame.now) (frame_in c.in-Some.child) statuses (statuses_in w) ∙ ap (λ (q : Frame). inlet_of f q) same)
+    else-by (is_formed w && may_be_child f (frame_of w)) _ _ _ (and-left (is_formed w) (may_be_child f (frame_of w)) (sym c.is_formed.ensures ∙ c.if-not-is_formed.true)) c.wakes.ensures
 
-pub returns-else-may_be_under : goal.returns-else-may_be_under
-returns-else-may_be_under c statuses =
+pub returns-then-not-may_be_under : goal.returns-then-not-may_be_under
+returns-then-not-may_be_under c statuses =
     let w = c.args.words.now in
     let f = frame_with c.args.frame.now statuses in
     else-by (is_formed w && may_be_child f (frame_of w)) _ _ _
-    (and-right (is_formed w) (may_be_child f (frame_of w)) (ap (λ (q : Frame). may_be_child f q) (sym c.in-Some.ensures.frame) ∙ sym c.may_be_under.ensures ∙ c.if-may_be_under.false)) c.wakes.ensures
+    (and-right (is_formed w) (may_be_child f (frame_of w)) (ap (λ (q : Frame). may_be_child f q) (sym c.view-child.ensures.frame) ∙ sym c.may_be_under.ensures ∙ c.if-not-may_be_under.true)) c.wakes-then-not-may_be_under.ensures
 
-pub returns-in-None : goal.returns-in-None
-returns-in-None c statuses =
+pub returns : goal.returns
+returns c statuses =
     let w = c.args.words.now in
     let f = frame_with c.args.frame.now statuses in
-    else-by (is_formed w && may_be_child f (frame_of w)) _ _ _ (and-left (is_formed w) (may_be_child f (frame_of w)) (λ e. let some = c.in-None.ensures.formed.1 e in absurd (cc))) c.wakes-in-None.ensures
+    let same = c.view-child.ensures.frame in
+    then-by (is_formed w && may_be_child f (frame_of w)) _ _ _
+    (and_from (is_formed w) (may_be_child f (frame_of w)) (sym c.is_formed.ensures ∙ c.if-not-is_formed.false)
+    (ap (λ (q : Frame). may_be_child f q) (sym same) ∙ sym c.may_be_under.ensures ∙ c.if-not-may_be_under.false))
+    (c.takes_in.ensures ∙ inlet-with (frame_in c.args.frame.now) (frame_in c.view-child.result) statuses (statuses_in w) ∙ ap (λ (q : Frame). inlet_of f q) same)

@@ -1,7 +1,10 @@
+use Rattle.std.proofs.Common.{sym, ◌∙◌}
 use Rattle.jamboree_rules.specs.Places.{is_formed}
-use Rattle.jamboree.proofs.InletLemmas.{else-by, not-true}
+use Rattle.jamboree.proofs.InletLemmas.{then-by, else-by}
 use Rattle.jamboree.proofs.procedure.JamboreeProcedure.accept.Goals as goal
 
-pub returns-in-None : goal.returns-in-None
-returns-in-None c =
-    else-by (is_formed c.args.own.now) _ _ _ (not-true (is_formed c.args.own.now) (λ e. let some = c.in-None.ensures.formed.1 e in absurd (cc))) c.new.ensures
+pub returns-then-not-is_formed : goal.returns-then-not-is_formed
+returns-then-not-is_formed c = else-by (is_formed c.args.own.now) _ _ _ (sym c.is_formed.ensures ∙ c.if-not-is_formed.true) c.new.ensures
+
+pub returns : goal.returns
+returns c = then-by (is_formed c.args.own.now) _ _ _ (sym c.is_formed.ensures ∙ c.if-not-is_formed.false) c.answered.ensures
