@@ -1,5 +1,5 @@
 -- What an opening asks of the parts of a store.
-use Rattle.std.proofs.Common.{◌≡◌, ℕ, ◌<◌, ◌≤◌, ◌+◌, ◌-◌, true, ◌&&◌, leb, List, [], ◌∷◌, length, Option, Some, None, IfSome, option_map, refl, ap, sym, subst, ◌∙◌, arith}
+use Rattle.std.proofs.Common.{◌≡◌, ℕ, ◌<◌, ◌≤◌, ◌+◌, ◌-◌, true, ◌&&◌, leb, List, [], ◌∷◌, length, Option, Some, None, IfSome, refl, ap, sym, subst, ◌∙◌, arith}
 use Rattle.std.proofs.lemmas.Bool.{and_parts, leb-true}
 use Rattle.cactus_stack.specs.Nodes.{Nodes, node_words, IsOpen, charge}
 use Rattle.tenant_quota.specs.Accounts.{account_of, left_in}
