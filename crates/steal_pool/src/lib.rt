@@ -1,19 +1,20 @@
 //! A pool of workers, each in a thread of its own, that do the jobs of a desk.
 //!
 //! Whoever has a seat at a [`desk::Desk`] asks for searches; [`run_pool`] starts workers, and they do
-//! them until the desk is closed. A worker looks for a frame that is ready: its own newest task, else
-//! the oldest of the list that all share, else any that the hall knows of, for which it sleeps at the
-//! desk. With a frame it does turn after turn (`pool_rules`): each turn is one step, offered to the
-//! hall under its lock by [`desk::Desk::offer`] and by nothing else, or one computation outside all
-//! locks. A frame that becomes ready by its step is pushed on the list; where there is no room it stays
-//! ready in the hall, where it is found again.
+//! them until the desk is closed. A worker looks for a frame that is ready: the newest task of its own
+//! deque, else the oldest of another's (`task_deques`), else any that the hall knows of, for which it
+//! sleeps at the desk. With a frame it does turn after turn (`pool_rules`): each turn is one step,
+//! offered to the hall under its lock by [`desk::Desk::offer`] and by nothing else, or one computation
+//! outside all locks. A frame that becomes ready by its step is pushed on the worker's deque; where
+//! there is no room it stays ready in the hall, where it is found again.
 //!
 //! What is proved of a worker is that each of its turns is the table's (`specs/Works.antt`), that it
 //! offers workers' steps alone, that it brings an answer that was computed from just the leaf it was
-//! given, and that its badge counts the steps that were taken. Of a pool it is that what was pushed is
-//! what was taken and what is left, and that the badge it ends with is that of all its workers, so that
+//! given, that its badge counts the steps that were taken, and that its ends of the deques come back at
+//! the same deques. Of a pool it is that what was pushed is what was taken and what is left, on each
+//! deque and of all together, and that the badge it ends with is that of all its workers, so that
 //! [`desk::Desk::into_hall`] can tell whether every step in the hall is one that somebody took. No
-//! order between threads is promised, nor that a job ends.
+//! order between threads is promised, nor that a job ends, nor that no task is left where none is found.
 //!
 //! ```text
 //! // four workers, beside whoever speaks at the desk, until it is closed
@@ -25,6 +26,7 @@
 mod gate;
 mod pool;
 mod tasks;
+mod threads;
 mod worker;
 
 pub use gate::{Gate, Open};

@@ -1,54 +1,58 @@
-//! The tasks of a pool, shared by its workers.
-use pool_rules::{Computations, Counts, Task, TaskList};
-use sched_rules::Worker;
-use std::alloc::{AllocError, Global};
-use std::sync::{Mutex, Wait};
+//! The tasks of a worker, and what all workers of a pool share.
+ghost use Rattle.std.specs.Prelude.{◌≡◌};
+ghost use Rattle.task_deques.specs.Deals.{posts};
 
-/// What the workers of a pool share: the list of tasks and the count of computations, each under a
-/// lock of its own. All memory is taken at the start.
+use pool_rules::{Computations, Task};
+use sched_rules::Worker;
+use std::sync::{Mutex, Wait};
+use task_deques::Ends;
+
+/// What the workers of a pool share beside their deques: the count of computations, under a lock of
+/// its own.
 #[derive(Drop)]
 pub struct Shared {
-    list: Mutex<TaskList>,
     computations: Mutex<Computations>,
 }
 
 impl Shared {
-    /// No task, no computation, and room for so many tasks. It fails only where memory is refused.
-    pub fn with_room(alloc: Global, room: usize) -> Result<Shared, AllocError> {
-        let list = TaskList::with_room(alloc, room)?;
-        Ok(Shared {
-            list: Mutex::new(list),
+    /// No computation was begun.
+    pub fn new() -> Shared {
+        Shared {
             computations: Mutex::new(Computations::new()),
-        })
+        }
     }
 
-    /// A worker's end.
-    pub fn tasks(&self) -> Tasks<'_> {
-        Tasks { shared: self }
-    }
-
-    /// How many tasks were pushed and taken, and how many are left.
-    pub fn into_counts(self) -> Counts {
-        let Shared { list, .. } = self;
-        list.into_inner().counts()
+    /// The tasks of a worker that has these ends of the deques.
+    pub fn tasks(&self, ends: Ends) -> Tasks<'_>
+        ensures { result.ends ≡ ends }
+    {
+        Tasks { ends, shared: self }
     }
 }
 
-/// A worker's end of the tasks that a pool shares.
-#[derive(Clone, Copy)]
+/// A worker's tasks: its own deque, the thieves' ends of all deques, and the count of computations that
+/// the pool shares.
+#[derive(Drop)]
 pub struct Tasks<'s> {
+    /// The worker's ends of the deques.
+    pub ends: Ends,
     shared: &'s Shared,
 }
 
 impl Tasks<'_> {
-    /// Pushes a task. One for which there is no room is dropped: its frame stays ready in the hall.
-    pub(crate) fn push<R: Wait>(&self, rt: &R, task: Task) {
-        let _ = self.shared.list.lock(rt).push(task);
+    /// Pushes a task on the worker's own deque. One that is handed back is dropped: its frame stays
+    /// ready in the hall.
+    pub(crate) fn push(&mut self, task: Task)
+        ensures { posts self.new.ends ≡ posts self.old.ends }
+    {
+        let _ = self.ends.push(task);
     }
 
-    /// The worker's own newest task, else the oldest.
-    pub(crate) fn take<R: Wait>(&self, rt: &R, worker: Worker) -> Option<Task> {
-        self.shared.list.lock(rt).take(worker)
+    /// The worker's own newest task, else the oldest of the next worker's that has one.
+    pub(crate) fn take(&mut self, worker: Worker) -> Option<Task>
+        ensures { posts self.new.ends ≡ posts self.old.ends }
+    {
+        self.ends.take(worker)
     }
 
     /// The number of the computation that begins now.

@@ -1,11 +1,13 @@
 //! One worker.
 //!
-//! A worker without a frame looks for a task: its own newest, else the oldest of the list, else any
-//! frame that is ready in the hall, for which it waits at the desk. It then does its turns
-//! (`pool_rules::Holding`) until it is without a frame again. It sleeps only at the desk, and it ends
-//! once the desk is closed and no task is left. It holds no lock while it computes.
+//! A worker without a frame looks for a task: the newest of its own deque, else the oldest of another's,
+//! which it tries in the order of their numbers after its own, else any frame that is ready in the
+//! hall, for which it waits at the desk. It then does its turns (`pool_rules::Holding`) until it is
+//! without a frame again. It sleeps only at the desk, and it ends once it finds no task and the desk is
+//! closed: what is left then in the deques of others is theirs. It holds no lock while it computes.
 ghost use Rattle.std.specs.Prelude.{◌≡◌, Some};
 ghost use Rattle.pool_rules.specs.Turns.{offered};
+ghost use Rattle.task_deques.specs.Deals.{posts};
 ghost use Rattle.steal_pool.specs.Works.{IsTurn, BringsAnswerTo};
 
 use crate::gate::Gate;
@@ -17,8 +19,8 @@ use pool_rules::{Deed, Holding, Task};
 use sched_rules::{Step, Worker};
 use std::sync::Wait;
 
-/// Works until the desk is closed and no task is left. Every step goes through [`Desk::offer`], so its
-/// badge's share is the number of steps that it took.
+/// Works until the desk is closed and no task is found. Every step goes through [`Desk::offer`], so its
+/// badge's share is the number of steps that it took. Its tasks come back with ends of the same deques.
 pub fn run_worker<'s, L: Hands, G: Gate, R: Wait>(
     rt: &R,
     desk: &Desk<L>,
@@ -26,26 +28,31 @@ pub fn run_worker<'s, L: Hands, G: Gate, R: Wait>(
     badge: Badge<L>,
     tasks: Tasks<'s>,
     gate: &G,
-) -> (Badge<L>, Tasks<'s>) {
+) -> (Badge<L>, Tasks<'s>)
+    ensures { posts result.1.ends ≡ posts tasks.entry.ends }
+{
     let mut badge = badge;
+    let mut tasks = tasks;
     for _ in rt.forever() {
-        let Some(task) = next_task(rt, desk, worker, &tasks) else {
+        let Some(task) = next_task(rt, desk, worker, &mut tasks) else {
             break;
         };
         gate.before(worker, &task);
-        work_off(rt, desk, worker, &mut badge, &tasks, gate, task);
+        work_off(rt, desk, worker, &mut badge, &mut tasks, gate, task);
     }
     (badge, tasks)
 }
 
-/// The task that a worker without a frame does next; None once the desk is closed and no task is left.
+/// The task that a worker without a frame does next; None once the desk is closed and no task is found.
 fn next_task<L: Hands, R: Wait>(
     rt: &R,
     desk: &Desk<L>,
     worker: Worker,
-    tasks: &Tasks<'_>,
-) -> Option<Task> {
-    if let Some(task) = tasks.take(rt, worker) {
+    tasks: &mut Tasks<'_>,
+) -> Option<Task>
+    ensures { posts tasks.new.ends ≡ posts tasks.old.ends }
+{
+    if let Some(task) = tasks.take(worker) {
         return Some(task);
     }
     let (frame, home) = desk.next_ready(rt)?;
@@ -58,10 +65,12 @@ fn work_off<L: Hands, G: Gate, R: Wait>(
     desk: &Desk<L>,
     worker: Worker,
     badge: &mut Badge<L>,
-    tasks: &Tasks<'_>,
+    tasks: &mut Tasks<'_>,
     gate: &G,
     task: Task,
-) {
+)
+    ensures { posts tasks.new.ends ≡ posts tasks.old.ends }
+{
     let mut holding = Holding::Next(Deed::Get(task));
     for _ in rt.forever() {
         holding = match holding.step(worker) {
@@ -97,17 +106,18 @@ fn offered<L: Hands, R: Wait>(
     desk: &Desk<L>,
     worker: Worker,
     badge: &mut Badge<L>,
-    tasks: &Tasks<'_>,
+    tasks: &mut Tasks<'_>,
     holding: Holding,
     step: &Step<Jamboree>,
 ) -> Holding
     requires { Some step.now ≡ offered worker holding }
-    ensures { IsTurn worker holding result badge.old badge.new }
+    ensures turn { IsTurn worker holding result badge.old badge.new }
+    ensures ends { posts tasks.new.ends ≡ posts tasks.old.ends }
 {
     let answer = desk.offer(rt, badge, step);
     let turn = holding.turned(worker, answer);
     if let Some(task) = turn.task {
-        tasks.push(rt, task);
+        tasks.push(task);
     }
     turn.holding
 }

@@ -1,0 +1,202 @@
+//! Workers in threads: the ends of the deques are dealt to them, and come back.
+//!
+//! What comes from another thread is known by its type alone. So each thread is started with a promise,
+//! [`SameEnds`]: the ends that it brings back are at the deques at which those were that it got. Once all
+//! threads are joined, all seats of all deques are there, and what was pushed on each is what was taken
+//! from it and what is left.
+ghost use Rattle.std.specs.Prelude.{◌≡◌, ◌≤◌, [], map, vec_len, vec_capacity, IfOk, OnOk};
+ghost use Rattle.task_deques.specs.Deals.{posts, posts_of, returned, returned_room, IsWhole};
+
+use crate::gate::Gate;
+use crate::pool::PoolFault;
+use crate::tasks::{Shared, Tasks};
+use crate::worker::run_worker;
+use core::thread::Stack;
+use desk::{Badge, Desk, Hands};
+use sched_rules::Worker;
+use std::alloc::{AllocError, Global};
+use std::snapshot::Snapshot;
+use std::sync::Wait;
+use std::thread::{Promise, PromisedHandle, Scope, Threads};
+use task_deques::{Ends, Returned, deal};
+
+/// That a worker's ends come back at the same deques.
+#[derive(Drop)]
+pub(crate) struct SameEnds(Snapshot<Ends>);
+
+impl<L: Hands> Promise<(Badge<L>, Ends)> for SameEnds {
+    ghost kept_by = { λ promise came. posts came.1 ≡ posts promise.0.value };
+}
+
+/// A worker in its thread.
+type Handle<L> = PromisedHandle<(Badge<L>, Ends), SameEnds>;
+
+/// All that a pool takes at its start: the ends of its workers, the room for those that come back, and
+/// the room for the threads.
+#[derive(Drop)]
+pub(crate) struct Stock<L: Hands> {
+    dealt: Vec<Ends>,
+    back: Returned,
+    handles: Vec<Handle<L>>,
+    ghost whole: { IsWhole (map posts dealt.items) },
+    ghost few: { vec_len dealt ≤ 32 },
+    ghost none_back: { returned back ≡ [] },
+    ghost room: { returned_room back ≡ vec_len dealt },
+    ghost no_handle: { vec_len handles ≡ 0 },
+    ghost handle_room: { vec_len dealt ≤ vec_capacity handles },
+}
+
+impl<L: Hands> Stock<L> {
+    /// For as many workers as the number of the last, with room for so many tasks in each deque. It
+    /// fails only where memory is refused.
+    pub(crate) fn made(alloc: Global, last: Worker, room: usize) -> Result<Stock<L>, AllocError> {
+        let dealt = deal(alloc, last, room)?;
+        let back = Returned::with_room(alloc, last)?;
+        let handles = Vec::with_capacity(alloc, dealt.len())?;
+        Ok(Stock {
+            dealt,
+            back,
+            handles,
+        })
+    }
+}
+
+/// What workers leave: their badges, joined, and the ends of all deques.
+#[derive(Drop)]
+pub(crate) struct Worked<L: Hands> {
+    pub(crate) badge: Badge<L>,
+    pub(crate) back: Returned,
+    ghost whole: { IsWhole (map posts_of (returned back)) },
+}
+
+/// Starts all workers and waits for them. Where one can't be had it closes the desk, waits for those
+/// that it started, and answers why.
+pub(crate) fn run_all<'s, E, L: Hands + Send + Sync, G: Gate + Sync, R: Threads + Wait + Sync>(
+    scope: &'s Scope<'s, E>,
+    rt: &'s R,
+    desk: &'s Desk<L>,
+    shared: &'s Shared,
+    gate: &'s G,
+    stock: Stock<L>,
+    stack: Option<usize>,
+) -> Result<Worked<L>, PoolFault>
+    requires { L.all ≡ L.parts }
+{
+    let Stock {
+        dealt,
+        back,
+        handles,
+    } = stock;
+    let mut back = back;
+    let mut handles = handles;
+    let started = start_all(scope, rt, desk, shared, gate, dealt, stack, &mut handles);
+    if started.is_err() {
+        desk.close(rt);
+    }
+    let badge = join_all(rt, handles, &mut back);
+    match (started, badge) {
+        (Ok(()), Some(badge)) => Ok(Worked { badge, back }),
+        (Ok(()), None) => Err(PoolFault::NoThread),
+        (Err(fault), _) => Err(fault),
+    }
+}
+
+/// Starts a worker for each of the ends, from 1 on, as far as it can.
+fn start_all<'s, E, L: Hands + Send + Sync, G: Gate + Sync, R: Wait + Sync>(
+    scope: &'s Scope<'s, E>,
+    rt: &'s R,
+    desk: &'s Desk<L>,
+    shared: &'s Shared,
+    gate: &'s G,
+    dealt: Vec<Ends>,
+    stack: Option<usize>,
+    handles: &mut Vec<Handle<L>>,
+) -> Result<(), PoolFault>
+    requires none { vec_len handles.old ≡ 0 }
+    requires room { vec_len dealt ≤ vec_capacity handles.old }
+    requires few { vec_len dealt ≤ 32 }
+    ensures started { OnOk result (map (λ handle. posts handle.promise.0.value) handles.new.items ≡ map posts dealt.items) }
+    ensures count { vec_len handles.new ≤ vec_len dealt }
+{
+    let mut number = 0;
+    for ends in dealt {
+        number += 1;
+        let Some(worker) = Worker::new(number) else {
+            return Err(PoolFault::NoThread);
+        };
+        let handle = start(scope, rt, desk, shared, gate, worker, ends, stack)?;
+        handles.push_reserved(handle);
+    }
+    Ok(())
+}
+
+/// Starts a worker.
+fn start<'s, E, L: Hands + Send + Sync, G: Gate + Sync, R: Wait + Sync>(
+    scope: &'s Scope<'s, E>,
+    rt: &'s R,
+    desk: &'s Desk<L>,
+    shared: &'s Shared,
+    gate: &'s G,
+    worker: Worker,
+    ends: Ends,
+    stack: Option<usize>,
+) -> Result<Handle<L>, PoolFault>
+    ensures { IfOk result (λ handle. posts handle.promise.0.value ≡ posts ends) }
+{
+    let Some(badge) = desk.badge(rt) else {
+        return Err(PoolFault::NoThread);
+    };
+    let thread = match stack {
+        Some(size) => Stack::new().stack_size(size),
+        None => Stack::new(),
+    };
+    let promise = SameEnds(Snapshot::of(&ends));
+    match thread.spawn_scoped_with(
+        scope,
+        promise,
+        move || work(rt, desk, worker, badge, shared, ends, gate),
+    ) {
+        Ok(handle) => Ok(handle),
+        Err(_) => Err(PoolFault::NoThread),
+    }
+}
+
+/// Works with these ends, and gives them back with the badge.
+fn work<L: Hands, G: Gate, R: Wait>(
+    rt: &R,
+    desk: &Desk<L>,
+    worker: Worker,
+    badge: Badge<L>,
+    shared: &Shared,
+    ends: Ends,
+    gate: &G,
+) -> (Badge<L>, Ends)
+    ensures { posts result.1 ≡ posts ends }
+{
+    let (badge, tasks) = run_worker(rt, desk, worker, badge, shared.tasks(ends), gate);
+    let Tasks { ends, .. } = tasks;
+    (badge, ends)
+}
+
+/// Waits for all, puts their ends together, and joins their badges; None where there is none.
+fn join_all<L: Hands, R: Threads>(
+    rt: &R,
+    handles: Vec<Handle<L>>,
+    back: &mut Returned,
+) -> Option<Badge<L>>
+    requires hands { L.all ≡ L.parts }
+    requires none { returned back.old ≡ [] }
+    requires room { vec_len handles ≤ returned_room back.old }
+    ensures { map posts_of (returned back.new) ≡ map (λ handle. posts handle.promise.0.value) handles.items }
+{
+    let mut all: Option<Badge<L>> = None;
+    for handle in handles {
+        let (badge, ends) = handle.join(rt);
+        back.put(ends);
+        all = match all {
+            Some(joined) => Some(joined.join(badge)),
+            None => Some(badge),
+        };
+    }
+    all
+}

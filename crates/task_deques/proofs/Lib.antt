@@ -1,0 +1,4 @@
+pub mod TallyLemmas
+pub mod RuleLemmas
+pub mod SeatLemmas
+pub mod JoinLemmas

@@ -1,0 +1,102 @@
+-- Each kind of step keeps the rule of a deque.
+use Rattle.std.proofs.Common.{◌≡◌, ℕ, zero, suc, ◌+◌, ◌-◌, ◌<◌, ◌≤◌, ◌≢◌, List, [], ◌∷◌, ◌++◌, length, set, sym, refl, ap, ◌∙◌, subst, ⊎_elim, arith}
+use mathlib.Core.Option.{some, some-injective, some-ne-none}
+use lib.ListN.{get_elem?}
+use Rattle.crossbeam_deque.specs.Tasks.{Pushes, Takes, Pops, Forks, Merges, Learns}
+use Rattle.crossbeam_deque.proofs.Lists.{at_set, at_snoc}
+use Rattle.task_deques.specs.declared.rule.Tally.{Tally}
+use Rattle.pool_rules.specs.declared.task.Task.{Task}
+use Rattle.task_deques.specs.Tallies.{tally, weigh, total, IdleIsEmpty, IsEachOnce}
+use Rattle.task_deques.proofs.TallyLemmas.{weigh-append, total-snoc, total-set, alone, idle_set, idle_snoc}
+
+pub begins : IsEachOnce [] (tally 64 [] [] ∷ [])
+begins = (refl, λ h. refl, λ port v e none. absurd (begun port v e none)) where
+  begun : (port : ℕ) (v : Tally) → get_elem? (tally 64 [] [] ∷ []) port ≡ some v → v.parts ≡ 0 → ⊥
+  begun zero v e none = let same = ap (λ (u : Tally). u.parts) (some-injective (tally 64 [] []) v e) in omega arith
+  begun (suc j) v e none = some-ne-none v (sym e)
+
+pub pushes : (port : ℕ) (v : Tally) (xs : List Task) → 0 < v.parts → Pushes IsEachOnce port v xs (λ w. w ≡ tally v.parts (v.pushed ++ xs) v.taken)
+pushes port v xs some_part items views b at =
+    let w = tally v.parts (v.pushed ++ xs) v.taken in (
+      w,
+      (
+        (let s = total-set (λ u. u.parts) views port v w at in let p = b.0 in omega arith),
+        (λ h.
+            let s = total-set (λ u. weigh h u.pushed) views port v w at in
+            let t = total-set (λ u. weigh h u.taken) views port v w at in
+            let p = b.1 h in
+            omega (arith, weigh-append h v.pushed xs, weigh-append h items xs)),
+        idle_set views port w (λ none. absurd (omega arith)) b.2,
+      ),
+      refl,
+    )
+
+pub takes : (port : ℕ) (v : Tally) → 0 < v.parts → Takes IsEachOnce port v 1 (λ xs w. w ≡ tally v.parts v.pushed (v.taken ++ xs))
+takes port v some_part xs items views _ _ b at =
+    let w = tally v.parts v.pushed (v.taken ++ xs) in (
+      w,
+      (
+        (let s = total-set (λ u. u.parts) views port v w at in let p = b.0 in omega arith),
+        (λ h.
+            let s = total-set (λ u. weigh h u.pushed) views port v w at in
+            let t = total-set (λ u. weigh h u.taken) views port v w at in
+            let p = b.1 h in
+            omega (arith, weigh-append h v.taken xs, weigh-append h xs items)),
+        idle_set views port w (λ none. absurd (omega arith)) b.2,
+      ),
+      refl,
+    )
+
+pub pops : (port : ℕ) (v : Tally) → 0 < v.parts → Pops IsEachOnce port v (λ xs w. w ≡ tally v.parts v.pushed (v.taken ++ xs))
+pops port v some_part x items views b at =
+    let w = tally v.parts v.pushed (v.taken ++ x ∷ []) in (
+      w,
+      (
+        (let s = total-set (λ u. u.parts) views port v w at in let p = b.0 in omega arith),
+        (λ h.
+            let s = total-set (λ u. weigh h u.pushed) views port v w at in
+            let t = total-set (λ u. weigh h u.taken) views port v w at in
+            let p = b.1 h in
+            omega (arith, weigh-append h v.taken (x ∷ []), weigh-append h items (x ∷ []))),
+        idle_set views port w (λ none. absurd (omega arith)) b.2,
+      ),
+      refl,
+    )
+
+-- one part is cut off, with nothing pushed and nothing taken
+pub forks : (port : ℕ) (v : Tally) → 1 < v.parts → Forks IsEachOnce port v (tally (v.parts - 1) v.pushed v.taken) (tally 1 [] [])
+forks port v enough items views b at =
+    let l = tally (v.parts - 1) v.pushed v.taken in let r = tally 1 [] [] in let vs : List Tally = set views port l in (
+      (let s = total-set (λ u. u.parts) views port v l at in let t = total-snoc (λ u. u.parts) vs r in let p = b.0 in omega arith),
+      (λ h.
+          let s = total-set (λ u. weigh h u.pushed) views port v l at in
+          let t = total-set (λ u. weigh h u.taken) views port v l at in
+          let s' = total-snoc (λ u. weigh h u.pushed) vs r in
+          let t' = total-snoc (λ u. weigh h u.taken) vs r in
+          let p = b.1 h in
+          omega arith),
+      idle_snoc vs r (λ none. absurd (omega arith)) (idle_set views port l (λ none. absurd (omega arith)) b.2),
+    )
+
+-- two seats' parts and lists come together, and the other is spent
+pub merges : (port : ℕ) (v : Tally) (other : ℕ) (u : Tally) → 0 < v.parts → Merges IsEachOnce port v other u (tally (v.parts + u.parts) (v.pushed ++ u.pushed) (v.taken ++ u.taken)) (tally 0 [] [])
+merges port v other u some_part items views b at two at' =
+    let both = tally (v.parts + u.parts) (v.pushed ++ u.pushed) (v.taken ++ u.taken) in let vs : List Tally = set views port both in let spent = tally 0 [] [] in (
+      (let s = total-set (λ y. y.parts) views port v both at in let t = total-set (λ y. y.parts) vs other u spent at' in let p = b.0 in omega arith),
+      (λ h.
+          let s = total-set (λ y. weigh h y.pushed) views port v both at in
+          let t = total-set (λ y. weigh h y.taken) views port v both at in
+          let s' = total-set (λ y. weigh h y.pushed) vs other u spent at' in
+          let t' = total-set (λ y. weigh h y.taken) vs other u spent at' in
+          let p = b.1 h in
+          omega (arith, weigh-append h v.pushed u.pushed, weigh-append h v.taken u.taken)),
+      idle_set vs other spent (λ _. (refl, refl)) (idle_set views port both (λ none. absurd (omega arith)) b.2),
+    )
+
+pub learns : (port : ℕ) (v : Tally) → v.parts ≡ 64 → Learns IsEachOnce port v (λ items. (h : Task → ℕ) → weigh h v.pushed ≡ weigh h v.taken + weigh h items)
+learns port v all items views b at h =
+    let whole = b.0 ∙ sym all in
+    let s = alone (λ u. weigh h u.pushed) views port v at whole (λ j u e none. ap (weigh h) (b.2 j u e none).0) in
+    let t = alone (λ u. weigh h u.taken) views port v at whole (λ j u e none. ap (weigh h) (b.2 j u e none).1) in
+    let p = b.1 h in
+    omega arith

@@ -1,0 +1,55 @@
+-- Sums over the seats of a deque.
+use Rattle.std.proofs.Common.{◌≡◌, ℕ, zero, suc, ◌+◌, ◌<◌, ◌≤◌, ◌≢◌, List, [], ◌∷◌, ◌++◌, length, set, sym, refl, ap, ◌∙◌, subst, ⊎_elim, arith}
+use mathlib.Core.Option.{some, some-injective, some-ne-none}
+use lib.ListN.{get_elem?}
+use Rattle.crossbeam_deque.proofs.Lists.{at_set, at_snoc}
+use Rattle.task_deques.specs.declared.rule.Tally.{Tally}
+use Rattle.pool_rules.specs.declared.task.Task.{Task}
+use Rattle.task_deques.specs.Tallies.{tally, weigh, total, IdleIsEmpty}
+
+pub weigh-append : (h : Task → ℕ) (xs ys : List Task) → weigh h (xs ++ ys) ≡ weigh h xs + weigh h ys
+weigh-append h [] ys = omega arith
+weigh-append h (x ∷ xs) ys = omega (arith, weigh-append h xs ys)
+
+pub total-snoc : (f : Tally → ℕ) (l : List Tally) (v : Tally) → total f (l ++ v ∷ []) ≡ total f l + f v
+total-snoc f [] v = omega arith
+total-snoc f (x ∷ xs) v = omega (arith, total-snoc f xs v)
+
+pub total-set : (f : Tally → ℕ) (l : List Tally) (j : ℕ) (v w : Tally) → get_elem? l j ≡ some v → total f (set l j w) + f v ≡ total f l + f w
+total-set f [] j v w e = absurd (some-ne-none v (sym e))
+total-set f (x ∷ xs) zero v w e = omega (arith, ap f (some-injective x v e))
+total-set f (x ∷ xs) (suc j) v w e = omega (arith, total-set f xs j v w e)
+
+pub term_le : (f : Tally → ℕ) (l : List Tally) (j : ℕ) (v : Tally) → get_elem? l j ≡ some v → f v ≤ total f l
+term_le f [] j v e = absurd (some-ne-none v (sym e))
+term_le f (x ∷ xs) zero v e = omega (arith, ap f (some-injective x v e))
+term_le f (x ∷ xs) (suc j) v e = omega (arith, term_le f xs j v e)
+
+-- where f is 0 of each seat with no part, and no seat has a part, it is 0 of all
+none_left : (f : Tally → ℕ) (l : List Tally) → ((j : ℕ) (u : Tally) → get_elem? l j ≡ some u → u.parts ≡ 0 → f u ≡ 0) → total (λ u. u.parts) l ≡ 0 → total f l ≡ 0
+none_left f [] idle none = refl
+none_left f (x ∷ xs) idle none = omega (arith, idle 0 x refl (omega arith), none_left f xs (λ j u e. idle (suc j) u e) (omega arith))
+
+-- the seat with all parts has the whole
+pub alone : (f : Tally → ℕ) (l : List Tally) (j : ℕ) (v : Tally) → get_elem? l j ≡ some v → total (λ u. u.parts) l ≡ v.parts → ((j : ℕ) (u : Tally) → get_elem? l j ≡ some u → u.parts ≡ 0 → f u ≡ 0) → total f l ≡ f v
+alone f [] j v e all idle = absurd (some-ne-none v (sym e))
+alone f (x ∷ xs) zero v e all idle =
+    let same = some-injective x v e in
+    omega (arith, ap f same, none_left f xs (λ j u d. idle (suc j) u d) (omega (arith, ap (λ (u : Tally). u.parts) same)))
+alone f (x ∷ xs) (suc j) v e all idle =
+    let least = term_le (λ u. u.parts) xs j v e in
+    omega (arith, idle 0 x refl (omega arith), alone f xs j v e (omega arith) (λ k u d. idle (suc k) u d))
+
+pub idle_set : (l : List Tally) (j : ℕ) (w : Tally) → (w.parts ≡ 0 → (w.pushed ≡ []) × (w.taken ≡ [])) → IdleIsEmpty l → IdleIsEmpty (set l j w)
+idle_set l j w mine others k u e none =
+    ⊎_elim (λ (x : (k ≡ j) × (w ≡ u)). let back = mine (ap (λ (y : Tally). y.parts) x.1 ∙ none) in (ap (λ (y : Tally). y.pushed) (sym x.1) ∙ back.0, ap (λ (y : Tally). y.taken) (sym x.1) ∙ back.1))
+    (λ (x : (k ≢ j) × (get_elem? l k ≡ some u)). others k u x.1 none) (at_set l j k w u e)
+
+pub idle_snoc : (l : List Tally) (w : Tally) → (w.parts ≡ 0 → (w.pushed ≡ []) × (w.taken ≡ [])) → IdleIsEmpty l → IdleIsEmpty (l ++ w ∷ [])
+idle_snoc l w mine others k u e none =
+    ⊎_elim (λ (x : get_elem? l k ≡ some u). others k u x none)
+    (λ (x : w ≡ u). let back = mine (ap (λ (y : Tally). y.parts) x ∙ none) in (ap (λ (y : Tally). y.pushed) (sym x) ∙ back.0, ap (λ (y : Tally). y.taken) (sym x) ∙ back.1)) (at_snoc l w u k e)
+
+pub weigh-one : (xs : List Task) → weigh (λ _. 1) xs ≡ length xs
+weigh-one [] = refl
+weigh-one (x ∷ xs) = omega (arith, weigh-one xs)

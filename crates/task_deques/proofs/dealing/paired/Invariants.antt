@@ -1,0 +1,14 @@
+use Rattle.std.proofs.Common.{◌≡◌, ◌+◌, ◌≤◌, ◌++◌, map, length, All, vec_len, vec_capacity}
+use Rattle.std.specs.Vec.Iter.{into_iter_items, into_iter_len}
+use Rattle.task_deques.specs.Seats.{new_thief}
+use Rattle.task_deques.specs.Deals.{owner_seats, thief_seats, worker_seats, beside}
+use Rattle.task_deques.proofs.dealing.paired.Given as goal
+
+abbrev pub invariant-loop-own : goal.invariant-loop-own
+invariant-loop-own l =
+    let owners = owner_seats l.fn.owners.items in
+    let thieves = map new_thief owners in
+    (map worker_seats l.all.items ++ map (beside thieves) (owner_seats (into_iter_items l.own-iterator)) ≡ map (beside thieves) owners)
+    × All (λ row. thief_seats row.items ≡ thieves) l.rows.items
+    × (vec_len l.rows ≡ into_iter_len l.own-iterator)
+    × (vec_len l.all + into_iter_len l.own-iterator ≤ vec_capacity l.all)

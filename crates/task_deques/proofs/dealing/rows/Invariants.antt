@@ -1,0 +1,11 @@
+use Rattle.std.proofs.Common.{◌≡◌, ◌-◌, ◌<◌, ◌≤◌, map, length, All, vec_len, vec_capacity}
+use Rattle.task_deques.specs.Seats.{new_thief}
+use Rattle.task_deques.specs.Deals.{owner_seats, thief_seats, fresh_with}
+use Rattle.task_deques.proofs.dealing.rows.Given as goal
+
+abbrev pub invariant-loop-made : goal.invariant-loop-made
+invariant-loop-made l =
+    let before = owner_seats l.initial.owners.items in
+    (owner_seats l.owners.items ≡ map (fresh_with (64 - l._made)) before)
+    × All (λ row. thief_seats row.items ≡ map new_thief before) l.rows.items
+    × (vec_len l.rows ≡ l._made) × (l.count ≤ vec_capacity l.rows) × (l.count < 64)

@@ -1,0 +1,14 @@
+use Rattle.std.proofs.Common.{◌≡◌, ◌+◌, ◌*◌, ◌≤◌, take, length, sum_by, All, vec_len}
+use Rattle.task_deques.specs.Deals.{owner_seats, IsAccounted}
+use Rattle.task_deques.proofs.joining.added.Given as goal
+
+abbrev pub invariant-loop-place : goal.invariant-loop-place
+invariant-loop-place l =
+    let owners = owner_seats l.initial.owners.items in
+    (owner_seats l.owners.items ≡ owners)
+    × (l.pushed ≡ sum_by (λ deque. length deque.tally.pushed) (take l.place owners))
+    × (l.taken ≡ sum_by (λ deque. length deque.tally.taken) (take l.place owners))
+    × All IsAccounted (take l.place owners)
+    × (l.pushed ≡ l.taken + l.left)
+    × (l.pushed ≤ l.place * 18446744073709551615)
+    × (vec_len l.owners ≡ l.place-end) × (l.place-end ≤ 64)

@@ -1,0 +1,5 @@
+use Rattle.task_deques.proofs.RuleLemmas.{pushes}
+use Rattle.task_deques.proofs.steps.push.Goals as goal
+
+pub push_as-requires-clause-pushes : goal.push_as-requires-clause-pushes
+push_as-requires-clause-pushes c = pushes _ _ _ c.requires

@@ -1,0 +1,3 @@
+pub mod Tallies
+pub mod Seats
+pub mod Deals

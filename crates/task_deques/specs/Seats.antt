@@ -1,0 +1,47 @@
+-- What contracts see of a deque's owner and of a thief: which deque it is, and the tally of the seat.
+use Rattle.std.specs.Prelude.{ℕ, ◌+◌, ◌-◌, List, [], ◌∷◌, ◌++◌}
+use Rattle.std.specs.declared.alloc.Global.{Global}
+use Rattle.atomic_blocks.specs.Lent.{RowsId}
+use Rattle.crossbeam_deque.specs.Handles.{view, worker_deque, stealer_deque, worker_view}
+use Rattle.pool_rules.specs.declared.task.Task.{Task}
+use Rattle.task_deques.specs.declared.rule.Tally.{Tally}
+use Rattle.task_deques.specs.declared.owner.Owner.{Owner}
+use Rattle.task_deques.specs.declared.thief.Thief.{Thief}
+use Rattle.task_deques.specs.Tallies.{tally}
+
+-- which deque it is
+abbrev pub Deque : Type 0
+Deque = RowsId × Global
+
+-- a seat at a deque
+pub record Seat : Type 0 where
+  pub deque : Deque
+  pub tally : Tally
+
+-- the owner's
+abbrev pub owner_seat : Owner → Seat
+owner_seat owner = record { deque = worker_deque owner.worker; tally = worker_view owner.worker }
+
+-- a thief's
+abbrev pub thief_seat : Thief → Seat
+thief_seat thief = record { deque = stealer_deque thief.stealer; tally = view thief.pass }
+
+-- one task more was pushed
+abbrev pub with_pushed : Task → Seat → Seat
+with_pushed task seat = record seat { tally = tally seat.tally.parts (seat.tally.pushed ++ task ∷ []) seat.tally.taken }
+
+-- one task more was taken
+abbrev pub with_taken : Task → Seat → Seat
+with_taken task seat = record seat { tally = tally seat.tally.parts seat.tally.pushed (seat.tally.taken ++ task ∷ []) }
+
+-- one part was cut off
+abbrev pub with_part_cut : Seat → Seat
+with_part_cut seat = record seat { tally = tally (seat.tally.parts - 1) seat.tally.pushed seat.tally.taken }
+
+-- the new seat of a thief at the same deque
+abbrev pub new_thief : Seat → Seat
+new_thief seat = record seat { tally = tally 1 [] [] }
+
+-- another seat's parts and tasks were joined to it
+abbrev pub joined : Seat → Seat → Seat
+joined seat other = record seat { tally = tally (seat.tally.parts + other.tally.parts) (seat.tally.pushed ++ other.tally.pushed) (seat.tally.taken ++ other.tally.taken) }

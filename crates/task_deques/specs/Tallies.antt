@@ -1,0 +1,31 @@
+-- What the seats of a deque know of it, and its rule.
+use Rattle.std.specs.Prelude.{◌≡◌, ℕ, ◌+◌, List, [], ◌∷◌}
+use mathlib.Core.Option.{some}
+use lib.ListN.{get_elem?}
+use Rattle.pool_rules.specs.declared.task.Task.{Task}
+use Rattle.task_deques.specs.declared.rule.Tally.{Tally}
+
+-- a seat with so many parts of the right to know the whole, which has pushed and taken these tasks
+abbrev pub tally : ℕ → List Task → List Task → Tally
+tally parts pushed taken = record { parts = parts; pushed = pushed; taken = taken }
+
+-- the weights of tasks, added up: with weight 1 for one task and 0 for the others it is how often that task stands there
+abbrev pub weigh : (Task → ℕ) → List Task → ℕ
+weigh h [] = 0
+weigh h (task ∷ tasks) = h task + weigh h tasks
+
+-- a number of each seat, added up
+abbrev pub total : (Tally → ℕ) → List Tally → ℕ
+total f [] = 0
+total f (v ∷ vs) = f v + total f vs
+
+-- a seat with no part was spent by joining: it has pushed and taken nothing
+abbrev pub IdleIsEmpty : List Tally → Type 0
+IdleIsEmpty seats = (port : ℕ) (v : Tally) → get_elem? seats port ≡ some v → v.parts ≡ 0 → (v.pushed ≡ []) × (v.taken ≡ [])
+
+-- the rule: the tasks that the deque holds and those that all seats took, counted together, are those that were pushed
+abbrev pub IsEachOnce : List Task → List Tally → Type 0
+IsEachOnce tasks seats =
+    (total (λ v. v.parts) seats ≡ 64)
+    × ((h : Task → ℕ) → total (λ v. weigh h v.pushed) seats ≡ total (λ v. weigh h v.taken) seats + weigh h tasks)
+    × IdleIsEmpty seats

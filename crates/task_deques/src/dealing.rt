@@ -1,0 +1,90 @@
+//! The making of all deques of a pool, and the dealing of their ends to its workers.
+//!
+//! All memory is taken here, before any thread starts. Each owner begins with all 64 parts of its
+//! deque, and gives one to each thief.
+ghost use Rattle.std.specs.Prelude.{◌≡◌, ◌-◌, ◌<◌, [], map, vec_len, All, IfOk, OnOk};
+ghost use Rattle.task_deques.specs.Tallies.{tally};
+ghost use Rattle.task_deques.specs.Seats.{owner_seat, with_part_cut, new_thief};
+ghost use Rattle.task_deques.specs.Deals.{worker_seats, posts, owner_seats, thief_seats, beside, fresh_with, IsDealt, IsWhole};
+
+use crate::ends::Ends;
+use crate::owner::Owner;
+use crate::thief::Thief;
+use sched_rules::Worker;
+use std::alloc::{AllocError, Global};
+
+/// The ends of as many workers as the number of the last, in the order of their numbers, with room for
+/// so many tasks in each deque. It fails only where memory is refused.
+pub fn deal(alloc: Global, last: Worker, room: usize) -> Result<Vec<Ends>, AllocError>
+    ensures count { IfOk result (λ all. vec_len all ≡ last) }
+    ensures dealt { IfOk result (λ all. IsDealt (map worker_seats all.items)) }
+    ensures whole { IfOk result (λ all. IsWhole (map posts all.items)) }
+{
+    let mut owners = owners(alloc, usize::from(last.number()), room)?;
+    let rows = rows(alloc, &mut owners)?;
+    paired(alloc, owners, rows)
+}
+
+/// Owners of new deques.
+fn owners(alloc: Global, count: usize, room: usize) -> Result<Vec<Owner>, AllocError>
+    ensures count { IfOk result (λ owners. vec_len owners ≡ count) }
+    ensures fresh { IfOk result (λ owners. All (λ owner. (owner_seat owner).tally ≡ tally 64 [] []) owners.items) }
+{
+    let mut owners = Vec::with_capacity(alloc, count)?;
+    for _made in 0..count {
+        owners.push_reserved(Owner::with_room(alloc, room)?);
+    }
+    Ok(owners)
+}
+
+/// A row of thieves, one at each deque, for each worker.
+fn rows(alloc: Global, owners: &mut Vec<Owner>) -> Result<Vec<Vec<Thief>>, AllocError>
+    requires fresh { All (λ owner. (owner_seat owner).tally ≡ tally 64 [] []) owners.old.items }
+    requires few { vec_len owners.old < 64 }
+    ensures count { IfOk result (λ rows. vec_len rows ≡ vec_len owners.old) }
+    ensures owners { OnOk result (owner_seats owners.new.items ≡ map (fresh_with (64 - vec_len owners.old)) (owner_seats owners.old.items)) }
+    ensures rows { IfOk result (λ rows. All (λ row. thief_seats row.items ≡ map new_thief (owner_seats owners.old.items)) rows.items) }
+{
+    let count = owners.len();
+    let mut rows = Vec::with_capacity(alloc, count)?;
+    for _made in 0..count {
+        rows.push_reserved(row(alloc, owners)?);
+    }
+    Ok(rows)
+}
+
+/// A thief at each deque, in the order of the deques.
+fn row(alloc: Global, owners: &mut Vec<Owner>) -> Result<Vec<Thief>, AllocError>
+    requires { All (λ seat. (1 < seat.tally.parts) × (seat.tally.taken ≡ [])) (owner_seats owners.old.items) }
+    ensures owners { OnOk result (owner_seats owners.new.items ≡ map with_part_cut (owner_seats owners.old.items)) }
+    ensures thieves { IfOk result (λ row. thief_seats row.items ≡ map new_thief (owner_seats owners.old.items)) }
+{
+    let count = owners.len();
+    let mut row = Vec::with_capacity(alloc, count)?;
+    for place in 0..count {
+        row.push_reserved(owners[place].thief()?);
+    }
+    Ok(row)
+}
+
+/// Each owner with one row of thieves.
+fn paired(
+    alloc: Global,
+    owners: Vec<Owner>,
+    rows: Vec<Vec<Thief>>,
+) -> Result<Vec<Ends>, AllocError>
+    requires count { vec_len rows ≡ vec_len owners }
+    requires rows { All (λ row. thief_seats row.items ≡ map new_thief (owner_seats owners.items)) rows.items }
+    ensures count { IfOk result (λ all. vec_len all ≡ vec_len owners) }
+    ensures ends { IfOk result (λ all. map worker_seats all.items ≡ map (beside (map new_thief (owner_seats owners.items))) (owner_seats owners.items)) }
+{
+    let mut rows = rows;
+    let mut all = Vec::with_capacity(alloc, owners.len())?;
+    for own in owners {
+        let Some(thieves) = rows.pop() else {
+            unreachable!()
+        };
+        all.push_reserved(Ends { own, thieves });
+    }
+    Ok(all)
+}

@@ -1,0 +1,72 @@
+//! A worker's ends of all deques of a pool.
+ghost use Rattle.std.specs.Prelude.{◌≡◌, ◌<◌, ◌≤◌, vec_len, OnOk, IfErr, OnErr, IfNone, IfSome};
+ghost use Rattle.task_deques.specs.Seats.{with_pushed};
+ghost use Rattle.task_deques.specs.Deals.{thief_seats, IsStolen};
+
+use crate::owner::Owner;
+use crate::thief::Thief;
+use pool_rules::Task;
+use sched_rules::Worker;
+
+/// A worker's own deque, and a thief's end of each worker's deque, in the order of the workers'
+/// numbers. The thief's end of its own deque is there for the order's sake, and isn't used.
+#[derive(Drop)]
+pub struct Ends {
+    pub(crate) own: Owner,
+    pub(crate) thieves: Vec<Thief>,
+}
+
+impl Ends {
+    ghost use Rattle.task_deques.specs.Deals.{worker_seats, posts, IsTaken};
+
+    /// Pushes a task on the worker's own deque, or hands it back as [`Owner::push`] does.
+    pub fn push(&mut self, task: Task) -> Result<(), Task>
+        ensures pushed { OnOk result (worker_seats self.new ≡ record (worker_seats self.old) { own = with_pushed task (worker_seats self.old).own }) }
+        ensures handed_back { IfErr result (λ back. back ≡ task) }
+        ensures unchanged { OnErr result (worker_seats self.new ≡ worker_seats self.old) }
+        ensures posts { posts self.new ≡ posts self.old }
+    {
+        self.own.push(task)
+    }
+
+    /// Takes the newest task of the worker's own deque, else the oldest of another's, which are tried in
+    /// the order of their numbers after its own. None proves nothing of the deques.
+    pub fn take(&mut self, worker: Worker) -> Option<Task>
+        ensures taken { IfSome result (λ task. IsTaken task (worker_seats self.old) (worker_seats self.new)) }
+        ensures unchanged { IfNone result (worker_seats self.new ≡ worker_seats self.old) }
+        ensures posts { posts self.new ≡ posts self.old }
+    {
+        if let Some(task) = self.own.pop() {
+            return Some(task);
+        }
+        let place = usize::from(worker.number());
+        let many = self.thieves.len();
+        if let Some(task) = steal_between(&mut self.thieves, place, many) {
+            return Some(task);
+        }
+        steal_between(&mut self.thieves, 0, place - 1)
+    }
+}
+
+/// The first task that the thieves find from one place to before another.
+fn steal_between(thieves: &mut Vec<Thief>, from: usize, to: usize) -> Option<Task>
+    ensures taken { IfSome result (λ task. IsStolen task (thief_seats thieves.old.items) (thief_seats thieves.new.items)) }
+    ensures unchanged { IfNone result (thief_seats thieves.new.items ≡ thief_seats thieves.old.items) }
+{
+    for place in from..to.min(thieves.len()) {
+        if let Some(task) = steal_at(thieves, place) {
+            return Some(task);
+        }
+    }
+    None
+}
+
+/// The task that one of the thieves finds.
+fn steal_at(thieves: &mut Vec<Thief>, place: usize) -> Option<Task>
+    requires { place < vec_len thieves.old }
+    ensures taken { IfSome result (λ task. IsStolen task (thief_seats thieves.old.items) (thief_seats thieves.new.items)) }
+    ensures unchanged { IfNone result (thief_seats thieves.new.items ≡ thief_seats thieves.old.items) }
+    ensures len { vec_len thieves.new ≡ vec_len thieves.old }
+{
+    thieves[place].steal()
+}

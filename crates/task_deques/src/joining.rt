@@ -1,0 +1,58 @@
+//! The joining of the seats of all thieves to those of the deques' owners.
+ghost use Rattle.std.specs.Prelude.{◌≡◌, ◌+◌, ◌<◌, ◌≤◌, map, length, sum_by, vec_len, All};
+ghost use Rattle.task_deques.specs.Deals.{owner_seats, thief_seats, deques, with_row, with_rows, IsAccounted};
+
+use crate::owner::Owner;
+use crate::sums::Sums;
+use crate::thief::Thief;
+
+/// The owners, with the seats of all thieves joined to theirs.
+pub(crate) fn joined(owners: Vec<Owner>, rows: Vec<Vec<Thief>>) -> Vec<Owner>
+    requires rows { All (λ row. deques (thief_seats row.items) ≡ deques (owner_seats owners.items)) rows.items }
+    requires parts { All (λ seat. seat.tally.parts + vec_len rows ≡ 64) (owner_seats owners.items) }
+    ensures seats { owner_seats result.items ≡ with_rows (owner_seats owners.items) (map (λ row. thief_seats row.items) rows.items) }
+    ensures parts { All (λ seat. seat.tally.parts ≡ 64) (owner_seats result.items) }
+    ensures count { vec_len result ≡ vec_len owners }
+{
+    let mut owners = owners;
+    for row in rows {
+        join_row(&mut owners, row);
+    }
+    owners
+}
+
+/// Joins the seat of each thief to that of the owner at its place.
+fn join_row(owners: &mut Vec<Owner>, row: Vec<Thief>)
+    requires deques { deques (thief_seats row.items) ≡ deques (owner_seats owners.old.items) }
+    requires parts { All (λ seat. seat.tally.parts < 64) (owner_seats owners.old.items) }
+    ensures { owner_seats owners.new.items ≡ with_row (owner_seats owners.old.items) (thief_seats row.items) }
+{
+    let mut place = 0;
+    for thief in row {
+        owners[place].join(thief);
+        place += 1;
+    }
+}
+
+/// The sums of all deques together, whose owners' seats have all parts.
+pub(crate) fn added(owners: Vec<Owner>) -> Sums
+    requires parts { All (λ seat. seat.tally.parts ≡ 64) (owner_seats owners.items) }
+    requires few { vec_len owners ≤ 64 }
+    ensures pushed { result.pushed ≡ sum_by (λ deque. length deque.tally.pushed) (owner_seats owners.items) }
+    ensures taken { result.taken ≡ sum_by (λ deque. length deque.tally.taken) (owner_seats owners.items) }
+    ensures each_once { All IsAccounted (owner_seats owners.items) }
+{
+    let mut owners = owners;
+    let (mut pushed, mut taken, mut left) = (0, 0, 0);
+    for place in 0..owners.len() {
+        let sums = owners[place].sums();
+        pushed += sums.pushed;
+        taken += sums.taken;
+        left += sums.left;
+    }
+    Sums {
+        pushed,
+        taken,
+        left,
+    }
+}

@@ -1,0 +1,133 @@
+//! A deque's owner.
+ghost use Rattle.std.specs.Prelude.{◌≡◌, ℕ, List, ◌+◌, ◌*◌, ◌^◌, ◌<◌, ◌≤◌, [], length, IfOk, OnOk, IfErr, OnErr, IfNone, IfSome};
+ghost use Rattle.pool_rules.specs.declared.task.Task.{Task};
+ghost use Rattle.crossbeam_deque.specs.Handles.{worker_flavor, worker_view};
+ghost use Rattle.task_deques.specs.Tallies.{tally, weigh};
+
+use crate::rule::OwnerEnd;
+use crate::steps;
+use crate::sums::Sums;
+use crate::thief::Thief;
+use pool_rules::Task;
+use std::alloc::{AllocError, Global};
+
+/// The owner's end of a deque, with how many tasks it pushed, and how many it and the thieves that
+/// were joined to it took.
+#[derive(Drop)]
+pub struct Owner {
+    worker: OwnerEnd,
+    room: usize,
+    pushed: u64,
+    taken: u128,
+    ghost newest_first: { worker_flavor worker ≡ 1 },
+    ghost some_part: { (0 < (worker_view worker).parts) × ((worker_view worker).parts ≤ 64) },
+    ghost pushed_are: { length (worker_view worker).pushed ≡ pushed },
+    ghost taken_are: { length (worker_view worker).taken ≡ taken },
+    ghost few: { taken ≤ (worker_view worker).parts * 18446744073709551615 },
+}
+
+impl Owner {
+    ghost use Rattle.task_deques.specs.Seats.{owner_seat, thief_seat, with_pushed, with_taken, with_part_cut, new_thief, joined};
+
+    /// The owner of a new deque with room for so many tasks. It fails only where memory is refused.
+    pub fn with_room(alloc: Global, room: usize) -> Result<Owner, AllocError>
+        ensures { IfOk result (λ owner. (owner_seat owner).tally ≡ tally 64 [] []) }
+    {
+        let worker = steps::made(alloc, room)?;
+        Ok(Owner {
+            worker,
+            room,
+            pushed: 0,
+            taken: 0,
+        })
+    }
+
+    /// Pushes a task. It is handed back where as many wait as there is room for, where as many were
+    /// pushed as a u64 counts, and where memory is refused.
+    pub fn push(&mut self, task: Task) -> Result<(), Task>
+        ensures pushed { OnOk result (owner_seat self.new ≡ with_pushed task (owner_seat self.old)) }
+        ensures handed_back { IfErr result (λ back. back ≡ task) }
+        ensures unchanged { OnErr result (owner_seat self.new ≡ owner_seat self.old) }
+    {
+        if self.pushed == u64::MAX || self.is_full() {
+            return Err(task);
+        }
+        let Owner { worker, pushed, .. } = self;
+        steps::push(worker, task)?;
+        *pushed += 1;
+        Ok(())
+    }
+
+    /// Whether as many tasks wait as there is room for.
+    fn is_full(&mut self) -> bool
+        ensures { (owner_seat self.new ≡ owner_seat self.old) × (self.new.pushed ≡ self.old.pushed) }
+    {
+        let Owner { worker, room, .. } = self;
+        steps::waiting(worker) >= *room
+    }
+
+    /// Takes the newest task. None says that the deque was empty at one moment, or that as many were
+    /// taken as a u64 counts.
+    pub fn pop(&mut self) -> Option<Task>
+        ensures taken { IfSome result (λ task. owner_seat self.new ≡ with_taken task (owner_seat self.old)) }
+        ensures unchanged { IfNone result (owner_seat self.new ≡ owner_seat self.old) }
+    {
+        if self.taken >= u128::from(u64::MAX) {
+            return None;
+        }
+        let Owner { worker, taken, .. } = self;
+        let task = steps::pop(worker)?;
+        *taken += 1;
+        Some(task)
+    }
+
+    /// A thief of this deque. It fails only where memory is refused, and the owner has one part less
+    /// all the same.
+    pub fn thief(&mut self) -> Result<Thief, AllocError>
+        requires parts { 1 < (owner_seat self.old).tally.parts }
+        requires none_taken { (owner_seat self.old).tally.taken ≡ [] }
+        ensures owner { owner_seat self.new ≡ with_part_cut (owner_seat self.old) }
+        ensures thief { IfOk result (λ thief. thief_seat thief ≡ new_thief (owner_seat self.old)) }
+    {
+        let Owner { worker, .. } = self;
+        let seat = steps::seat(worker);
+        Thief::at(worker, seat)
+    }
+
+    /// Takes in the seat of a thief of this deque.
+    pub fn join(&mut self, thief: Thief)
+        requires deque { (thief_seat thief).deque ≡ (owner_seat self.old).deque }
+        requires parts { (owner_seat self.old).tally.parts < 64 }
+        ensures { owner_seat self.new ≡ joined (owner_seat self.old) (thief_seat thief) }
+    {
+        let (seat, stolen) = thief.left();
+        let Owner { worker, taken, .. } = self;
+        steps::join(worker, seat);
+        *taken += u128::from(stolen);
+    }
+
+    /// How many tasks were pushed and taken, and how many are left, once the seats of all thieves were
+    /// joined: what was pushed is what was taken and what is left, each task as often.
+    pub fn sums(&mut self) -> Sums
+        requires { (owner_seat self.old).tally.parts ≡ 64 }
+        ensures pushed { result.pushed ≡ length (owner_seat self.old).tally.pushed }
+        ensures taken { result.taken ≡ length (owner_seat self.old).tally.taken }
+        ensures counted { result.pushed < 2 ^ 64 }
+        ensures each_once { (tasks : List Task) × (length tasks ≡ result.left)
+            × ((h : Task → ℕ) → weigh h (owner_seat self.old).tally.pushed ≡ weigh h (owner_seat self.old).tally.taken + weigh h tasks) }
+        ensures unchanged { owner_seat self.new ≡ owner_seat self.old }
+    {
+        let Owner {
+            worker,
+            pushed,
+            taken,
+            ..
+        } = self;
+        let left = steps::left(worker);
+        Sums {
+            pushed: u128::from(*pushed),
+            taken: *taken,
+            left: left as u128,
+        }
+    }
+}

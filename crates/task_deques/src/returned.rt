@@ -1,0 +1,60 @@
+//! The ends of a pool's workers after their threads ended: what was pushed is what was taken and left.
+ghost use Rattle.std.specs.Prelude.{◌≡◌, ◌<◌, ◌≤◌, [], ◌∷◌, ◌++◌, map, length, sum_by, vec_len, vec_capacity, All, IfOk};
+
+use crate::ends::Ends;
+use crate::joining::{added, joined};
+use crate::owner::Owner;
+use crate::sums::Sums;
+use crate::thief::Thief;
+use sched_rules::Worker;
+use std::alloc::{AllocError, Global};
+
+/// Ends that came back.
+#[derive(Drop)]
+pub struct Returned {
+    owners: Vec<Owner>,
+    rows: Vec<Vec<Thief>>,
+    room: usize,
+    ghost paired: { vec_len owners ≡ vec_len rows },
+    ghost fits: { (room ≤ vec_capacity owners) × (room ≤ vec_capacity rows) },
+}
+
+impl Returned {
+    ghost use Rattle.task_deques.specs.Deals.{worker_seats, posts_of, returned, returned_room, whole_deques, IsWhole, IsAccounted};
+
+    /// None, and room for those of as many workers as the number of the last. It fails only where
+    /// memory is refused.
+    pub fn with_room(alloc: Global, last: Worker) -> Result<Returned, AllocError>
+        ensures none { IfOk result (λ back. returned back ≡ []) }
+        ensures room { IfOk result (λ back. returned_room back ≡ last) }
+    {
+        let room = usize::from(last.number());
+        let owners = Vec::with_capacity(alloc, room)?;
+        let rows = Vec::with_capacity(alloc, room)?;
+        Ok(Returned { owners, rows, room })
+    }
+
+    /// Puts a worker's ends after those that are there.
+    pub fn put(&mut self, ends: Ends)
+        requires { length (returned self.old) < returned_room self.old }
+        ensures ends { returned self.new ≡ returned self.old ++ worker_seats ends ∷ [] }
+        ensures room { returned_room self.new ≡ returned_room self.old }
+    {
+        let Ends { own, thieves } = ends;
+        self.owners.push_reserved(own);
+        self.rows.push_reserved(thieves);
+    }
+
+    /// How many tasks were pushed on all deques together, how many were taken from them, and how many
+    /// are left, where all ends came back. Of each deque what was pushed is what was taken and what is
+    /// left, each task as often.
+    pub fn sums(self) -> Sums
+        requires { IsWhole (map posts_of (returned self)) }
+        ensures pushed { result.pushed ≡ sum_by (λ deque. length deque.tally.pushed) (whole_deques (returned self)) }
+        ensures taken { result.taken ≡ sum_by (λ deque. length deque.tally.taken) (whole_deques (returned self)) }
+        ensures each_once { All IsAccounted (whole_deques (returned self)) }
+    {
+        let Returned { owners, rows, .. } = self;
+        added(joined(owners, rows))
+    }
+}

@@ -1,0 +1,94 @@
+//! The rule of a deque, and what each kind of step changes in what a seat knows.
+//!
+//! A deque has seats: its owner's, and one for each of its thieves. What a seat knows is its [`Tally`].
+//! The rule, [`EachOnce`], ties the tallies of all seats to the tasks that the deque holds: these and
+//! the tasks that all seats took are the tasks that were pushed, each as often (`specs/Tallies.antt`).
+//! A step changes the tally of the one seat that steps: a push that of the owner, a pop that of the
+//! owner, a steal that of its thief.
+//!
+//! A seat has parts of the right to know the whole. The owner begins with all of them, and a thief's
+//! seat is cut off with one. A seat that is joined to the owner's again is spent: its parts and its
+//! tally are carried on by the owner's, and with all parts the owner knows what is left.
+ghost use Rattle.std.specs.Prelude.{◌≡◌, ℕ, ◌+◌, ◌-◌, [], ◌++◌};
+ghost use Rattle.pool_rules.specs.declared.task.Task.{Task};
+ghost use Rattle.task_deques.specs.Tallies.{tally, weigh, IsEachOnce};
+
+use crossbeam_deque::protocol::{Join, Lesson, Outcome, Protocol, Split};
+use crossbeam_deque::{Pass, Stealer, Worker};
+use pool_rules::Task;
+use std::alloc::Global;
+use std::collections::LinkedList;
+
+/// What a seat has pushed and taken, and its parts of the right to know the whole. No value of it is
+/// made.
+pub struct Tally {
+    /// Of 64 parts.
+    pub parts: u64,
+    /// The tasks that it pushed, the first one first.
+    pub pushed: LinkedList<Task>,
+    /// The tasks that it took, the first one first.
+    pub taken: LinkedList<Task>,
+}
+
+/// The rule: what was pushed is what was taken and what the deque holds, each as often.
+pub struct EachOnce;
+
+impl Protocol<Task, Tally> for EachOnce {
+    ghost holds = { IsEachOnce };
+
+    ghost first = { tally 64 [] [] };
+
+    ghost guest = { tally 0 [] [] };
+}
+
+/// A push: the seat has pushed one task more.
+pub(crate) struct Pushed;
+
+impl Outcome<Task, Tally> for Pushed {
+    ghost then = { λ v xs w. w ≡ tally v.parts (v.pushed ++ xs) v.taken };
+}
+
+/// A pop or a steal: the seat has taken one task more.
+pub(crate) struct Taken;
+
+impl Outcome<Task, Tally> for Taken {
+    ghost then = { λ v xs w. w ≡ tally v.parts v.pushed (v.taken ++ xs) };
+}
+
+/// One part that is cut off for a new seat, or a seat that is joined.
+pub(crate) struct Part;
+
+impl Split<Tally> for Part {
+    ghost left = { λ v. tally (v.parts - 1) v.pushed v.taken };
+
+    ghost right = { λ v. tally 1 [] [] };
+}
+
+impl Join<Tally> for Part {
+    ghost both = { λ v w. tally (v.parts + w.parts) (v.pushed ++ w.pushed) (v.taken ++ w.taken) };
+
+    ghost spent = { tally 0 [] [] };
+}
+
+/// What the seat with all parts learns.
+pub(crate) struct Whole;
+
+impl Lesson<Task, Tally> for Whole {
+    ghost fact = { λ v items. (h : Task → ℕ) → weigh h v.pushed ≡ weigh h v.taken + weigh h items };
+}
+
+/// What a seat with fewer parts learns: nothing.
+pub(crate) struct Nothing;
+
+impl Lesson<Task, Tally> for Nothing {
+    ghost fact = { λ v items. Unit {0} };
+}
+
+/// The owner's end of a deque.
+pub(crate) type OwnerEnd = Worker<Task, Global, Tally, EachOnce>;
+
+/// A thief's end.
+pub(crate) type ThiefEnd = Stealer<Task, Global, Tally, EachOnce>;
+
+/// A thief's seat.
+pub(crate) type Seat = Pass<Task, Tally>;

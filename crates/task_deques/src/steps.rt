@@ -1,0 +1,98 @@
+//! The steps of a deque under its rule, each with what it changes in the tally of the seat that steps.
+ghost use Rattle.std.specs.Prelude.{◌≡◌, ℕ, List, ◌+◌, ◌-◌, ◌<◌, [], ◌∷◌, ◌++◌, MatchResult, MatchOption, IfOk, length};
+ghost use Rattle.pool_rules.specs.declared.task.Task.{Task};
+ghost use Rattle.crossbeam_deque.specs.Handles.{view, IsPassOf, worker_deque, stealer_deque, worker_flavor, worker_view};
+ghost use Rattle.task_deques.specs.Tallies.{tally, weigh};
+
+use crate::rule::{Nothing, OwnerEnd, Part, Pushed, Seat, Taken, ThiefEnd, Whole};
+use crossbeam_deque::Steal;
+use pool_rules::Task;
+use std::alloc::{AllocError, Global};
+
+/// A deque with no task, and room for so many before it takes memory again. It fails only where memory
+/// is refused.
+pub(crate) fn made(alloc: Global, room: usize) -> Result<OwnerEnd, AllocError>
+    ensures newest_first { IfOk result (λ w. worker_flavor w ≡ 1) }
+    ensures tally { IfOk result (λ w. worker_view w ≡ tally 64 [] []) }
+{
+    OwnerEnd::lifo_as(alloc, room)
+}
+
+/// Pushes a task, or hands it back.
+pub(crate) fn push(owner: &mut OwnerEnd, task: Task) -> Result<(), Task>
+    requires { 0 < (worker_view owner.old).parts }
+    ensures same { (worker_deque owner.new ≡ worker_deque owner.old) × (worker_flavor owner.new ≡ worker_flavor owner.old) }
+    ensures rule { MatchResult result
+        (λ _. worker_view owner.new ≡ tally (worker_view owner.old).parts ((worker_view owner.old).pushed ++ task ∷ []) (worker_view owner.old).taken)
+        (λ back. (back ≡ task) × (worker_view owner.new ≡ worker_view owner.old)) }
+{
+    owner.push_as::<Pushed>(task)
+}
+
+/// Takes the newest task.
+pub(crate) fn pop(owner: &mut OwnerEnd) -> Option<Task>
+    requires { 0 < (worker_view owner.old).parts }
+    ensures same { (worker_deque owner.new ≡ worker_deque owner.old) × (worker_flavor owner.new ≡ worker_flavor owner.old) }
+    ensures rule { MatchOption result
+        (worker_view owner.new ≡ worker_view owner.old)
+        (λ task. worker_view owner.new ≡ tally (worker_view owner.old).parts (worker_view owner.old).pushed ((worker_view owner.old).taken ++ task ∷ [])) }
+{
+    owner.pop_as::<Taken>()
+}
+
+/// Takes the oldest task of another's deque. Nothing is learned where none came.
+pub(crate) fn steal(thief: &ThiefEnd, seat: &mut Seat) -> Option<Task>
+    requires deque { IsPassOf (stealer_deque thief.now) seat.old }
+    requires part { 0 < (view seat.old).parts }
+    ensures same { IsPassOf (stealer_deque thief.now) seat.new }
+    ensures rule { MatchOption result
+        (view seat.new ≡ view seat.old)
+        (λ task. view seat.new ≡ tally (view seat.old).parts (view seat.old).pushed ((view seat.old).taken ++ task ∷ [])) }
+{
+    match thief.steal_as::<Taken>(seat) {
+        Steal::Success(task) => Some(task),
+        Steal::Empty | Steal::Retry => None,
+    }
+}
+
+/// A seat for a thief, with one part of the owner's.
+pub(crate) fn seat(owner: &mut OwnerEnd) -> Seat
+    requires { 1 < (worker_view owner.old).parts }
+    ensures same { (worker_deque owner.new ≡ worker_deque owner.old) × (worker_flavor owner.new ≡ worker_flavor owner.old) }
+    ensures deque { IsPassOf (worker_deque owner.old) result }
+    ensures owner { worker_view owner.new ≡ tally ((worker_view owner.old).parts - 1) (worker_view owner.old).pushed (worker_view owner.old).taken }
+    ensures thief { view result ≡ tally 1 [] [] }
+{
+    owner.another::<Part>()
+}
+
+/// Joins a thief's seat to the owner's.
+pub(crate) fn join(owner: &mut OwnerEnd, seat: Seat)
+    requires deque { IsPassOf (worker_deque owner.old) seat }
+    requires part { 0 < (worker_view owner.old).parts }
+    ensures same { (worker_deque owner.new ≡ worker_deque owner.old) × (worker_flavor owner.new ≡ worker_flavor owner.old) }
+    ensures both { worker_view owner.new ≡ tally ((worker_view owner.old).parts + (view seat).parts)
+        ((worker_view owner.old).pushed ++ (view seat).pushed) ((worker_view owner.old).taken ++ (view seat).taken) }
+{
+    owner.absorb::<Part>(seat);
+}
+
+/// How many tasks wait at one moment of the call.
+pub(crate) fn waiting(owner: &mut OwnerEnd) -> usize
+    ensures same { (worker_deque owner.new ≡ worker_deque owner.old) × (worker_flavor owner.new ≡ worker_flavor owner.old) }
+    ensures tally { worker_view owner.new ≡ worker_view owner.old }
+{
+    owner.len_as::<Nothing>()
+}
+
+/// What the owner learns once it has all parts: what was pushed is what was taken and what is left.
+pub(crate) fn left(owner: &mut OwnerEnd) -> usize
+    requires { (worker_view owner.old).parts ≡ 64 }
+    ensures same { (worker_deque owner.new ≡ worker_deque owner.old) × (worker_flavor owner.new ≡ worker_flavor owner.old) }
+    ensures tally { worker_view owner.new ≡ worker_view owner.old }
+    ensures counts { length (worker_view owner.old).pushed ≡ length (worker_view owner.old).taken + result }
+    ensures each { (tasks : List Task) × (length tasks ≡ result)
+        × ((h : Task → ℕ) → weigh h (worker_view owner.old).pushed ≡ weigh h (worker_view owner.old).taken + weigh h tasks) }
+{
+    owner.len_as::<Whole>()
+}

@@ -1,0 +1,71 @@
+//! A thief of a deque.
+ghost use Rattle.std.specs.Prelude.{◌≡◌, ◌+◌, [], length, IfOk, IfNone, IfSome};
+ghost use Rattle.crossbeam_deque.specs.Handles.{view, IsPassOf, worker_deque, stealer_deque};
+ghost use Rattle.task_deques.specs.Tallies.{tally};
+
+use crate::rule::{OwnerEnd, Seat, ThiefEnd};
+use crate::steps;
+use pool_rules::Task;
+use std::alloc::AllocError;
+
+/// A thief's end of a deque, with its seat there and how many tasks it stole.
+#[derive(Drop)]
+pub struct Thief {
+    stealer: ThiefEnd,
+    pass: Seat,
+    stolen: u64,
+    ghost deque: { IsPassOf (stealer_deque stealer) pass },
+    ghost part: { (view pass).parts ≡ 1 },
+    ghost none_pushed: { (view pass).pushed ≡ [] },
+    ghost stolen_are: { length (view pass).taken ≡ stolen },
+}
+
+impl Thief {
+    ghost use Rattle.task_deques.specs.Seats.{thief_seat, with_taken};
+
+    /// A thief with a new seat at a deque. It fails only where memory is refused.
+    pub(crate) fn at(worker: &OwnerEnd, pass: Seat) -> Result<Thief, AllocError>
+        requires deque { IsPassOf (worker_deque worker.now) pass }
+        requires tally { view pass ≡ tally 1 [] [] }
+        ensures deque { IfOk result (λ thief. (thief_seat thief).deque ≡ worker_deque worker.now) }
+        ensures tally { IfOk result (λ thief. (thief_seat thief).tally ≡ tally 1 [] []) }
+    {
+        let stealer = worker.stealer()?;
+        Ok(Thief {
+            stealer,
+            pass,
+            stolen: 0,
+        })
+    }
+
+    /// Takes the oldest task. None says nothing of the deque: another thief may have been quicker, or
+    /// as many were stolen as a u64 counts.
+    pub fn steal(&mut self) -> Option<Task>
+        ensures taken { IfSome result (λ task. thief_seat self.new ≡ with_taken task (thief_seat self.old)) }
+        ensures unchanged { IfNone result (thief_seat self.new ≡ thief_seat self.old) }
+    {
+        if self.stolen == u64::MAX {
+            return None;
+        }
+        let Thief {
+            stealer,
+            pass,
+            stolen,
+        } = self;
+        let task = steps::steal(stealer, pass)?;
+        *stolen += 1;
+        Some(task)
+    }
+
+    /// Its seat, and how many tasks it stole.
+    pub(crate) fn left(self) -> (Seat, u64)
+        ensures deque { IsPassOf (thief_seat self).deque result.0 }
+        ensures tally { view result.0 ≡ (thief_seat self).tally }
+        ensures part { (view result.0).parts ≡ 1 }
+        ensures stolen { length (view result.0).taken ≡ result.1 }
+        ensures none_pushed { (view result.0).pushed ≡ [] }
+    {
+        let Thief { pass, stolen, .. } = self;
+        (pass, stolen)
+    }
+}
