@@ -18,7 +18,8 @@
 //! way up ends at a root.
 //!
 //! Only [`Stack::new`] takes memory. [`Words::get`] follows a link for each sixteen places before
-//! the one it reads, [`Stack::open`] costs what its words take, and nothing scans the region.
+//! the one it reads, [`Words::segment`] one for each segment before the one it lends,
+//! [`Stack::open`] costs what its words take, and nothing scans the region.
 //!
 //! ```text
 //! let mut stack = Stack::new(alloc, 4)?;

@@ -96,6 +96,8 @@ fn show_sight(rt: &impl Abort, stack: &Stack, pair: &Pair) -> Result<(), Fail>
     ] {
         assert_eq!(rt; own.get(at), word, "at {at}");
     }
+    assert_eq!(rt; own.segment(1), [9].as_slice());
+    assert_eq!(rt; own.segment(2).len(), 0);
     let above = sight.up(1).ok_or("the root's words")?;
     assert_eq!(rt; above.len(), 20);
     for (at, word) in [
