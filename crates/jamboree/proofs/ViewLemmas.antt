@@ -3,7 +3,7 @@ use Rattle.std.specs.Prelude.{◌≡◌, ℕ, ◌+◌, ◌<◌, ◌≤◌, Bool,
 use Rattle.std.proofs.Common.{to_z, of_z, w32, sym, ap, ◌∙◌, subst, take, arith, ⊎_elim}
 use Rattle.std.proofs.lemmas.List.{get_or-take}
 use Rattle.std.proofs.lemmas.Int.{ints}
-use Rattle.std.proofs.lemmas.Bool.{cases_lt, and_parts, and_from, eqb-true, eq-eqb}
+use Rattle.std.proofs.lemmas.Bool.{cases_lt, and_parts, eqb-true, eq-eqb}
 use Rattle.jamboree_rules.specs.Frames.{least, greatest, unscored, is_frame}
 use Rattle.jamboree_rules.specs.Places.{score_of, status_of, frame_of, are_statuses, is_formed}
 use Rattle.jamboree_rules.proofs.Forms.{IsFrame, frame-told}

@@ -1,4 +1,4 @@
-use Rattle.std.proofs.Common.{◌≡◌, ◌+◌, length, ◌∙◌, refl, arith}
+use Rattle.std.proofs.Common.{◌∙◌, refl, arith}
 use Rattle.jamboree.proofs.ViewLemmas.{formed-parts, frame-is}
 use Rattle.jamboree.specs.Views.{statuses_in}
 use Rattle.jamboree.proofs.view.view.Goals as goal
