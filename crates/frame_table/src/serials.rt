@@ -49,6 +49,7 @@ impl<A: Allocator> Serials<A> {
     }
 
     /// Where a serial stands.
+    #[inline(always)]
     pub(crate) fn place_of(&self, serial: u64) -> Option<usize>
         requires { RisesBy (λ n. n) self.now.serials }
         ensures found { IfSome result (λ at. (at < length self.now.serials) × (slice_index self.now.serials at ≡ serial)) }
@@ -66,6 +67,7 @@ impl<A: Allocator> Serials<A> {
     }
 
     /// Where a serial stands, wherever it was guessed.
+    #[inline(never)]
     fn search(&self, serial: u64) -> Option<usize>
         requires { RisesBy (λ n. n) self.now.serials }
         ensures found { IfSome result (λ at. (at < length self.now.serials) × (slice_index self.now.serials at ≡ serial)) }
@@ -78,6 +80,7 @@ impl<A: Allocator> Serials<A> {
     }
 
     /// Where a serial stands that is there.
+    #[inline(always)]
     pub(crate) fn known_place(&self, serial: u64) -> usize
         requires rise { RisesBy (λ n. n) self.now.serials }
         requires there { has_number self.now.serials serial ≡ true }

@@ -116,6 +116,7 @@ impl<T: Copy, A: Allocator> FrameTable<T, A> {
     }
 
     /// The parent, state and value of a frame; `None` where there is no such frame.
+    #[inline(always)]
     pub fn find(&self, f: FrameId) -> Option<Entry<T>>
         ensures entry { result ≡ entry_of f.tenant (frame_at (frames_of self.now f.tenant) f.serial) }
         ensures tree { IsTree (frames_of self.now f.tenant) }
@@ -169,6 +170,7 @@ impl<T: Copy, A: Allocator> FrameTable<T, A> {
     }
 
     /// Whether a frame has a child, from a kept count.
+    #[inline(always)]
     pub fn has_child(&self, f: FrameId) -> bool
         ensures child { IsTrue result ↔ (0 < length (children_of (frames_of self.now f.tenant) f.serial)) }
         ensures leaf { result ≡ false → children_of (frames_of self.now f.tenant) f.serial ≡ [] }
@@ -384,6 +386,7 @@ fn guess_again<T: Copy, A: Allocator>(guesses: &mut Guesses<A>, trees: &[TenantF
 }
 
 /// Where a tenant's tree stands: where it is guessed to, or else where a search finds it.
+#[inline(always)]
 fn tenant_place<T: Copy, A: Allocator>(
     trees: &[TenantFrames<T, A>],
     guesses: &Guesses<A>,
@@ -402,6 +405,7 @@ fn tenant_place<T: Copy, A: Allocator>(
 }
 
 /// Where a tenant's tree stands, wherever it was guessed.
+#[inline(never)]
 fn search_tenant<T: Copy, A: Allocator>(trees: &[TenantFrames<T, A>], tenant: u64) -> Option<usize>
     requires { RisesBy (λ tree. tree.tenant) trees.now }
     ensures within { IfSome result (λ at. at < length trees.now) }
@@ -416,6 +420,7 @@ fn search_tenant<T: Copy, A: Allocator>(trees: &[TenantFrames<T, A>], tenant: u6
 }
 
 /// A tenant's tree.
+#[inline(always)]
 fn find_tree<'a, T: Copy, A: Allocator>(
     trees: &'a [TenantFrames<T, A>],
     guesses: &Guesses<A>,
@@ -432,6 +437,7 @@ fn find_tree<'a, T: Copy, A: Allocator>(
 }
 
 /// Where the tree of a tenant stands that has places.
+#[inline(always)]
 fn known_tenant<T: Copy, A: Allocator>(
     trees: &[TenantFrames<T, A>],
     guesses: &Guesses<A>,

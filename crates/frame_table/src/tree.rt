@@ -96,6 +96,7 @@ impl<T: Copy, A: Allocator> TenantFrames<T, A> {
     }
 
     /// What is known of a frame.
+    #[inline(always)]
     pub(crate) fn find(&self, serial: u64) -> Option<Entry<T>>
         ensures entry { result ≡ entry_of self.now.tenant (frame_at self.now.frames serial) }
         ensures tree { IsTree self.now.frames }
@@ -116,6 +117,7 @@ impl<T: Copy, A: Allocator> TenantFrames<T, A> {
     }
 
     /// Whether a frame has a child.
+    #[inline(always)]
     pub(crate) fn has_child(&self, serial: u64) -> bool
         ensures child { IsTrue result ↔ (0 < length (children_of self.now.frames serial)) }
         ensures leaf { result ≡ false → children_of self.now.frames serial ≡ [] }

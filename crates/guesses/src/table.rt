@@ -48,6 +48,7 @@ impl<A: Allocator> Guesses<A> {
 
     /// Where a number may stand: 0 where none was put down, and maybe that of another number that
     /// shares its place.
+    #[inline(always)]
     pub fn guess(&self, number: u64) -> usize
         ensures { result ≡ guess_of self.now number }
     {

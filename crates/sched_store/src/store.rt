@@ -74,6 +74,7 @@ impl<A: Allocator> Store<A> {
 }
 
 /// The node of a frame that is there.
+#[inline(always)]
 fn node_of<A: Allocator>(table: &FrameTable<NodeNo, A>, name: FrameId) -> NodeNo
     requires { IsTrue (has_frame (frames_of table.now name.tenant) name.serial) }
     ensures { HasValue (frame_at (frames_of table.now name.tenant) name.serial) result }

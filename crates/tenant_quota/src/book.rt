@@ -57,6 +57,7 @@ impl<A: Allocator> Model for Book<A> {
 
 /// The place of the tenant's account, or that where it would stand. The guess is looked at first, so
 /// that a tenant that is there is seldom searched for.
+#[inline(always)]
 fn place_of(guesses: &Guesses, accounts: &[(u64, Account)], tenant: u64) -> usize
     requires { IsRising accounts.now }
     ensures { result ≡ count_below tenant accounts.now }
@@ -69,6 +70,7 @@ fn place_of(guesses: &Guesses, accounts: &[(u64, Account)], tenant: u64) -> usiz
 }
 
 /// The same place, by halves.
+#[inline(never)]
 fn search(accounts: &[(u64, Account)], tenant: u64) -> usize
     requires { IsRising accounts.now }
     ensures { result ≡ count_below tenant accounts.now }
