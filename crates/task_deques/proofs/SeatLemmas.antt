@@ -28,7 +28,7 @@ thief_stole thieves place before after (Some task) inside at stole =
     let d = thief_seat before in
     let same : get_or (thief_seats thieves) place d ≡ d = get_or-map thief_seat thieves place before d inside ∙ ap thief_seat (sym at) in
     let changed : thief_seats (set thieves place after) ≡ set (thief_seats thieves) place (with_taken task (get_or (thief_seats thieves) place d)) =
-        map-set thief_seat thieves place after ∙ ap (λ (s : Seat). set (thief_seats thieves) place s) (stole ∙ ap (with_taken task) (sym same)) in
+    map-set thief_seat thieves place after ∙ ap (λ (s : Seat). set (thief_seats thieves) place s) (stole ∙ ap (with_taken task) (sym same)) in
     subst (λ (l : List Seat). IsStolen task (thief_seats thieves) l) (sym changed) (stolen_at task (thief_seats thieves) place d (omega (arith, length-map thieves thief_seat)))
 
 -- the thief at a place finds nothing

@@ -14,8 +14,7 @@ loop-own-preserved c =
     let owners : List Seat = owner_seats c.args.owners.items in
     let thieves : List Seat = map new_thief owners in
     let popped = All-pop (λ r. thief_seats r.items ≡ thieves) at.rows.items c.pop.new.self.items (Some row) c.in-Some-pop.ensures.items c.loop-own.invariant.1 in
-    let its : worker_seats (record { own = own; thieves = row }) ≡ beside thieves (owner_seat own) = ap (λ (l : List Seat). beside l (owner_seat own)) popped.1 in
-    (
+    let its : worker_seats (record { own = own; thieves = row }) ≡ beside thieves (owner_seat own) = ap (λ (l : List Seat). beside l (owner_seat own)) popped.1 in (
       rw c.push_reserved.ensures.items (gives at.all.items (record { own = own; thieves = row }) own (into_iter_items at.own-iterator) (into_iter_items c.next.new.self) thieves owners its c.in-Some.ensures.steps.0 c.loop-own.invariant.0),
       popped.0,
       omega (arith, c.in-Some.ensures.steps.1, c.in-Some-pop.ensures.len, c.loop-own.invariant.2),

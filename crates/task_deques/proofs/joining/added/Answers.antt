@@ -27,12 +27,11 @@ loop-place-preserved c =
     let here = seat_at at.owners.items seats at.place x inside c.index_mut.ensures.value c.loop-place.invariant.0 in
     let within : at.place < length seats = omega (arith, ap length c.loop-place.invariant.0, length-map at.owners.items owner_seat) in
     let pushed : sum_by (λ deque. length deque.tally.pushed) (take (at.place + 1) seats) ≡ sum_by (λ deque. length deque.tally.pushed) (take at.place seats) + length (owner_seat x).tally.pushed =
-        sum_by_more (λ (deque : Seat). length deque.tally.pushed) seats at.place (owner_seat x) within ∙ ap (λ (s : Seat). sum_by (λ (deque : Seat). length deque.tally.pushed) (take at.place seats) + length s.tally.pushed) here in
+    sum_by_more (λ (deque : Seat). length deque.tally.pushed) seats at.place (owner_seat x) within ∙ ap (λ (s : Seat). sum_by (λ (deque : Seat). length deque.tally.pushed) (take at.place seats) + length s.tally.pushed) here in
     let taken : sum_by (λ deque. length deque.tally.taken) (take (at.place + 1) seats) ≡ sum_by (λ deque. length deque.tally.taken) (take at.place seats) + length (owner_seat x).tally.taken =
-        sum_by_more (λ (deque : Seat). length deque.tally.taken) seats at.place (owner_seat x) within ∙ ap (λ (s : Seat). sum_by (λ (deque : Seat). length deque.tally.taken) (take at.place seats) + length s.tally.taken) here in
+    sum_by_more (λ (deque : Seat). length deque.tally.taken) seats at.place (owner_seat x) within ∙ ap (λ (s : Seat). sum_by (λ (deque : Seat). length deque.tally.taken) (take at.place seats) + length s.tally.taken) here in
     let each = c.sums-sums.ensures.each_once in
-    let mine : IsAccounted (owner_seat x) = (each.0, each.2) in
-    (
+    let mine : IsAccounted (owner_seat x) = (each.0, each.2) in (
       seats_same at.owners.items at.place x c.sums-sums.new.self c.index_mut.ensures.value c.sums-sums.ensures.unchanged ∙ c.loop-place.invariant.0,
       omega (arith, pushed, c.sums-sums.ensures.pushed, c.loop-place.invariant.1),
       omega (arith, taken, c.sums-sums.ensures.taken, c.loop-place.invariant.2),

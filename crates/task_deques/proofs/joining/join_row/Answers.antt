@@ -12,7 +12,7 @@ loop-thief-init c =
     let owners : List Seat = owner_seats c.args.owners.now.items in
     let row = c.args.row.items in
     subst (λ (l : List Thief). IsTurn owners 0 (thief_seats l) (with_row owners (thief_seats row))) (sym c.into_iter-thief-iterator.ensures.into_iter_gives.0)
-        (record { comes_to = refl; same = c.requires.deques; parts = c.requires.parts })
+    (record { comes_to = refl; same = c.requires.deques; parts = c.requires.parts })
 
 pub index_mut-requires : goal.index_mut-requires
 index_mut-requires c =
