@@ -1,6 +1,6 @@
 -- The seats of thieves are joined to the owners'.
 use Rattle.std.proofs.Common.{◌≡◌, ℕ, zero, suc, ◌+◌, ◌<◌, ◌≤◌, List, [], ◌∷◌, ◌++◌, length, map, take, drop, set, get_or, All, sym, refl, ap, ◌∙◌, subst, arith, add-one}
-use Rattle.std.proofs.lemmas.List.{length-map, map-set, map_push, drop_more, drop-set-lt, get_or-map, take-append-drop}
+use Rattle.std.proofs.lemmas.List.{length-map, map-set, drop_more, drop-set-lt, get_or-map, take-append-drop}
 use Rattle.std.proofs.lemmas.List.Elements.{All-head, All-tail, All-cons, All-nil, All-map}
 use Rattle.task_deques.specs.declared.owner.Owner.{Owner}
 use Rattle.task_deques.specs.declared.thief.Thief.{Thief}

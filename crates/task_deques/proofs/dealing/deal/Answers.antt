@@ -1,8 +1,8 @@
-use Rattle.std.proofs.Common.{◌≡◌, ◌-◌, ◌+◌, List, length, map, sym, subst, ap, ◌∙◌, refl, arith, rules, vec_len}
+use Rattle.std.proofs.Common.{◌≡◌, ◌-◌, ◌+◌, List, length, map, sym, ap, ◌∙◌, arith, vec_len}
 use Rattle.std.proofs.lemmas.List.{length-map}
 use Rattle.std.proofs.lemmas.Result.{IfOk-weaker}
 use Rattle.task_deques.specs.Seats.{Seat, owner_seat, new_thief}
-use Rattle.task_deques.specs.Deals.{owner_seats, worker_seats, posts, fresh_with, beside, IsDealt, IsWhole}
+use Rattle.task_deques.specs.Deals.{owner_seats, worker_seats, posts, beside, IsDealt, IsWhole}
 use Rattle.task_deques.proofs.SeatLemmas.{new_of_fresh, dealt_ends, whole_ends}
 use Rattle.task_deques.proofs.dealing.deal.Goals as goal
 

@@ -1,8 +1,8 @@
-use Rattle.std.proofs.Common.{◌≡◌, ◌∷◌, List, Option, Some, All, map, sym, subst, ap, ◌∙◌, refl, arith, rules}
+use Rattle.std.proofs.Common.{◌≡◌, List, Some, map, ap, arith}
 use Rattle.std.proofs.lemmas.List.Elements.{All-pop}
-use Rattle.std.specs.Vec.Iter.{into_iter_items, into_iter_len}
+use Rattle.std.specs.Vec.Iter.{into_iter_items}
 use Rattle.task_deques.specs.Seats.{Seat, owner_seat, new_thief}
-use Rattle.task_deques.specs.Deals.{WorkerSeats, owner_seats, thief_seats, worker_seats, beside}
+use Rattle.task_deques.specs.Deals.{owner_seats, thief_seats, worker_seats, beside}
 use Rattle.task_deques.proofs.SeatLemmas.{gives}
 use Rattle.task_deques.proofs.dealing.paired.Goals as goal
 

@@ -1,5 +1,5 @@
-use Rattle.std.proofs.Common.{◌≡◌, ◌-◌, ◌+◌, ◌<◌, [], List, length, map, All, refl, sym, subst, ap, ◌∙◌, arith, rules}
-use Rattle.std.proofs.lemmas.List.Elements.{All-map, All-same, All-nil, All-push}
+use Rattle.std.proofs.Common.{◌≡◌, ◌-◌, ◌+◌, ◌<◌, [], List, length, map, refl, sym, ap, ◌∙◌, arith, rules}
+use Rattle.std.proofs.lemmas.List.Elements.{All-map, All-same, All-push}
 use Rattle.task_deques.specs.Tallies.{tally}
 use Rattle.task_deques.specs.Seats.{Seat, owner_seat, with_part_cut, new_thief}
 use Rattle.task_deques.specs.Deals.{owner_seats, thief_seats, fresh_with}

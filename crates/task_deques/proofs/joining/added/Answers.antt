@@ -1,7 +1,7 @@
-use Rattle.std.proofs.Common.{◌≡◌, ◌+◌, ◌<◌, ◌≤◌, List, All, length, take, sum_by, get_or, ap, sym, subst, ◌∙◌, refl, arith, rules}
+use Rattle.std.proofs.Common.{◌≡◌, ◌+◌, ◌<◌, List, All, length, take, sum_by, ap, sym, subst, ◌∙◌, arith, rules}
 use Rattle.std.proofs.lemmas.List.{take_all, length-map}
 use Rattle.std.proofs.lemmas.List.Sums.{sum_by_more}
-use Rattle.std.proofs.lemmas.List.Elements.{All-get_or, All-more}
+use Rattle.std.proofs.lemmas.List.Elements.{All-more}
 use Rattle.task_deques.specs.Seats.{Seat, owner_seat}
 use Rattle.task_deques.specs.Deals.{owner_seats, IsAccounted}
 use Rattle.task_deques.proofs.SeatLemmas.{seat_at, seats_same}

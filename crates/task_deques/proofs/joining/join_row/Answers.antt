@@ -1,9 +1,9 @@
-use Rattle.std.proofs.Common.{◌≡◌, [], List, length, ap, sym, subst, ◌∙◌, refl, arith, rules}
+use Rattle.std.proofs.Common.{◌≡◌, [], List, sym, subst, refl, arith}
 use Rattle.std.proofs.lemmas.List.{nil_from_length}
-use Rattle.std.specs.Vec.Iter.{into_iter_items, into_iter_len}
+use Rattle.std.specs.Vec.Iter.{into_iter_items}
 use Rattle.task_deques.specs.declared.thief.Thief.{Thief}
 use Rattle.task_deques.specs.Seats.{Seat}
-use Rattle.task_deques.specs.Deals.{owner_seats, thief_seats, with_row, deques}
+use Rattle.task_deques.specs.Deals.{owner_seats, thief_seats, with_row}
 use Rattle.task_deques.proofs.JoinLemmas.{IsTurn, turn_inside, joins_here, joined_here, joined_all}
 use Rattle.task_deques.proofs.joining.join_row.Goals as goal
 

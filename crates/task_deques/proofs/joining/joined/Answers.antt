@@ -1,9 +1,9 @@
-use Rattle.std.proofs.Common.{◌≡◌, ◌+◌, ◌<◌, ◌∷◌, [], List, All, map, length, ap, sym, subst, ◌∙◌, refl, arith, rules}
+use Rattle.std.proofs.Common.{◌≡◌, ◌∷◌, [], List, map, length, ap, sym, subst, ◌∙◌, refl, arith}
 use Rattle.std.proofs.lemmas.List.{nil_from_length, length-map}
 use Rattle.std.proofs.lemmas.List.Elements.{All-map}
-use Rattle.std.specs.Vec.Iter.{into_iter_items, into_iter_len}
+use Rattle.std.specs.Vec.Iter.{into_iter_items}
 use Rattle.task_deques.specs.Seats.{Seat, owner_seat}
-use Rattle.task_deques.specs.Deals.{owner_seats, thief_seats, with_row, with_rows, deques}
+use Rattle.task_deques.specs.Deals.{owner_seats, thief_seats, with_rows, deques}
 use Rattle.task_deques.proofs.JoinLemmas.{AreTurns, one_part, length-with_row, row_room, rows_turn, rows_done}
 use Rattle.task_deques.proofs.joining.joined.Goals as goal
 
