@@ -1,6 +1,6 @@
 -- The seats of thieves are joined to the owners'.
 use Rattle.std.proofs.Common.{◌≡◌, ℕ, zero, suc, ◌+◌, ◌<◌, ◌≤◌, List, [], ◌∷◌, ◌++◌, length, map, take, drop, set, get_or, All, sym, refl, ap, ◌∙◌, subst, arith, add-one}
-use Rattle.std.proofs.lemmas.List.{length-map, map-set, map_push, drop_more, drop-set-lt, get_or-map, take-append-drop}
+use Rattle.std.proofs.lemmas.List.{length-map, map-set, drop_more, drop-set-lt, get_or-map, take-append-drop}
 use Rattle.std.proofs.lemmas.List.Elements.{All-head, All-tail, All-cons, All-nil, All-map}
 use Rattle.task_deques.specs.declared.owner.Owner.{Owner}
 use Rattle.task_deques.specs.declared.thief.Thief.{Thief}
@@ -75,10 +75,10 @@ joined_here owners place x y thief old left total at steps is turn =
     let changed : owner_seats (set owners place y) ≡ after = map-set owner_seat owners place y ∙ ap (λ (s : Seat). set seats place s) (is ∙ ap (λ (s : Seat). joined s t) (sym here)) in
     let dropped : drop (place + 1) after ≡ drop (place + 1) seats = drop-set-lt (place + 1) seats place (joined (get_or seats place d) t) (omega arith) in
     let all : take (place + 1) after ++ with_row (drop (place + 1) after) rest ≡ total =
-        rw add-one (turn_joins seats place t rest d same.0 ∙ ap (λ (l : List Thief). take place seats ++ with_row (drop place seats) (thief_seats l)) (sym steps) ∙ turn.comes_to) in
+    rw add-one (turn_joins seats place t rest d same.0 ∙ ap (λ (l : List Thief). take place seats ++ with_row (drop place seats) (thief_seats l)) (sym steps) ∙ turn.comes_to) in
     let more : deques rest ≡ deques (drop (place + 1) after) = same.2 ∙ ap (λ (n : ℕ). deques (drop n seats)) (sym (add-one place)) ∙ ap deques (sym dropped) in
     let room : All HasRoom (drop (place + 1) after) =
-        subst (All HasRoom) (sym dropped) (All-tail HasRoom (get_or seats place d) (drop (place + 1) seats) (subst (All HasRoom) (drop_more seats place d same.0) turn.parts)) in
+    subst (All HasRoom) (sym dropped) (All-tail HasRoom (get_or seats place d) (drop (place + 1) seats) (subst (All HasRoom) (drop_more seats place d same.0) turn.parts)) in
     subst (λ (l : List Seat). IsTurn l (place + 1) rest total) (sym changed) (record { comes_to = all; same = more; parts = room })
 
 -- at the end all is joined
@@ -120,7 +120,7 @@ parts-with_row (o ∷ os) (t ∷ row) left are one parts =
     let its : o.tally.parts + (left + 1) ≡ 64 = All-head (λ (seat : Seat). seat.tally.parts + (left + 1) ≡ 64) o os parts in
     let rest : deques row ≡ deques os = cc in
     All-cons (λ (seat : Seat). seat.tally.parts + left ≡ 64) (joined o t) (with_row os row) (omega arith)
-        (parts-with_row os row left rest (All-tail (λ (seat : Seat). seat.tally.parts ≡ 1) t row one) (All-tail (λ (seat : Seat). seat.tally.parts + (left + 1) ≡ 64) o os parts))
+    (parts-with_row os row left rest (All-tail (λ (seat : Seat). seat.tally.parts ≡ 1) t row one) (All-tail (λ (seat : Seat). seat.tally.parts + (left + 1) ≡ 64) o os parts))
 
 -- owners and rows come apart again
 pub own_of_zip : (owners : List Seat) (rows : List (List Seat)) → length owners ≡ length rows → map (λ (its : WorkerSeats). its.own) (zip_seats owners rows) ≡ owners

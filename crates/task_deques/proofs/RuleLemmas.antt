@@ -1,12 +1,11 @@
 -- Each kind of step keeps the rule of a deque.
-use Rattle.std.proofs.Common.{◌≡◌, ℕ, zero, suc, ◌+◌, ◌-◌, ◌<◌, ◌≤◌, ◌≢◌, List, [], ◌∷◌, ◌++◌, length, set, sym, refl, ap, ◌∙◌, subst, ⊎_elim, arith}
+use Rattle.std.proofs.Common.{◌≡◌, ℕ, zero, suc, ◌+◌, ◌-◌, ◌<◌, List, [], ◌∷◌, ◌++◌, set, sym, refl, ap, ◌∙◌, arith}
 use mathlib.Core.Option.{some, some-injective, some-ne-none}
 use lib.ListN.{get_elem?}
 use Rattle.crossbeam_deque.specs.Tasks.{Pushes, Takes, Pops, Forks, Merges, Learns}
-use Rattle.crossbeam_deque.proofs.Lists.{at_set, at_snoc}
 use Rattle.task_deques.specs.declared.rule.Tally.{Tally}
 use Rattle.pool_rules.specs.declared.task.Task.{Task}
-use Rattle.task_deques.specs.Tallies.{tally, weigh, total, IdleIsEmpty, IsEachOnce}
+use Rattle.task_deques.specs.Tallies.{tally, weigh, IsEachOnce}
 use Rattle.task_deques.proofs.TallyLemmas.{weigh-append, total-snoc, total-set, alone, idle_set, idle_snoc}
 
 pub begins : IsEachOnce [] (tally 64 [] [] ∷ [])

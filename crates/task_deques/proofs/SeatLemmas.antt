@@ -1,9 +1,9 @@
 -- Seats in lists: one of them steals, a part of each is cut off, and they are dealt to workers.
-use Rattle.std.proofs.Common.{◌≡◌, ℕ, zero, suc, ◌+◌, ◌-◌, ◌<◌, ◌≤◌, List, [], ◌∷◌, ◌++◌, length, map, take, drop, set, get_or, All, Option, Some, None, IfSome, IfNone, sym, refl, ap, ◌∙◌, subst, arith, append_assoc}
+use Rattle.std.proofs.Common.{◌≡◌, ℕ, zero, suc, ◌+◌, ◌-◌, ◌<◌, List, [], ◌∷◌, ◌++◌, length, map, take, drop, set, get_or, All, Option, Some, None, IfSome, IfNone, sym, refl, ap, ◌∙◌, subst, arith, append_assoc}
 use Rattle.std.proofs.lemmas.List.{map-set, get_or-map, length-map, map_push, map_more}
 use Rattle.std.proofs.lemmas.List.Edits.{map_over_more}
 use Rattle.std.proofs.Math.Seq.{map-set_same}
-use Rattle.std.proofs.lemmas.List.Elements.{All-head, All-tail, All-cons, All-map, All-nil, All-weaker}
+use Rattle.std.proofs.lemmas.List.Elements.{All-head, All-tail, All-map}
 use Rattle.pool_rules.specs.declared.task.Task.{Task}
 use Rattle.task_deques.specs.declared.owner.Owner.{Owner}
 use Rattle.task_deques.specs.declared.thief.Thief.{Thief}
@@ -28,7 +28,7 @@ thief_stole thieves place before after (Some task) inside at stole =
     let d = thief_seat before in
     let same : get_or (thief_seats thieves) place d ≡ d = get_or-map thief_seat thieves place before d inside ∙ ap thief_seat (sym at) in
     let changed : thief_seats (set thieves place after) ≡ set (thief_seats thieves) place (with_taken task (get_or (thief_seats thieves) place d)) =
-        map-set thief_seat thieves place after ∙ ap (λ (s : Seat). set (thief_seats thieves) place s) (stole ∙ ap (with_taken task) (sym same)) in
+    map-set thief_seat thieves place after ∙ ap (λ (s : Seat). set (thief_seats thieves) place s) (stole ∙ ap (with_taken task) (sym same)) in
     subst (λ (l : List Seat). IsStolen task (thief_seats thieves) l) (sym changed) (stolen_at task (thief_seats thieves) place d (omega (arith, length-map thieves thief_seat)))
 
 -- the thief at a place finds nothing

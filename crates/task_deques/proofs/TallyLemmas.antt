@@ -1,11 +1,11 @@
 -- Sums over the seats of a deque.
-use Rattle.std.proofs.Common.{◌≡◌, ℕ, zero, suc, ◌+◌, ◌<◌, ◌≤◌, ◌≢◌, List, [], ◌∷◌, ◌++◌, length, set, sym, refl, ap, ◌∙◌, subst, ⊎_elim, arith}
+use Rattle.std.proofs.Common.{◌≡◌, ℕ, zero, suc, ◌+◌, ◌≤◌, ◌≢◌, List, [], ◌∷◌, ◌++◌, length, set, sym, refl, ap, ◌∙◌, ⊎_elim, arith}
 use mathlib.Core.Option.{some, some-injective, some-ne-none}
 use lib.ListN.{get_elem?}
 use Rattle.crossbeam_deque.proofs.Lists.{at_set, at_snoc}
 use Rattle.task_deques.specs.declared.rule.Tally.{Tally}
 use Rattle.pool_rules.specs.declared.task.Task.{Task}
-use Rattle.task_deques.specs.Tallies.{tally, weigh, total, IdleIsEmpty}
+use Rattle.task_deques.specs.Tallies.{weigh, total, IdleIsEmpty}
 
 pub weigh-append : (h : Task → ℕ) (xs ys : List Task) → weigh h (xs ++ ys) ≡ weigh h xs + weigh h ys
 weigh-append h [] ys = omega arith

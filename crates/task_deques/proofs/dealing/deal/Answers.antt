@@ -1,8 +1,8 @@
-use Rattle.std.proofs.Common.{◌≡◌, ◌-◌, ◌+◌, List, length, map, sym, subst, ap, ◌∙◌, refl, arith, rules, vec_len}
+use Rattle.std.proofs.Common.{◌≡◌, ◌-◌, ◌+◌, List, length, map, sym, ap, ◌∙◌, arith, vec_len}
 use Rattle.std.proofs.lemmas.List.{length-map}
 use Rattle.std.proofs.lemmas.Result.{IfOk-weaker}
 use Rattle.task_deques.specs.Seats.{Seat, owner_seat, new_thief}
-use Rattle.task_deques.specs.Deals.{owner_seats, worker_seats, posts, fresh_with, beside, IsDealt, IsWhole}
+use Rattle.task_deques.specs.Deals.{owner_seats, worker_seats, posts, beside, IsDealt, IsWhole}
 use Rattle.task_deques.proofs.SeatLemmas.{new_of_fresh, dealt_ends, whole_ends}
 use Rattle.task_deques.proofs.dealing.deal.Goals as goal
 
@@ -18,7 +18,7 @@ returns-clause-dealt c =
     let seats : List Seat = owner_seats c.rows.new.owners.items in
     let count : vec_len made ≡ length owners = made.ok.0 ∙ sym (length-map made.items owner_seat) in
     IfOk-weaker c.paired.result (λ all. map worker_seats all.items ≡ map (beside (map new_thief seats)) seats) (λ all. IsDealt (map worker_seats all.items))
-        (λ all is. dealt_ends (64 - vec_len made) owners seats (map worker_seats all.items) c.in_ok-rows.ensures.owners (ap (λ n. 64 - n) count) is) c.paired.ensures.ends
+    (λ all is. dealt_ends (64 - vec_len made) owners seats (map worker_seats all.items) c.in_ok-rows.ensures.owners (ap (λ n. 64 - n) count) is) c.paired.ensures.ends
 
 pub returns-clause-whole : goal.returns-clause-whole
 returns-clause-whole c =
@@ -28,4 +28,4 @@ returns-clause-whole c =
     let count : vec_len made ≡ length owners = made.ok.0 ∙ sym (length-map made.items owner_seat) in
     let sum : (64 - vec_len made) + length owners ≡ 64 = omega (arith, c.in_ok-owners.ensures.count, c.from.ensures, c.number.ensures.limits) in
     IfOk-weaker c.paired.result (λ all. map worker_seats all.items ≡ map (beside (map new_thief seats)) seats) (λ all. IsWhole (map posts all.items))
-        (λ all is. whole_ends (64 - vec_len made) owners seats all.items c.in_ok-rows.ensures.owners sum is) c.paired.ensures.ends
+    (λ all is. whole_ends (64 - vec_len made) owners seats all.items c.in_ok-rows.ensures.owners sum is) c.paired.ensures.ends

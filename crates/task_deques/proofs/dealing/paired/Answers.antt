@@ -1,8 +1,8 @@
-use Rattle.std.proofs.Common.{◌≡◌, ◌∷◌, List, Option, Some, All, map, sym, subst, ap, ◌∙◌, refl, arith, rules}
+use Rattle.std.proofs.Common.{◌≡◌, List, Some, map, ap, arith}
 use Rattle.std.proofs.lemmas.List.Elements.{All-pop}
-use Rattle.std.specs.Vec.Iter.{into_iter_items, into_iter_len}
+use Rattle.std.specs.Vec.Iter.{into_iter_items}
 use Rattle.task_deques.specs.Seats.{Seat, owner_seat, new_thief}
-use Rattle.task_deques.specs.Deals.{WorkerSeats, owner_seats, thief_seats, worker_seats, beside}
+use Rattle.task_deques.specs.Deals.{owner_seats, thief_seats, worker_seats, beside}
 use Rattle.task_deques.proofs.SeatLemmas.{gives}
 use Rattle.task_deques.proofs.dealing.paired.Goals as goal
 
@@ -14,8 +14,7 @@ loop-own-preserved c =
     let owners : List Seat = owner_seats c.args.owners.items in
     let thieves : List Seat = map new_thief owners in
     let popped = All-pop (λ r. thief_seats r.items ≡ thieves) at.rows.items c.pop.new.self.items (Some row) c.in-Some-pop.ensures.items c.loop-own.invariant.1 in
-    let its : worker_seats (record { own = own; thieves = row }) ≡ beside thieves (owner_seat own) = ap (λ (l : List Seat). beside l (owner_seat own)) popped.1 in
-    (
+    let its : worker_seats (record { own = own; thieves = row }) ≡ beside thieves (owner_seat own) = ap (λ (l : List Seat). beside l (owner_seat own)) popped.1 in (
       rw c.push_reserved.ensures.items (gives at.all.items (record { own = own; thieves = row }) own (into_iter_items at.own-iterator) (into_iter_items c.next.new.self) thieves owners its c.in-Some.ensures.steps.0 c.loop-own.invariant.0),
       popped.0,
       omega (arith, c.in-Some.ensures.steps.1, c.in-Some-pop.ensures.len, c.loop-own.invariant.2),

@@ -32,8 +32,7 @@ loop-place-preserved c =
     let before : List Seat = owner_seats c.args.owners.now.items in
     let inside : at.place < length at.owners.items = omega (arith, at.owners.ok.0, c.loop-place.invariant.4) in
     let within : at.place < length before = omega (arith, c.loop-place.invariant.5) in
-    let here = owner_at with_part_cut at.owners.items before at.place x inside c.index_mut.ensures.value c.loop-place.invariant.0 in
-    (
+    let here = owner_at with_part_cut at.owners.items before at.place x inside c.index_mut.ensures.value c.loop-place.invariant.0 in (
       cut_at at.owners.items before at.place x c.thief.new.self inside within c.index_mut.ensures.value c.loop-place.invariant.0 c.thief.ensures.owner,
       rw c.push_reserved.ensures.items (row_push at.row.items before at.place thief (owner_seat x) within c.loop-place.invariant.1 (c.in_ok-thief.ensures.thief ∙ ap new_thief here)),
       omega (arith, c.push_reserved.ensures.len),

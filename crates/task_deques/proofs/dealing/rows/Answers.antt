@@ -1,5 +1,5 @@
-use Rattle.std.proofs.Common.{◌≡◌, ◌-◌, ◌+◌, ◌<◌, [], List, length, map, All, refl, sym, subst, ap, ◌∙◌, arith, rules}
-use Rattle.std.proofs.lemmas.List.Elements.{All-map, All-same, All-nil, All-push}
+use Rattle.std.proofs.Common.{◌≡◌, ◌-◌, ◌+◌, ◌<◌, [], List, length, map, refl, sym, ap, ◌∙◌, arith, rules}
+use Rattle.std.proofs.lemmas.List.Elements.{All-map, All-same, All-push}
 use Rattle.task_deques.specs.Tallies.{tally}
 use Rattle.task_deques.specs.Seats.{Seat, owner_seat, with_part_cut, new_thief}
 use Rattle.task_deques.specs.Deals.{owner_seats, thief_seats, fresh_with}
@@ -30,8 +30,7 @@ loop-made-preserved c =
     let made = c.loop-made._made in
     let less : (64 - made) - 1 ≡ 64 - (made + 1) = omega arith in
     let row = c.in_ok-row.field-0 in
-    let new : thief_seats row.items ≡ map new_thief before = c.in_ok-row.ensures.thieves ∙ ap (λ (l : List Seat). map new_thief l) c.loop-made.invariant.0 ∙ new_of_fresh (64 - made) before in
-    (
+    let new : thief_seats row.items ≡ map new_thief before = c.in_ok-row.ensures.thieves ∙ ap (λ (l : List Seat). map new_thief l) c.loop-made.invariant.0 ∙ new_of_fresh (64 - made) before in (
       c.in_ok-row.ensures.owners ∙ ap (λ (l : List Seat). map with_part_cut l) c.loop-made.invariant.0 ∙ cut_again (64 - made) before ∙ ap (λ n. map (fresh_with n) before) less,
       rw c.push_reserved.ensures.items (All-push (λ r. thief_seats r.items ≡ map new_thief before) at.rows.items row c.loop-made.invariant.1 new),
       omega (arith, c.push_reserved.ensures.len),

@@ -1,4 +1,4 @@
-use Rattle.std.proofs.Common.{◌≡◌, ◌-◌, ◌<◌, ◌≤◌, map, length, All, vec_len, vec_capacity}
+use Rattle.std.proofs.Common.{◌≡◌, ◌-◌, ◌<◌, ◌≤◌, map, All, vec_len, vec_capacity}
 use Rattle.task_deques.specs.Seats.{new_thief}
 use Rattle.task_deques.specs.Deals.{owner_seats, thief_seats, fresh_with}
 use Rattle.task_deques.proofs.dealing.rows.Given as goal

@@ -1,7 +1,7 @@
-use Rattle.std.proofs.Common.{◌≡◌, ◌+◌, ◌<◌, ◌≤◌, List, All, length, take, sum_by, get_or, ap, sym, subst, ◌∙◌, refl, arith, rules}
+use Rattle.std.proofs.Common.{◌≡◌, ◌+◌, ◌<◌, List, All, length, take, sum_by, ap, sym, subst, ◌∙◌, arith, rules}
 use Rattle.std.proofs.lemmas.List.{take_all, length-map}
 use Rattle.std.proofs.lemmas.List.Sums.{sum_by_more}
-use Rattle.std.proofs.lemmas.List.Elements.{All-get_or, All-more}
+use Rattle.std.proofs.lemmas.List.Elements.{All-more}
 use Rattle.task_deques.specs.Seats.{Seat, owner_seat}
 use Rattle.task_deques.specs.Deals.{owner_seats, IsAccounted}
 use Rattle.task_deques.proofs.SeatLemmas.{seat_at, seats_same}
@@ -27,12 +27,11 @@ loop-place-preserved c =
     let here = seat_at at.owners.items seats at.place x inside c.index_mut.ensures.value c.loop-place.invariant.0 in
     let within : at.place < length seats = omega (arith, ap length c.loop-place.invariant.0, length-map at.owners.items owner_seat) in
     let pushed : sum_by (λ deque. length deque.tally.pushed) (take (at.place + 1) seats) ≡ sum_by (λ deque. length deque.tally.pushed) (take at.place seats) + length (owner_seat x).tally.pushed =
-        sum_by_more (λ (deque : Seat). length deque.tally.pushed) seats at.place (owner_seat x) within ∙ ap (λ (s : Seat). sum_by (λ (deque : Seat). length deque.tally.pushed) (take at.place seats) + length s.tally.pushed) here in
+    sum_by_more (λ (deque : Seat). length deque.tally.pushed) seats at.place (owner_seat x) within ∙ ap (λ (s : Seat). sum_by (λ (deque : Seat). length deque.tally.pushed) (take at.place seats) + length s.tally.pushed) here in
     let taken : sum_by (λ deque. length deque.tally.taken) (take (at.place + 1) seats) ≡ sum_by (λ deque. length deque.tally.taken) (take at.place seats) + length (owner_seat x).tally.taken =
-        sum_by_more (λ (deque : Seat). length deque.tally.taken) seats at.place (owner_seat x) within ∙ ap (λ (s : Seat). sum_by (λ (deque : Seat). length deque.tally.taken) (take at.place seats) + length s.tally.taken) here in
+    sum_by_more (λ (deque : Seat). length deque.tally.taken) seats at.place (owner_seat x) within ∙ ap (λ (s : Seat). sum_by (λ (deque : Seat). length deque.tally.taken) (take at.place seats) + length s.tally.taken) here in
     let each = c.sums-sums.ensures.each_once in
-    let mine : IsAccounted (owner_seat x) = (each.0, each.2) in
-    (
+    let mine : IsAccounted (owner_seat x) = (each.0, each.2) in (
       seats_same at.owners.items at.place x c.sums-sums.new.self c.index_mut.ensures.value c.sums-sums.ensures.unchanged ∙ c.loop-place.invariant.0,
       omega (arith, pushed, c.sums-sums.ensures.pushed, c.loop-place.invariant.1),
       omega (arith, taken, c.sums-sums.ensures.taken, c.loop-place.invariant.2),

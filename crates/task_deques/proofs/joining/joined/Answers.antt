@@ -1,9 +1,9 @@
-use Rattle.std.proofs.Common.{◌≡◌, ◌+◌, ◌<◌, ◌∷◌, [], List, All, map, length, ap, sym, subst, ◌∙◌, refl, arith, rules}
+use Rattle.std.proofs.Common.{◌≡◌, ◌∷◌, [], List, map, length, ap, sym, subst, ◌∙◌, refl, arith}
 use Rattle.std.proofs.lemmas.List.{nil_from_length, length-map}
 use Rattle.std.proofs.lemmas.List.Elements.{All-map}
-use Rattle.std.specs.Vec.Iter.{into_iter_items, into_iter_len}
+use Rattle.std.specs.Vec.Iter.{into_iter_items}
 use Rattle.task_deques.specs.Seats.{Seat, owner_seat}
-use Rattle.task_deques.specs.Deals.{owner_seats, thief_seats, with_row, with_rows, deques}
+use Rattle.task_deques.specs.Deals.{owner_seats, thief_seats, with_rows, deques}
 use Rattle.task_deques.proofs.JoinLemmas.{AreTurns, one_part, length-with_row, row_room, rows_turn, rows_done}
 use Rattle.task_deques.proofs.joining.joined.Goals as goal
 
@@ -12,8 +12,7 @@ loop-row-init c =
     let owners : List Seat = owner_seats c.args.owners.items in
     let rows : List (List Seat) = map (λ row. thief_seats row.items) c.args.rows.items in
     let same : rows ≡ map (λ row. thief_seats row.items) (into_iter_items c.into_iter-row-iterator.result) = ap (λ l. map (λ row. thief_seats row.items) l) (sym c.into_iter-row-iterator.ensures.into_iter_gives.0) in
-    let count : length rows ≡ length c.args.rows.items = length-map c.args.rows.items (λ row. thief_seats row.items) in
-    (
+    let count : length rows ≡ length c.args.rows.items = length-map c.args.rows.items (λ row. thief_seats row.items) in (
       subst (λ (l : List (List Seat)). AreTurns owners l (with_rows owners rows)) same (record {
         come_to = refl;
         same = All-map (λ (row : List Seat). deques row ≡ deques owners) (λ row. thief_seats row.items) c.args.rows.items c.requires.rows;
@@ -49,8 +48,7 @@ loop-row-preserved c =
     let rest : List (List Seat) = map (λ row. thief_seats row.items) (into_iter_items c.next.new.self) in
     let total : List Seat = with_rows (owner_seats c.args.owners.items) (map (λ row. thief_seats row.items) c.args.rows.items) in
     let turns : AreTurns owners (thief_seats row.items ∷ rest) total = subst (λ l. AreTurns owners (map (λ row. thief_seats row.items) l) total) c.in-Some.ensures.steps.0 at.invariant.0 in
-    let count : length (owner_seats after.items) ≡ length owners = ap length c.join_row.ensures ∙ length-with_row owners (thief_seats row.items) in
-    (
+    let count : length (owner_seats after.items) ≡ length owners = ap length c.join_row.ensures ∙ length-with_row owners (thief_seats row.items) in (
       rows_turn owners (owner_seats after.items) rest (thief_seats row.items) total (one_part row.items) c.join_row.ensures turns,
       omega (arith, length-map after.items owner_seat, length-map at.owners.items owner_seat, after.ok.0, at.owners.ok.0, at.invariant.1),
     )

@@ -1,4 +1,4 @@
-use Rattle.std.proofs.Common.{◌≡◌, ◌∷◌, ◌++◌, [], List, map, length, ap, sym, ◌∙◌, refl, arith, rules}
+use Rattle.std.proofs.Common.{◌∷◌, ◌++◌, [], List, map, ap, ◌∙◌, arith}
 use Rattle.std.proofs.lemmas.List.{length-map, map_push}
 use Rattle.task_deques.specs.Seats.{Seat, owner_seat}
 use Rattle.task_deques.specs.Deals.{owner_seats, thief_seats, zip_seats}

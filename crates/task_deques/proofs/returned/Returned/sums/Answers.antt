@@ -1,8 +1,7 @@
-use Rattle.std.proofs.Common.{◌≡◌, ◌+◌, ◌≤◌, List, All, map, length, sum_by, ap, sym, subst, ◌∙◌, refl, arith, rules, vec_len}
+use Rattle.std.proofs.Common.{◌≡◌, List, All, map, length, sum_by, ap, sym, subst, ◌∙◌, refl, arith}
 use Rattle.std.proofs.lemmas.List.{length-map}
-use Rattle.std.proofs.lemmas.List.Elements.{All-map}
 use Rattle.task_deques.specs.Seats.{Seat, owner_seat}
-use Rattle.task_deques.specs.Deals.{owner_seats, thief_seats, deques, zip_seats, whole_deques, with_rows, IsAccounted}
+use Rattle.task_deques.specs.Deals.{owner_seats, thief_seats, deques, IsAccounted}
 use Rattle.task_deques.proofs.JoinLemmas.{row_each, whole_of_zip, rows_of_whole, parts_of_whole, few_of_parts, all_unmapped}
 use Rattle.task_deques.proofs.returned.Returned.sums.Goals as goal
 
