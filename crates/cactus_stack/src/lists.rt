@@ -91,6 +91,7 @@ impl<A: Allocator> Lists<A> {
     }
 
     /// Writes one word of a list.
+    #[inline(always)]
     pub fn store(&mut self, node: NodeNo, at: usize, word: u64)
         requires is_open { IsSome (list_at self.old node) }
         requires in_bounds { at < length (words_of_list (list_at self.old node)) }
@@ -101,6 +102,7 @@ impl<A: Allocator> Lists<A> {
     }
 
     /// Removes a list.
+    #[inline(always)]
     pub fn close(&mut self, node: NodeNo)
         requires { IsSome (list_at self.old node) }
         ensures { self.new ≡ slice_set self.old node None }

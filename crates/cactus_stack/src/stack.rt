@@ -127,6 +127,7 @@ impl<A: Allocator> Stack<A> {
     }
 
     /// Closes a node that no open node has as its parent.
+    #[inline(always)]
     pub fn close(&mut self, node: NodeNo)
         requires is_open { IsOpen self.old node }
         requires no_child { HasNoChild self.old node }

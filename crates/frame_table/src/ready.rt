@@ -67,6 +67,7 @@ impl<A: Allocator> ReadyFrames<A> {
     }
 
     /// Adds a frame that is above all others.
+    #[inline(always)]
     pub(crate) fn push(&mut self, serial: u64, home: u8)
         requires { length self.old.frames < self.old.places }
         ensures { self.new ≡ record self.old { frames = self.old.frames ++ record { serial = serial; home = home } ∷ [] } }
@@ -85,6 +86,7 @@ impl<A: Allocator> ReadyFrames<A> {
     }
 
     /// Removes the frame with this serial, where it is there.
+    #[inline(always)]
     fn forget(&mut self, serial: u64)
         requires { RisesBy (λ frame. frame.serial) self.old.frames }
         ensures { self.new ≡ record self.old { frames = filter (λ frame. not (frame.serial == serial)) self.old.frames } }
@@ -96,6 +98,7 @@ impl<A: Allocator> ReadyFrames<A> {
     }
 
     /// Removes a frame that is no longer in a state, where that was to be ready.
+    #[inline(always)]
     pub(crate) fn leave(&mut self, serial: u64, was: State)
         requires { RisesBy (λ frame. frame.serial) self.old.frames }
         ensures { self.new ≡ record self.old { frames = without_ready serial was self.old.frames } }
@@ -106,6 +109,7 @@ impl<A: Allocator> ReadyFrames<A> {
     }
 
     /// Follows the frame with this serial from one state to another.
+    #[inline(always)]
     pub(crate) fn follow(&mut self, serial: u64, was: State, now: State)
         requires rise { RisesBy (λ frame. frame.serial) self.old.frames }
         requires room { length (put_ready serial now (without_ready serial was self.old.frames)) ≤ self.old.places }
@@ -135,6 +139,7 @@ impl<A: Allocator> ReadyFrames<A> {
 }
 
 /// Where the frame with this serial stands among these, or would stand.
+#[inline(always)]
 fn place_in(frames: &[ReadyFrame], serial: u64) -> usize
     requires { RisesBy (λ frame. frame.serial) frames.now }
     ensures within { result ≤ length frames.now }

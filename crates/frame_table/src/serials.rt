@@ -95,6 +95,7 @@ impl<A: Allocator> Serials<A> {
 
     /// Adds a serial at the end. That of its parent, at the place `above`, is guessed anew, as one that
     /// is looked for most and may have lost its guess to another.
+    #[inline(always)]
     pub(crate) fn push(&mut self, serial: u64, above: Option<usize>)
         requires { length self.old.serials < self.old.places }
         ensures { self.new ≡ record self.old { serials = self.old.serials ++ serial ∷ [] } }
@@ -113,6 +114,7 @@ impl<A: Allocator> Serials<A> {
     }
 
     /// Removes the serial at a place.
+    #[inline(always)]
     pub(crate) fn remove(&mut self, at: usize)
         requires { at < length self.old.serials }
         ensures { self.new ≡ record self.old { serials = remove self.old.serials at } }

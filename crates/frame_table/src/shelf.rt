@@ -81,6 +81,7 @@ impl<T: Copy, A: Allocator> Shelf<T, A> {
     }
 
     /// The slot at a place.
+    #[inline(always)]
     pub(crate) fn at(&self, at: usize) -> Slot<T>
         requires { at < length self.now.slots }
         ensures { result ≡ get_or self.now.slots at result }
@@ -115,6 +116,7 @@ impl<T: Copy, A: Allocator> Shelf<T, A> {
     }
 
     /// Puts another slot of the same name in the place of one.
+    #[inline(always)]
     pub(crate) fn put(&mut self, at: usize, slot: Slot<T>)
         requires within { at < length self.old.slots }
         requires serial { slot.serial ≡ (get_or self.old.slots at slot).serial }
@@ -126,6 +128,7 @@ impl<T: Copy, A: Allocator> Shelf<T, A> {
     }
 
     /// Puts a slot behind the others, under the parent that stands at the place `above`.
+    #[inline(always)]
     pub(crate) fn push(&mut self, slot: Slot<T>, above: Option<usize>)
         requires room { length self.old.slots < self.old.places }
         requires parent { StandsUnder self.old.slots slot.parent above }
@@ -183,6 +186,7 @@ impl<T: Copy, A: Allocator> Shelf<T, A> {
     }
 
     /// Takes the slot at a place away, which is no slot's parent.
+    #[inline(always)]
     pub(crate) fn take(&mut self, at: usize) -> Slot<T>
         requires within { at < length self.old.slots }
         requires linked { IsLinked [] self.old.slots }

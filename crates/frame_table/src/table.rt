@@ -265,6 +265,7 @@ impl<T: Copy, A: Allocator> FrameTable<T, A> {
     }
 
     /// Adds a frame that is ready at this home, in one of its tenant's places. Takes no memory.
+    #[inline(always)]
     pub fn add(&mut self, f: FrameId, parent: Option<FrameId>, home: u8, value: T)
         requires above { AllBelow f.serial (frames_of self.old f.tenant) }
         requires parent { IsParentIn (frames_of self.old f.tenant) f.tenant parent }
@@ -283,6 +284,7 @@ impl<T: Copy, A: Allocator> FrameTable<T, A> {
     }
 
     /// Puts a frame into another state.
+    #[inline(always)]
     pub fn set_state(&mut self, f: FrameId, state: State)
         requires { IsTrue (has_frame (frames_of self.old f.tenant) f.serial) }
         ensures frames { frames_of self.new f.tenant ≡ with_state f.serial state (frames_of self.old f.tenant) }
@@ -328,6 +330,7 @@ impl<T: Copy, A: Allocator> FrameTable<T, A> {
     }
 
     /// Removes a frame that has no child, and gives its value.
+    #[inline(always)]
     pub fn remove(&mut self, f: FrameId) -> T
         requires there { IsTrue (has_frame (frames_of self.old f.tenant) f.serial) }
         requires leaf { children_of (frames_of self.old f.tenant) f.serial ≡ [] }

@@ -163,6 +163,7 @@ impl<T: Copy, A: Allocator> TenantFrames<T, A> {
     }
 
     /// Adds a ready frame.
+    #[inline(always)]
     pub(crate) fn add(&mut self, serial: u64, parent: Option<u64>, home: u8, value: T)
         requires above { AllBelow serial self.old.frames }
         requires parent { has_parent self.old.frames parent ≡ true }
@@ -186,6 +187,7 @@ impl<T: Copy, A: Allocator> TenantFrames<T, A> {
     }
 
     /// Puts a frame into another state.
+    #[inline(always)]
     pub(crate) fn set_state(&mut self, serial: u64, state: State)
         requires { IsTrue (has_frame self.old.frames serial) }
         ensures { self.new ≡ record self.old { frames = with_state serial state self.old.frames } }
@@ -236,6 +238,7 @@ impl<T: Copy, A: Allocator> TenantFrames<T, A> {
     }
 
     /// Removes a frame that has no child, and gives its value.
+    #[inline(always)]
     pub(crate) fn remove(&mut self, serial: u64) -> T
         requires there { IsTrue (has_frame self.old.frames serial) }
         requires leaf { children_of self.old.frames serial ≡ [] }
@@ -253,6 +256,7 @@ impl<T: Copy, A: Allocator> TenantFrames<T, A> {
 
 /// Counts one more child at the parent, and gives the root of the new frame, and where the parent
 /// stands.
+#[inline(always)]
 fn adopt<T: Copy, A: Allocator>(
     shelf: &mut Shelf<T, A>,
     serials: &Serials<A>,
@@ -285,6 +289,7 @@ fn adopt<T: Copy, A: Allocator>(
 }
 
 /// Counts one child less at the parent.
+#[inline(always)]
 fn forget<T: Copy, A: Allocator>(shelf: &mut Shelf<T, A>, serials: &Serials<A>, parent: Option<u64>)
     requires index { serials.now.serials ≡ serials_of shelf.old.slots }
     requires rise { Rises shelf.old.slots }

@@ -47,6 +47,7 @@ impl<T: Copy, A: Allocator> Window<T, A> {
     }
 
     /// How many elements there are.
+    #[inline(always)]
     pub(crate) fn len(&self) -> usize
         ensures { result ≡ length self.now.list }
     {
@@ -54,11 +55,13 @@ impl<T: Copy, A: Allocator> Window<T, A> {
     }
 
     /// How many places before the list are out of use: no fact rests on it.
+    #[inline(always)]
     pub(crate) fn start(&self) -> usize {
         self.start
     }
 
     /// The element at a place.
+    #[inline(always)]
     pub(crate) fn at(&self, at: usize) -> T
         requires { at < length self.now.list }
         ensures { result ≡ get_or self.now.list at result }
@@ -67,6 +70,7 @@ impl<T: Copy, A: Allocator> Window<T, A> {
     }
 
     /// The elements.
+    #[inline(always)]
     pub(crate) fn as_slice(&self) -> &[T]
         ensures value { result.now ≡ self.now.list }
     {
@@ -82,6 +86,7 @@ impl<T: Copy, A: Allocator> Window<T, A> {
     }
 
     /// Adds an element at the end.
+    #[inline(always)]
     pub(crate) fn push(&mut self, element: T)
         requires { length self.old.list < self.old.places }
         ensures { self.new ≡ record self.old { list = self.old.list ++ element ∷ [] } }
@@ -103,6 +108,7 @@ impl<T: Copy, A: Allocator> Window<T, A> {
     }
 
     /// Removes the element at a place. The shorter of the two ends moves.
+    #[inline(always)]
     pub(crate) fn remove(&mut self, at: usize) -> T
         requires { at < length self.old.list }
         ensures left { self.new ≡ record self.old { list = remove self.old.list at } }

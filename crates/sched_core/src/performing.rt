@@ -135,6 +135,7 @@ fn take_out<A: Allocator>(store: &mut Store<A>, child: FrameId, parent: FrameId,
 }
 
 /// Whether a frame waits, and an inlet wakes it: it says so, or no child is left.
+#[inline(always)]
 fn is_to_wake<A: Allocator>(
     store: &Store<A>,
     name: FrameId,

@@ -32,6 +32,7 @@ impl<A: Allocator> Store<A> {
     }
 
     /// The same, where there may be some.
+    #[inline(always)]
     fn store_some(&mut self, name: FrameId, stores: &[(usize, u64)])
         requires there { IsSome (named self.old name) }
         requires inside { is_outside stores.now (words_under self.old name) ≡ false }
