@@ -34,9 +34,18 @@ impl Stores {
         requires { length self < 8 }
         ensures { result ≡ self ++ (place, word) ∷ [] }
     {
-        let mut pairs = self.pairs;
-        pairs.push((place, word));
-        Stores { pairs }
+        let mut stores = self;
+        stores.push(place, word);
+        stores
+    }
+
+    /// One more store, after these.
+    #[inline(always)]
+    pub fn push(&mut self, place: usize, word: u64)
+        requires { length self.old < 8 }
+        ensures { self.new ≡ self.old ++ (place, word) ∷ [] }
+    {
+        self.pairs.push((place, word));
     }
 
     /// The pairs of place and word, in order.

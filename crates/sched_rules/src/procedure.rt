@@ -8,9 +8,10 @@ use std::cmp::Eq;
 /// A procedure that the core runs: each call's answer is a function of the words shown and of the
 /// values passed, and nothing else.
 pub trait Procedure {
-    ghost use Rattle.std.specs.Prelude.{◌≡◌, true};
+    ghost use Rattle.std.specs.Prelude.{◌≡◌, ◌∷◌, [], true};
+    ghost use Rattle.cactus_stack.specs.Nodes.{padded};
     ghost use Rattle.sched_rules.specs.Functions.{Functions};
-    ghost use Rattle.sched_rules.specs.Laws.{Fitting, Rooting, NextKeeps, InletKeeps, AcceptKeeps};
+    ghost use Rattle.sched_rules.specs.Laws.{Fitting, Rooting, Neither, AllFit, NextKeeps, InletKeeps, AcceptKeeps};
 
     /// What a frame is computed from.
     type Input: Copy + Eq;
@@ -45,6 +46,41 @@ pub trait Procedure {
     /// What a computing frame stores of an answer.
     fn accept(&self, own: &Words, answer: &Self::Answer) -> Stores
         ensures { result ≡ (functions self.now).accept own.now answer.now };
+
+    /// Whether a root of this size that begins with these words fits, as far as the procedure can
+    /// tell: where it answers false, nothing is said.
+    fn is_fitting_root(&self, words: &[u64], size: usize) -> bool
+        ensures { result ≡ true → fits self.now (padded words.now size) [] Neither × rooted self.now words.now (padded words.now size) }
+    {
+        let _ = words;
+        let _ = size;
+        false
+    }
+
+    /// What `next` answers, of a frame that fits, as do all those above it: it need not look whether
+    /// they do.
+    fn next_fitting(&self, sight: &Sight) -> Act
+        requires { AllFit (fits self.now) sight.now }
+        ensures { result ≡ (functions self.now).next sight.now }
+    {
+        self.next(sight)
+    }
+
+    /// What `inlet` answers, of a parent and a child that fit.
+    fn inlet_fitting(&self, own: &Words, child: &Words) -> InletAct
+        requires { AllFit (fits self.now) (own.now ∷ child.now ∷ []) }
+        ensures { result ≡ (functions self.now).inlet own.now child.now }
+    {
+        self.inlet(own, child)
+    }
+
+    /// What `accept` answers, of a frame that fits.
+    fn accept_fitting(&self, own: &Words, answer: &Self::Answer) -> Stores
+        requires { AllFit (fits self.now) (own.now ∷ []) }
+        ensures { result ≡ (functions self.now).accept own.now answer.now }
+    {
+        self.accept(own, answer)
+    }
 
     // Two inputs are the same where `==` says so: an Answer compares them.
     ghost compares: { (p : Self) → (functions p).same ≡ Self.Input.PartialEq.eq };
