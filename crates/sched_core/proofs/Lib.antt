@@ -9,3 +9,4 @@ pub mod Acting
 pub mod Advancing
 pub mod Inlets
 pub mod Stepping
+pub mod Fitting

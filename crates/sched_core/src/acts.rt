@@ -8,8 +8,10 @@ ghost use Rattle.sched_rules.specs.Views.{named, frame_of};
 ghost use Rattle.sched_rules.specs.declared.refusal.Refusal.TheVariants.{BadAct, Busy};
 ghost use Rattle.sched_rules.specs.declared.step.StepOf.TheVariants.{Advance as AdvanceStep, Answer as AnswerStep, Inlet as InletStep};
 ghost use Rattle.sched_store.specs.Reads.{sight_of, words_under, frames_in, is_busy_among};
+ghost use Rattle.sched_core.specs.Keeping.{IsFitting};
 ghost use Rattle.sched_core.specs.Seeing.{IsSeen, IsRunning, IsReturnedUnder};
 
+use crate::asking::accept;
 use crate::decide::{first_of, is_computed_by, is_outside, is_returned, is_run_by, may_act};
 use crate::engine::{Engine, Found, Seen, known, look_in, own};
 use cactus_stack::Words;
@@ -53,13 +55,15 @@ impl<P: Procedure, A: Allocator> Engine<P, A> {
         worker: Worker,
         name: FrameId,
         answer: &P::Answer,
+        fitting: bool,
     ) -> Result<Stores, Refusal>
+        requires { fitting ≡ true → IsFitting (P.fits self.now.procedure) (P.rooted self.now.procedure) self.now.store }
         ensures refusal { refusal_in result ≡ shared_refusal (P.functions self.now.procedure) self.now.store (AnswerStep worker name answer.now) }
         ensures stores { IfOk result (λ stores. stores ≡ (P.functions self.now.procedure).accept (words_under self.now.store name) answer.now) }
     {
         let found = look_in(&self.store, name)?;
         let seen = found.seen;
-        let stores = self.procedure.accept(&found.words, answer);
+        let stores = accept(&self.procedure, fitting, &found.words, answer);
         first_of(&[
             (
                 !is_computed_by(seen.state, worker.number()),

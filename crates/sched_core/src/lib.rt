@@ -23,7 +23,9 @@
 //! does where that answer stands: an act is large, and handing it back would copy it. The invariant
 //! (`specs/Keeping.antt`) is that each tenant has its shape, which every step keeps: a tree by rising
 //! serial, no frame under one that computes or has returned, live jobs and roots one to one, nothing
-//! used beyond what is reserved.
+//! used beyond what is reserved. A core knows besides that all its frames fit, as long as its procedure
+//! told so of the root of each taken Submit, and then asks it of frames without a look whether they do
+//! (`asking`).
 //!
 //! ```text
 //! let mut core = Core::new(alloc, config, Fan)?;
@@ -35,6 +37,7 @@
 #![tactic(auto)]
 
 mod acts;
+mod asking;
 mod begins;
 mod decide;
 mod ends;

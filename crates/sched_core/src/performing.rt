@@ -1,5 +1,5 @@
 //! Advance, Answer and Inlet, done: what a procedure makes of a frame is stored, and the frame goes on.
-ghost use Rattle.std.specs.Prelude.{◌≡◌, ◌||◌, ◌&&◌, not, ℕ, List, Some};
+ghost use Rattle.std.specs.Prelude.{◌≡◌, ◌||◌, ◌&&◌, not, true, ℕ, List, Some};
 ghost use Rattle.frame_table.specs.Frames.{Frame, frame_at};
 ghost use Rattle.sched_rules.specs.Trees.{Tenant, has_child as has_child_in, is_root as is_root_path};
 ghost use Rattle.sched_rules.specs.Lone.{does_wait, then_done, aborted_beside};
@@ -8,10 +8,12 @@ ghost use Rattle.sched_rules.specs.Changes.{on_tenant};
 ghost use Rattle.sched_rules.specs.declared.step.StepOf.TheVariants.{Advance as AdvanceStep, Answer as AnswerStep, Inlet as InletStep};
 ghost use Rattle.sched_laws.specs.Shapes.{AreShaped};
 ghost use Rattle.sched_store.specs.Reads.{frames_in};
+ghost use Rattle.sched_core.specs.Keeping.{IsFitting};
 ghost use Rattle.sched_core.specs.Seeing.{GoesOn, MayBeTakenIn};
 ghost use Rattle.sched_core.specs.Judging.{IsJudged, IsCome, staying_with};
 
 use crate::acts::{may_do, may_take_in};
+use crate::asking::{inlet, next};
 use crate::decide::is_waiting;
 use crate::engine::{Engine, known, own};
 use frame_table::{FrameId, State};
@@ -26,11 +28,13 @@ impl<P: Procedure, A: Allocator> Engine<P, A> {
         worker: Worker,
         name: FrameId,
         answer: &P::Answer,
+        fitting: bool,
     ) -> Result<Did<P>, Refusal>
+        requires { fitting ≡ true → IsFitting (P.fits self.old.procedure) (P.rooted self.old.procedure) self.old.store }
         ensures judged { IsJudged (P.functions self.old.procedure) self.old.store (AnswerStep worker name answer.now) result self.new.store }
         ensures procedure { self.new.procedure ≡ self.old.procedure }
     {
-        let stores = self.accepted(worker, name, answer)?;
+        let stores = self.accepted(worker, name, answer, fitting)?;
         self.store.store_all(name, stores.as_slice());
         self.store.run(worker, name);
         self.store.count_step(name.tenant);
@@ -38,13 +42,19 @@ impl<P: Procedure, A: Allocator> Engine<P, A> {
     }
 
     /// A running frame does its next act.
-    pub(crate) fn advance(&mut self, worker: Worker, name: FrameId) -> Result<Did<P>, Refusal>
-        requires { AreShaped self.old.store.tenants }
+    pub(crate) fn advance(
+        &mut self,
+        worker: Worker,
+        name: FrameId,
+        fitting: bool,
+    ) -> Result<Did<P>, Refusal>
+        requires shaped { AreShaped self.old.store.tenants }
+        requires fits { fitting ≡ true → IsFitting (P.fits self.old.procedure) (P.rooted self.old.procedure) self.old.store }
         ensures judged { IsJudged (P.functions self.old.procedure) self.old.store (AdvanceStep worker name) result self.new.store }
         ensures procedure { self.new.procedure ≡ self.old.procedure }
     {
         let found = self.running(worker, name)?;
-        let act = self.procedure.next(&found.sight);
+        let act = next(&self.procedure, fitting, &found.sight);
         may_do(&self.store, name, &found, &act)?;
         let is_root = found.seen.parent.is_none();
         self.store.store_all(name, act.stores.as_slice());
@@ -99,14 +109,20 @@ impl<P: Procedure, A: Allocator> Engine<P, A> {
     }
 
     /// A returned frame is taken in by its parent, which is woken if it waits for that.
-    pub(crate) fn inlet(&mut self, worker: Worker, name: FrameId) -> Result<Did<P>, Refusal>
-        requires { AreShaped self.old.store.tenants }
+    pub(crate) fn inlet(
+        &mut self,
+        worker: Worker,
+        name: FrameId,
+        fitting: bool,
+    ) -> Result<Did<P>, Refusal>
+        requires shaped { AreShaped self.old.store.tenants }
+        requires fits { fitting ≡ true → IsFitting (P.fits self.old.procedure) (P.rooted self.old.procedure) self.old.store }
         ensures judged { IsJudged (P.functions self.old.procedure) self.old.store (InletStep worker name) result self.new.store }
         ensures procedure { self.new.procedure ≡ self.old.procedure }
     {
         let (found, parent) = self.returned(name)?;
         let above = known(&self.store, parent);
-        let act = self.procedure.inlet(&above.words, &found.words);
+        let act = inlet(&self.procedure, fitting, &above.words, &found.words);
         may_take_in(&self.store, worker, &above.words, &act)?;
         let was_waiting = is_waiting(above.state);
         let aborted = take_out(&mut self.store, name, parent, act.abort);

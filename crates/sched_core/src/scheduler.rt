@@ -10,6 +10,7 @@ ghost use Rattle.sched_laws.specs.Fitted.{CoreFits, RootFits, RootsFit, origins_
 ghost use Rattle.sched_rules.specs.Views.{left_of, job_of, frame_of, words_of_frame, live_of, newest_ready_in, ready_count, free_in};
 ghost use Rattle.sched_store.specs.Reads.{IsReadyIn};
 
+use crate::asking::stays_fitting;
 use crate::engine::Engine;
 use cactus_stack::Words;
 use frame_table::{FrameId, State};
@@ -21,20 +22,22 @@ use tenant_quota::Left;
 
 /// A scheduling core: a procedure, and the tenants that are there.
 #[derive(Drop)]
-pub struct Core<P, A: Allocator = Global> {
+pub struct Core<P: Procedure, A: Allocator = Global> {
     engine: Engine<P, A>,
+    // Whether all frames are known to fit: the procedure told so of the root of each taken Submit.
+    fitting: bool,
 }
 
 // Clauses see the procedure, and what the tenants share.
-impl<P, A: Allocator> Model for Core<P, A> {
+impl<P: Procedure, A: Allocator> Model for Core<P, A> {
     ghost use Rattle.sched_rules.specs.Cores.{CoreOf};
-    ghost use Rattle.sched_core.specs.Keeping.{IsKept};
+    ghost use Rattle.sched_core.specs.Keeping.{IsKeptFitting};
 
     ghost Value = { CoreOf P };
 
     ghost view = { λ c. record { procedure = c.engine.procedure; shared = c.engine.store } };
 
-    ghost invariant = { λ c. IsKept c.engine.store };
+    ghost invariant = { λ c. IsKeptFitting (P.fits c.engine.procedure) (P.rooted c.engine.procedure) c.fitting c.engine.store };
 }
 
 impl<P: Procedure, A: Allocator> Core<P, A> {
@@ -50,6 +53,7 @@ impl<P: Procedure, A: Allocator> Core<P, A> {
         let store = Store::new(alloc, config)?;
         Ok(Core {
             engine: Engine { procedure, store },
+            fitting: true,
         })
     }
 
@@ -70,7 +74,10 @@ impl<P: Procedure, A: Allocator> Core<P, A> {
             → (is_ok result ≡ true → RootFits (P.fits self.old.procedure) (P.rooted self.old.procedure) step.now)
             → CoreFits (P.fits self.old.procedure) (P.rooted self.old.procedure) (origins_after origins step.now result) self.new.shared }
     {
-        self.engine.step(step)
+        let fitting = self.fitting;
+        let answer = self.engine.step(step, fitting);
+        self.fitting = stays_fitting(&self.engine.procedure, fitting, step, &answer);
+        answer
     }
 
     /// Why a step would be refused, where memory isn't wanting; it takes no step and no memory.

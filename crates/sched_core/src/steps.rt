@@ -1,19 +1,21 @@
 //! Any step: each kind goes to its own function.
-ghost use Rattle.std.specs.Prelude.{◌≡◌, Some};
+ghost use Rattle.std.specs.Prelude.{◌≡◌, Some, true};
 ghost use Rattle.sched_rules.specs.Cores.{shared_refusal};
 ghost use Rattle.sched_rules.specs.Headline.{IsOneStep};
 ghost use Rattle.sched_laws.specs.Shapes.{AreShaped};
+ghost use Rattle.sched_core.specs.Keeping.{IsFitting};
 
 use crate::engine::Engine;
 use sched_rules::{Did, Procedure, Refusal, Step, StepOf};
 use std::alloc::Allocator;
 
 impl<P: Procedure, A: Allocator> Engine<P, A> {
-    /// Takes a step, or refuses it.
-    pub(crate) fn step(&mut self, step: &Step<P>) -> Result<Did<P>, Refusal>
+    /// Takes a step, or refuses it, where all frames may be known to fit.
+    pub(crate) fn step(&mut self, step: &Step<P>, fitting: bool) -> Result<Did<P>, Refusal>
     where
         A: Clone,
-        requires { AreShaped self.old.store.tenants }
+        requires shaped { AreShaped self.old.store.tenants }
+        requires fits { fitting ≡ true → IsFitting (P.fits self.old.procedure) (P.rooted self.old.procedure) self.old.store }
         ensures one { IsOneStep (P.functions self.old.procedure) self.old.store step.now result self.new.store }
         ensures procedure { self.new.procedure ≡ self.old.procedure }
     {
@@ -22,9 +24,9 @@ impl<P: Procedure, A: Allocator> Engine<P, A> {
             StepOf::Submit(number, words, size) => self.submit(*number, words.as_slice(), *size),
             StepOf::Take(worker, name) => self.take(*worker, *name),
             StepOf::Steal(worker, from, name) => self.steal(*worker, *from, *name),
-            StepOf::Advance(worker, name) => self.advance(*worker, *name),
-            StepOf::Answer(worker, name, answer) => self.answer(*worker, *name, answer),
-            StepOf::Inlet(worker, name) => self.inlet(*worker, *name),
+            StepOf::Advance(worker, name) => self.advance(*worker, *name, fitting),
+            StepOf::Answer(worker, name, answer) => self.answer(*worker, *name, answer, fitting),
+            StepOf::Inlet(worker, name) => self.inlet(*worker, *name, fitting),
             StepOf::Finish(worker, name) => self.finish(*worker, *name),
             StepOf::Spend(name) => self.spend(*name),
             StepOf::Cancel(number, job) => self.cancel(*number, *job),
@@ -44,7 +46,9 @@ impl<P: Procedure, A: Allocator> Engine<P, A> {
             StepOf::Take(worker, name) => self.may_take(*worker, *name).err(),
             StepOf::Steal(worker, from, name) => self.may_steal(*worker, *from, *name).err(),
             StepOf::Advance(worker, name) => self.may_advance(*worker, *name).err(),
-            StepOf::Answer(worker, name, answer) => self.accepted(*worker, *name, answer).err(),
+            StepOf::Answer(worker, name, answer) => self
+                .accepted(*worker, *name, answer, false)
+                .err(),
             StepOf::Inlet(worker, name) => self.may_inlet(*worker, *name).err(),
             StepOf::Finish(worker, name) => self.may_finish(*worker, *name).err(),
             StepOf::Spend(name) => self.may_spend(*name).err(),

@@ -10,7 +10,14 @@ use Rattle.sched_core.proofs.Going.{judged-refused, begins, then-changed, step-l
 use Rattle.sched_core.proofs.Ending.{named-words}
 use Rattle.sched_core.proofs.Acting.{sets-out}
 use Rattle.sched_core.proofs.Advancing.{act-inside, come-on, goes-on}
+use Rattle.sched_core.proofs.Fitting.{seen-fits}
 use Rattle.sched_core.proofs.engine.Engine.advance.Goals as goal
+
+pub next-act-requires : goal.next-act-requires
+next-act-requires g c so =
+    let s = c.in_ok-found.ensures.frame in
+    let procedure = c.args.self.now.procedure in
+    rw c.in_ok-found.ensures.sight (seen-fits (g.P.Procedure.fits procedure) (g.P.Procedure.rooted procedure) c.args.self.now.store c.args.name s.0 s.1 c.in_ok-found.found.seen (c.requires.fits so) s.2.seen_so)
 
 pub returns-in_err-may_do-clause-judged : goal.returns-in_err-may_do-clause-judged
 returns-in_err-may_do-clause-judged g c =
@@ -51,7 +58,7 @@ go_on-requires g c =
     let w = begins c.args.self.now.store c.args.name.tenant s.0 t.owner in
     let w1 = then-changed _ _ _ _ c.store_all.new.self (holding c.args.name.serial words) w stored in
     let w2 = then-changed _ _ _ _ c.count_step.new.self counted w1 c.count_step.ensures in
-    let shape = shaped-in c.args.name.tenant c.args.self.now.store.tenants s.0 c.requires t.owner in
+    let shape = shaped-in c.args.name.tenant c.args.self.now.store.tenants s.0 c.requires.shaped t.owner in
     let on = goes-on c.args.self.now.store c.count_step.new.self c.args.name c.args.worker c.next-act.result s.0 s.1 shape t.found t.passes w2 in
     (_, _, on)
 
@@ -66,7 +73,7 @@ returns-clause-judged g c =
     let w = begins c.args.self.now.store c.args.name.tenant s.0 t.owner in
     let w1 = then-changed _ _ _ _ c.store_all.new.self (holding c.args.name.serial words) w stored in
     let w2 = then-changed _ _ _ _ c.count_step.new.self counted w1 c.count_step.ensures in
-    let shape = shaped-in c.args.name.tenant c.args.self.now.store.tenants s.0 c.requires t.owner in
+    let shape = shaped-in c.args.name.tenant c.args.self.now.store.tenants s.0 c.requires.shaped t.owner in
     let on = goes-on c.args.self.now.store c.count_step.new.self c.args.name c.args.worker c.next-act.result s.0 s.1 shape t.found t.passes w2 in
     let root : c.is_none-is_root.result ≡ is_root s.1.path = root-is c.is_none-is_root.result c.in_ok-found.found.seen s.1.path c.is_none-is_root.ensures s.2.seen_so.root in
     come-on (g.P.Procedure.functions c.args.self.now.procedure) c.args.self.now.store (Advance c.args.worker c.args.name) c.args.name.tenant _ c.count_step.new.self _ c.go_on.result _ w2 (c.go_on.ensures.came _ _ on root)

@@ -14,7 +14,16 @@ use Rattle.sched_core.proofs.Going.{judged-refused, judged-taken, begins, then-c
 use Rattle.sched_core.proofs.Acting.{held-at}
 use Rattle.sched_core.proofs.Parents.{parent-there, inlet-told}
 use Rattle.sched_core.proofs.Inlets.{takes-in, may-be-taken-in, parent-found, parent-named-so, parent-stays, taken-asleep, taken-awake, woken-told}
+use Rattle.sched_core.proofs.Fitting.{parent-fits}
 use Rattle.sched_core.proofs.engine.Engine.inlet.Goals as goal
+
+pub inlet-act-requires : goal.inlet-act-requires
+inlet-act-requires g c so =
+    let s = c.in_ok-found.ensures.frame in
+    let own_words = c.in_ok-found.ensures.words in
+    let above_words = c.known-above.ensures.words in
+    let procedure = c.args.self.now.procedure in
+    rw (own_words, above_words) (parent-fits (g.P.Procedure.fits procedure) (g.P.Procedure.rooted procedure) c.args.self.now.store c.args.name c.in_ok-found.parent s.0 s.1 c.in_ok-found.found.seen (c.requires.fits so) s.2)
 
 pub known-above-requires : goal.known-above-requires
 known-above-requires g c =
@@ -39,7 +48,7 @@ take_out-aborted-requires g c =
     let t = takes-in (g.P.Procedure.functions c.args.self.now.procedure) c.args.self.now.store c.args.worker c.args.name c.in_ok-found.parent s.0 s.1 c.in_ok-found.found.seen c.inlet-act.result s.2 c.known-above.ensures.rising
     (rw (own_words, above_words) at c.inlet-act.ensures) (rw above_words at c.in_ok-may_take_in.ensures) in
     let is = t.is in
-    let shape = shaped-in c.args.name.tenant c.args.self.now.store.tenants s.0 c.requires t.owner in
+    let shape = shaped-in c.args.name.tenant c.args.self.now.store.tenants s.0 c.requires.shaped t.owner in
     (s.0, s.1, may-be-taken-in (g.P.Procedure.functions c.args.self.now.procedure) c.args.self.now.store c.args.worker c.args.name c.in_ok-found.parent s.0 s.1 c.inlet-act.result t shape)
 
 pub store_all-requires-clause-there : goal.store_all-requires-clause-there
@@ -50,7 +59,7 @@ store_all-requires-clause-there g c =
     let t = takes-in (g.P.Procedure.functions c.args.self.now.procedure) c.args.self.now.store c.args.worker c.args.name c.in_ok-found.parent s.0 s.1 c.in_ok-found.found.seen c.inlet-act.result s.2 c.known-above.ensures.rising
     (rw (own_words, above_words) at c.inlet-act.ensures) (rw above_words at c.in_ok-may_take_in.ensures) in
     let is = t.is in
-    let shape = shaped-in c.args.name.tenant c.args.self.now.store.tenants s.0 c.requires t.owner in
+    let shape = shaped-in c.args.name.tenant c.args.self.now.store.tenants s.0 c.requires.shaped t.owner in
     let w = begins c.args.self.now.store c.args.name.tenant s.0 t.owner in
     let outs : c.take_out-aborted.new.store ≡ on_tenant c.args.name.tenant (staying_with c.args.name.serial t.parent c.inlet-act.result.abort) c.args.self.now.store = rw is at c.take_out-aborted.ensures.left in
     let w1 = then-changed _ _ _ _ c.take_out-aborted.new.store (staying_with c.args.name.serial t.parent c.inlet-act.result.abort) w outs in
@@ -66,7 +75,7 @@ store_all-requires-clause-inside g c =
     let t = takes-in (g.P.Procedure.functions c.args.self.now.procedure) c.args.self.now.store c.args.worker c.args.name c.in_ok-found.parent s.0 s.1 c.in_ok-found.found.seen c.inlet-act.result s.2 c.known-above.ensures.rising
     (rw (own_words, above_words) at c.inlet-act.ensures) (rw above_words at c.in_ok-may_take_in.ensures) in
     let is = t.is in
-    let shape = shaped-in c.args.name.tenant c.args.self.now.store.tenants s.0 c.requires t.owner in
+    let shape = shaped-in c.args.name.tenant c.args.self.now.store.tenants s.0 c.requires.shaped t.owner in
     let w = begins c.args.self.now.store c.args.name.tenant s.0 t.owner in
     let outs : c.take_out-aborted.new.store ≡ on_tenant c.args.name.tenant (staying_with c.args.name.serial t.parent c.inlet-act.result.abort) c.args.self.now.store = rw is at c.take_out-aborted.ensures.left in
     let w1 = then-changed _ _ _ _ c.take_out-aborted.new.store (staying_with c.args.name.serial t.parent c.inlet-act.result.abort) w outs in
@@ -83,7 +92,7 @@ count_step-requires g c =
     let t = takes-in (g.P.Procedure.functions c.args.self.now.procedure) c.args.self.now.store c.args.worker c.args.name c.in_ok-found.parent s.0 s.1 c.in_ok-found.found.seen c.inlet-act.result s.2 c.known-above.ensures.rising
     (rw (own_words, above_words) at c.inlet-act.ensures) (rw above_words at c.in_ok-may_take_in.ensures) in
     let is = t.is in
-    let shape = shaped-in c.args.name.tenant c.args.self.now.store.tenants s.0 c.requires t.owner in
+    let shape = shaped-in c.args.name.tenant c.args.self.now.store.tenants s.0 c.requires.shaped t.owner in
     let w = begins c.args.self.now.store c.args.name.tenant s.0 t.owner in
     let outs : c.take_out-aborted.new.store ≡ on_tenant c.args.name.tenant (staying_with c.args.name.serial t.parent c.inlet-act.result.abort) c.args.self.now.store = rw is at c.take_out-aborted.ensures.left in
     let w1 = then-changed _ _ _ _ c.take_out-aborted.new.store (staying_with c.args.name.serial t.parent c.inlet-act.result.abort) w outs in
@@ -102,7 +111,7 @@ returns-then-not-is_woken-clause-judged g c =
     let t = takes-in (g.P.Procedure.functions c.args.self.now.procedure) c.args.self.now.store c.args.worker c.args.name c.in_ok-found.parent s.0 s.1 c.in_ok-found.found.seen c.inlet-act.result s.2 c.known-above.ensures.rising
     (rw (own_words, above_words) at c.inlet-act.ensures) (rw above_words at c.in_ok-may_take_in.ensures) in
     let is = t.is in
-    let shape = shaped-in c.args.name.tenant c.args.self.now.store.tenants s.0 c.requires t.owner in
+    let shape = shaped-in c.args.name.tenant c.args.self.now.store.tenants s.0 c.requires.shaped t.owner in
     let w = begins c.args.self.now.store c.args.name.tenant s.0 t.owner in
     let outs : c.take_out-aborted.new.store ≡ on_tenant c.args.name.tenant (staying_with c.args.name.serial t.parent c.inlet-act.result.abort) c.args.self.now.store = rw is at c.take_out-aborted.ensures.left in
     let w1 = then-changed _ _ _ _ c.take_out-aborted.new.store (staying_with c.args.name.serial t.parent c.inlet-act.result.abort) w outs in
@@ -127,7 +136,7 @@ set_state-requires-clause-there g c =
     let t = takes-in (g.P.Procedure.functions c.args.self.now.procedure) c.args.self.now.store c.args.worker c.args.name c.in_ok-found.parent s.0 s.1 c.in_ok-found.found.seen c.inlet-act.result s.2 c.known-above.ensures.rising
     (rw (own_words, above_words) at c.inlet-act.ensures) (rw above_words at c.in_ok-may_take_in.ensures) in
     let is = t.is in
-    let shape = shaped-in c.args.name.tenant c.args.self.now.store.tenants s.0 c.requires t.owner in
+    let shape = shaped-in c.args.name.tenant c.args.self.now.store.tenants s.0 c.requires.shaped t.owner in
     let w = begins c.args.self.now.store c.args.name.tenant s.0 t.owner in
     let outs : c.take_out-aborted.new.store ≡ on_tenant c.args.name.tenant (staying_with c.args.name.serial t.parent c.inlet-act.result.abort) c.args.self.now.store = rw is at c.take_out-aborted.ensures.left in
     let w1 = then-changed _ _ _ _ c.take_out-aborted.new.store (staying_with c.args.name.serial t.parent c.inlet-act.result.abort) w outs in
@@ -148,7 +157,7 @@ returns-clause-judged g c =
     let t = takes-in (g.P.Procedure.functions c.args.self.now.procedure) c.args.self.now.store c.args.worker c.args.name c.in_ok-found.parent s.0 s.1 c.in_ok-found.found.seen c.inlet-act.result s.2 c.known-above.ensures.rising
     (rw (own_words, above_words) at c.inlet-act.ensures) (rw above_words at c.in_ok-may_take_in.ensures) in
     let is = t.is in
-    let shape = shaped-in c.args.name.tenant c.args.self.now.store.tenants s.0 c.requires t.owner in
+    let shape = shaped-in c.args.name.tenant c.args.self.now.store.tenants s.0 c.requires.shaped t.owner in
     let w = begins c.args.self.now.store c.args.name.tenant s.0 t.owner in
     let outs : c.take_out-aborted.new.store ≡ on_tenant c.args.name.tenant (staying_with c.args.name.serial t.parent c.inlet-act.result.abort) c.args.self.now.store = rw is at c.take_out-aborted.ensures.left in
     let w1 = then-changed _ _ _ _ c.take_out-aborted.new.store (staying_with c.args.name.serial t.parent c.inlet-act.result.abort) w outs in
