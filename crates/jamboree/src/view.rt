@@ -419,6 +419,34 @@ pub(crate) fn read_kept(words: &[u64]) -> Kept
     }
 }
 
+/// The words of a root: a board to a depth with the full window.
+fn root_of(own: u64, opp: u64, depth: u64) -> [u64; 8]
+    ensures { result ≡ root_words own opp depth }
+{
+    [
+        own,
+        opp,
+        depth,
+        word_of_score(-INF),
+        word_of_score(INF),
+        Role::Root.number(),
+        0,
+        Phase::New.number(),
+    ]
+}
+
+/// Whether these are the words of a root whose board has no square with two discs, to a depth of at
+/// most 12.
+pub(crate) fn are_root_words(words: &[u64]) -> bool
+    ensures fits { result ≡ true → AreFitting (padded words.now frame_size) [] Neither }
+    ensures rooted { result ≡ true → IsRoot words.now (padded words.now frame_size) }
+{
+    words.len() == 8
+        && words[0] & words[1] == 0
+        && words[2] <= 12
+        && words == root_of(words[0], words[1], words[2]).as_slice()
+}
+
 /// The words that a job is submitted with, of a position to a depth of 0 to 12 plies: with size 12
 /// its root searches the board with the full window.
 pub fn root_words(position: &Position, depth: u8) -> [u64; 8]
@@ -427,14 +455,5 @@ pub fn root_words(position: &Position, depth: u8) -> [u64; 8]
     ensures fits { AreFitting (padded result frame_size) [] Neither }
     ensures rooted { IsRoot result (padded result frame_size) }
 {
-    [
-        position.board.own,
-        position.board.opp,
-        u64::from(depth),
-        word_of_score(-INF),
-        word_of_score(INF),
-        Role::Root.number(),
-        0,
-        Phase::New.number(),
-    ]
+    root_of(position.board.own, position.board.opp, u64::from(depth))
 }
