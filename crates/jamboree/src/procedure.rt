@@ -240,9 +240,9 @@ fn inlet_under(frame: &View, child: &View) -> InletAct
 fn answered(answer: &LeafAnswer) -> Stores
     ensures { result ≡ pairs_of (changes_of_answer answer.now) }
 {
-    Changes::new()
-        .best(answer.score())
-        .chosen(coded(answer.choice()))
-        .phase(Phase::Done)
-        .stores()
+    let mut changes = Changes::new();
+    changes.best(answer.score());
+    changes.chosen(coded(answer.choice()));
+    changes.phase(Phase::Done);
+    changes.stores()
 }

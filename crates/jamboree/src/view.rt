@@ -272,6 +272,7 @@ impl Model for Changes {
 
 impl Changes {
     /// No store.
+    #[inline(always)]
     pub(crate) fn new() -> Changes
         ensures { result ≡ [] }
     {
@@ -281,6 +282,7 @@ impl Changes {
     }
 
     /// These stores.
+    #[inline(always)]
     pub(crate) fn stores(self) -> Stores
         ensures { result ≡ self }
     {
@@ -288,86 +290,78 @@ impl Changes {
     }
 
     /// The bits of the mover's discs, too.
-    pub(crate) fn own_bits(self, bits: u64) -> Changes
-        requires { length self < 8 }
-        ensures { result ≡ self ++ pair_of (OwnBits bits) ∷ [] }
+    #[inline(always)]
+    pub(crate) fn own_bits(&mut self, bits: u64)
+        requires { length self.old < 8 }
+        ensures { self.new ≡ self.old ++ pair_of (OwnBits bits) ∷ [] }
     {
-        Changes {
-            stores: self.stores.then(0, bits),
-        }
+        self.stores.push(0, bits);
     }
 
     /// The bits of the opponent's discs, too.
-    pub(crate) fn opp_bits(self, bits: u64) -> Changes
-        requires { length self < 8 }
-        ensures { result ≡ self ++ pair_of (OppBits bits) ∷ [] }
+    #[inline(always)]
+    pub(crate) fn opp_bits(&mut self, bits: u64)
+        requires { length self.old < 8 }
+        ensures { self.new ≡ self.old ++ pair_of (OppBits bits) ∷ [] }
     {
-        Changes {
-            stores: self.stores.then(1, bits),
-        }
+        self.stores.push(1, bits);
     }
 
     /// The phase, too.
-    pub(crate) fn phase(self, phase: Phase) -> Changes
-        requires { length self < 8 }
-        ensures { result ≡ self ++ pair_of (ToPhase (phase_number phase)) ∷ [] }
+    #[inline(always)]
+    pub(crate) fn phase(&mut self, phase: Phase)
+        requires { length self.old < 8 }
+        ensures { self.new ≡ self.old ++ pair_of (ToPhase (phase_number phase)) ∷ [] }
     {
-        Changes {
-            stores: self.stores.then(7, phase.number()),
-        }
+        self.stores.push(7, phase.number());
     }
 
     /// The best score, from -1,000,000 to 1,000,000, too.
-    pub(crate) fn best(self, score: i32) -> Changes
-        requires room { length self < 8 }
+    #[inline(always)]
+    pub(crate) fn best(&mut self, score: i32)
+        requires room { length self.old < 8 }
         requires low { negsuc 999999 ≤ℤ score }
         requires high { score ≤ℤ pos 1000000 }
-        ensures { result ≡ self ++ pair_of (Best score) ∷ [] }
+        ensures { self.new ≡ self.old ++ pair_of (Best score) ∷ [] }
     {
-        Changes {
-            stores: self.stores.then(8, word_of_score(score)),
-        }
+        self.stores.push(8, word_of_score(score));
     }
 
     /// The code of the choice that has it, too.
-    pub(crate) fn chosen(self, code: u64) -> Changes
-        requires { length self < 8 }
-        ensures { result ≡ self ++ pair_of (Chosen code) ∷ [] }
+    #[inline(always)]
+    pub(crate) fn chosen(&mut self, code: u64)
+        requires { length self.old < 8 }
+        ensures { self.new ≡ self.old ++ pair_of (Chosen code) ∷ [] }
     {
-        Changes {
-            stores: self.stores.then(9, code),
-        }
+        self.stores.push(9, code);
     }
 
     /// The count of choices, too.
-    pub(crate) fn count(self, count: usize) -> Changes
-        requires { length self < 8 }
-        ensures { result ≡ self ++ pair_of (Count count) ∷ [] }
+    #[inline(always)]
+    pub(crate) fn count(&mut self, count: usize)
+        requires { length self.old < 8 }
+        ensures { self.new ≡ self.old ++ pair_of (Count count) ∷ [] }
     {
-        Changes {
-            stores: self.stores.then(10, count as u64),
-        }
+        self.stores.push(10, count as u64);
     }
 
     /// The count of choices that were spawned, too.
-    pub(crate) fn spawned(self, count: usize) -> Changes
-        requires { length self < 8 }
-        ensures { result ≡ self ++ pair_of (Spawned count) ∷ [] }
+    #[inline(always)]
+    pub(crate) fn spawned(&mut self, count: usize)
+        requires { length self.old < 8 }
+        ensures { self.new ≡ self.old ++ pair_of (Spawned count) ∷ [] }
     {
-        Changes {
-            stores: self.stores.then(11, count as u64),
-        }
+        self.stores.push(11, count as u64);
     }
 
     /// The status of a choice, too.
-    pub(crate) fn status(self, number: usize, status: Status) -> Changes
-        requires room { length self < 8 }
+    #[inline(always)]
+    pub(crate) fn status(&mut self, number: usize, status: Status)
+        requires room { length self.old < 8 }
         requires small { number ≤ 128 }
-        ensures { result ≡ self ++ pair_of (ToStatus number (status_number status)) ∷ [] }
+        ensures { self.new ≡ self.old ++ pair_of (ToStatus number (status_number status)) ∷ [] }
     {
-        Changes {
-            stores: self.stores.then(12 + number, status.number()),
-        }
+        self.stores.push(12 + number, status.number());
     }
 }
 
@@ -389,10 +383,7 @@ pub(crate) fn spawn(depth: u8, alpha: i32, beta: i32, role: Role, number: usize)
         number as u64,
         0,
     ];
-    match GivenWords::new(&words) {
-        Some(given) => Then::Spawn(given, SIZE),
-        None => unreachable!(),
-    }
+    Then::Spawn(GivenWords::eight(words), SIZE)
 }
 
 /// What a job keeps of its returned root, by name: the first twelve words.
