@@ -57,9 +57,9 @@ fn word(words: &[u64], place: usize) -> u64
     }
 }
 
-/// The first twelve words, which stand in one segment.
+/// The first twelve words, and 0 for each that is missing.
 #[inline(always)]
-fn read_head(words: &Words) -> Head
+fn read_any_head(words: &Words) -> Head
     ensures { result ≡ head_of words.now }
 {
     let front = words.segment(0);
@@ -77,6 +77,37 @@ fn read_head(words: &Words) -> Head
         count: word(front, 10),
         spawned: word(front, 11),
     }
+}
+
+/// The twelve words that a segment begins with.
+#[inline(always)]
+fn head_in(front: &[u64]) -> Head
+    requires { 12 ≤ length front.now }
+    ensures { result ≡ head_of front.now }
+{
+    Head {
+        own: front[0],
+        opp: front[1],
+        depth: front[2],
+        alpha: front[3],
+        beta: front[4],
+        role: front[5],
+        number: front[6],
+        phase: front[7],
+        best: front[8],
+        choice: front[9],
+        count: front[10],
+        spawned: front[11],
+    }
+}
+
+/// The first twelve words, which stand in one segment.
+#[inline(always)]
+fn read_head(words: &Words) -> Head
+    requires { 12 ≤ length words.now }
+    ensures { result ≡ head_of words.now }
+{
+    head_in(words.segment(0))
 }
 
 /// The entries of choices in a segment: in the first they stand behind the twelve words.
@@ -252,7 +283,7 @@ fn empty_leaf() -> Leaf
 pub(crate) fn read_leaf(words: &Words) -> Leaf
     ensures { result ≡ leaf_in words.now }
 {
-    read_head(words).leaf()
+    read_any_head(words).leaf()
 }
 
 /// Stores on a frame, by what they set, done in order.
