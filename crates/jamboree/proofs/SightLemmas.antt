@@ -1,10 +1,12 @@
 -- What a frame sees, level by level.
-use Rattle.std.specs.Prelude.{◌≡◌, ℕ, Bool, true, false, ◌==◌, ◌&&◌, neg_ℤ, int_le, int_lt, List, [], ◌∷◌, Option, Some, None, slice_get, unwrap_or, refl, if◌then◌else◌}
-use Rattle.std.proofs.Common.{sym, ◌∙◌, ap}
+use Rattle.std.specs.Prelude.{◌≡◌, ℕ, Bool, true, false, ◌==◌, ◌&&◌, neg_ℤ, int_le, int_lt, List, [], ◌∷◌, Option, Some, None, IfSome, slice_get, unwrap_or, refl, if◌then◌else◌}
+use Rattle.std.proofs.Common.{sym, ◌∙◌, ap, subst}
 use Rattle.sched_rules.specs.declared.act.Act.{Act}
 use Rattle.sched_rules.specs.declared.act.InletAct.{InletAct}
 use Rattle.jamboree_rules.specs.Frames.{Frame, floor, may_be_child}
 use Rattle.jamboree_rules.specs.Places.{frame_of, is_formed, is_placed, Change, pairs_of}
+use Rattle.sched_rules.specs.Laws.{AllFit}
+use Rattle.jamboree_rules.specs.Fits.{AreFitting}
 use Rattle.jamboree_rules.specs.Acts.{returns, act_of, next_act, wakes, seen, changes_by, inlet_of, inlet_act}
 use Rattle.jamboree.specs.Levels.{above_of}
 
@@ -46,3 +48,29 @@ pub inlet-under : (own child : List ℕ) (f : Frame) (act : InletAct) → is_for
 inlet-under own child f act formed is e =
     e ∙ ap (λ (g : Frame). if is_formed child && may_be_child g (frame_of child) then inlet_of g (frame_of child) else wakes) is
     ∙ ap (λ (b : Bool). if b && (is_formed child && may_be_child (frame_of own) (frame_of child)) then inlet_of (frame_of own) (frame_of child) else wakes) (sym formed)
+
+-- the levels of frames that fit have the form
+pub first-formed : (levels : List (List ℕ)) (own : List ℕ) → AllFit AreFitting levels → Some own ≡ slice_get levels 0 → is_formed own ≡ true
+first-formed [] own fit e = absurd (cc)
+first-formed (w ∷ levels) own fit e = ap (λ (o : Option (List ℕ)). is_formed (unwrap_or o [])) e ∙ fit.0.2.formed
+
+pub second-formed : (levels : List (List ℕ)) (parent : Option (List ℕ)) → AllFit AreFitting levels → parent ≡ slice_get levels 1 → IfSome parent (λ words. is_formed words ≡ true)
+second-formed [] parent fit e = subst (λ (o : Option (List ℕ)). IfSome o (λ words. is_formed words ≡ true)) (sym e) tt
+second-formed (w ∷ []) parent fit e = subst (λ (o : Option (List ℕ)). IfSome o (λ words. is_formed words ≡ true)) (sym e) tt
+second-formed (w ∷ above ∷ levels) parent fit e = subst (λ (o : Option (List ℕ)). IfSome o (λ words. is_formed words ≡ true)) (sym e) fit.1.0.2.formed
+
+-- the act of a frame, and the inlet of one, where all words have the form
+pub act-by-form : (grain : ℕ) (own above : List ℕ) (f q : Frame) (act : Act) → is_formed own ≡ true → is_formed above ≡ true → f ≡ frame_of own → q ≡ frame_of above →
+    act ≡ (if may_be_child q f then act_of grain f (Some q) else returns) → act ≡ next_act grain (own ∷ above ∷ [])
+act-by-form grain own above f q act formed formed_above is is_above e =
+    e ∙ ap (λ (g : Frame). if may_be_child q g then act_of grain g (Some q) else returns) is
+    ∙ ap (λ (p : Frame). if may_be_child p (frame_of own) then act_of grain (frame_of own) (Some p) else returns) is_above
+    ∙ ap (λ (b : Bool). if b && may_be_child (frame_of above) (frame_of own) then act_of grain (frame_of own) (Some (frame_of above)) else returns) (sym formed_above)
+    ∙ ap (λ (b : Bool). if b && is_placed own (above ∷ []) then act_of grain (frame_of own) (Some (frame_of above)) else returns) (sym formed)
+
+pub inlet-by-form : (own child : List ℕ) (f c : Frame) (act : InletAct) → is_formed own ≡ true → is_formed child ≡ true → f ≡ frame_of own → c ≡ frame_of child →
+    act ≡ (if may_be_child f c then inlet_of f c else wakes) → act ≡ inlet_act own child
+inlet-by-form own child f c act formed formed_child is is_child e =
+    inlet-under own child f act formed is
+    (e ∙ ap (λ (d : Frame). if may_be_child f d then inlet_of f d else wakes) is_child
+    ∙ ap (λ (b : Bool). if b && may_be_child f (frame_of child) then inlet_of f (frame_of child) else wakes) (sym formed_child))

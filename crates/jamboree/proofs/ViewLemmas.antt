@@ -71,6 +71,24 @@ frame-same h statuses role phase alpha beta best ea eb er ep es = rw (ea, eb, er
 pub front-word : (w front : List ℕ) → front ≡ take 16 w → (k : ℕ) → k < 16 → slice_index front k ≡ slice_index w k
 front-word w front is k inside = ap (λ (xs : List ℕ). slice_index xs k) is ∙ get_or-take 16 w k 0 inside
 
+pub front-head : (w front : List ℕ) → front ≡ take 16 w → head_of front ≡ head_of w
+front-head w front is =
+    let at : (k : ℕ) → k < 16 → slice_index front k ≡ slice_index w k = front-word w front is in
+    rw (
+      at 0 (omega arith),
+      at 1 (omega arith),
+      at 2 (omega arith),
+      at 3 (omega arith),
+      at 4 (omega arith),
+      at 5 (omega arith),
+      at 6 (omega arith),
+      at 7 (omega arith),
+      at 8 (omega arith),
+      at 9 (omega arith),
+      at 10 (omega arith),
+      at 11 (omega arith),
+    ) refl
+
 -- words that have the form of a frame, part by part
 and-true : (a : Bool) → a ≡ (a && true)
 and-true true = refl

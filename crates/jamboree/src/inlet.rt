@@ -100,12 +100,12 @@ fn ended(frame: &View, child: &View) -> Stores
     ensures { (test low higher : Bool) → result ≡ pairs_of (changes_by true test low higher (frame_in frame.now) (frame_in child.now)) }
 {
     let number = number_of(frame, child);
-    Changes::new()
-        .best(seen(child))
-        .chosen(code_at(frame.board, number))
-        .status(number, Status::Settled)
-        .phase(Phase::Done)
-        .stores()
+    let mut changes = Changes::new();
+    changes.best(seen(child));
+    changes.chosen(code_at(frame.board, number));
+    changes.status(number, Status::Settled);
+    changes.phase(Phase::Done);
+    changes.stores()
 }
 
 /// A test that isn't above its window settles its choice.
@@ -113,10 +113,10 @@ fn low(frame: &View, child: &View) -> Stores
     requires { may_be_child (frame_in frame.now) (frame_in child.now) ≡ true }
     ensures { (higher : Bool) → result ≡ pairs_of (changes_by false true true higher (frame_in frame.now) (frame_in child.now)) }
 {
-    Changes::new()
-        .best(best_of(frame, child))
-        .status(number_of(frame, child), Status::Settled)
-        .stores()
+    let mut changes = Changes::new();
+    changes.best(best_of(frame, child));
+    changes.status(number_of(frame, child), Status::Settled);
+    changes.stores()
 }
 
 /// A test above its window has failed: its score says only that the choice is worth more.
@@ -124,9 +124,9 @@ fn failed(frame: &View, child: &View) -> Stores
     requires { may_be_child (frame_in frame.now) (frame_in child.now) ≡ true }
     ensures { (higher : Bool) → result ≡ pairs_of (changes_by false true false higher (frame_in frame.now) (frame_in child.now)) }
 {
-    Changes::new()
-        .status(number_of(frame, child), Status::Failed)
-        .stores()
+    let mut changes = Changes::new();
+    changes.status(number_of(frame, child), Status::Failed);
+    changes.stores()
 }
 
 /// A search in full that is above the floor gives the best score and its choice.
@@ -135,12 +135,12 @@ fn raised(frame: &View, child: &View) -> Stores
     ensures { (low : Bool) → result ≡ pairs_of (changes_by false false low true (frame_in frame.now) (frame_in child.now)) }
 {
     let number = number_of(frame, child);
-    Changes::new()
-        .best(best_of(frame, child))
-        .chosen(code_at(frame.board, number))
-        .status(number, Status::Settled)
-        .phase(Phase::Tests)
-        .stores()
+    let mut changes = Changes::new();
+    changes.best(best_of(frame, child));
+    changes.chosen(code_at(frame.board, number));
+    changes.status(number, Status::Settled);
+    changes.phase(Phase::Tests);
+    changes.stores()
 }
 
 /// A search in full that isn't settles its choice.
@@ -148,9 +148,9 @@ fn kept(frame: &View, child: &View) -> Stores
     requires { may_be_child (frame_in frame.now) (frame_in child.now) ≡ true }
     ensures { (low : Bool) → result ≡ pairs_of (changes_by false false low false (frame_in frame.now) (frame_in child.now)) }
 {
-    Changes::new()
-        .best(best_of(frame, child))
-        .status(number_of(frame, child), Status::Settled)
-        .phase(Phase::Tests)
-        .stores()
+    let mut changes = Changes::new();
+    changes.best(best_of(frame, child));
+    changes.status(number_of(frame, child), Status::Settled);
+    changes.phase(Phase::Tests);
+    changes.stores()
 }

@@ -1,9 +1,10 @@
 //! What a frame does next.
-ghost use Rattle.std.specs.Prelude.{◌≡◌, ◌≢◌, ◌+◌, ◌<◌, ◌≤ℤ◌, pos, negsuc, ◌==◌, ℕ, Bool, true, false, Option, Some, None, List, [], length};
+ghost use Rattle.std.specs.Prelude.{◌≡◌, ◌≢◌, ◌+◌, ◌<◌, ◌≤ℤ◌, pos, negsuc, ◌==◌, ℕ, Bool, true, false, Option, Some, None, List, [], ◌∷◌, length};
 ghost use Rattle.othello_board.specs.Words.{cells};
 ghost use Rattle.jamboree_rules.specs.Frames.{Frame, floor, may_be_child};
 ghost use Rattle.jamboree_rules.specs.Acts.{returns, spawns, opening_on, first_search, first_open, tests, tests_from, act_of};
-ghost use Rattle.sched_rules.specs.declared.act.Then.TheVariants.{Wait};
+ghost use Rattle.jamboree_rules.specs.Places.{Phase as ToPhase, pairs_of};
+ghost use Rattle.sched_rules.specs.declared.act.Then.TheVariants.{Wait, Return};
 ghost use Rattle.jamboree.specs.Numbers.{role_number};
 ghost use Rattle.jamboree.specs.Views.{frame_in, frame_with, statuses_in};
 
@@ -44,21 +45,23 @@ fn opening(grain: u8, frame: &View, board: Board) -> Act
     ensures { result ≡ opening_on grain (frame_in frame.now) board.own board.opp }
 {
     let count = choice_count(board);
-    let known = Changes::new().own_bits(board.own).opp_bits(board.opp);
+    let mut changes = Changes::new();
+    changes.own_bits(board.own);
+    changes.opp_bits(board.opp);
     if frame.depth <= grain || count == 0 {
+        changes.phase(Phase::Computing);
         return Act {
-            stores: known.phase(Phase::Computing).stores(),
+            stores: changes.stores(),
             after: Then::Compute,
         };
     }
-    let opened = known
-        .phase(Phase::First)
-        .best(-INF)
-        .chosen(NONE)
-        .count(count)
-        .spawned(0);
+    changes.phase(Phase::First);
+    changes.best(-INF);
+    changes.chosen(NONE);
+    changes.count(count);
+    changes.spawned(0);
     Act {
-        stores: opened.stores(),
+        stores: changes.stores(),
         after: Then::Grow(count),
     }
 }
@@ -93,8 +96,11 @@ fn first_search(frame: &View) -> Act
     if frame.spawned != 0 {
         return waits();
     }
+    let mut changes = Changes::new();
+    changes.spawned(1);
+    changes.status(0, Status::Runs);
     Act {
-        stores: Changes::new().spawned(1).status(0, Status::Runs).stores(),
+        stores: changes.stores(),
         after: opens(frame, Role::FirstChild, 0, -frame.beta, -frame.alpha),
     }
 }
@@ -114,12 +120,21 @@ fn tests(frame: &View, words: &Words) -> Act
         return test(frame, frame.spawned);
     }
     if frame.count <= open {
-        return Act {
-            stores: Changes::new().phase(Phase::Done).stores(),
-            after: Then::Return,
-        };
+        return ends();
     }
     waits()
+}
+
+/// To be done, and to return.
+fn ends() -> Act
+    ensures { result ≡ record { stores = pairs_of (ToPhase 4 ∷ []); after = Return } }
+{
+    let mut changes = Changes::new();
+    changes.phase(Phase::Done);
+    Act {
+        stores: changes.stores(),
+        after: Then::Return,
+    }
 }
 
 /// To search a choice again, above the greater of alpha and the best score.
@@ -128,8 +143,10 @@ fn search_again(frame: &View, number: usize) -> Act
     requires inside { number < frame.now.count }
     ensures { (more all : Bool) (statuses : List ℕ) → result ≡ tests true more all (frame_with frame.now statuses) number }
 {
+    let mut changes = Changes::new();
+    changes.status(number, Status::RunsAgain);
     Act {
-        stores: Changes::new().status(number, Status::RunsAgain).stores(),
+        stores: changes.stores(),
         after: opens(frame, Role::Again, number, -frame.beta, -floor(frame)),
     }
 }
@@ -142,11 +159,11 @@ fn test(frame: &View, number: usize) -> Act
     ensures { (all : Bool) (statuses : List ℕ) (first : ℕ) → result ≡ tests false true all (frame_with frame.now statuses) first }
 {
     let floor = floor(frame);
+    let mut changes = Changes::new();
+    changes.spawned(number + 1);
+    changes.status(number, Status::Runs);
     Act {
-        stores: Changes::new()
-            .spawned(number + 1)
-            .status(number, Status::Runs)
-            .stores(),
+        stores: changes.stores(),
         after: opens(frame, Role::Test, number, -(floor + 1), -floor),
     }
 }

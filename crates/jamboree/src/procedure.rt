@@ -1,5 +1,5 @@
 //! The search procedure.
-ghost use Rattle.std.specs.Prelude.{◌≡◌, ◌≤◌, ◌+◌, ◌↔◌, ◌==◌, ◌&&◌, ◌∷◌, IsSome, IfSome, Some, None, List, ℕ, length, nat_lt, if◌then◌else◌};
+ghost use Rattle.std.specs.Prelude.{◌≡◌, ◌≤◌, ◌+◌, ◌↔◌, ◌==◌, ◌&&◌, true, ◌∷◌, IsSome, IfSome, Some, None, List, ℕ, length, nat_lt, if◌then◌else◌};
 ghost use Rattle.othello_board.specs.Words.{cells};
 ghost use Rattle.othello_moves.specs.Choices.{choices};
 ghost use Rattle.jamboree_rules.specs.Frames.{may_be_child};
@@ -14,7 +14,7 @@ use crate::frame::View;
 use crate::inlet::{takes_in, wakes};
 use crate::next::{child_act, returns, root_act};
 use crate::phases::{Phase, Role};
-use crate::view::{Changes, is_formed, read_leaf, view};
+use crate::view::{Changes, SIZE, are_root_words, is_formed, read_leaf, view};
 use cactus_stack::{Sight, Words};
 use jamboree_rules::{Leaf, LeafAnswer};
 use othello_moves::choice_count;
@@ -80,6 +80,17 @@ fn act_alone(grain: u8, frame: &View, own: &Words) -> Act
     }
 }
 
+/// The next act of a frame in these words under this parent: only a child of it has one.
+fn act_under(grain: u8, frame: &View, own: &Words, parent: &View) -> Act
+    requires { length own.now ≡ 12 + frame.now.count }
+    ensures { (others : List ℕ) → result ≡ (if may_be_child (frame_with parent.now others) (frame_in frame.now) then act_of grain (frame_with frame.now (statuses_in own.now)) (Some (frame_with parent.now others)) else returns) }
+{
+    if !frame.may_be_under(parent) {
+        return returns();
+    }
+    child_act(grain, frame, own, parent)
+}
+
 /// The next act of a frame in these words under a parent in those: only a child of it has one.
 fn act_below(grain: u8, frame: &View, own: &Words, above: &Words) -> Act
     requires { length own.now ≡ 12 + frame.now.count }
@@ -88,15 +99,11 @@ fn act_below(grain: u8, frame: &View, own: &Words, above: &Words) -> Act
     if !is_formed(above) {
         return returns();
     }
-    let parent = view(above);
-    if !frame.may_be_under(&parent) {
-        return returns();
-    }
-    child_act(grain, frame, own, &parent)
+    act_under(grain, frame, own, &view(above))
 }
 
 /// The next act of a frame in these words, under a parent in those, if there is one.
-fn act_under(grain: u8, own: &Words, parent: Option<Words>) -> Act
+fn act_tested(grain: u8, own: &Words, parent: Option<Words>) -> Act
     ensures { result ≡ next_act grain (own.now ∷ above_of parent.entry) }
 {
     if !is_formed(own) {
@@ -105,6 +112,19 @@ fn act_under(grain: u8, own: &Words, parent: Option<Words>) -> Act
     let frame = view(own);
     match parent {
         Some(above) => act_below(grain, &frame, own, &above),
+        None => act_alone(grain, &frame, own),
+    }
+}
+
+/// The same where both have the form of a frame.
+fn act_in_form(grain: u8, own: &Words, parent: Option<Words>) -> Act
+    requires own { is_formed own.now ≡ true }
+    requires above { IfSome parent (λ words. is_formed words ≡ true) }
+    ensures { result ≡ next_act grain (own.now ∷ above_of parent.entry) }
+{
+    let frame = view(own);
+    match parent {
+        Some(above) => act_under(grain, &frame, own, &view(&above)),
         None => act_alone(grain, &frame, own),
     }
 }
@@ -130,7 +150,7 @@ impl Procedure for Jamboree {
     /// The act of the frame's phase; words of no frame return.
     fn next(&self, sight: &Sight) -> Act {
         match sight.up(0) {
-            Some(own) => act_under(self.grain, &own, sight.up(1)),
+            Some(own) => act_tested(self.grain, &own, sight.up(1)),
             None => returns(),
         }
     }
@@ -161,6 +181,30 @@ impl Procedure for Jamboree {
         answered(answer)
     }
 
+    /// Whether it is the root of a board to a depth of at most 12 with the full window.
+    fn is_fitting_root(&self, words: &[u64], size: usize) -> bool {
+        size == SIZE && are_root_words(words)
+    }
+
+    /// The act of the frame's phase: its words and those above have the form of a frame.
+    fn next_fitting(&self, sight: &Sight) -> Act {
+        match sight.up(0) {
+            Some(own) => act_in_form(self.grain, &own, sight.up(1)),
+            None => returns(),
+        }
+    }
+
+    /// What the child's score says of its choice: both have the form of a frame.
+    fn inlet_fitting(&self, own: &Words, child: &Words) -> InletAct {
+        inlet_under(&view(own), &view(child))
+    }
+
+    /// The answer's score and choice, and the frame, which has the form of one, is done.
+    fn accept_fitting(&self, own: &Words, answer: &LeafAnswer) -> Stores {
+        let _ = own;
+        answered(answer)
+    }
+
     ghost compares = { λ procedure. refl };
 
     ghost same_is_equal = { λ procedure. same-value };
@@ -179,20 +223,26 @@ fn inlet_at(frame: &View, words: &Words) -> InletAct
     if !is_formed(words) {
         return wakes();
     }
-    let child = view(words);
+    inlet_under(frame, &view(words))
+}
+
+/// The inlet of a frame for this child: one that may not be a child of it only wakes it.
+fn inlet_under(frame: &View, child: &View) -> InletAct
+    ensures { (own below : List ℕ) → result ≡ (if may_be_child (frame_with frame.now own) (frame_with child.now below) then inlet_of (frame_with frame.now own) (frame_with child.now below) else wakes) }
+{
     if !child.may_be_under(frame) {
         return wakes();
     }
-    takes_in(frame, &child)
+    takes_in(frame, child)
 }
 
 /// What a frame stores of an answer.
 fn answered(answer: &LeafAnswer) -> Stores
     ensures { result ≡ pairs_of (changes_of_answer answer.now) }
 {
-    Changes::new()
-        .best(answer.score())
-        .chosen(coded(answer.choice()))
-        .phase(Phase::Done)
-        .stores()
+    let mut changes = Changes::new();
+    changes.best(answer.score());
+    changes.chosen(coded(answer.choice()));
+    changes.phase(Phase::Done);
+    changes.stores()
 }

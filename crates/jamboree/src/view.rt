@@ -57,9 +57,9 @@ fn word(words: &[u64], place: usize) -> u64
     }
 }
 
-/// The first twelve words, which stand in one segment.
+/// The first twelve words, and 0 for each that is missing.
 #[inline(always)]
-fn read_head(words: &Words) -> Head
+fn read_any_head(words: &Words) -> Head
     ensures { result ≡ head_of words.now }
 {
     let front = words.segment(0);
@@ -77,6 +77,37 @@ fn read_head(words: &Words) -> Head
         count: word(front, 10),
         spawned: word(front, 11),
     }
+}
+
+/// The twelve words that a segment begins with.
+#[inline(always)]
+fn head_in(front: &[u64]) -> Head
+    requires { 12 ≤ length front.now }
+    ensures { result ≡ head_of front.now }
+{
+    Head {
+        own: front[0],
+        opp: front[1],
+        depth: front[2],
+        alpha: front[3],
+        beta: front[4],
+        role: front[5],
+        number: front[6],
+        phase: front[7],
+        best: front[8],
+        choice: front[9],
+        count: front[10],
+        spawned: front[11],
+    }
+}
+
+/// The first twelve words, which stand in one segment.
+#[inline(always)]
+fn read_head(words: &Words) -> Head
+    requires { 12 ≤ length words.now }
+    ensures { result ≡ head_of words.now }
+{
+    head_in(words.segment(0))
 }
 
 /// The entries of choices in a segment: in the first they stand behind the twelve words.
@@ -252,7 +283,7 @@ fn empty_leaf() -> Leaf
 pub(crate) fn read_leaf(words: &Words) -> Leaf
     ensures { result ≡ leaf_in words.now }
 {
-    read_head(words).leaf()
+    read_any_head(words).leaf()
 }
 
 /// Stores on a frame, by what they set, done in order.
@@ -272,6 +303,7 @@ impl Model for Changes {
 
 impl Changes {
     /// No store.
+    #[inline(always)]
     pub(crate) fn new() -> Changes
         ensures { result ≡ [] }
     {
@@ -281,6 +313,7 @@ impl Changes {
     }
 
     /// These stores.
+    #[inline(always)]
     pub(crate) fn stores(self) -> Stores
         ensures { result ≡ self }
     {
@@ -288,86 +321,78 @@ impl Changes {
     }
 
     /// The bits of the mover's discs, too.
-    pub(crate) fn own_bits(self, bits: u64) -> Changes
-        requires { length self < 8 }
-        ensures { result ≡ self ++ pair_of (OwnBits bits) ∷ [] }
+    #[inline(always)]
+    pub(crate) fn own_bits(&mut self, bits: u64)
+        requires { length self.old < 8 }
+        ensures { self.new ≡ self.old ++ pair_of (OwnBits bits) ∷ [] }
     {
-        Changes {
-            stores: self.stores.then(0, bits),
-        }
+        self.stores.push(0, bits);
     }
 
     /// The bits of the opponent's discs, too.
-    pub(crate) fn opp_bits(self, bits: u64) -> Changes
-        requires { length self < 8 }
-        ensures { result ≡ self ++ pair_of (OppBits bits) ∷ [] }
+    #[inline(always)]
+    pub(crate) fn opp_bits(&mut self, bits: u64)
+        requires { length self.old < 8 }
+        ensures { self.new ≡ self.old ++ pair_of (OppBits bits) ∷ [] }
     {
-        Changes {
-            stores: self.stores.then(1, bits),
-        }
+        self.stores.push(1, bits);
     }
 
     /// The phase, too.
-    pub(crate) fn phase(self, phase: Phase) -> Changes
-        requires { length self < 8 }
-        ensures { result ≡ self ++ pair_of (ToPhase (phase_number phase)) ∷ [] }
+    #[inline(always)]
+    pub(crate) fn phase(&mut self, phase: Phase)
+        requires { length self.old < 8 }
+        ensures { self.new ≡ self.old ++ pair_of (ToPhase (phase_number phase)) ∷ [] }
     {
-        Changes {
-            stores: self.stores.then(7, phase.number()),
-        }
+        self.stores.push(7, phase.number());
     }
 
     /// The best score, from -1,000,000 to 1,000,000, too.
-    pub(crate) fn best(self, score: i32) -> Changes
-        requires room { length self < 8 }
+    #[inline(always)]
+    pub(crate) fn best(&mut self, score: i32)
+        requires room { length self.old < 8 }
         requires low { negsuc 999999 ≤ℤ score }
         requires high { score ≤ℤ pos 1000000 }
-        ensures { result ≡ self ++ pair_of (Best score) ∷ [] }
+        ensures { self.new ≡ self.old ++ pair_of (Best score) ∷ [] }
     {
-        Changes {
-            stores: self.stores.then(8, word_of_score(score)),
-        }
+        self.stores.push(8, word_of_score(score));
     }
 
     /// The code of the choice that has it, too.
-    pub(crate) fn chosen(self, code: u64) -> Changes
-        requires { length self < 8 }
-        ensures { result ≡ self ++ pair_of (Chosen code) ∷ [] }
+    #[inline(always)]
+    pub(crate) fn chosen(&mut self, code: u64)
+        requires { length self.old < 8 }
+        ensures { self.new ≡ self.old ++ pair_of (Chosen code) ∷ [] }
     {
-        Changes {
-            stores: self.stores.then(9, code),
-        }
+        self.stores.push(9, code);
     }
 
     /// The count of choices, too.
-    pub(crate) fn count(self, count: usize) -> Changes
-        requires { length self < 8 }
-        ensures { result ≡ self ++ pair_of (Count count) ∷ [] }
+    #[inline(always)]
+    pub(crate) fn count(&mut self, count: usize)
+        requires { length self.old < 8 }
+        ensures { self.new ≡ self.old ++ pair_of (Count count) ∷ [] }
     {
-        Changes {
-            stores: self.stores.then(10, count as u64),
-        }
+        self.stores.push(10, count as u64);
     }
 
     /// The count of choices that were spawned, too.
-    pub(crate) fn spawned(self, count: usize) -> Changes
-        requires { length self < 8 }
-        ensures { result ≡ self ++ pair_of (Spawned count) ∷ [] }
+    #[inline(always)]
+    pub(crate) fn spawned(&mut self, count: usize)
+        requires { length self.old < 8 }
+        ensures { self.new ≡ self.old ++ pair_of (Spawned count) ∷ [] }
     {
-        Changes {
-            stores: self.stores.then(11, count as u64),
-        }
+        self.stores.push(11, count as u64);
     }
 
     /// The status of a choice, too.
-    pub(crate) fn status(self, number: usize, status: Status) -> Changes
-        requires room { length self < 8 }
+    #[inline(always)]
+    pub(crate) fn status(&mut self, number: usize, status: Status)
+        requires room { length self.old < 8 }
         requires small { number ≤ 128 }
-        ensures { result ≡ self ++ pair_of (ToStatus number (status_number status)) ∷ [] }
+        ensures { self.new ≡ self.old ++ pair_of (ToStatus number (status_number status)) ∷ [] }
     {
-        Changes {
-            stores: self.stores.then(12 + number, status.number()),
-        }
+        self.stores.push(12 + number, status.number());
     }
 }
 
@@ -389,10 +414,7 @@ pub(crate) fn spawn(depth: u8, alpha: i32, beta: i32, role: Role, number: usize)
         number as u64,
         0,
     ];
-    match GivenWords::new(&words) {
-        Some(given) => Then::Spawn(given, SIZE),
-        None => unreachable!(),
-    }
+    Then::Spawn(GivenWords::eight(words), SIZE)
 }
 
 /// What a job keeps of its returned root, by name: the first twelve words.
@@ -419,6 +441,34 @@ pub(crate) fn read_kept(words: &[u64]) -> Kept
     }
 }
 
+/// The words of a root: a board to a depth with the full window.
+fn root_of(own: u64, opp: u64, depth: u64) -> [u64; 8]
+    ensures { result ≡ root_words own opp depth }
+{
+    [
+        own,
+        opp,
+        depth,
+        word_of_score(-INF),
+        word_of_score(INF),
+        Role::Root.number(),
+        0,
+        Phase::New.number(),
+    ]
+}
+
+/// Whether these are the words of a root whose board has no square with two discs, to a depth of at
+/// most 12.
+pub(crate) fn are_root_words(words: &[u64]) -> bool
+    ensures fits { result ≡ true → AreFitting (padded words.now frame_size) [] Neither }
+    ensures rooted { result ≡ true → IsRoot words.now (padded words.now frame_size) }
+{
+    words.len() == 8
+        && words[0] & words[1] == 0
+        && words[2] <= 12
+        && words == root_of(words[0], words[1], words[2]).as_slice()
+}
+
 /// The words that a job is submitted with, of a position to a depth of 0 to 12 plies: with size 12
 /// its root searches the board with the full window.
 pub fn root_words(position: &Position, depth: u8) -> [u64; 8]
@@ -427,14 +477,5 @@ pub fn root_words(position: &Position, depth: u8) -> [u64; 8]
     ensures fits { AreFitting (padded result frame_size) [] Neither }
     ensures rooted { IsRoot result (padded result frame_size) }
 {
-    [
-        position.board.own,
-        position.board.opp,
-        u64::from(depth),
-        word_of_score(-INF),
-        word_of_score(INF),
-        Role::Root.number(),
-        0,
-        Phase::New.number(),
-    ]
+    root_of(position.board.own, position.board.opp, u64::from(depth))
 }

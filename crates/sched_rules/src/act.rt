@@ -106,6 +106,16 @@ impl GivenWords {
         GivenWords { words }
     }
 
+    /// Eight words.
+    #[inline(always)]
+    pub fn eight(words: [u64; 8]) -> GivenWords
+        ensures { result ≡ words }
+    {
+        GivenWords {
+            words: ArrayVec::from_array_in((), words),
+        }
+    }
+
     /// The words, in order.
     pub fn as_slice(&self) -> &[u64]
         ensures words { result.now ≡ self.now }

@@ -12,5 +12,5 @@ returns c =
     let window : v.alpha <ℤ v.beta = v.window in
     let high : v.beta ≤ℤ pos 200000 = v.greatest in
     first-by (frame_in v) _ c.if-frame-ne0.false
-    (act-by _ _ _ _ (two-stores _ _ _ _ _ _ c.new.ensures c.spawned.ensures c.status.ensures c.stores.ensures)
+    (act-by _ _ _ _ (two-stores _ _ _ _ _ _ c.new-changes.ensures c.spawned.ensures c.status.ensures c.stores.ensures)
     (spawns-by (frame_in v) 1 0 _ (neg_ℤ v.beta) _ (neg_ℤ v.alpha) c.opens.result c.opens.ensures (negated v.beta (omega (arith, ints)) (omega (arith, ints))) (negated v.alpha (omega (arith, ints)) (omega (arith, ints)))))

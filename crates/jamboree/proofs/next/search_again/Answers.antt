@@ -14,6 +14,6 @@ returns c more all statuses =
     let high : v.beta ≤ℤ pos 200000 = v.greatest in
     let below : negsuc 199999 ≤ℤ c.floor.result = c.floor.ensures.low in
     let above : c.floor.result ≤ℤ pos 200000 = c.floor.ensures.high in
-    act-by _ _ _ _ (one-store _ _ _ _ c.new.ensures c.status.ensures c.stores.ensures)
+    act-by _ _ _ _ (one-store _ _ _ _ c.new-changes.ensures c.status.ensures c.stores.ensures)
     (spawns-by (frame_with v statuses) 3 c.args.number _ (neg_ℤ v.beta) _ (neg_ℤ (floor (frame_in v))) c.opens.result c.opens.ensures (negated v.beta (omega (arith, ints)) (omega (arith, ints)))
     (negated c.floor.result (omega (arith, ints)) (omega (arith, ints)) ∙ ap neg_ℤ c.floor.ensures.value))

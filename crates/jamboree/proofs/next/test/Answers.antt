@@ -14,7 +14,7 @@ returns c all statuses at =
     let above : c.floor-floor.result ≤ℤ pos 200000 = c.floor-floor.ensures.high in
     let f = frame_with v statuses in
     act-by _ _ _ _
-    (two-stores _ _ _ _ _ _ c.new.ensures c.spawned.ensures c.status.ensures c.stores.ensures ∙ ap (λ (n : ℕ). (11, n + 1) ∷ (12 + n, 1) ∷ []) c.requires.next)
+    (two-stores _ _ _ _ _ _ c.new-changes.ensures c.spawned.ensures c.status.ensures c.stores.ensures ∙ ap (λ (n : ℕ). (11, n + 1) ∷ (12 + n, 1) ∷ []) c.requires.next)
     (spawns-by f 2 c.args.number _ (neg_ℤ (floor f +ℤ pos 1)) _ (neg_ℤ (floor f)) c.opens.result c.opens.ensures
     (negated-more c.floor-floor.result below above ∙ ap (λ (x : ℤ). neg_ℤ (x +ℤ pos 1)) c.floor-floor.ensures.value)
     (negated c.floor-floor.result (omega (arith, ints)) (omega (arith, ints)) ∙ ap neg_ℤ c.floor-floor.ensures.value)

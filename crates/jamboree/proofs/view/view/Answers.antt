@@ -1,6 +1,6 @@
 use Rattle.std.proofs.Common.{◌∙◌, refl, arith}
 use Rattle.jamboree.proofs.ViewLemmas.{formed-parts, frame-is}
-use Rattle.jamboree.specs.Views.{statuses_in}
+use Rattle.jamboree.specs.Views.{head_of, statuses_in}
 use Rattle.jamboree.proofs.view.view.Goals as goal
 
 pub view-requires-clause-form : goal.view-requires-clause-form
@@ -21,3 +21,6 @@ pub returns-clause-entries : goal.returns-clause-entries
 returns-clause-entries c =
     let parts = formed-parts c.args.words.now c.read_head.result c.read_head.ensures c.requires in
     omega (arith, c.len-count.ensures.value, parts.0.0, c.view.ensures.count)
+
+pub read_head-requires : goal.read_head-requires
+read_head-requires c = let parts = formed-parts c.args.words.now (head_of c.args.words.now) refl c.requires in omega (arith, parts.0.0)

@@ -6,4 +6,4 @@ use Rattle.jamboree.proofs.procedure.JamboreeProcedure.next.Goals as goal
 
 pub returns-in-Some : goal.returns-in-Some
 returns-in-Some c =
-    c.act_under.ensures ∙ ap (λ (o : Option (List ℕ)). next_act c.args.self.now.grain (c.in-Some.own ∷ above_of o)) c.up-in-Some.ensures ∙ first-two c.args.self.now.grain c.args.sight.now c.in-Some.own (sym c.in-Some.is ∙ c.up.ensures)
+    c.act_tested.ensures ∙ ap (λ (o : Option (List ℕ)). next_act c.args.self.now.grain (c.in-Some.own ∷ above_of o)) c.up-in-Some.ensures ∙ first-two c.args.self.now.grain c.args.sight.now c.in-Some.own (sym c.in-Some.is ∙ c.up.ensures)

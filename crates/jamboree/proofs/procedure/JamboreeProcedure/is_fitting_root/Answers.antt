@@ -1,0 +1,11 @@
+use Rattle.std.specs.Prelude.{ℕ, []}
+use Rattle.std.proofs.Common.{sym, subst}
+use Rattle.cactus_stack.specs.Nodes.{padded}
+use Rattle.sched_rules.specs.Laws.{Neither}
+use Rattle.jamboree_rules.specs.Fits.{AreFitting, IsRoot}
+use Rattle.jamboree.proofs.procedure.JamboreeProcedure.is_fitting_root.Goals as goal
+
+pub returns-then-size-eq-SIZE : goal.returns-then-size-eq-SIZE
+returns-then-size-eq-SIZE c told =
+    let w = c.args.words.now in
+    subst (λ (n : ℕ). AreFitting (padded w n) [] Neither × IsRoot w (padded w n)) (sym c.if-size-eq-SIZE.true) (c.are_root_words.ensures.fits told, c.are_root_words.ensures.rooted told)
