@@ -1,10 +1,13 @@
 //! What a frame does next.
+//!
+//! An act is a large value. Where a `match` ends a function, each arm returns, so that its act is made where the caller
+//! wants it.
 ghost use Rattle.std.specs.Prelude.{◌≡◌, ◌≢◌, ◌+◌, ◌<◌, ◌≤ℤ◌, pos, negsuc, ◌==◌, ℕ, Bool, true, false, Option, Some, None, List, [], ◌∷◌, length};
 ghost use Rattle.othello_board.specs.Words.{cells};
 ghost use Rattle.jamboree_rules.specs.Frames.{Frame, floor, may_be_child};
 ghost use Rattle.jamboree_rules.specs.Acts.{returns, spawns, opening_on, first_search, first_open, tests, tests_from, act_of};
 ghost use Rattle.jamboree_rules.specs.Places.{Phase as ToPhase, pairs_of};
-ghost use Rattle.sched_rules.specs.declared.act.Then.TheVariants.{Wait, Return};
+ghost use Rattle.sched_rules.specs.declared.act.Then.TheVariants.{Wait, Compute, Return};
 ghost use Rattle.jamboree.specs.Numbers.{role_number};
 ghost use Rattle.jamboree.specs.Views.{frame_in, frame_with, statuses_in};
 
@@ -36,6 +39,16 @@ fn waits() -> Act
     Act {
         stores: Stores::new(),
         after: Then::Wait,
+    }
+}
+
+/// To be computed outside.
+fn computes() -> Act
+    ensures { result ≡ record { stores = []; after = Compute } }
+{
+    Act {
+        stores: Stores::new(),
+        after: Then::Compute,
     }
 }
 
@@ -175,13 +188,10 @@ fn later_act(frame: &View, words: &Words) -> Act
     ensures { (grain : ℕ) (parent : Option Frame) → result ≡ act_of grain (frame_with frame.now (statuses_in words.now)) parent }
 {
     match frame.phase {
-        Phase::Computing => Act {
-            stores: Stores::new(),
-            after: Then::Compute,
-        },
-        Phase::First => first_search(frame),
-        Phase::Tests => tests(frame, words),
-        Phase::New | Phase::Done => returns(),
+        Phase::Computing => return computes(),
+        Phase::First => return first_search(frame),
+        Phase::Tests => return tests(frame, words),
+        Phase::New | Phase::Done => return returns(),
     }
 }
 
@@ -191,12 +201,13 @@ pub(crate) fn root_act(grain: u8, frame: &View, words: &Words) -> Act
     ensures { result ≡ act_of grain (frame_with frame.now (statuses_in words.now)) None }
 {
     match frame.phase {
-        Phase::New => opening(grain, frame, frame.board),
-        _ => later_act(frame, words),
+        Phase::New => return opening(grain, frame, frame.board),
+        _ => return later_act(frame, words),
     }
 }
 
 /// The next act of a child of this parent, in these words.
+#[inline(always)]
 pub(crate) fn child_act(grain: u8, frame: &View, words: &Words, parent: &View) -> Act
     requires may_be { may_be_child (frame_in parent.now) (frame_in frame.now) ≡ true }
     requires entries { length words.now ≡ 12 + frame.now.count }
@@ -205,8 +216,8 @@ pub(crate) fn child_act(grain: u8, frame: &View, words: &Words, parent: &View) -
     match frame.phase {
         Phase::New => {
             let chosen = choice(parent.board, frame.number as usize);
-            opening(grain, frame, after(parent.board, chosen))
+            return opening(grain, frame, after(parent.board, chosen));
         }
-        _ => later_act(frame, words),
+        _ => return later_act(frame, words),
     }
 }

@@ -75,12 +75,13 @@ fn act_alone(grain: u8, frame: &View, own: &Words) -> Act
     ensures { result ≡ (if (frame_in frame.now).role == 0 then act_of grain (frame_with frame.now (statuses_in own.now)) None else returns) }
 {
     match frame.role {
-        Role::Root => root_act(grain, frame, own),
-        _ => returns(),
+        Role::Root => return root_act(grain, frame, own),
+        _ => return returns(),
     }
 }
 
 /// The next act of a frame in these words under this parent: only a child of it has one.
+#[inline(always)]
 fn act_under(grain: u8, frame: &View, own: &Words, parent: &View) -> Act
     requires { length own.now ≡ 12 + frame.now.count }
     ensures { (others : List ℕ) → result ≡ (if may_be_child (frame_with parent.now others) (frame_in frame.now) then act_of grain (frame_with frame.now (statuses_in own.now)) (Some (frame_with parent.now others)) else returns) }
@@ -117,6 +118,7 @@ fn act_tested(grain: u8, own: &Words, parent: Option<Words>) -> Act
 }
 
 /// The same where both have the form of a frame.
+#[inline(always)]
 fn act_in_form(grain: u8, own: &Words, parent: Option<Words>) -> Act
     requires own { is_formed own.now ≡ true }
     requires above { IfSome parent (λ words. is_formed words ≡ true) }
@@ -124,8 +126,8 @@ fn act_in_form(grain: u8, own: &Words, parent: Option<Words>) -> Act
 {
     let frame = view(own);
     match parent {
-        Some(above) => act_under(grain, &frame, own, &view(&above)),
-        None => act_alone(grain, &frame, own),
+        Some(above) => return act_under(grain, &frame, own, &view(&above)),
+        None => return act_alone(grain, &frame, own),
     }
 }
 
@@ -189,8 +191,8 @@ impl Procedure for Jamboree {
     /// The act of the frame's phase: its words and those above have the form of a frame.
     fn next_fitting(&self, sight: &Sight) -> Act {
         match sight.up(0) {
-            Some(own) => act_in_form(self.grain, &own, sight.up(1)),
-            None => returns(),
+            Some(own) => return act_in_form(self.grain, &own, sight.up(1)),
+            None => return returns(),
         }
     }
 
