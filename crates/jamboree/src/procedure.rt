@@ -188,22 +188,33 @@ impl Procedure for Jamboree {
         size == SIZE && are_root_words(words)
     }
 
-    /// The act of the frame's phase: its words and those above have the form of a frame.
-    fn next_fitting(&self, sight: &Sight) -> Act {
+    /// The act of the frame's phase. Words that fit have the form of a frame.
+    #[inline(always)]
+    fn next_of(&self, fitting: bool, sight: &Sight) -> Act {
+        if !fitting {
+            return self.next(sight);
+        }
         match sight.up(0) {
             Some(own) => return act_in_form(self.grain, &own, sight.up(1)),
             None => return returns(),
         }
     }
 
-    /// What the child's score says of its choice: both have the form of a frame.
-    fn inlet_fitting(&self, own: &Words, child: &Words) -> InletAct {
+    /// What the child's score says of its choice. Words that fit have the form of a frame.
+    #[inline(always)]
+    fn inlet_of(&self, fitting: bool, own: &Words, child: &Words) -> InletAct {
+        if !fitting {
+            return self.inlet(own, child);
+        }
         inlet_under(&view(own), &view(child))
     }
 
-    /// The answer's score and choice, and the frame, which has the form of one, is done.
-    fn accept_fitting(&self, own: &Words, answer: &LeafAnswer) -> Stores {
-        let _ = own;
+    /// The answer's score and choice, and the frame is done. Words that fit have the form of a frame.
+    #[inline(always)]
+    fn accept_of(&self, fitting: bool, own: &Words, answer: &LeafAnswer) -> Stores {
+        if !fitting {
+            return self.accept(own, answer);
+        }
         answered(answer)
     }
 

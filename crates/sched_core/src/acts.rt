@@ -11,7 +11,6 @@ ghost use Rattle.sched_store.specs.Reads.{sight_of, words_under, frames_in, is_b
 ghost use Rattle.sched_core.specs.Keeping.{IsFitting};
 ghost use Rattle.sched_core.specs.Seeing.{IsSeen, IsRunning, IsReturnedUnder};
 
-use crate::asking::accept;
 use crate::decide::{first_of, is_computed_by, is_outside, is_returned, is_run_by, may_act};
 use crate::engine::{Engine, Found, Seen, known, look_in, own};
 use cactus_stack::Words;
@@ -63,7 +62,7 @@ impl<P: Procedure, A: Allocator> Engine<P, A> {
     {
         let found = look_in(&self.store, name)?;
         let seen = found.seen;
-        let stores = accept(&self.procedure, fitting, &found.words, answer);
+        let stores = self.procedure.accept_of(fitting, &found.words, answer);
         first_of(&[
             (
                 !is_computed_by(seen.state, worker.number()),

@@ -13,7 +13,6 @@ ghost use Rattle.sched_core.specs.Seeing.{GoesOn, MayBeTakenIn};
 ghost use Rattle.sched_core.specs.Judging.{IsJudged, IsCome, staying_with};
 
 use crate::acts::{may_do, may_take_in};
-use crate::asking::{inlet, next};
 use crate::decide::is_waiting;
 use crate::engine::{Engine, known, own};
 use frame_table::{FrameId, State};
@@ -54,7 +53,7 @@ impl<P: Procedure, A: Allocator> Engine<P, A> {
         ensures procedure { self.new.procedure ≡ self.old.procedure }
     {
         let found = self.running(worker, name)?;
-        let act = next(&self.procedure, fitting, &found.sight);
+        let act = self.procedure.next_of(fitting, &found.sight);
         may_do(&self.store, name, &found, &act)?;
         let is_root = found.seen.parent.is_none();
         self.store.store_all(name, act.stores.as_slice());
@@ -122,7 +121,7 @@ impl<P: Procedure, A: Allocator> Engine<P, A> {
     {
         let (found, parent) = self.returned(name)?;
         let above = known(&self.store, parent);
-        let act = inlet(&self.procedure, fitting, &above.words, &found.words);
+        let act = self.procedure.inlet_of(fitting, &above.words, &found.words);
         may_take_in(&self.store, worker, &above.words, &act)?;
         let was_waiting = is_waiting(above.state);
         let aborted = take_out(&mut self.store, name, parent, act.abort);

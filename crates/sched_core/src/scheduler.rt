@@ -24,7 +24,7 @@ use tenant_quota::Left;
 #[derive(Drop)]
 pub struct Core<P: Procedure, A: Allocator = Global> {
     engine: Engine<P, A>,
-    // Whether all frames are known to fit: the procedure told so of the root of each taken Submit.
+    // Whether all frames are known to fit: the procedure told so of the root of each Submit that was offered.
     fitting: bool,
 }
 
@@ -75,9 +75,8 @@ impl<P: Procedure, A: Allocator> Core<P, A> {
             → CoreFits (P.fits self.old.procedure) (P.rooted self.old.procedure) (origins_after origins step.now result) self.new.shared }
     {
         let fitting = self.fitting;
-        let answer = self.engine.step(step, fitting);
-        self.fitting = stays_fitting(&self.engine.procedure, fitting, step, &answer);
-        answer
+        self.fitting = stays_fitting(&self.engine.procedure, fitting, step);
+        self.engine.step(step, fitting)
     }
 
     /// Why a step would be refused, where memory isn't wanting; it takes no step and no memory.

@@ -57,28 +57,34 @@ pub trait Procedure {
         false
     }
 
-    /// What `next` answers, of a frame that fits, as do all those above it: it need not look whether
-    /// they do.
-    fn next_fitting(&self, sight: &Sight) -> Act
-        requires { AllFit (fits self.now) sight.now }
+    /// The same answer as that of `next`. Where `fitting` is true the frame fits, as do all those
+    /// above it, and need not be tested.
+    #[inline(always)]
+    fn next_of(&self, fitting: bool, sight: &Sight) -> Act
+        requires { fitting ≡ true → AllFit (fits self.now) sight.now }
         ensures { result ≡ (functions self.now).next sight.now }
     {
+        let _ = fitting;
         self.next(sight)
     }
 
-    /// What `inlet` answers, of a parent and a child that fit.
-    fn inlet_fitting(&self, own: &Words, child: &Words) -> InletAct
-        requires { AllFit (fits self.now) (own.now ∷ child.now ∷ []) }
+    /// The same answer as that of `inlet`. Where `fitting` is true both frames fit.
+    #[inline(always)]
+    fn inlet_of(&self, fitting: bool, own: &Words, child: &Words) -> InletAct
+        requires { fitting ≡ true → AllFit (fits self.now) (own.now ∷ child.now ∷ []) }
         ensures { result ≡ (functions self.now).inlet own.now child.now }
     {
+        let _ = fitting;
         self.inlet(own, child)
     }
 
-    /// What `accept` answers, of a frame that fits.
-    fn accept_fitting(&self, own: &Words, answer: &Self::Answer) -> Stores
-        requires { AllFit (fits self.now) (own.now ∷ []) }
+    /// The same answer as that of `accept`. Where `fitting` is true the frame fits.
+    #[inline(always)]
+    fn accept_of(&self, fitting: bool, own: &Words, answer: &Self::Answer) -> Stores
+        requires { fitting ≡ true → AllFit (fits self.now) (own.now ∷ []) }
         ensures { result ≡ (functions self.now).accept own.now answer.now }
     {
+        let _ = fitting;
         self.accept(own, answer)
     }
 

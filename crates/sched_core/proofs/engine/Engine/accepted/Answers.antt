@@ -4,8 +4,8 @@ use Rattle.sched_core.proofs.Deciding.{passed-on, lost-answer, answer-told}
 use Rattle.sched_core.proofs.Fitting.{own-fits}
 use Rattle.sched_core.proofs.engine.Engine.accepted.Goals as goal
 
-pub accept-stores-requires : goal.accept-stores-requires
-accept-stores-requires g c so =
+pub accept_of-stores-requires : goal.accept_of-stores-requires
+accept_of-stores-requires g c so =
     let s = c.in_ok-found.ensures.frame in
     let procedure = c.args.self.now.procedure in
     rw c.in_ok-found.ensures.words (own-fits (g.P.Procedure.fits procedure) (g.P.Procedure.rooted procedure) c.args.self.now.store c.args.name s.0 s.1 c.in_ok-found.found.seen (c.requires so) s.2)

@@ -1,6 +1,6 @@
 use Rattle.jamboree.specs.Views.{frame_with, statuses_in}
 use Rattle.jamboree.proofs.SightLemmas.{inlet-by-form}
-use Rattle.jamboree.proofs.procedure.JamboreeProcedure.inlet_fitting.Goals as goal
+use Rattle.jamboree.proofs.procedure.JamboreeProcedure.inlet_of.Goals as goal
 
 pub returns : goal.returns
 returns c =

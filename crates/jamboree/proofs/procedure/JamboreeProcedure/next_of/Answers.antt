@@ -2,7 +2,7 @@ use Rattle.std.proofs.Common.{◌∷◌, List, ℕ, Option, sym, ◌∙◌, ap}
 use Rattle.jamboree_rules.specs.Acts.{next_act}
 use Rattle.jamboree.specs.Levels.{above_of}
 use Rattle.jamboree.proofs.SightLemmas.{first-two, first-formed, second-formed}
-use Rattle.jamboree.proofs.procedure.JamboreeProcedure.next_fitting.Goals as goal
+use Rattle.jamboree.proofs.procedure.JamboreeProcedure.next_of.Goals as goal
 
 pub act_in_form-requires-clause-own : goal.act_in_form-requires-clause-own
 act_in_form-requires-clause-own c = first-formed c.args.sight.now c.in-Some.own c.requires (sym c.in-Some.is ∙ c.up.ensures)
