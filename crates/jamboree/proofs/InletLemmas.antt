@@ -83,10 +83,6 @@ other-role FirstChild h = λ (e : 1 ≡ 2). absurd (omega arith)
 other-role Test h = λ e. h refl
 other-role Again h = λ (e : 3 ≡ 2). absurd (omega arith)
 
-pub and-right : (a b : Bool) → b ≡ false → (a && b) ≡ false
-and-right true b e = e
-and-right false b e = refl
-
 pub and-left : (a b : Bool) → a ≡ false → (a && b) ≡ false
 and-left true b e = absurd (cc e)
 and-left false b e = refl

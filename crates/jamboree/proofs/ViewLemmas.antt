@@ -68,7 +68,7 @@ pub frame-same : (h : Head) (statuses : List ℕ) (role : Role) (phase : Phase) 
 frame-same h statuses role phase alpha beta best ea eb er ep es = rw (ea, eb, er, ep, es) refl
 
 -- the first words stand in the first segment
-pub front-word : (w front : List ℕ) → front ≡ take 16 w → (k : ℕ) → k < 16 → slice_index front k ≡ slice_index w k
+front-word : (w front : List ℕ) → front ≡ take 16 w → (k : ℕ) → k < 16 → slice_index front k ≡ slice_index w k
 front-word w front is k inside = ap (λ (xs : List ℕ). slice_index xs k) is ∙ get_or-take 16 w k 0 inside
 
 pub front-head : (w front : List ℕ) → front ≡ take 16 w → head_of front ≡ head_of w

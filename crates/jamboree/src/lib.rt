@@ -6,7 +6,8 @@
 //! is called outside the scheduler's lock), and what it stores of the answer. What these acts are is
 //! written in `jamboree_rules`, over a frame's board, window, phase and statuses; the code reads a
 //! frame's words once into a typed view (`view`, the one module that knows places) and answers with
-//! just these acts. Words that have not the form of a frame return, and their inlet only wakes.
+//! just these acts. Words that have not the form of a frame return, and their inlet only wakes; of frames
+//! that are known to fit the form isn't tested.
 //!
 //! `Jamboree` is a lawful procedure: whatever the order of spawns, steals, inlets and aborts, each
 //! frame fits its children (`AreFitting`), and the words that a job keeps of its returned root give a

@@ -54,7 +54,7 @@ fn computes() -> Act
 
 /// The next act of a new frame, whose board is this: it is computed outside near the leaves and
 /// where the game is over; else its choices are counted.
-fn opening(grain: u8, frame: &View, board: Board) -> Act
+pub(crate) fn opening(grain: u8, frame: &View, board: Board) -> Act
     ensures { result ≡ opening_on grain (frame_in frame.now) board.own board.opp }
 {
     let count = choice_count(board);
@@ -182,7 +182,7 @@ fn test(frame: &View, number: usize) -> Act
 }
 
 /// The next act of a frame that knows its board, in these words.
-fn later_act(frame: &View, words: &Words) -> Act
+pub(crate) fn later_act(frame: &View, words: &Words) -> Act
     requires later { (frame_in frame.now).phase ≢ 0 }
     requires entries { length words.now ≡ 12 + frame.now.count }
     ensures { (grain : ℕ) (parent : Option Frame) → result ≡ act_of grain (frame_with frame.now (statuses_in words.now)) parent }
@@ -206,18 +206,13 @@ pub(crate) fn root_act(grain: u8, frame: &View, words: &Words) -> Act
     }
 }
 
-/// The next act of a child of this parent, in these words.
+/// The board of a new child of this parent: the one after its choice.
 #[inline(always)]
-pub(crate) fn child_act(grain: u8, frame: &View, words: &Words, parent: &View) -> Act
-    requires may_be { may_be_child (frame_in parent.now) (frame_in frame.now) ≡ true }
-    requires entries { length words.now ≡ 12 + frame.now.count }
-    ensures { (others : List ℕ) → result ≡ act_of grain (frame_with frame.now (statuses_in words.now)) (Some (frame_with parent.now others)) }
+pub(crate) fn board_under(frame: &View, parent: &View) -> Board
+    requires { may_be_child (frame_in parent.now) (frame_in frame.now) ≡ true }
+    ensures { (grain : ℕ) (others statuses : List ℕ) → (frame_in frame.now).phase ≡ 0 →
+        opening_on grain (frame_with frame.now statuses) result.own result.opp ≡ act_of grain (frame_with frame.now statuses) (Some (frame_with parent.now others)) }
 {
-    match frame.phase {
-        Phase::New => {
-            let chosen = choice(parent.board, frame.number as usize);
-            return opening(grain, frame, after(parent.board, chosen));
-        }
-        _ => return later_act(frame, words),
-    }
+    let chosen = choice(parent.board, frame.number as usize);
+    after(parent.board, chosen)
 }

@@ -12,7 +12,7 @@ ghost use Rattle.jamboree.specs.Views.{frame_in, frame_with, statuses_in};
 use crate::codes::coded;
 use crate::frame::View;
 use crate::inlet::{takes_in, wakes};
-use crate::next::{child_act, returns, root_act};
+use crate::next::{board_under, later_act, opening, returns, root_act};
 use crate::phases::{Phase, Role};
 use crate::view::{Changes, SIZE, are_root_words, is_formed, read_leaf, view};
 use cactus_stack::{Sight, Words};
@@ -89,7 +89,12 @@ fn act_under(grain: u8, frame: &View, own: &Words, parent: &View) -> Act
     if !frame.may_be_under(parent) {
         return returns();
     }
-    child_act(grain, frame, own, parent)
+    match frame.phase {
+        Phase::New => {
+            return opening(grain, frame, board_under(frame, parent));
+        }
+        _ => return later_act(frame, own),
+    }
 }
 
 /// The next act of a frame in these words under a parent in those: only a child of it has one.
@@ -114,20 +119,6 @@ fn act_tested(grain: u8, own: &Words, parent: Option<Words>) -> Act
     match parent {
         Some(above) => act_below(grain, &frame, own, &above),
         None => act_alone(grain, &frame, own),
-    }
-}
-
-/// The same where both have the form of a frame.
-#[inline(always)]
-fn act_in_form(grain: u8, own: &Words, parent: Option<Words>) -> Act
-    requires own { is_formed own.now ≡ true }
-    requires above { IfSome parent (λ words. is_formed words ≡ true) }
-    ensures { result ≡ next_act grain (own.now ∷ above_of parent.entry) }
-{
-    let frame = view(own);
-    match parent {
-        Some(above) => return act_under(grain, &frame, own, &view(&above)),
-        None => return act_alone(grain, &frame, own),
     }
 }
 
@@ -195,7 +186,13 @@ impl Procedure for Jamboree {
             return self.next(sight);
         }
         match sight.up(0) {
-            Some(own) => return act_in_form(self.grain, &own, sight.up(1)),
+            Some(own) => {
+                let frame = view(&own);
+                match sight.up(1) {
+                    Some(above) => return act_under(self.grain, &frame, &own, &view(&above)),
+                    None => return act_alone(self.grain, &frame, &own),
+                }
+            }
             None => return returns(),
         }
     }

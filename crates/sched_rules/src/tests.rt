@@ -36,6 +36,8 @@ fn limits(rt: HostRuntime) -> Result<(), Fail> {
     let given = GivenWords::new(&[1, 2, 3, 4, 5, 6, 7, 8]).ok_or("8 words")?;
     assert_eq!(rt; given.as_slice(), [1, 2, 3, 4, 5, 6, 7, 8].as_slice());
     assert_eq!(rt; GivenWords::one(9).as_slice(), [9].as_slice());
+    let eight = GivenWords::eight([1, 2, 3, 4, 5, 6, 7, 8]);
+    assert_eq!(rt; eight.as_slice(), given.as_slice());
     Ok(())
 }
 

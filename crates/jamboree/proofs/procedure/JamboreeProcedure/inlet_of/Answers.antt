@@ -6,5 +6,5 @@ pub returns : goal.returns
 returns c =
     let w = c.args.own.now in
     let d = c.args.child.now in
-    inlet-by-form w d (frame_with c.view.result (statuses_in w)) (frame_with c.view-2.result (statuses_in d)) _ c.requires.0.2.formed c.requires.1.0.2.formed c.view.ensures.frame c.view-2.ensures.frame
+    inlet-by-form w d (frame_with c.view.result (statuses_in w)) (frame_with c.view-2.result (statuses_in d)) _ (c.requires c.if-not-fitting.false).0.2.formed (c.requires c.if-not-fitting.false).1.0.2.formed c.view.ensures.frame c.view-2.ensures.frame
     (c.inlet_under.ensures (statuses_in w) (statuses_in d))

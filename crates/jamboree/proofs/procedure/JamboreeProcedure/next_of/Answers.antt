@@ -1,15 +1,37 @@
-use Rattle.std.proofs.Common.{◌∷◌, List, ℕ, Option, sym, ◌∙◌, ap}
-use Rattle.jamboree_rules.specs.Acts.{next_act}
+use Rattle.std.specs.Prelude.{◌≡◌, ◌==◌, ◌∷◌, List, ℕ, Option, Some, None, slice_get, if◌then◌else◌}
+use Rattle.std.proofs.Common.{sym, ◌∙◌, ap}
+use Rattle.jamboree_rules.specs.Frames.{Frame}
+use Rattle.jamboree_rules.specs.Acts.{returns, act_of, next_act}
 use Rattle.jamboree.specs.Levels.{above_of}
-use Rattle.jamboree.proofs.SightLemmas.{first-two, first-formed, second-formed}
+use Rattle.jamboree.specs.Views.{frame_with, statuses_in}
+use Rattle.jamboree.proofs.SightLemmas.{first-two, first-formed, second-formed, act-by-form, act-under-none}
 use Rattle.jamboree.proofs.procedure.JamboreeProcedure.next_of.Goals as goal
 
-pub act_in_form-requires-clause-own : goal.act_in_form-requires-clause-own
-act_in_form-requires-clause-own c = first-formed c.args.sight.now c.in-Some.own c.requires (sym c.in-Some.is ∙ c.up.ensures)
+pub view-frame-requires : goal.view-frame-requires
+view-frame-requires c = first-formed c.args.sight.now c.in-Some.own (c.requires c.if-not-fitting.false) (sym c.in-Some.is ∙ c.up.ensures)
 
-pub act_in_form-requires-clause-above : goal.act_in_form-requires-clause-above
-act_in_form-requires-clause-above c = second-formed c.args.sight.now c.up-in-Some.result c.requires c.up-in-Some.ensures
+pub view-requires : goal.view-requires
+view-requires c = second-formed c.args.sight.now (Some c.in-Some-up.above) (c.requires c.if-not-fitting.false) (sym c.in-Some-up.is ∙ c.up-in-Some.ensures)
 
-pub returns-in-Some : goal.returns-in-Some
-returns-in-Some c =
-    c.act_in_form.ensures ∙ ap (λ (o : Option (List ℕ)). next_act c.args.self.now.grain (c.in-Some.own ∷ above_of o)) c.up-in-Some.ensures ∙ first-two c.args.self.now.grain c.args.sight.now c.in-Some.own (sym c.in-Some.is ∙ c.up.ensures)
+pub returns-in-Some-up : goal.returns-in-Some-up
+returns-in-Some-up c =
+    let grain = c.args.self.now.grain in
+    let sight = c.args.sight.now in
+    let own = c.in-Some.own in
+    let above = c.in-Some-up.above in
+    let first : Some own ≡ slice_get sight 0 = sym c.in-Some.is ∙ c.up.ensures in
+    let second : Some above ≡ slice_get sight 1 = sym c.in-Some-up.is ∙ c.up-in-Some.ensures in
+    act-by-form grain own above (frame_with c.view-frame.result (statuses_in own)) (frame_with c.view.result (statuses_in above)) _ (first-formed sight own (c.requires c.if-not-fitting.false) first) (second-formed sight (Some above) (c.requires c.if-not-fitting.false) second) c.view-frame.ensures.frame c.view.ensures.frame
+    (c.act_under.ensures (statuses_in above))
+    ∙ ap (λ (o : Option (List ℕ)). next_act grain (own ∷ above_of o)) second ∙ first-two grain sight own first
+
+pub returns-in-None-up : goal.returns-in-None-up
+returns-in-None-up c =
+    let grain = c.args.self.now.grain in
+    let sight = c.args.sight.now in
+    let own = c.in-Some.own in
+    let f = frame_with c.view-frame.result (statuses_in own) in
+    let first : Some own ≡ slice_get sight 0 = sym c.in-Some.is ∙ c.up.ensures in
+    act-under-none grain own f _ (first-formed sight own (c.requires c.if-not-fitting.false) first) c.view-frame.ensures.frame
+    (c.act_alone.ensures ∙ ap (λ (g : Frame). if g.role == 0 then act_of grain f None else returns) c.view-frame.ensures.frame)
+    ∙ ap (λ (o : Option (List ℕ)). next_act grain (own ∷ above_of o)) (sym c.in-None-up.is ∙ c.up-in-Some.ensures) ∙ first-two grain sight own first

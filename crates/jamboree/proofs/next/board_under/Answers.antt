@@ -1,0 +1,9 @@
+use Rattle.std.proofs.Common.{arith, refl}
+use Rattle.jamboree.specs.Views.{frame_with}
+use Rattle.jamboree.proofs.ActLemmas.{child-opens}
+use Rattle.jamboree.proofs.next.board_under.Goals as goal
+
+pub returns : goal.returns
+returns c grain others statuses phase =
+    let b = c.after.result in
+    child-opens grain (frame_with c.args.frame.now statuses) (frame_with c.args.parent.now others) b.own b.opp c.choice-chosen.result _ refl phase c.choice-chosen.ensures.value c.after.ensures (omega arith) (omega arith) b.disjoint
