@@ -52,9 +52,7 @@ impl<L: Hands> Desk<L> {
             if let Some(kept) = self.lock.try_lock() {
                 return kept;
             }
-            for _ in 0..PAUSES {
-                spin_loop();
-            }
+            pause();
         }
         self.lock.lock(rt)
     }
@@ -203,5 +201,12 @@ impl<L: Hands> Desk<L> {
     {
         let Desk { lock, .. } = self;
         lock.into_inner().closed(badge)
+    }
+}
+
+/// Lets the time between two looks go by.
+fn pause() {
+    for _ in 0..PAUSES {
+        spin_loop();
     }
 }
