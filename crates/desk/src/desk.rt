@@ -11,9 +11,18 @@ use crate::shares::{Badge, Hands, PARTS};
 use frame_table::FrameId;
 use hall::{Did, Hall, Jamboree, Outcome, Refusal, Step};
 use position_text::Position;
+use std::hint::spin_loop;
 use std::sync::ledger::Blank;
-use std::sync::{Condvar, Mutex, Wait};
+use std::sync::{Condvar, Mutex, MutexGuard, Wait};
 use tenant_quota::{Left, Reserve};
+
+/// How often a thread looks at the lock before it sleeps for it.
+const LOOKS: u32 = 12;
+
+/// How many pauses of the processor lie between two looks: some 4 microseconds, about twenty steps. So
+/// whoever has the lock mostly takes several steps before another looks, while what they touch is near
+/// its processor.
+const PAUSES: u32 = 256;
 
 /// The lock with the hall in it.
 #[derive(Drop)]
@@ -36,13 +45,25 @@ impl<L: Hands> Desk<L> {
         }
     }
 
+    /// The hall, locked. A step holds the lock for less time than a sleep and a wake take, so a thread
+    /// that finds it taken looks again a few times before it sleeps.
+    fn enter<R: Wait>(&self, rt: &R) -> MutexGuard<'_, Kept<L>> {
+        for _ in 0..LOOKS {
+            if let Some(kept) = self.lock.try_lock() {
+                return kept;
+            }
+            pause();
+        }
+        self.lock.lock(rt)
+    }
+
     /// Admits a tenant under the number after the greatest so far: its seat, whose share is 1. Refused at most as
     /// `Full`, `OutOfMemory`, and `OldTenant` after 2^62 tenants.
     pub fn admit<R: Wait>(&self, rt: &R, reserve: Reserve) -> Result<Seat<L>, Refusal>
         ensures seat { IfOk result (λ seat. (seat.share ≡ 1) × (seat.asked ≡ [])) }
         ensures refused { IfErr result (Contains admit_refusals) }
     {
-        self.lock.lock(rt).admit(reserve)
+        self.enter(rt).admit(reserve)
     }
 
     /// Asks for the value of a position to a depth of 0 to 12 plies: the number of the job, which is
@@ -59,7 +80,7 @@ impl<L: Hands> Desk<L> {
         ensures asked { IsAsked (record { board = position.now.board; depth = depth }) seat.old result seat.new }
         ensures refused { IfErr result (Contains ask_refusals) }
     {
-        let job = self.lock.lock(rt).ask(seat, position, depth)?;
+        let job = self.enter(rt).ask(seat, position, depth)?;
         self.ready.notify_one();
         Ok(job)
     }
@@ -69,7 +90,7 @@ impl<L: Hands> Desk<L> {
     pub fn get<R: Wait>(&self, rt: &R, seat: &Seat<L>, job: u64) -> Result<Outcome, Refusal>
         ensures { IsShown (asked_at seat.now.asked job) result }
     {
-        self.lock.lock(rt).get(seat, job)
+        self.enter(rt).get(seat, job)
     }
 
     /// What became of a job once it has ended, or the desk was closed; refused as `get` is.
@@ -77,11 +98,9 @@ impl<L: Hands> Desk<L> {
         ensures { IsShown (asked_at seat.now.asked job) result }
     {
         let tenant = seat.tenant();
-        let kept = self.ended.wait_while(
-            rt,
-            self.lock.lock(rt),
-            |kept| kept.is_pending(tenant, job),
-        );
+        let kept = self
+            .ended
+            .wait_while(rt, self.enter(rt), |kept| kept.is_pending(tenant, job));
         kept.get(seat, job)
     }
 
@@ -92,7 +111,7 @@ impl<L: Hands> Desk<L> {
         ensures none { asked_at seat.old.asked job ≡ None → result ≡ Err NoJob }
         ensures refused { IfErr result (Contains cancel_refusals) }
     {
-        self.lock.lock(rt).cancel(seat, job)?;
+        self.enter(rt).cancel(seat, job)?;
         self.ended.notify_all();
         Ok(())
     }
@@ -101,21 +120,21 @@ impl<L: Hands> Desk<L> {
     pub fn quota<R: Wait>(&self, rt: &R, seat: &Seat<L>) -> Result<Left, Refusal>
         ensures { IfErr result (λ refusal. refusal ≡ NoTenant) }
     {
-        self.lock.lock(rt).quota(seat.tenant())
+        self.enter(rt).quota(seat.tenant())
     }
 
     /// How many frames the seat's tenant has, and how many words they have. Refused at most as `NoTenant`.
     pub fn live<R: Wait>(&self, rt: &R, seat: &Seat<L>) -> Result<(usize, usize), Refusal>
         ensures { IfErr result (λ refusal. refusal ≡ NoTenant) }
     {
-        self.lock.lock(rt).live(seat.tenant())
+        self.enter(rt).live(seat.tenant())
     }
 
     /// The seat's tenant leaves, and its jobs, frames and reservation are gone. Its share stays with the hall.
     pub fn leave<R: Wait>(&self, rt: &R, seat: Seat<L>)
         requires { L.all ≡ L.parts }
     {
-        self.lock.lock(rt).leave(seat);
+        self.enter(rt).leave(seat);
         self.ended.notify_all();
     }
 
@@ -123,7 +142,7 @@ impl<L: Hands> Desk<L> {
     pub fn badge<R: Wait>(&self, rt: &R) -> Option<Badge<L>>
         ensures { IfSome result (λ badge. badge ≡ 0) }
     {
-        self.lock.lock(rt).badge()
+        self.enter(rt).badge()
     }
 
     /// Offers a worker's step: what it did, or why it is refused. The badge's share is raised by 1
@@ -143,7 +162,7 @@ impl<L: Hands> Desk<L> {
             for _ in rt.forever() {}
             unreachable!()
         }
-        let did = self.lock.lock(rt).offer(badge, step)?;
+        let did = self.enter(rt).offer(badge, step)?;
         match Ends::of(&did) {
             Ends::Nothing => {}
             Ends::InReady => self.ready.notify_one(),
@@ -157,21 +176,21 @@ impl<L: Hands> Desk<L> {
     pub fn next_ready<R: Wait>(&self, rt: &R) -> Option<(FrameId, u8)> {
         let kept = self
             .ready
-            .wait_while(rt, self.lock.lock(rt), |kept| !kept.has_news());
+            .wait_while(rt, self.enter(rt), |kept| !kept.has_news());
         kept.next_ready()
     }
 
     /// Nobody waits from now on: `next_ready` answers `None`, and `wait` what `get` does. All other
     /// calls go on as before.
     pub fn close<R: Wait>(&self, rt: &R) {
-        self.lock.lock(rt).close();
+        self.enter(rt).close();
         self.ready.notify_all();
         self.ended.notify_all();
     }
 
     /// All steps that were taken since the hall was new.
     pub fn count<R: Wait>(&self, rt: &R) -> u128 {
-        self.lock.lock(rt).count()
+        self.enter(rt).count()
     }
 
     /// The hall, when no thread has the desk any more, and whether all shares are here: then all steps
@@ -182,5 +201,12 @@ impl<L: Hands> Desk<L> {
     {
         let Desk { lock, .. } = self;
         lock.into_inner().closed(badge)
+    }
+}
+
+/// Lets the time between two looks go by.
+fn pause() {
+    for _ in 0..PAUSES {
+        spin_loop();
     }
 }

@@ -161,6 +161,7 @@ impl<A: Allocator> Hall<A> {
     }
 
     /// Takes a step of a tenant, neither an admission nor a Leave, and writes it into its journal.
+    #[inline(always)]
     fn go_on(&mut self, number: u64, step: &Step<Jamboree>) -> Result<Did<Jamboree>, Refusal>
     where
         A: Clone,
