@@ -1,0 +1,9 @@
+use Rattle.std.proofs.Common.{[], ◌∷◌, refl, inl, inr}
+use Rattle.task_deques.specs.Rows.{seat}
+use Rattle.task_deques.proofs.rows.tasks_are_taken.Goals as goal
+
+pub returns : goal.returns
+returns c = record {
+  own = λ one two. inl refl;
+  stolen = λ one two. inr (refl, (seat one 1 [] [] ∷ [], seat two 1 [] [], [], refl, refl));
+}
