@@ -2,10 +2,10 @@
 use Rattle.std.proofs.Common.{◌≡◌, ℕ, zero, suc, ◌+◌, ◌-◌, ◌<◌, List, [], ◌∷◌, ◌++◌, set, sym, refl, ap, ◌∙◌, arith}
 use mathlib.Core.Option.{some, some-injective, some-ne-none}
 use lib.ListN.{get_elem?}
-use Rattle.crossbeam_deque.specs.Tasks.{Pushes, Takes, Pops, Forks, Merges, Learns}
+use Rattle.crossbeam_deque.specs.Tasks.{Pushes, Takes, Pops, Finds, Forks, Merges, Learns}
 use Rattle.task_deques.specs.declared.rule.Tally.{Tally}
 use Rattle.pool_rules.specs.declared.task.Task.{Task}
-use Rattle.task_deques.specs.Tallies.{tally, weigh, IsEachOnce}
+use Rattle.task_deques.specs.Tallies.{tally, weigh, IsEmptied, IsEachOnce}
 use Rattle.task_deques.proofs.TallyLemmas.{weigh-append, total-snoc, total-set, alone, idle_set, idle_snoc}
 
 pub begins : IsEachOnce [] (tally 64 [] [] ∷ [])
@@ -73,10 +73,13 @@ merges port v other u some_part items views b at two at' =
       idle_set vs other spent (λ _. (refl, refl)) (idle_set views port both (λ none. absurd (omega arith)) b.2),
     )
 
-pub learns : (port : ℕ) (v : Tally) → v.parts ≡ 64 → Learns IsEachOnce port v (λ items. (h : Task → ℕ) → weigh h v.pushed ≡ weigh h v.taken + weigh h items)
-learns port v all items views b at h =
+pub learns : (port : ℕ) (v : Tally) → Learns IsEachOnce port v (λ items. v.parts ≡ 64 → (h : Task → ℕ) → weigh h v.pushed ≡ weigh h v.taken + weigh h items)
+learns port v items views b at all h =
     let whole = b.0 ∙ sym all in
     let s = alone (λ u. weigh h u.pushed) views port v at whole (λ j u e none. ap (weigh h) (b.2 j u e none).0) in
     let t = alone (λ u. weigh h u.taken) views port v at whole (λ j u e none. ap (weigh h) (b.2 j u e none).1) in
     let p = b.1 h in
     omega arith
+
+pub finds : (port : ℕ) (v : Tally) → Finds IsEachOnce port v (v.parts ≡ 64 → IsEmptied v)
+finds port v views b at all h = let p = learns port v [] views b at all h in omega arith
