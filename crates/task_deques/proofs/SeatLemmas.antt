@@ -9,8 +9,9 @@ use Rattle.task_deques.specs.declared.owner.Owner.{Owner}
 use Rattle.task_deques.specs.declared.thief.Thief.{Thief}
 use Rattle.task_deques.specs.declared.ends.Ends.{Ends}
 use Rattle.task_deques.specs.Tallies.{tally}
-use Rattle.task_deques.specs.Seats.{Deque, Seat, owner_seat, thief_seat, with_taken, with_part_cut, new_thief}
-use Rattle.task_deques.specs.Deals.{WorkerSeats, Posts, owner_seats, thief_seats, deques, worker_seats, posts_of, posts, IsStolen, IsDealt, IsWhole, fresh_with, beside}
+use Rattle.task_deques.specs.Seats.{Deque, Seat, owner_seat, owner_room, thief_seat, with_taken, with_part_cut, new_thief}
+use Rattle.task_deques.specs.Deals.{WorkerSeats, Posts, owner_seats, thief_seats, deques, worker_seats, worker_room, posts_of, posts, IsStolen, IsDealt, IsWhole, fresh_with, beside}
+use Rattle.task_deques.proofs.JoinLemmas.{all_unmapped}
 
 -- the seat at a place steals
 stolen_at : (task : Task) (seats : List Seat) (place : ℕ) (d : Seat) → place < length seats → IsStolen task seats (set seats place (with_taken task (get_or seats place d)))
@@ -82,6 +83,15 @@ gives all ends own old rest thieves owners its steps so_far =
     ∙ append_assoc (map worker_seats all) (worker_seats ends ∷ []) left
     ∙ ap (λ (w : WorkerSeats). map worker_seats all ++ (w ∷ left)) its
     ∙ ap (λ (l : List Owner). map worker_seats all ++ map (beside thieves) (owner_seats l)) (sym steps)
+    ∙ so_far
+
+-- and its room
+pub gives_room : (all : List Ends) (ends : Ends) (old rest : List Owner) (rooms : List ℕ) → old ≡ ends.own ∷ rest →
+    map worker_room all ++ map owner_room old ≡ rooms → map worker_room (all ++ ends ∷ []) ++ map owner_room rest ≡ rooms
+gives_room all ends old rest rooms steps so_far =
+    ap (λ (l : List ℕ). l ++ map owner_room rest) (map_push worker_room all ends)
+    ∙ append_assoc (map worker_room all) (worker_room ends ∷ []) (map owner_room rest)
+    ∙ ap (λ (l : List Owner). map worker_room all ++ map owner_room l) (sym steps)
     ∙ so_far
 
 -- the seats of new deques have all parts
@@ -164,6 +174,13 @@ ends_dealt count made owners all len few are is =
       dealt_ends (64 - count) (owner_seats made) (owner_seats owners) (map worker_seats all) are (ap (λ n. 64 - n) seats) is,
       whole_ends (64 - count) (owner_seats made) (owner_seats owners) all are (omega arith) is,
     )
+
+-- with the room of the owners of new deques
+pub room_dealt : (room : ℕ) (made owners : List Owner) (all : List Ends) → All (λ owner. owner_room owner ≡ room) made → map owner_room owners ≡ map owner_room made →
+    map worker_room all ≡ map owner_room owners → All (λ ends. worker_room ends ≡ room) all
+room_dealt room made owners all each are is =
+    let IsRoom : ℕ → Type 0 = λ n. n ≡ room in
+    all_unmapped IsRoom worker_room all (subst (All IsRoom) (sym (is ∙ are)) (All-map IsRoom owner_room made each))
 
 -- the seat of an owner in a list whose seats are known
 pub seat_at : (owners : List Owner) (seats : List Seat) (place : ℕ) (x : Owner) → place < length owners → x ≡ get_or owners place x → owner_seats owners ≡ seats → get_or seats place (owner_seat x) ≡ owner_seat x

@@ -1,5 +1,6 @@
 use Rattle.std.proofs.Common.{◌<◌, List, length, ap, ◌∙◌, arith, rules}
-use Rattle.task_deques.specs.Seats.{Seat, owner_seat, with_part_cut, new_thief}
+use Rattle.std.proofs.Math.Seq.{map-set_same}
+use Rattle.task_deques.specs.Seats.{Seat, owner_seat, owner_room, with_part_cut, new_thief}
 use Rattle.task_deques.specs.Deals.{owner_seats}
 use Rattle.task_deques.proofs.SeatLemmas.{owner_at, owner_gives, cut_at, row_push}
 use Rattle.task_deques.proofs.dealing.row.Goals as goal
@@ -27,4 +28,5 @@ loop-place-preserved c =
       omega (arith, c.push_reserved.ensures.capacity),
       search rules,
       search rules,
+      map-set_same owner_room at.owners.items at.place c.thief.new.self x (c.thief.ensures.room ∙ ap owner_room c.index_mut.ensures.value) ∙ c.loop-place.invariant.6,
     )
