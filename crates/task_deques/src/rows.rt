@@ -1,5 +1,6 @@
 //! The definitions of seats, tried on two workers: each contract is computed from the definitions alone.
 ghost use Rattle.std.specs.Prelude.{◌≡◌, [], ◌∷◌, map, All};
+ghost use Rattle.task_deques.specs.Tallies.{tally, IsEmptied};
 ghost use Rattle.task_deques.specs.Seats.{Deque};
 ghost use Rattle.task_deques.specs.Deals.{posts_of, with_row, whole_deques, IsDealt, IsWhole, IsTaken, IsAccounted};
 ghost use Rattle.task_deques.specs.Rows.{task, seat, two_thieves, new_worker, two_workers, played};
@@ -18,7 +19,8 @@ pub fn two_workers_are_dealt()
     ensures still { (one two : Deque) → IsWhole (map posts_of (played one two)) }
 {}
 
-/// A worker takes a task of its own deque, and steals one of the other's.
+/// A worker takes a task of its own deque, and steals one of the other's. A deque is emptied where all
+/// that was pushed was taken, in any order.
 pub fn tasks_are_taken()
     ensures own { (one two : Deque) → IsTaken (task 3)
         (record { own = seat one 62 (task 1 ∷ task 3 ∷ []) []; thieves = two_thieves one two })
@@ -26,6 +28,8 @@ pub fn tasks_are_taken()
     ensures stolen { (one two : Deque) → IsTaken (task 1)
         (new_worker 62 one (two_thieves one two))
         (new_worker 62 one (seat one 1 [] [] ∷ seat two 1 [] (task 1 ∷ []) ∷ [])) }
+    ensures emptied { IsEmptied (tally 64 (task 1 ∷ task 3 ∷ []) (task 3 ∷ task 1 ∷ [])) }
+    ensures one_left { IsEmptied (tally 64 (task 1 ∷ task 3 ∷ []) (task 3 ∷ [])) → ⊥ }
 {}
 
 /// A row of thieves' seats is joined to the owners' at the same places. With all rows joined, what was
