@@ -3,7 +3,7 @@ ghost use Rattle.std.specs.Prelude.{◌≡◌, ◌+◌};
 
 use crate::gate::Gate;
 use crate::tasks::Shared;
-use crate::threads::{Stock, run_all};
+use crate::threads::{Site, Stock, run_all};
 use desk::{Badge, Desk, Hands};
 use sched_rules::Worker;
 use std::alloc::Global;
@@ -104,7 +104,17 @@ pub(crate) fn run_pool_of<L: Hands + Send + Sync, G: Gate + Sync, R: Threads + W
         rt,
         |scope|
             requires { L.all ≡ L.parts }
-        { run_all(scope, rt, desk, &shared, gate, stock, sizes.stack) },
+        {
+            let site = Site {
+                scope,
+                rt,
+                desk,
+                shared: &shared,
+                gate,
+                stack: sizes.stack,
+            };
+            run_all(&site, stock)
+        },
     )?;
     let sums = end.back.sums();
     Ok(PoolEnd {

@@ -61,6 +61,18 @@ impl<L: Hands> Stock<L> {
     }
 }
 
+/// What all workers of a pool work at, and what their threads are started with.
+#[derive(Drop)]
+pub(crate) struct Site<'s, E, L: Hands, G, R> {
+    pub(crate) scope: &'s Scope<'s, E>,
+    pub(crate) rt: &'s R,
+    pub(crate) desk: &'s Desk<L>,
+    pub(crate) shared: &'s Shared,
+    pub(crate) gate: &'s G,
+    /// The size of a thread's stack in bytes, or else the usual one.
+    pub(crate) stack: Option<usize>,
+}
+
 /// What workers leave: their badges, joined, and the ends of all deques.
 #[derive(Drop)]
 pub(crate) struct Worked<L: Hands> {
@@ -72,13 +84,8 @@ pub(crate) struct Worked<L: Hands> {
 /// Starts all workers and waits for them. Where one can't be had it closes the desk, waits for those
 /// that it started, and answers why.
 pub(crate) fn run_all<'s, E, L: Hands + Send + Sync, G: Gate + Sync, R: Threads + Wait + Sync>(
-    scope: &'s Scope<'s, E>,
-    rt: &'s R,
-    desk: &'s Desk<L>,
-    shared: &'s Shared,
-    gate: &'s G,
+    site: &Site<'s, E, L, G, R>,
     stock: Stock<L>,
-    stack: Option<usize>,
 ) -> Result<Worked<L>, PoolFault>
     requires { L.all ≡ L.parts }
 {
@@ -89,11 +96,11 @@ pub(crate) fn run_all<'s, E, L: Hands + Send + Sync, G: Gate + Sync, R: Threads 
     } = stock;
     let mut back = back;
     let mut handles = handles;
-    let started = start_all(scope, rt, desk, shared, gate, dealt, stack, &mut handles);
+    let started = start_all(site, dealt, &mut handles);
     if started.is_err() {
-        desk.close(rt);
+        site.desk.close(site.rt);
     }
-    let badge = join_all(rt, handles, &mut back);
+    let badge = join_all(site.rt, handles, &mut back);
     match (started, badge) {
         (Ok(()), Some(badge)) => Ok(Worked { badge, back }),
         (Ok(()), None) => Err(PoolFault::NoThread),
@@ -103,13 +110,8 @@ pub(crate) fn run_all<'s, E, L: Hands + Send + Sync, G: Gate + Sync, R: Threads 
 
 /// Starts a worker for each of the ends, from 1 on, as far as it can.
 fn start_all<'s, E, L: Hands + Send + Sync, G: Gate + Sync, R: Wait + Sync>(
-    scope: &'s Scope<'s, E>,
-    rt: &'s R,
-    desk: &'s Desk<L>,
-    shared: &'s Shared,
-    gate: &'s G,
+    site: &Site<'s, E, L, G, R>,
     dealt: Vec<Ends>,
-    stack: Option<usize>,
     handles: &mut Vec<Handle<L>>,
 ) -> Result<(), PoolFault>
     requires none { vec_len handles.old ≡ 0 }
@@ -124,7 +126,7 @@ fn start_all<'s, E, L: Hands + Send + Sync, G: Gate + Sync, R: Wait + Sync>(
         let Some(worker) = Worker::new(number) else {
             return Err(PoolFault::NoThread);
         };
-        let handle = start(scope, rt, desk, shared, gate, worker, ends, stack)?;
+        let handle = start(site, worker, ends)?;
         handles.push_reserved(handle);
     }
     Ok(())
@@ -132,17 +134,20 @@ fn start_all<'s, E, L: Hands + Send + Sync, G: Gate + Sync, R: Wait + Sync>(
 
 /// Starts a worker.
 fn start<'s, E, L: Hands + Send + Sync, G: Gate + Sync, R: Wait + Sync>(
-    scope: &'s Scope<'s, E>,
-    rt: &'s R,
-    desk: &'s Desk<L>,
-    shared: &'s Shared,
-    gate: &'s G,
+    site: &Site<'s, E, L, G, R>,
     worker: Worker,
     ends: Ends,
-    stack: Option<usize>,
 ) -> Result<Handle<L>, PoolFault>
     ensures { IfOk result (λ handle. posts handle.promise.0.value ≡ posts ends) }
 {
+    let Site {
+        scope,
+        rt,
+        desk,
+        shared,
+        gate,
+        stack,
+    } = *site;
     let Some(badge) = desk.badge(rt) else {
         return Err(PoolFault::NoThread);
     };

@@ -1,12 +1,12 @@
 -- The seats of thieves are joined to the owners'.
-use Rattle.std.proofs.Common.{◌≡◌, ℕ, zero, suc, ◌+◌, ◌<◌, ◌≤◌, List, [], ◌∷◌, ◌++◌, length, map, take, drop, set, get_or, All, sym, refl, ap, ◌∙◌, subst, arith, add-one}
+use Rattle.std.proofs.Common.{◌≡◌, ℕ, zero, suc, ◌+◌, ◌<◌, ◌≤◌, List, [], ◌∷◌, ◌++◌, length, map, take, drop, set, get_or, All, sym, refl, ap, ◌∙◌, subst, arith, add-one, vec_len}
 use Rattle.std.proofs.lemmas.List.{length-map, map-set, drop_more, drop-set-lt, get_or-map, take-append-drop}
 use Rattle.std.proofs.lemmas.List.Elements.{All-head, All-tail, All-cons, All-nil, All-map}
 use Rattle.task_deques.specs.declared.owner.Owner.{Owner}
 use Rattle.task_deques.specs.declared.thief.Thief.{Thief}
 use Rattle.task_deques.specs.declared.returned.Returned.{Returned}
 use Rattle.task_deques.specs.Seats.{Deque, Seat, owner_seat, thief_seat, joined}
-use Rattle.task_deques.specs.Deals.{WorkerSeats, Posts, owner_seats, thief_seats, deques, posts_of, with_row, with_rows, zip_seats, whole_deques, IsWhole}
+use Rattle.task_deques.specs.Deals.{WorkerSeats, Posts, owner_seats, thief_seats, deques, posts_of, with_row, with_rows, zip_seats, whole_deques, returned, IsWhole}
 
 -- a thief has one part
 pub one_part : (row : List Thief) → All (λ seat. seat.tally.parts ≡ 1) (thief_seats row)
@@ -188,6 +188,34 @@ parts_of_whole owners rows len is =
 pub few_of_parts : (owners : List Seat) (n : ℕ) → length owners ≡ n → All (λ seat. seat.tally.parts + n ≡ 64) owners → length owners ≤ 64
 few_of_parts [] n len parts = omega arith
 few_of_parts (o ∷ os) n len parts = let its = All-head (λ (seat : Seat). seat.tally.parts + n ≡ 64) o os parts in omega arith
+
+-- of ends that came back there are as many as owners
+pub length_back : (back : Returned) → length (returned back) ≡ vec_len back.owners
+length_back back = omega (arith, length_of_zip (owner_seats back.owners.items) _ (row_each back), length-map back.owners.items owner_seat, back.owners.ok.0)
+
+-- they are the owners with all rows joined
+pub whole_back : (back : Returned) → whole_deques (returned back) ≡ with_rows (owner_seats back.owners.items) (map (λ row. thief_seats row.items) back.rows.items)
+whole_back back = whole_of_zip _ _ (row_each back)
+
+-- where all seats are there, each row is at the owners' deques, the owners lack as many parts as there are rows, and they are few
+pub rows_back : (back : Returned) → IsWhole (map posts_of (returned back)) → All (λ row. deques (thief_seats row.items) ≡ deques (owner_seats back.owners.items)) back.rows.items
+rows_back back is =
+    let owners : List Seat = owner_seats back.owners.items in
+    all_unmapped (λ (row : List Seat). deques row ≡ deques owners) (λ row. thief_seats row.items) back.rows.items (rows_of_whole owners _ (row_each back) is)
+
+pub parts_back : (back : Returned) → IsWhole (map posts_of (returned back)) → All (λ seat. seat.tally.parts + vec_len back.rows ≡ 64) (owner_seats back.owners.items)
+parts_back back is k d inside =
+    let sum = parts_of_whole (owner_seats back.owners.items) _ (row_each back) is k d inside in omega (arith, length-map back.owners.items owner_seat, back.owners.ok.0, back.paired)
+
+pub few_back : (back : Returned) → IsWhole (map posts_of (returned back)) → vec_len back.owners ≤ 64
+few_back back is =
+    let owners : List Seat = owner_seats back.owners.items in
+    omega (arith, few_of_parts owners (length owners) refl (parts_of_whole owners _ (row_each back) is), length-map back.owners.items owner_seat, back.owners.ok.0)
+
+-- a loop over rows, at the next one
+pub next_row : {X : Type 0} (seats : X → List Seat) (owners : List Seat) (row : X) (old rest : List X) (total : List Seat) → old ≡ row ∷ rest → AreTurns owners (map seats old) total →
+    AreTurns owners (seats row ∷ map seats rest) total
+next_row seats owners row old rest total steps turns = subst (λ l. AreTurns owners (map seats l) total) steps turns
 
 -- what the joining of a row asks for
 pub row_room : (owners : List Seat) (rows : List (List Seat)) (row : List Seat) (total : List Seat) → AreTurns owners (row ∷ rows) total → (deques row ≡ deques owners) × All (λ seat. seat.tally.parts < 64) owners

@@ -2,10 +2,10 @@
 use Rattle.std.proofs.Common.{◌≡◌, ℕ, zero, suc, ◌+◌, ◌-◌, ◌<◌, List, [], ◌∷◌, ◌++◌, set, sym, refl, ap, ◌∙◌, arith}
 use mathlib.Core.Option.{some, some-injective, some-ne-none}
 use lib.ListN.{get_elem?}
-use Rattle.crossbeam_deque.specs.Tasks.{Pushes, Takes, Pops, Forks, Merges, Learns}
+use Rattle.crossbeam_deque.specs.Tasks.{Pushes, Takes, Pops, Finds, Forks, Merges, Learns}
 use Rattle.task_deques.specs.declared.rule.Tally.{Tally}
 use Rattle.pool_rules.specs.declared.task.Task.{Task}
-use Rattle.task_deques.specs.Tallies.{tally, weigh, IsEachOnce}
+use Rattle.task_deques.specs.Tallies.{tally, weigh, IsEmptied, IsEachOnce}
 use Rattle.task_deques.proofs.TallyLemmas.{weigh-append, total-snoc, total-set, alone, idle_set, idle_snoc}
 
 pub begins : IsEachOnce [] (tally 64 [] [] ∷ [])
@@ -14,53 +14,34 @@ begins = (refl, λ h. refl, λ port v e none. absurd (begun port v e none)) wher
   begun zero v e none = let same = ap (λ (u : Tally). u.parts) (some-injective (tally 64 [] []) v e) in omega arith
   begun (suc j) v e none = some-ne-none v (sym e)
 
+-- a seat that has a part changes what it pushed and took: the rule is kept where, by each weighing, what the deque holds changes by as much
+changes : (port : ℕ) (v w : Tally) (before after : List Task) (views : List Tally) → 0 < v.parts → w.parts ≡ v.parts →
+    ((h : Task → ℕ) → weigh h w.pushed + weigh h v.taken + weigh h before ≡ weigh h v.pushed + weigh h w.taken + weigh h after) →
+    IsEachOnce before views → get_elem? views port ≡ some v → IsEachOnce after (set views port w)
+changes port v w before after views some_part same by b at = (
+  (let s = total-set (λ u. u.parts) views port v w at in let p = b.0 in omega arith),
+  (λ h.
+      let s = total-set (λ u. weigh h u.pushed) views port v w at in
+      let t = total-set (λ u. weigh h u.taken) views port v w at in
+      let p = b.1 h in
+      omega (arith, by h)),
+  idle_set views port w (λ none. absurd (omega arith)) b.2,
+)
+
 pub pushes : (port : ℕ) (v : Tally) (xs : List Task) → 0 < v.parts → Pushes IsEachOnce port v xs (λ w. w ≡ tally v.parts (v.pushed ++ xs) v.taken)
 pushes port v xs some_part items views b at =
-    let w = tally v.parts (v.pushed ++ xs) v.taken in (
-      w,
-      (
-        (let s = total-set (λ u. u.parts) views port v w at in let p = b.0 in omega arith),
-        (λ h.
-            let s = total-set (λ u. weigh h u.pushed) views port v w at in
-            let t = total-set (λ u. weigh h u.taken) views port v w at in
-            let p = b.1 h in
-            omega (arith, weigh-append h v.pushed xs, weigh-append h items xs)),
-        idle_set views port w (λ none. absurd (omega arith)) b.2,
-      ),
-      refl,
-    )
+    let w = tally v.parts (v.pushed ++ xs) v.taken in
+    (w, changes port v w items (items ++ xs) views some_part refl (λ h. omega (arith, weigh-append h v.pushed xs, weigh-append h items xs)) b at, refl)
 
 pub takes : (port : ℕ) (v : Tally) → 0 < v.parts → Takes IsEachOnce port v 1 (λ xs w. w ≡ tally v.parts v.pushed (v.taken ++ xs))
 takes port v some_part xs items views _ _ b at =
-    let w = tally v.parts v.pushed (v.taken ++ xs) in (
-      w,
-      (
-        (let s = total-set (λ u. u.parts) views port v w at in let p = b.0 in omega arith),
-        (λ h.
-            let s = total-set (λ u. weigh h u.pushed) views port v w at in
-            let t = total-set (λ u. weigh h u.taken) views port v w at in
-            let p = b.1 h in
-            omega (arith, weigh-append h v.taken xs, weigh-append h xs items)),
-        idle_set views port w (λ none. absurd (omega arith)) b.2,
-      ),
-      refl,
-    )
+    let w = tally v.parts v.pushed (v.taken ++ xs) in
+    (w, changes port v w (xs ++ items) items views some_part refl (λ h. omega (arith, weigh-append h v.taken xs, weigh-append h xs items)) b at, refl)
 
 pub pops : (port : ℕ) (v : Tally) → 0 < v.parts → Pops IsEachOnce port v (λ xs w. w ≡ tally v.parts v.pushed (v.taken ++ xs))
 pops port v some_part x items views b at =
-    let w = tally v.parts v.pushed (v.taken ++ x ∷ []) in (
-      w,
-      (
-        (let s = total-set (λ u. u.parts) views port v w at in let p = b.0 in omega arith),
-        (λ h.
-            let s = total-set (λ u. weigh h u.pushed) views port v w at in
-            let t = total-set (λ u. weigh h u.taken) views port v w at in
-            let p = b.1 h in
-            omega (arith, weigh-append h v.taken (x ∷ []), weigh-append h items (x ∷ []))),
-        idle_set views port w (λ none. absurd (omega arith)) b.2,
-      ),
-      refl,
-    )
+    let w = tally v.parts v.pushed (v.taken ++ x ∷ []) in
+    (w, changes port v w (items ++ x ∷ []) items views some_part refl (λ h. omega (arith, weigh-append h v.taken (x ∷ []), weigh-append h items (x ∷ []))) b at, refl)
 
 -- one part is cut off, with nothing pushed and nothing taken
 pub forks : (port : ℕ) (v : Tally) → 1 < v.parts → Forks IsEachOnce port v (tally (v.parts - 1) v.pushed v.taken) (tally 1 [] [])
@@ -92,10 +73,13 @@ merges port v other u some_part items views b at two at' =
       idle_set vs other spent (λ _. (refl, refl)) (idle_set views port both (λ none. absurd (omega arith)) b.2),
     )
 
-pub learns : (port : ℕ) (v : Tally) → v.parts ≡ 64 → Learns IsEachOnce port v (λ items. (h : Task → ℕ) → weigh h v.pushed ≡ weigh h v.taken + weigh h items)
-learns port v all items views b at h =
+pub learns : (port : ℕ) (v : Tally) → Learns IsEachOnce port v (λ items. v.parts ≡ 64 → (h : Task → ℕ) → weigh h v.pushed ≡ weigh h v.taken + weigh h items)
+learns port v items views b at all h =
     let whole = b.0 ∙ sym all in
     let s = alone (λ u. weigh h u.pushed) views port v at whole (λ j u e none. ap (weigh h) (b.2 j u e none).0) in
     let t = alone (λ u. weigh h u.taken) views port v at whole (λ j u e none. ap (weigh h) (b.2 j u e none).1) in
     let p = b.1 h in
     omega arith
+
+pub finds : (port : ℕ) (v : Tally) → Finds IsEachOnce port v (v.parts ≡ 64 → IsEmptied v)
+finds port v views b at all h = let p = learns port v [] views b at all h in omega arith

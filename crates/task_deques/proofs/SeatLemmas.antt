@@ -9,8 +9,9 @@ use Rattle.task_deques.specs.declared.owner.Owner.{Owner}
 use Rattle.task_deques.specs.declared.thief.Thief.{Thief}
 use Rattle.task_deques.specs.declared.ends.Ends.{Ends}
 use Rattle.task_deques.specs.Tallies.{tally}
-use Rattle.task_deques.specs.Seats.{Deque, Seat, owner_seat, thief_seat, with_taken, with_part_cut, new_thief}
-use Rattle.task_deques.specs.Deals.{WorkerSeats, Posts, owner_seats, thief_seats, deques, worker_seats, posts_of, posts, IsStolen, IsDealt, IsWhole, fresh_with, beside}
+use Rattle.task_deques.specs.Seats.{Deque, Seat, owner_seat, owner_room, thief_seat, with_taken, with_part_cut, new_thief}
+use Rattle.task_deques.specs.Deals.{WorkerSeats, Posts, owner_seats, thief_seats, deques, worker_seats, worker_room, posts_of, posts, IsStolen, IsDealt, IsWhole, fresh_with, beside}
+use Rattle.task_deques.proofs.JoinLemmas.{all_unmapped}
 
 -- the seat at a place steals
 stolen_at : (task : Task) (seats : List Seat) (place : ℕ) (d : Seat) → place < length seats → IsStolen task seats (set seats place (with_taken task (get_or seats place d)))
@@ -50,6 +51,13 @@ pub owner_at : (f : Seat → Seat) (owners : List Owner) (before : List Seat) (p
 owner_at f owners before place x inside at so_far =
     sym (get_or-map owner_seat owners place x (owner_seat x) inside ∙ ap owner_seat (sym at)) ∙ ap (λ (l : List Seat). get_or l place (owner_seat x)) so_far ∙ same_at f before place (owner_seat x)
 
+-- it can give a part
+pub owner_gives : (owners : List Owner) (before : List Seat) (place : ℕ) (x : Owner) → place < length owners → place < length before → x ≡ get_or owners place x →
+    owner_seats owners ≡ map with_part_cut (take place before) ++ drop place before → All (λ seat. (1 < seat.tally.parts) × (seat.tally.taken ≡ [])) before →
+    (1 < (owner_seat x).tally.parts) × ((owner_seat x).tally.taken ≡ [])
+owner_gives owners before place x inside within at so_far can =
+    subst (λ (s : Seat). (1 < s.tally.parts) × (s.tally.taken ≡ [])) (sym (owner_at with_part_cut owners before place x inside at so_far)) (can place (owner_seat x) within)
+
 -- the owner there gives a part
 pub cut_at : (owners : List Owner) (before : List Seat) (place : ℕ) (x y : Owner) → place < length owners → place < length before → x ≡ get_or owners place x →
     owner_seats owners ≡ map with_part_cut (take place before) ++ drop place before → owner_seat y ≡ with_part_cut (owner_seat x) →
@@ -75,6 +83,15 @@ gives all ends own old rest thieves owners its steps so_far =
     ∙ append_assoc (map worker_seats all) (worker_seats ends ∷ []) left
     ∙ ap (λ (w : WorkerSeats). map worker_seats all ++ (w ∷ left)) its
     ∙ ap (λ (l : List Owner). map worker_seats all ++ map (beside thieves) (owner_seats l)) (sym steps)
+    ∙ so_far
+
+-- and its room
+pub gives_room : (all : List Ends) (ends : Ends) (old rest : List Owner) (rooms : List ℕ) → old ≡ ends.own ∷ rest →
+    map worker_room all ++ map owner_room old ≡ rooms → map worker_room (all ++ ends ∷ []) ++ map owner_room rest ≡ rooms
+gives_room all ends old rest rooms steps so_far =
+    ap (λ (l : List ℕ). l ++ map owner_room rest) (map_push worker_room all ends)
+    ∙ append_assoc (map worker_room all) (worker_room ends ∷ []) (map owner_room rest)
+    ∙ ap (λ (l : List Owner). map worker_room all ++ map owner_room l) (sym steps)
     ∙ so_far
 
 -- the seats of new deques have all parts
@@ -141,13 +158,29 @@ whole parts owners are =
     All-map P posts_of (map (beside thieves) seats) (All-map (λ (its : WorkerSeats). P (posts_of its)) (beside thieves) seats (All-map (λ (s : Seat). P (posts_of (beside thieves s))) (fresh_with parts) owners (λ k d inside. (rows, sum))))
 
 -- the same of a list of seats and of ends that are equal to these
-pub dealt_ends : (parts : ℕ) (owners seats : List Seat) (all : List WorkerSeats) → seats ≡ map (fresh_with parts) owners → parts ≡ 64 - length owners → all ≡ map (beside (map new_thief seats)) seats → IsDealt all
+dealt_ends : (parts : ℕ) (owners seats : List Seat) (all : List WorkerSeats) → seats ≡ map (fresh_with parts) owners → parts ≡ 64 - length owners → all ≡ map (beside (map new_thief seats)) seats → IsDealt all
 dealt_ends parts owners seats all are count is =
     subst IsDealt (sym (is ∙ ap (λ (l : List Seat). map (beside (map new_thief l)) l) are)) (dealt parts owners count)
 
-pub whole_ends : (parts : ℕ) (owners seats : List Seat) (all : List Ends) → seats ≡ map (fresh_with parts) owners → parts + length owners ≡ 64 → map worker_seats all ≡ map (beside (map new_thief seats)) seats → IsWhole (map posts all)
+whole_ends : (parts : ℕ) (owners seats : List Seat) (all : List Ends) → seats ≡ map (fresh_with parts) owners → parts + length owners ≡ 64 → map worker_seats all ≡ map (beside (map new_thief seats)) seats → IsWhole (map posts all)
 whole_ends parts owners seats all are count is =
     subst IsWhole (sym (posts_by_seats all ∙ ap (λ (l : List WorkerSeats). map posts_of l) (is ∙ ap (λ (l : List Seat). map (beside (map new_thief l)) l) are))) (whole parts owners count)
+
+-- so ends are dealt where each of the owners of new deques has given a part to each worker
+pub ends_dealt : (count : ℕ) (made owners : List Owner) (all : List Ends) → count ≡ length made → count < 64 → owner_seats owners ≡ map (fresh_with (64 - count)) (owner_seats made) →
+    map worker_seats all ≡ map (beside (map new_thief (owner_seats owners))) (owner_seats owners) → IsDealt (map worker_seats all) × IsWhole (map posts all)
+ends_dealt count made owners all len few are is =
+    let seats : count ≡ length (owner_seats made) = len ∙ sym (length-map made owner_seat) in (
+      dealt_ends (64 - count) (owner_seats made) (owner_seats owners) (map worker_seats all) are (ap (λ n. 64 - n) seats) is,
+      whole_ends (64 - count) (owner_seats made) (owner_seats owners) all are (omega arith) is,
+    )
+
+-- with the room of the owners of new deques
+pub room_dealt : (room : ℕ) (made owners : List Owner) (all : List Ends) → All (λ owner. owner_room owner ≡ room) made → map owner_room owners ≡ map owner_room made →
+    map worker_room all ≡ map owner_room owners → All (λ ends. worker_room ends ≡ room) all
+room_dealt room made owners all each are is =
+    let IsRoom : ℕ → Type 0 = λ n. n ≡ room in
+    all_unmapped IsRoom worker_room all (subst (All IsRoom) (sym (is ∙ are)) (All-map IsRoom owner_room made each))
 
 -- the seat of an owner in a list whose seats are known
 pub seat_at : (owners : List Owner) (seats : List Seat) (place : ℕ) (x : Owner) → place < length owners → x ≡ get_or owners place x → owner_seats owners ≡ seats → get_or seats place (owner_seat x) ≡ owner_seat x

@@ -6,7 +6,7 @@ use Rattle.task_deques.specs.declared.thief.Thief.{Thief}
 use Rattle.task_deques.specs.declared.ends.Ends.{Ends}
 use Rattle.task_deques.specs.declared.returned.Returned.{Returned}
 use Rattle.task_deques.specs.Tallies.{tally, weigh}
-use Rattle.task_deques.specs.Seats.{Deque, Seat, owner_seat, thief_seat, with_taken, new_thief, joined}
+use Rattle.task_deques.specs.Seats.{Deque, Seat, owner_seat, owner_room, thief_seat, with_taken, new_thief, joined}
 
 -- a worker's seats: the owner's at its own deque, and a thief's at each worker's deque, in the order of the workers' numbers
 pub record WorkerSeats : Type 0 where
@@ -31,6 +31,10 @@ deques seats = map (λ seat. seat.deque) seats
 -- the seats of a worker's ends
 abbrev pub worker_seats : Ends → WorkerSeats
 worker_seats ends = record { own = owner_seat ends.own; thieves = thief_seats ends.thieves.items }
+
+-- how many tasks there is room for in its own deque
+abbrev pub worker_room : Ends → ℕ
+worker_room ends = owner_room ends.own
 
 abbrev pub posts_of : WorkerSeats → Posts
 posts_of seats = record { own = seats.own.deque; parts = seats.own.tally.parts; thieves = deques seats.thieves }

@@ -1,3 +1,4 @@
 pub mod Tallies
 pub mod Seats
 pub mod Deals
+pub mod Rows

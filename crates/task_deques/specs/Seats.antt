@@ -1,5 +1,5 @@
 -- What contracts see of a deque's owner and of a thief: which deque it is, and the tally of the seat.
-use Rattle.std.specs.Prelude.{◌+◌, ◌-◌, [], ◌∷◌, ◌++◌}
+use Rattle.std.specs.Prelude.{ℕ, ◌+◌, ◌-◌, [], ◌∷◌, ◌++◌}
 use Rattle.std.specs.declared.alloc.Global.{Global}
 use Rattle.atomic_blocks.specs.Lent.{RowsId}
 use Rattle.crossbeam_deque.specs.Handles.{view, worker_deque, stealer_deque, worker_view}
@@ -21,6 +21,10 @@ pub record Seat : Type 0 where
 -- the owner's
 abbrev pub owner_seat : Owner → Seat
 owner_seat owner = record { deque = worker_deque owner.worker; tally = worker_view owner.worker }
+
+-- how many tasks there is room for in its deque
+abbrev pub owner_room : Owner → ℕ
+owner_room owner = owner.room
 
 -- a thief's
 abbrev pub thief_seat : Thief → Seat

@@ -14,6 +14,10 @@ abbrev pub weigh : (Task → ℕ) → List Task → ℕ
 weigh h [] = 0
 weigh h (task ∷ tasks) = h task + weigh h tasks
 
+-- all that was pushed was taken, each task as often
+abbrev pub IsEmptied : Tally → Type 0
+IsEmptied seat = (h : Task → ℕ) → weigh h seat.pushed ≡ weigh h seat.taken
+
 -- a number of each seat, added up
 abbrev pub total : (Tally → ℕ) → List Tally → ℕ
 total f [] = 0

@@ -4,8 +4,8 @@
 //! deque, and gives one to each thief.
 ghost use Rattle.std.specs.Prelude.{◌≡◌, ◌-◌, ◌<◌, [], map, vec_len, All, IfOk, OnOk};
 ghost use Rattle.task_deques.specs.Tallies.{tally};
-ghost use Rattle.task_deques.specs.Seats.{owner_seat, with_part_cut, new_thief};
-ghost use Rattle.task_deques.specs.Deals.{worker_seats, posts, owner_seats, thief_seats, beside, fresh_with, IsDealt, IsWhole};
+ghost use Rattle.task_deques.specs.Seats.{owner_seat, owner_room, with_part_cut, new_thief};
+ghost use Rattle.task_deques.specs.Deals.{worker_seats, worker_room, posts, owner_seats, thief_seats, beside, fresh_with, IsDealt, IsWhole};
 
 use crate::ends::Ends;
 use crate::owner::Owner;
@@ -19,6 +19,7 @@ pub fn deal(alloc: Global, last: Worker, room: usize) -> Result<Vec<Ends>, Alloc
     ensures count { IfOk result (λ all. vec_len all ≡ last) }
     ensures dealt { IfOk result (λ all. IsDealt (map worker_seats all.items)) }
     ensures whole { IfOk result (λ all. IsWhole (map posts all.items)) }
+    ensures room { IfOk result (λ all. All (λ ends. worker_room ends ≡ room) all.items) }
 {
     let mut owners = owners(alloc, usize::from(last.number()), room)?;
     let rows = rows(alloc, &mut owners)?;
@@ -29,6 +30,7 @@ pub fn deal(alloc: Global, last: Worker, room: usize) -> Result<Vec<Ends>, Alloc
 fn owners(alloc: Global, count: usize, room: usize) -> Result<Vec<Owner>, AllocError>
     ensures count { IfOk result (λ owners. vec_len owners ≡ count) }
     ensures fresh { IfOk result (λ owners. All (λ owner. (owner_seat owner).tally ≡ tally 64 [] []) owners.items) }
+    ensures room { IfOk result (λ owners. All (λ owner. owner_room owner ≡ room) owners.items) }
 {
     let mut owners = Vec::with_capacity(alloc, count)?;
     for _made in 0..count {
@@ -43,6 +45,7 @@ fn rows(alloc: Global, owners: &mut Vec<Owner>) -> Result<Vec<Vec<Thief>>, Alloc
     requires few { vec_len owners.old < 64 }
     ensures count { IfOk result (λ rows. vec_len rows ≡ vec_len owners.old) }
     ensures owners { OnOk result (owner_seats owners.new.items ≡ map (fresh_with (64 - vec_len owners.old)) (owner_seats owners.old.items)) }
+    ensures room { OnOk result (map owner_room owners.new.items ≡ map owner_room owners.old.items) }
     ensures rows { IfOk result (λ rows. All (λ row. thief_seats row.items ≡ map new_thief (owner_seats owners.old.items)) rows.items) }
 {
     let count = owners.len();
@@ -57,6 +60,7 @@ fn rows(alloc: Global, owners: &mut Vec<Owner>) -> Result<Vec<Vec<Thief>>, Alloc
 fn row(alloc: Global, owners: &mut Vec<Owner>) -> Result<Vec<Thief>, AllocError>
     requires { All (λ seat. (1 < seat.tally.parts) × (seat.tally.taken ≡ [])) (owner_seats owners.old.items) }
     ensures owners { OnOk result (owner_seats owners.new.items ≡ map with_part_cut (owner_seats owners.old.items)) }
+    ensures room { OnOk result (map owner_room owners.new.items ≡ map owner_room owners.old.items) }
     ensures thieves { IfOk result (λ row. thief_seats row.items ≡ map new_thief (owner_seats owners.old.items)) }
 {
     let count = owners.len();
@@ -73,6 +77,7 @@ fn paired(alloc: Global, owners: Vec<Owner>, rows: Vec<Vec<Thief>>) -> Result<Ve
     requires rows { All (λ row. thief_seats row.items ≡ map new_thief (owner_seats owners.items)) rows.items }
     ensures count { IfOk result (λ all. vec_len all ≡ vec_len owners) }
     ensures ends { IfOk result (λ all. map worker_seats all.items ≡ map (beside (map new_thief (owner_seats owners.items))) (owner_seats owners.items)) }
+    ensures room { IfOk result (λ all. map worker_room all.items ≡ map owner_room owners.items) }
 {
     let mut rows = rows;
     let mut all = Vec::with_capacity(alloc, owners.len())?;

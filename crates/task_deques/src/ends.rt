@@ -17,7 +17,7 @@ pub struct Ends {
 }
 
 impl Ends {
-    ghost use Rattle.task_deques.specs.Deals.{worker_seats, posts, IsTaken};
+    ghost use Rattle.task_deques.specs.Deals.{worker_seats, worker_room, posts, IsTaken};
 
     /// Pushes a task on the worker's own deque, or hands it back as [`Owner::push`] does.
     pub fn push(&mut self, task: Task) -> Result<(), Task>
@@ -25,6 +25,7 @@ impl Ends {
         ensures handed_back { IfErr result (λ back. back ≡ task) }
         ensures unchanged { OnErr result (worker_seats self.new ≡ worker_seats self.old) }
         ensures posts { posts self.new ≡ posts self.old }
+        ensures room { worker_room self.new ≡ worker_room self.old }
     {
         self.own.push(task)
     }
@@ -35,6 +36,7 @@ impl Ends {
         ensures taken { IfSome result (λ task. IsTaken task (worker_seats self.old) (worker_seats self.new)) }
         ensures unchanged { IfNone result (worker_seats self.new ≡ worker_seats self.old) }
         ensures posts { posts self.new ≡ posts self.old }
+        ensures room { worker_room self.new ≡ worker_room self.old }
     {
         if let Some(task) = self.own.pop() {
             return Some(task);

@@ -10,6 +10,7 @@
 //! of the tasks that this end pushed and took (`specs/Seats.antt`). A push, a pop and a steal that find
 //! something add just that task to the tally of the one seat that steps; a push that is handed back, and
 //! a pop and a steal that find nothing, change none. That nothing is found proves nothing of a deque.
+//! [`rows`] tries these definitions on two workers.
 //!
 //! **Why it holds.** The deques are those of `crossbeam_deque`, under the rule of `specs/Tallies.antt`: by
 //! every weighing of tasks, what all seats of a deque pushed is what they took and what the deque holds.
@@ -30,6 +31,7 @@ mod ends;
 mod joining;
 mod owner;
 mod returned;
+pub mod rows;
 mod rule;
 mod steps;
 mod sums;

@@ -1,8 +1,8 @@
 //! A deque's owner.
-ghost use Rattle.std.specs.Prelude.{◌≡◌, ℕ, List, ◌+◌, ◌*◌, ◌^◌, ◌<◌, ◌≤◌, [], length, IfOk, OnOk, IfErr, OnErr, IfNone, IfSome};
+ghost use Rattle.std.specs.Prelude.{◌≡◌, ℕ, List, ◌+◌, ◌*◌, ◌^◌, ◌<◌, ◌≤◌, [], false, length, IfOk, OnOk, IfErr, OnErr, IfNone, IfSome};
 ghost use Rattle.pool_rules.specs.declared.task.Task.{Task};
 ghost use Rattle.crossbeam_deque.specs.Handles.{worker_flavor, worker_view};
-ghost use Rattle.task_deques.specs.Tallies.{tally, weigh};
+ghost use Rattle.task_deques.specs.Tallies.{tally, weigh, IsEmptied};
 
 use crate::rule::OwnerEnd;
 use crate::steps;
@@ -27,11 +27,12 @@ pub struct Owner {
 }
 
 impl Owner {
-    ghost use Rattle.task_deques.specs.Seats.{owner_seat, thief_seat, with_pushed, with_taken, with_part_cut, new_thief, joined};
+    ghost use Rattle.task_deques.specs.Seats.{owner_seat, owner_room, thief_seat, with_pushed, with_taken, with_part_cut, new_thief, joined};
 
     /// The owner of a new deque with room for so many tasks. It fails only where memory is refused.
     pub fn with_room(alloc: Global, room: usize) -> Result<Owner, AllocError>
-        ensures { IfOk result (λ owner. (owner_seat owner).tally ≡ tally 64 [] []) }
+        ensures tally { IfOk result (λ owner. (owner_seat owner).tally ≡ tally 64 [] []) }
+        ensures room { IfOk result (λ owner. owner_room owner ≡ room) }
     {
         let worker = steps::made(alloc, room)?;
         Ok(Owner {
@@ -43,11 +44,14 @@ impl Owner {
     }
 
     /// Pushes a task. It is handed back where as many wait as there is room for, where as many were
-    /// pushed as a u64 counts, and where memory is refused.
+    /// pushed as a u64 counts, and where memory is refused. With all parts, as many wait as were pushed
+    /// and not taken.
     pub fn push(&mut self, task: Task) -> Result<(), Task>
         ensures pushed { OnOk result (owner_seat self.new ≡ with_pushed task (owner_seat self.old)) }
         ensures handed_back { IfErr result (λ back. back ≡ task) }
         ensures unchanged { OnErr result (owner_seat self.new ≡ owner_seat self.old) }
+        ensures fits { OnOk result ((owner_seat self.old).tally.parts ≡ 64 → length (owner_seat self.old).tally.pushed < length (owner_seat self.old).tally.taken + owner_room self.old) }
+        ensures room { owner_room self.new ≡ owner_room self.old }
     {
         if self.pushed == u64::MAX || self.is_full() {
             return Err(task);
@@ -60,17 +64,20 @@ impl Owner {
 
     /// Whether as many tasks wait as there is room for.
     fn is_full(&mut self) -> bool
-        ensures { (owner_seat self.new ≡ owner_seat self.old) × (self.new.pushed ≡ self.old.pushed) }
+        ensures unchanged { (owner_seat self.new ≡ owner_seat self.old) × (self.new.pushed ≡ self.old.pushed) × (owner_room self.new ≡ owner_room self.old) }
+        ensures fits { result ≡ false → (owner_seat self.old).tally.parts ≡ 64 → length (owner_seat self.old).tally.pushed < length (owner_seat self.old).tally.taken + owner_room self.old }
     {
         let Owner { worker, room, .. } = self;
         steps::waiting(worker) >= *room
     }
 
     /// Takes the newest task. None says that the deque was empty at one moment, or that as many were
-    /// taken as a u64 counts.
+    /// taken as a u64 counts: with all parts, all that was pushed was taken.
     pub fn pop(&mut self) -> Option<Task>
         ensures taken { IfSome result (λ task. owner_seat self.new ≡ with_taken task (owner_seat self.old)) }
         ensures unchanged { IfNone result (owner_seat self.new ≡ owner_seat self.old) }
+        ensures emptied { IfNone result ((owner_seat self.old).tally.parts ≡ 64 → length (owner_seat self.old).tally.taken < 18446744073709551615 → IsEmptied (owner_seat self.old).tally) }
+        ensures room { owner_room self.new ≡ owner_room self.old }
     {
         if self.taken >= u128::from(u64::MAX) {
             return None;
@@ -87,6 +94,7 @@ impl Owner {
         requires parts { 1 < (owner_seat self.old).tally.parts }
         requires none_taken { (owner_seat self.old).tally.taken ≡ [] }
         ensures owner { owner_seat self.new ≡ with_part_cut (owner_seat self.old) }
+        ensures room { owner_room self.new ≡ owner_room self.old }
         ensures thief { IfOk result (λ thief. thief_seat thief ≡ new_thief (owner_seat self.old)) }
     {
         let Owner { worker, .. } = self;
@@ -98,7 +106,8 @@ impl Owner {
     pub fn join(&mut self, thief: Thief)
         requires deque { (thief_seat thief).deque ≡ (owner_seat self.old).deque }
         requires parts { (owner_seat self.old).tally.parts < 64 }
-        ensures { owner_seat self.new ≡ joined (owner_seat self.old) (thief_seat thief) }
+        ensures seat { owner_seat self.new ≡ joined (owner_seat self.old) (thief_seat thief) }
+        ensures room { owner_room self.new ≡ owner_room self.old }
     {
         let (seat, stolen) = thief.left();
         let Owner { worker, taken, .. } = self;
@@ -116,6 +125,7 @@ impl Owner {
         ensures each_once { (tasks : List Task) × (length tasks ≡ result.left)
             × ((h : Task → ℕ) → weigh h (owner_seat self.old).tally.pushed ≡ weigh h (owner_seat self.old).tally.taken + weigh h tasks) }
         ensures unchanged { owner_seat self.new ≡ owner_seat self.old }
+        ensures room { owner_room self.new ≡ owner_room self.old }
     {
         let Owner {
             worker,

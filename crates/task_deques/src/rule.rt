@@ -11,7 +11,7 @@
 //! tally are carried on by the owner's, and with all parts the owner knows what is left.
 ghost use Rattle.std.specs.Prelude.{◌≡◌, ℕ, ◌+◌, ◌-◌, [], ◌++◌};
 ghost use Rattle.pool_rules.specs.declared.task.Task.{Task};
-ghost use Rattle.task_deques.specs.Tallies.{tally, weigh, IsEachOnce};
+ghost use Rattle.task_deques.specs.Tallies.{tally, weigh, IsEmptied, IsEachOnce};
 
 use crossbeam_deque::protocol::{Join, Lesson, Outcome, Protocol, Split};
 use crossbeam_deque::{Pass, Stealer, Worker};
@@ -48,11 +48,21 @@ impl Outcome<Task, Tally> for Pushed {
     ghost then = { λ v xs w. w ≡ tally v.parts (v.pushed ++ xs) v.taken };
 }
 
-/// A pop or a steal: the seat has taken one task more.
+/// A steal: the seat has taken one task more.
 pub(crate) struct Taken;
 
 impl Outcome<Task, Tally> for Taken {
     ghost then = { λ v xs w. w ≡ tally v.parts v.pushed (v.taken ++ xs) };
+}
+
+/// A pop: the seat has taken one task more. A seat with all parts that finds nothing knows that all that
+/// was pushed was taken.
+pub(crate) struct Popped;
+
+impl Outcome<Task, Tally> for Popped {
+    ghost then = { λ v xs w. w ≡ tally v.parts v.pushed (v.taken ++ xs) };
+
+    ghost empty = { λ v. v.parts ≡ 64 → IsEmptied v };
 }
 
 /// One part that is cut off for a new seat, or a seat that is joined.
@@ -70,18 +80,11 @@ impl Join<Tally> for Part {
     ghost spent = { tally 0 [] [] };
 }
 
-/// What the seat with all parts learns.
+/// What a seat learns of the tasks that its deque holds, if it has all parts.
 pub(crate) struct Whole;
 
 impl Lesson<Task, Tally> for Whole {
-    ghost fact = { λ v items. (h : Task → ℕ) → weigh h v.pushed ≡ weigh h v.taken + weigh h items };
-}
-
-/// What a seat with fewer parts learns: nothing.
-pub(crate) struct Nothing;
-
-impl Lesson<Task, Tally> for Nothing {
-    ghost fact = { λ v items. Unit {0} };
+    ghost fact = { λ v items. v.parts ≡ 64 → (h : Task → ℕ) → weigh h v.pushed ≡ weigh h v.taken + weigh h items };
 }
 
 /// The owner's end of a deque.

@@ -1,10 +1,10 @@
 //! The steps of a deque under its rule, each with what it changes in the tally of the seat that steps.
-ghost use Rattle.std.specs.Prelude.{◌≡◌, ℕ, List, ◌+◌, ◌-◌, ◌<◌, [], ◌∷◌, ◌++◌, MatchResult, MatchOption, IfOk, length};
+ghost use Rattle.std.specs.Prelude.{◌≡◌, ℕ, List, ◌+◌, ◌-◌, ◌<◌, [], ◌∷◌, ◌++◌, MatchResult, MatchOption, IfOk, IfNone, length};
 ghost use Rattle.pool_rules.specs.declared.task.Task.{Task};
 ghost use Rattle.crossbeam_deque.specs.Handles.{view, IsPassOf, worker_deque, stealer_deque, worker_flavor, worker_view};
-ghost use Rattle.task_deques.specs.Tallies.{tally, weigh};
+ghost use Rattle.task_deques.specs.Tallies.{tally, weigh, IsEmptied};
 
-use crate::rule::{Nothing, OwnerEnd, Part, Pushed, Seat, Taken, ThiefEnd, Whole};
+use crate::rule::{OwnerEnd, Part, Popped, Pushed, Seat, Taken, ThiefEnd, Whole};
 use crossbeam_deque::Steal;
 use pool_rules::Task;
 use std::alloc::{AllocError, Global};
@@ -36,8 +36,9 @@ pub(crate) fn pop(owner: &mut OwnerEnd) -> Option<Task>
     ensures rule { MatchOption result
         (worker_view owner.new ≡ worker_view owner.old)
         (λ task. worker_view owner.new ≡ tally (worker_view owner.old).parts (worker_view owner.old).pushed ((worker_view owner.old).taken ++ task ∷ [])) }
+    ensures emptied { IfNone result ((worker_view owner.old).parts ≡ 64 → IsEmptied (worker_view owner.old)) }
 {
-    owner.pop_as::<Taken>()
+    owner.pop_as::<Popped>()
 }
 
 /// Takes the oldest task of another's deque. Nothing is learned where none came.
@@ -77,12 +78,13 @@ pub(crate) fn join(owner: &mut OwnerEnd, seat: Seat)
     owner.absorb::<Part>(seat);
 }
 
-/// How many tasks wait at one moment of the call.
+/// How many tasks wait at one moment of the call: with all parts, all that were pushed and not taken.
 pub(crate) fn waiting(owner: &mut OwnerEnd) -> usize
     ensures same { (worker_deque owner.new ≡ worker_deque owner.old) × (worker_flavor owner.new ≡ worker_flavor owner.old) }
     ensures tally { worker_view owner.new ≡ worker_view owner.old }
+    ensures counts { (worker_view owner.old).parts ≡ 64 → length (worker_view owner.old).pushed ≡ length (worker_view owner.old).taken + result }
 {
-    owner.len_as::<Nothing>()
+    owner.len_as::<Whole>()
 }
 
 /// What the owner learns once it has all parts: what was pushed is what was taken and what is left.

@@ -1,9 +1,8 @@
-use Rattle.std.proofs.Common.{◌≡◌, ◌-◌, ◌+◌, List, length, map, sym, ap, ◌∙◌, arith, vec_len}
-use Rattle.std.proofs.lemmas.List.{length-map}
+use Rattle.std.proofs.Common.{◌≡◌, All, ◌-◌, ◌<◌, List, map, sym, ap, ◌∙◌, arith, vec_len}
 use Rattle.std.proofs.lemmas.Result.{IfOk-weaker}
-use Rattle.task_deques.specs.Seats.{Seat, owner_seat, new_thief}
-use Rattle.task_deques.specs.Deals.{owner_seats, worker_seats, posts, beside, IsDealt, IsWhole}
-use Rattle.task_deques.proofs.SeatLemmas.{new_of_fresh, dealt_ends, whole_ends}
+use Rattle.task_deques.specs.Seats.{Seat, new_thief}
+use Rattle.task_deques.specs.Deals.{owner_seats, worker_seats, worker_room, posts, IsDealt, IsWhole}
+use Rattle.task_deques.proofs.SeatLemmas.{new_of_fresh, ends_dealt, room_dealt}
 use Rattle.task_deques.proofs.dealing.deal.Goals as goal
 
 pub paired-requires-clause-rows : goal.paired-requires-clause-rows
@@ -14,18 +13,17 @@ paired-requires-clause-rows c =
 pub returns-clause-dealt : goal.returns-clause-dealt
 returns-clause-dealt c =
     let made = c.in_ok-owners.owners in
-    let owners : List Seat = owner_seats made.items in
-    let seats : List Seat = owner_seats c.rows.new.owners.items in
-    let count : vec_len made ≡ length owners = made.ok.0 ∙ sym (length-map made.items owner_seat) in
-    IfOk-weaker c.paired.result (λ all. map worker_seats all.items ≡ map (beside (map new_thief seats)) seats) (λ all. IsDealt (map worker_seats all.items))
-    (λ all is. dealt_ends (64 - vec_len made) owners seats (map worker_seats all.items) c.in_ok-rows.ensures.owners (ap (λ n. 64 - n) count) is) c.paired.ensures.ends
+    let few : vec_len made < 64 = omega (arith, c.in_ok-owners.ensures.count, c.from.ensures, c.number.ensures.limits) in
+    IfOk-weaker c.paired.result _ (λ all. IsDealt (map worker_seats all.items)) (λ all is. (ends_dealt (vec_len made) made.items c.rows.new.owners.items all.items made.ok.0 few c.in_ok-rows.ensures.owners is).0) c.paired.ensures.ends
 
 pub returns-clause-whole : goal.returns-clause-whole
 returns-clause-whole c =
     let made = c.in_ok-owners.owners in
-    let owners : List Seat = owner_seats made.items in
-    let seats : List Seat = owner_seats c.rows.new.owners.items in
-    let count : vec_len made ≡ length owners = made.ok.0 ∙ sym (length-map made.items owner_seat) in
-    let sum : (64 - vec_len made) + length owners ≡ 64 = omega (arith, c.in_ok-owners.ensures.count, c.from.ensures, c.number.ensures.limits) in
-    IfOk-weaker c.paired.result (λ all. map worker_seats all.items ≡ map (beside (map new_thief seats)) seats) (λ all. IsWhole (map posts all.items))
-    (λ all is. whole_ends (64 - vec_len made) owners seats all.items c.in_ok-rows.ensures.owners sum is) c.paired.ensures.ends
+    let few : vec_len made < 64 = omega (arith, c.in_ok-owners.ensures.count, c.from.ensures, c.number.ensures.limits) in
+    IfOk-weaker c.paired.result _ (λ all. IsWhole (map posts all.items)) (λ all is. (ends_dealt (vec_len made) made.items c.rows.new.owners.items all.items made.ok.0 few c.in_ok-rows.ensures.owners is).1) c.paired.ensures.ends
+
+pub returns-clause-room : goal.returns-clause-room
+returns-clause-room c =
+    let made = c.in_ok-owners.owners in
+    IfOk-weaker c.paired.result _ (λ all. All (λ ends. worker_room ends ≡ c.args.room) all.items)
+    (λ all is. room_dealt c.args.room made.items c.rows.new.owners.items all.items c.in_ok-owners.ensures.room c.in_ok-rows.ensures.room is) c.paired.ensures.room

@@ -3,7 +3,7 @@ use Rattle.std.proofs.lemmas.List.Elements.{All-pop}
 use Rattle.std.specs.Vec.Iter.{into_iter_items}
 use Rattle.task_deques.specs.Seats.{Seat, owner_seat, new_thief}
 use Rattle.task_deques.specs.Deals.{owner_seats, thief_seats, worker_seats, beside}
-use Rattle.task_deques.proofs.SeatLemmas.{gives}
+use Rattle.task_deques.proofs.SeatLemmas.{gives, gives_room}
 use Rattle.task_deques.proofs.dealing.paired.Goals as goal
 
 pub loop-own-preserved : goal.loop-own-preserved
@@ -19,4 +19,5 @@ loop-own-preserved c =
       popped.0,
       omega (arith, c.in-Some.ensures.steps.1, c.in-Some-pop.ensures.len, c.loop-own.invariant.2),
       omega (arith, c.in-Some.ensures.steps.1, c.push_reserved.ensures.len, c.push_reserved.ensures.capacity, c.loop-own.invariant.3),
+      rw c.push_reserved.ensures.items (gives_room at.all.items (record { own = own; thieves = row }) (into_iter_items at.own-iterator) (into_iter_items c.next.new.self) _ c.in-Some.ensures.steps.0 c.loop-own.invariant.4),
     )

@@ -1,7 +1,7 @@
 use Rattle.std.proofs.Common.{◌≡◌, ◌+◌, ◌≤◌, ◌++◌, map, All, vec_len, vec_capacity}
 use Rattle.std.specs.Vec.Iter.{into_iter_items, into_iter_len}
-use Rattle.task_deques.specs.Seats.{new_thief}
-use Rattle.task_deques.specs.Deals.{owner_seats, thief_seats, worker_seats, beside}
+use Rattle.task_deques.specs.Seats.{owner_room, new_thief}
+use Rattle.task_deques.specs.Deals.{owner_seats, thief_seats, worker_seats, worker_room, beside}
 use Rattle.task_deques.proofs.dealing.paired.Given as goal
 
 abbrev pub invariant-loop-own : goal.invariant-loop-own
@@ -12,3 +12,4 @@ invariant-loop-own l =
     × All (λ row. thief_seats row.items ≡ thieves) l.rows.items
     × (vec_len l.rows ≡ into_iter_len l.own-iterator)
     × (vec_len l.all + into_iter_len l.own-iterator ≤ vec_capacity l.all)
+    × (map worker_room l.all.items ++ map owner_room (into_iter_items l.own-iterator) ≡ map owner_room l.fn.owners.items)

@@ -1,5 +1,5 @@
 use Rattle.std.proofs.Common.{◌≡◌, ◌≤◌, ◌++◌, map, take, drop, length, vec_len, vec_capacity}
-use Rattle.task_deques.specs.Seats.{with_part_cut, new_thief}
+use Rattle.task_deques.specs.Seats.{owner_room, with_part_cut, new_thief}
 use Rattle.task_deques.specs.Deals.{owner_seats, thief_seats}
 use Rattle.task_deques.proofs.dealing.row.Given as goal
 
@@ -9,3 +9,4 @@ invariant-loop-place l =
     (owner_seats l.owners.items ≡ map with_part_cut (take l.place before) ++ drop l.place before)
     × (thief_seats l.row.items ≡ map new_thief (take l.place before))
     × (vec_len l.row ≡ l.place) × (l.count ≤ vec_capacity l.row) × (vec_len l.owners ≡ l.count) × (length before ≡ l.count)
+    × (map owner_room l.owners.items ≡ map owner_room l.initial.owners.items)

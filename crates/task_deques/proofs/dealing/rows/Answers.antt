@@ -13,6 +13,7 @@ loop-made-init c = (
   search rules,
   search rules,
   search rules,
+  refl,
 )
 
 pub row-requires : goal.row-requires
@@ -36,4 +37,5 @@ loop-made-preserved c =
       omega (arith, c.push_reserved.ensures.len),
       omega (arith, c.push_reserved.ensures.capacity),
       search rules,
+      c.in_ok-row.ensures.room ∙ c.loop-made.invariant.5,
     )

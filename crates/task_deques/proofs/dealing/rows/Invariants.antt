@@ -1,5 +1,5 @@
 use Rattle.std.proofs.Common.{◌≡◌, ◌-◌, ◌<◌, ◌≤◌, map, All, vec_len, vec_capacity}
-use Rattle.task_deques.specs.Seats.{new_thief}
+use Rattle.task_deques.specs.Seats.{owner_room, new_thief}
 use Rattle.task_deques.specs.Deals.{owner_seats, thief_seats, fresh_with}
 use Rattle.task_deques.proofs.dealing.rows.Given as goal
 
@@ -9,3 +9,4 @@ invariant-loop-made l =
     (owner_seats l.owners.items ≡ map (fresh_with (64 - l._made)) before)
     × All (λ row. thief_seats row.items ≡ map new_thief before) l.rows.items
     × (vec_len l.rows ≡ l._made) × (l.count ≤ vec_capacity l.rows) × (l.count < 64)
+    × (map owner_room l.owners.items ≡ map owner_room l.initial.owners.items)

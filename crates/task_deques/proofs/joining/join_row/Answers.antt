@@ -29,7 +29,7 @@ join-requires-clause-parts c =
 
 pub loop-thief-preserved : goal.loop-thief-preserved
 loop-thief-preserved c =
-    joined_here c.loop-thief.owners.items c.loop-thief.place c.index_mut.result.now c.join.new.self c.in-Some.thief _ _ _ c.index_mut.ensures.value c.in-Some.ensures.steps.0 c.join.ensures c.loop-thief.invariant
+    joined_here c.loop-thief.owners.items c.loop-thief.place c.index_mut.result.now c.join.new.self c.in-Some.thief _ _ _ c.index_mut.ensures.value c.in-Some.ensures.steps.0 c.join.ensures.seat c.loop-thief.invariant
 
 pub returns : goal.returns
 returns c =

@@ -1,10 +1,10 @@
-use Rattle.std.proofs.Common.{◌≡◌, ◌∷◌, [], List, map, length, ap, sym, subst, ◌∙◌, refl, arith}
+use Rattle.std.proofs.Common.{◌≡◌, [], List, map, length, ap, sym, subst, ◌∙◌, refl, arith}
 use Rattle.std.proofs.lemmas.List.{nil_from_length, length-map}
 use Rattle.std.proofs.lemmas.List.Elements.{All-map}
 use Rattle.std.specs.Vec.Iter.{into_iter_items}
 use Rattle.task_deques.specs.Seats.{Seat, owner_seat}
 use Rattle.task_deques.specs.Deals.{owner_seats, thief_seats, with_rows, deques}
-use Rattle.task_deques.proofs.JoinLemmas.{AreTurns, one_part, length-with_row, row_room, rows_turn, rows_done}
+use Rattle.task_deques.proofs.JoinLemmas.{AreTurns, one_part, length-with_row, next_row, row_room, rows_turn, rows_done}
 use Rattle.task_deques.proofs.joining.joined.Goals as goal
 
 pub loop-row-init : goal.loop-row-init
@@ -22,22 +22,10 @@ loop-row-init c =
     )
 
 pub join_row-requires-clause-deques : goal.join_row-requires-clause-deques
-join_row-requires-clause-deques c =
-    let at = c.loop-row in
-    let owners : List Seat = owner_seats at.owners.items in
-    let rest : List (List Seat) = map (λ row. thief_seats row.items) (into_iter_items c.next.new.self) in
-    let total : List Seat = with_rows (owner_seats c.args.owners.items) (map (λ row. thief_seats row.items) c.args.rows.items) in
-    let turns : AreTurns owners (thief_seats c.in-Some.row.items ∷ rest) total = subst (λ l. AreTurns owners (map (λ row. thief_seats row.items) l) total) c.in-Some.ensures.steps.0 at.invariant.0 in
-    (row_room owners rest (thief_seats c.in-Some.row.items) total turns).0
+join_row-requires-clause-deques c = (row_room _ _ _ _ (next_row _ _ _ _ _ _ c.in-Some.ensures.steps.0 c.loop-row.invariant.0)).0
 
 pub join_row-requires-clause-parts : goal.join_row-requires-clause-parts
-join_row-requires-clause-parts c =
-    let at = c.loop-row in
-    let owners : List Seat = owner_seats at.owners.items in
-    let rest : List (List Seat) = map (λ row. thief_seats row.items) (into_iter_items c.next.new.self) in
-    let total : List Seat = with_rows (owner_seats c.args.owners.items) (map (λ row. thief_seats row.items) c.args.rows.items) in
-    let turns : AreTurns owners (thief_seats c.in-Some.row.items ∷ rest) total = subst (λ l. AreTurns owners (map (λ row. thief_seats row.items) l) total) c.in-Some.ensures.steps.0 at.invariant.0 in
-    (row_room owners rest (thief_seats c.in-Some.row.items) total turns).1
+join_row-requires-clause-parts c = (row_room _ _ _ _ (next_row _ _ _ _ _ _ c.in-Some.ensures.steps.0 c.loop-row.invariant.0)).1
 
 pub loop-row-preserved : goal.loop-row-preserved
 loop-row-preserved c =
@@ -45,11 +33,8 @@ loop-row-preserved c =
     let row = c.in-Some.row in
     let owners : List Seat = owner_seats at.owners.items in
     let after = c.join_row.new.owners in
-    let rest : List (List Seat) = map (λ row. thief_seats row.items) (into_iter_items c.next.new.self) in
-    let total : List Seat = with_rows (owner_seats c.args.owners.items) (map (λ row. thief_seats row.items) c.args.rows.items) in
-    let turns : AreTurns owners (thief_seats row.items ∷ rest) total = subst (λ l. AreTurns owners (map (λ row. thief_seats row.items) l) total) c.in-Some.ensures.steps.0 at.invariant.0 in
     let count : length (owner_seats after.items) ≡ length owners = ap length c.join_row.ensures ∙ length-with_row owners (thief_seats row.items) in (
-      rows_turn owners (owner_seats after.items) rest (thief_seats row.items) total (one_part row.items) c.join_row.ensures turns,
+      rows_turn owners (owner_seats after.items) _ _ _ (one_part row.items) c.join_row.ensures (next_row _ _ _ _ _ _ c.in-Some.ensures.steps.0 at.invariant.0),
       omega (arith, length-map after.items owner_seat, length-map at.owners.items owner_seat, after.ok.0, at.owners.ok.0, at.invariant.1),
     )
 

@@ -1,25 +1,15 @@
 use Rattle.std.proofs.Common.{◌∷◌, ◌++◌, [], List, map, ap, ◌∙◌, arith}
-use Rattle.std.proofs.lemmas.List.{length-map, map_push}
+use Rattle.std.proofs.lemmas.List.{map_push}
 use Rattle.task_deques.specs.Seats.{Seat, owner_seat}
 use Rattle.task_deques.specs.Deals.{owner_seats, thief_seats, zip_seats}
-use Rattle.task_deques.proofs.JoinLemmas.{row_each, length_of_zip, zip_push}
+use Rattle.task_deques.proofs.JoinLemmas.{row_each, length_back, zip_push}
 use Rattle.task_deques.proofs.returned.Returned.put.Goals as goal
 
 pub push_reserved-requires : goal.push_reserved-requires
-push_reserved-requires c =
-    let back = c.args.self.now in
-    let owners : List Seat = owner_seats back.owners.items in
-    let rows : List (List Seat) = map (λ row. thief_seats row.items) back.rows.items in
-    let len = row_each back in
-    omega (arith, length_of_zip owners rows len, length-map back.owners.items owner_seat, back.owners.ok.0, back.fits.0, c.requires)
+push_reserved-requires c = omega (arith, length_back c.args.self.now, c.args.self.now.fits.0, c.requires)
 
 pub push_reserved-requires-2 : goal.push_reserved-requires-2
-push_reserved-requires-2 c =
-    let back = c.args.self.now in
-    let owners : List Seat = owner_seats back.owners.items in
-    let rows : List (List Seat) = map (λ row. thief_seats row.items) back.rows.items in
-    let len = row_each back in
-    omega (arith, length_of_zip owners rows len, length-map back.owners.items owner_seat, back.owners.ok.0, back.paired, back.fits.1, c.requires)
+push_reserved-requires-2 c = omega (arith, length_back c.args.self.now, c.args.self.now.paired, c.args.self.now.fits.1, c.requires)
 
 pub returns-clause-ends : goal.returns-clause-ends
 returns-clause-ends c =
@@ -27,9 +17,8 @@ returns-clause-ends c =
     let ends = c.args.ends in
     let owners : List Seat = owner_seats back.owners.items in
     let rows : List (List Seat) = map (λ row. thief_seats row.items) back.rows.items in
-    let len = row_each back in
     ap (λ l. zip_seats (owner_seats l) (map (λ row. thief_seats row.items) c.push_reserved-2.new.self.items)) c.push_reserved.ensures.items
     ∙ ap (λ l. zip_seats (owner_seats (back.owners.items ++ ends.own ∷ [])) (map (λ row. thief_seats row.items) l)) c.push_reserved-2.ensures.items
     ∙ ap (λ (l : List Seat). zip_seats l (map (λ row. thief_seats row.items) (back.rows.items ++ ends.thieves ∷ []))) (map_push owner_seat back.owners.items ends.own)
     ∙ ap (λ (l : List (List Seat)). zip_seats (owners ++ owner_seat ends.own ∷ []) l) (map_push (λ row. thief_seats row.items) back.rows.items ends.thieves)
-    ∙ zip_push owners rows (owner_seat ends.own) (thief_seats ends.thieves.items) len
+    ∙ zip_push owners rows (owner_seat ends.own) (thief_seats ends.thieves.items) (row_each back)

@@ -1,0 +1,16 @@
+use Rattle.std.proofs.Common.{[], ◌∷◌, refl, arith}
+use Rattle.std.proofs.lemmas.List.Elements.{All-from_recursion}
+use Rattle.task_deques.specs.Deals.{IsAccounted}
+use Rattle.task_deques.specs.Rows.{task, seat}
+use Rattle.task_deques.proofs.rows.rows_are_joined.Goals as goal
+
+pub returns : goal.returns
+returns c = record {
+  row = λ one two. refl;
+  shorter = λ one two. refl;
+  longer = λ one two. refl;
+  whole = λ one two. refl;
+  accounted = λ one two. All-from_recursion IsAccounted (seat one 64 (task 1 ∷ task 2 ∷ task 3 ∷ []) (task 3 ∷ task 1 ∷ []) ∷ seat two 64 [] [] ∷ [])
+      ((task 2 ∷ [], λ h. omega arith), (([], λ h. refl), tt));
+  made_up = λ one is. let none = is.1 (λ _. 1) in omega arith;
+}

@@ -1,0 +1,11 @@
+use Rattle.std.proofs.Common.{[], ◌∷◌, refl, inl, inr, arith}
+use Rattle.task_deques.specs.Rows.{seat}
+use Rattle.task_deques.proofs.rows.tasks_are_taken.Goals as goal
+
+pub returns : goal.returns
+returns c = record {
+  own = λ one two. inl refl;
+  emptied = λ h. omega arith;
+  one_left = λ is. let more = is (λ _. 1) in omega arith;
+  stolen = λ one two. inr (refl, (seat one 1 [] [] ∷ [], seat two 1 [] [], [], refl, refl));
+}
