@@ -19,9 +19,11 @@ use Rattle.sched_rules.specs.declared.step.DidOf.TheVariants.{TakenIn}
 use Rattle.sched_rules.specs.Functions.{Functions}
 use Rattle.sched_rules.specs.Trees.{Tenant, words_in, is_outside, has_child, stored}
 use Rattle.sched_rules.specs.Lone.{Outcome, unless, lone, refusal_in, inlet_tests, taken_in, staying, aborted_beside, does_wait, is_returned, holding, counted, in_state}
+use Rattle.sched_rules.specs.Changes.{on_tenant}
 use Rattle.sched_rules.specs.Views.{named}
 use Rattle.sched_rules.specs.Cores.{Shared, tenant_in, is_busy_elsewhere, unless_busy, judged, shared_refusal}
-use Rattle.sched_laws.specs.Shapes.{IsShaped}
+use Rattle.sched_laws.specs.Shapes.{IsShaped, AreShaped}
+use Rattle.sched_laws.proofs.Answers.{shaped-in}
 use Rattle.sched_laws.proofs.Consequences.{returned-leaf}
 use Rattle.sched_store.specs.Reads.{is_busy_among, AreRising, words_under}
 use Rattle.sched_core.specs.declared.engine.Seen.{Seen}
@@ -29,7 +31,7 @@ use Rattle.sched_core.specs.Seeing.{MayBeTakenIn, IsReturnedUnder}
 use Rattle.sched_core.specs.Judging.{staying_with}
 use Rattle.sched_core.proofs.Deciding.{some-is}
 use Rattle.sched_core.proofs.Parents.{inlet-told}
-use Rattle.sched_core.proofs.Going.{AllPass, all-pass}
+use Rattle.sched_core.proofs.Going.{AllPass, all-pass, IsWith, begins, then-changed}
 
 -- what an inlet that is taken comes to
 pub record IsInlet {I A : Type 0} (functions : Functions I A) (shared : Shared) (worker : ℕ) (name : FrameId) : Type 0 where
@@ -157,6 +159,32 @@ pub parent-stays : (frames : List (Frame (List ℕ))) (child parent : ℕ) (abor
     frame_at (staying frames child parent abort) parent ≡ Some above
 parent-stays frames child parent true frame above tree found path at = aborted-itself parent frames above tree at
 parent-stays frames child parent false frame above tree found path at = stays-beside frames child parent frame above tree found path at
+
+-- the child is taken out, and the parent stays
+pub record IsTakenOut {I A : Type 0} (functions : Functions I A) (shared : Shared) (worker : ℕ) (name above : FrameId) (tenant : Tenant) (frame : Frame (List ℕ)) (act : InletAct) (now : Shared) : Type 0 where
+  pub takes : IsTakingIn functions shared worker name above tenant frame act
+  pub changed : IsWith shared name.tenant (staying_with name.serial takes.parent act.abort tenant) now
+  pub parent : Frame (List ℕ)
+  pub found : frame_at tenant.frames takes.parent ≡ Some parent
+  pub stays : frame_at (staying tenant.frames name.serial takes.parent act.abort) takes.parent ≡ Some parent
+
+pub takes-out : {I A : Type 0} (functions : Functions I A) (shared : Shared) (worker : ℕ) (name above : FrameId) (tenant : Tenant) (frame : Frame (List ℕ)) (seen : Seen) (act : InletAct) (now : Shared) →
+    AreShaped shared.tenants → IsReturnedUnder shared name above tenant frame seen → AreRising shared.tenants → act ≡ functions.inlet (words_under shared above) (words_under shared name) →
+    Ok (tt {0}) ≡ unless ((is_outside act.stores (words_under shared above), BadAct) ∷ (is_busy_among worker shared.tenants, Busy) ∷ []) (tt {0}) →
+    now ≡ on_tenant name.tenant (staying_with name.serial above.serial act.abort) shared → IsTakenOut functions shared worker name above tenant frame act now
+takes-out functions shared worker name above tenant frame seen act now shaped is rising same told outs =
+    let t = takes-in functions shared worker name above tenant frame seen act is rising same told in
+    let tree = (shaped-in name.tenant shared.tenants tenant shaped t.owner).tree in
+    let parent_is = t.is in
+    let out : now ≡ on_tenant name.tenant (staying_with name.serial t.parent act.abort) shared = rw parent_is at outs in
+    let parent = parent-found tenant.frames name.serial t.parent frame tree t.found t.path in
+    record {
+      takes = t;
+      changed = then-changed _ _ _ _ now (staying_with name.serial t.parent act.abort) (begins shared name.tenant tenant t.owner) out;
+      parent = parent.0;
+      found = parent.1;
+      stays = parent-stays tenant.frames name.serial t.parent act.abort frame parent.0 tree t.found t.path parent.1;
+    }
 
 -- an abort removes the child too
 abbrev IsBelow : ℕ → ℕ → Frame (List ℕ) → Type 0

@@ -10,10 +10,10 @@ use Rattle.sched_rules.specs.Lone.{holding, in_state, counted, staying, aborted_
 use Rattle.sched_rules.specs.Cores.{judged}
 use Rattle.sched_laws.proofs.Answers.{shaped-in}
 use Rattle.sched_core.specs.Judging.{staying_with}
-use Rattle.sched_core.proofs.Going.{judged-refused, judged-taken, begins, then-changed, step-left}
+use Rattle.sched_core.proofs.Going.{judged-refused, judged-taken, then-changed, step-left}
 use Rattle.sched_core.proofs.Acting.{held-at}
 use Rattle.sched_core.proofs.Parents.{parent-there, inlet-told}
-use Rattle.sched_core.proofs.Inlets.{takes-in, may-be-taken-in, parent-found, parent-named-so, parent-stays, taken-asleep, taken-awake, woken-told}
+use Rattle.sched_core.proofs.Inlets.{takes-in, may-be-taken-in, takes-out, parent-named-so, taken-asleep, taken-awake, woken-told}
 use Rattle.sched_core.proofs.Fitting.{parent-fits}
 use Rattle.sched_core.proofs.engine.Engine.inlet.Goals as goal
 
@@ -56,15 +56,12 @@ store_all-requires-clause-there g c =
     let s = c.in_ok-found.ensures.frame in
     let own_words = c.in_ok-found.ensures.words in
     let above_words = c.known-above.ensures.words in
-    let t = takes-in (g.P.Procedure.functions c.args.self.now.procedure) c.args.self.now.store c.args.worker c.args.name c.in_ok-found.parent s.0 s.1 c.in_ok-found.found.seen c.inlet_of-act.result s.2 c.known-above.ensures.rising
-    (rw (own_words, above_words) at c.inlet_of-act.ensures) (rw above_words at c.in_ok-may_take_in.ensures) in
+    let o = takes-out (g.P.Procedure.functions c.args.self.now.procedure) c.args.self.now.store c.args.worker c.args.name c.in_ok-found.parent s.0 s.1 c.in_ok-found.found.seen c.inlet_of-act.result c.take_out-aborted.new.store
+    c.requires.shaped s.2 c.known-above.ensures.rising (rw (own_words, above_words) at c.inlet_of-act.ensures) (rw above_words at c.in_ok-may_take_in.ensures) c.take_out-aborted.ensures.left in
+    let t = o.takes in
     let is = t.is in
-    let shape = shaped-in c.args.name.tenant c.args.self.now.store.tenants s.0 c.requires.shaped t.owner in
-    let w = begins c.args.self.now.store c.args.name.tenant s.0 t.owner in
-    let outs : c.take_out-aborted.new.store ≡ on_tenant c.args.name.tenant (staying_with c.args.name.serial t.parent c.inlet_of-act.result.abort) c.args.self.now.store = rw is at c.take_out-aborted.ensures.left in
-    let w1 = then-changed _ _ _ _ c.take_out-aborted.new.store (staying_with c.args.name.serial t.parent c.inlet_of-act.result.abort) w outs in
-    let above = parent-found s.0.frames c.args.name.serial t.parent s.1 shape.tree t.found t.path in
-    let stays = parent-stays s.0.frames c.args.name.serial t.parent c.inlet_of-act.result.abort s.1 above.0 shape.tree t.found t.path above.1 in
+    let w1 = o.changed in
+    let stays = o.stays in
     rw (is, w1.there, stays) refl
 
 pub store_all-requires-clause-inside : goal.store_all-requires-clause-inside
@@ -72,16 +69,13 @@ store_all-requires-clause-inside g c =
     let s = c.in_ok-found.ensures.frame in
     let own_words = c.in_ok-found.ensures.words in
     let above_words = c.known-above.ensures.words in
-    let t = takes-in (g.P.Procedure.functions c.args.self.now.procedure) c.args.self.now.store c.args.worker c.args.name c.in_ok-found.parent s.0 s.1 c.in_ok-found.found.seen c.inlet_of-act.result s.2 c.known-above.ensures.rising
-    (rw (own_words, above_words) at c.inlet_of-act.ensures) (rw above_words at c.in_ok-may_take_in.ensures) in
+    let o = takes-out (g.P.Procedure.functions c.args.self.now.procedure) c.args.self.now.store c.args.worker c.args.name c.in_ok-found.parent s.0 s.1 c.in_ok-found.found.seen c.inlet_of-act.result c.take_out-aborted.new.store
+    c.requires.shaped s.2 c.known-above.ensures.rising (rw (own_words, above_words) at c.inlet_of-act.ensures) (rw above_words at c.in_ok-may_take_in.ensures) c.take_out-aborted.ensures.left in
+    let t = o.takes in
     let is = t.is in
-    let shape = shaped-in c.args.name.tenant c.args.self.now.store.tenants s.0 c.requires.shaped t.owner in
-    let w = begins c.args.self.now.store c.args.name.tenant s.0 t.owner in
-    let outs : c.take_out-aborted.new.store ≡ on_tenant c.args.name.tenant (staying_with c.args.name.serial t.parent c.inlet_of-act.result.abort) c.args.self.now.store = rw is at c.take_out-aborted.ensures.left in
-    let w1 = then-changed _ _ _ _ c.take_out-aborted.new.store (staying_with c.args.name.serial t.parent c.inlet_of-act.result.abort) w outs in
-    let above = parent-found s.0.frames c.args.name.serial t.parent s.1 shape.tree t.found t.path in
-    let stays = parent-stays s.0.frames c.args.name.serial t.parent c.inlet_of-act.result.abort s.1 above.0 shape.tree t.found t.path above.1 in
-    let inside : is_outside c.inlet_of-act.result.stores above.0.value ≡ false = rw above.1 at t.passes.1.1.0 in
+    let w1 = o.changed in
+    let stays = o.stays in
+    let inside : is_outside c.inlet_of-act.result.stores o.parent.value ≡ false = rw o.found at t.passes.1.1.0 in
     rw (c.as_slice.ensures, is, w1.there, stays) inside
 
 pub count_step-requires : goal.count_step-requires
@@ -89,15 +83,12 @@ count_step-requires g c =
     let s = c.in_ok-found.ensures.frame in
     let own_words = c.in_ok-found.ensures.words in
     let above_words = c.known-above.ensures.words in
-    let t = takes-in (g.P.Procedure.functions c.args.self.now.procedure) c.args.self.now.store c.args.worker c.args.name c.in_ok-found.parent s.0 s.1 c.in_ok-found.found.seen c.inlet_of-act.result s.2 c.known-above.ensures.rising
-    (rw (own_words, above_words) at c.inlet_of-act.ensures) (rw above_words at c.in_ok-may_take_in.ensures) in
+    let o = takes-out (g.P.Procedure.functions c.args.self.now.procedure) c.args.self.now.store c.args.worker c.args.name c.in_ok-found.parent s.0 s.1 c.in_ok-found.found.seen c.inlet_of-act.result c.take_out-aborted.new.store
+    c.requires.shaped s.2 c.known-above.ensures.rising (rw (own_words, above_words) at c.inlet_of-act.ensures) (rw above_words at c.in_ok-may_take_in.ensures) c.take_out-aborted.ensures.left in
+    let t = o.takes in
     let is = t.is in
-    let shape = shaped-in c.args.name.tenant c.args.self.now.store.tenants s.0 c.requires.shaped t.owner in
-    let w = begins c.args.self.now.store c.args.name.tenant s.0 t.owner in
-    let outs : c.take_out-aborted.new.store ≡ on_tenant c.args.name.tenant (staying_with c.args.name.serial t.parent c.inlet_of-act.result.abort) c.args.self.now.store = rw is at c.take_out-aborted.ensures.left in
-    let w1 = then-changed _ _ _ _ c.take_out-aborted.new.store (staying_with c.args.name.serial t.parent c.inlet_of-act.result.abort) w outs in
-    let above = parent-found s.0.frames c.args.name.serial t.parent s.1 shape.tree t.found t.path in
-    let stays = parent-stays s.0.frames c.args.name.serial t.parent c.inlet_of-act.result.abort s.1 above.0 shape.tree t.found t.path above.1 in
+    let w1 = o.changed in
+    let stays = o.stays in
     let words = stored c.inlet_of-act.result.stores (words_in (staying s.0.frames c.args.name.serial t.parent c.inlet_of-act.result.abort) t.parent) in
     let stores : c.store_all.new.self ≡ on_tenant c.args.name.tenant (holding t.parent words) c.take_out-aborted.new.store = rw (c.as_slice.ensures, is, w1.there) at c.store_all.ensures in
     let w2 = then-changed _ _ _ _ c.store_all.new.self (holding t.parent words) w1 stores in
@@ -108,23 +99,20 @@ returns-then-not-is_woken-clause-judged g c =
     let s = c.in_ok-found.ensures.frame in
     let own_words = c.in_ok-found.ensures.words in
     let above_words = c.known-above.ensures.words in
-    let t = takes-in (g.P.Procedure.functions c.args.self.now.procedure) c.args.self.now.store c.args.worker c.args.name c.in_ok-found.parent s.0 s.1 c.in_ok-found.found.seen c.inlet_of-act.result s.2 c.known-above.ensures.rising
-    (rw (own_words, above_words) at c.inlet_of-act.ensures) (rw above_words at c.in_ok-may_take_in.ensures) in
+    let o = takes-out (g.P.Procedure.functions c.args.self.now.procedure) c.args.self.now.store c.args.worker c.args.name c.in_ok-found.parent s.0 s.1 c.in_ok-found.found.seen c.inlet_of-act.result c.take_out-aborted.new.store
+    c.requires.shaped s.2 c.known-above.ensures.rising (rw (own_words, above_words) at c.inlet_of-act.ensures) (rw above_words at c.in_ok-may_take_in.ensures) c.take_out-aborted.ensures.left in
+    let t = o.takes in
     let is = t.is in
-    let shape = shaped-in c.args.name.tenant c.args.self.now.store.tenants s.0 c.requires.shaped t.owner in
-    let w = begins c.args.self.now.store c.args.name.tenant s.0 t.owner in
-    let outs : c.take_out-aborted.new.store ≡ on_tenant c.args.name.tenant (staying_with c.args.name.serial t.parent c.inlet_of-act.result.abort) c.args.self.now.store = rw is at c.take_out-aborted.ensures.left in
-    let w1 = then-changed _ _ _ _ c.take_out-aborted.new.store (staying_with c.args.name.serial t.parent c.inlet_of-act.result.abort) w outs in
-    let above = parent-found s.0.frames c.args.name.serial t.parent s.1 shape.tree t.found t.path in
-    let stays = parent-stays s.0.frames c.args.name.serial t.parent c.inlet_of-act.result.abort s.1 above.0 shape.tree t.found t.path above.1 in
+    let w1 = o.changed in
+    let stays = o.stays in
     let words = stored c.inlet_of-act.result.stores (words_in (staying s.0.frames c.args.name.serial t.parent c.inlet_of-act.result.abort) t.parent) in
     let stores : c.store_all.new.self ≡ on_tenant c.args.name.tenant (holding t.parent words) c.take_out-aborted.new.store = rw (c.as_slice.ensures, is, w1.there) at c.store_all.ensures in
     let w2 = then-changed _ _ _ _ c.store_all.new.self (holding t.parent words) w1 stores in
     let w3 = then-changed _ _ _ _ c.count_step.new.self counted w2 c.count_step.ensures in
     let gone : c.take_out-aborted.result ≡ aborted_beside s.0.frames c.args.name.serial t.parent c.inlet_of-act.result.abort = rw is at (c.take_out-aborted.ensures.count s.0 t.owner) in
     let among : judged (g.P.Procedure.functions c.args.self.now.procedure) c.args.self.now.store (Inlet c.args.worker c.args.name) ≡ Ok (taken_in s.0 c.args.worker c.args.name t.parent c.inlet_of-act.result) = t.among in
-    let named_so = parent-named-so c.args.self.now.store c.args.name c.in_ok-found.parent t.parent s.0 above.0 t.is t.owner above.1 in
-    let waits : c.is_waiting-was_waiting.result ≡ does_wait (frame_at (staying s.0.frames c.args.name.serial t.parent c.inlet_of-act.result.abort) t.parent) = c.is_waiting-was_waiting.ensures ∙ ap is_waiting (c.known-above.ensures.state above.0 named_so) ∙ rw stays refl in
+    let named_so = parent-named-so c.args.self.now.store c.args.name c.in_ok-found.parent t.parent s.0 o.parent t.is t.owner o.found in
+    let waits : c.is_waiting-was_waiting.result ≡ does_wait (frame_at (staying s.0.frames c.args.name.serial t.parent c.inlet_of-act.result.abort) t.parent) = c.is_waiting-was_waiting.ensures ∙ ap is_waiting (c.known-above.ensures.state o.parent named_so) ∙ rw stays refl in
     let asleep : (does_wait (frame_at (staying s.0.frames c.args.name.serial t.parent c.inlet_of-act.result.abort) t.parent) && (c.inlet_of-act.result.abort || c.inlet_of-act.result.wake || not (has_child (staying s.0.frames c.args.name.serial t.parent c.inlet_of-act.result.abort) t.parent))) ≡ false = sym (rw (is, w1.there, waits) at c.is_to_wake-is_woken.ensures) ∙ c.if-not-is_woken.true in
     judged-taken (g.P.Procedure.functions c.args.self.now.procedure) c.args.self.now.store (Inlet c.args.worker c.args.name) _ _ _ (among ∙ ap Ok (taken-asleep s.0 c.args.worker c.args.name t.parent c.inlet_of-act.result asleep)) (rw gone refl) w3.is
 
@@ -133,20 +121,17 @@ set_state-requires-clause-there g c =
     let s = c.in_ok-found.ensures.frame in
     let own_words = c.in_ok-found.ensures.words in
     let above_words = c.known-above.ensures.words in
-    let t = takes-in (g.P.Procedure.functions c.args.self.now.procedure) c.args.self.now.store c.args.worker c.args.name c.in_ok-found.parent s.0 s.1 c.in_ok-found.found.seen c.inlet_of-act.result s.2 c.known-above.ensures.rising
-    (rw (own_words, above_words) at c.inlet_of-act.ensures) (rw above_words at c.in_ok-may_take_in.ensures) in
+    let o = takes-out (g.P.Procedure.functions c.args.self.now.procedure) c.args.self.now.store c.args.worker c.args.name c.in_ok-found.parent s.0 s.1 c.in_ok-found.found.seen c.inlet_of-act.result c.take_out-aborted.new.store
+    c.requires.shaped s.2 c.known-above.ensures.rising (rw (own_words, above_words) at c.inlet_of-act.ensures) (rw above_words at c.in_ok-may_take_in.ensures) c.take_out-aborted.ensures.left in
+    let t = o.takes in
     let is = t.is in
-    let shape = shaped-in c.args.name.tenant c.args.self.now.store.tenants s.0 c.requires.shaped t.owner in
-    let w = begins c.args.self.now.store c.args.name.tenant s.0 t.owner in
-    let outs : c.take_out-aborted.new.store ≡ on_tenant c.args.name.tenant (staying_with c.args.name.serial t.parent c.inlet_of-act.result.abort) c.args.self.now.store = rw is at c.take_out-aborted.ensures.left in
-    let w1 = then-changed _ _ _ _ c.take_out-aborted.new.store (staying_with c.args.name.serial t.parent c.inlet_of-act.result.abort) w outs in
-    let above = parent-found s.0.frames c.args.name.serial t.parent s.1 shape.tree t.found t.path in
-    let stays = parent-stays s.0.frames c.args.name.serial t.parent c.inlet_of-act.result.abort s.1 above.0 shape.tree t.found t.path above.1 in
+    let w1 = o.changed in
+    let stays = o.stays in
     let words = stored c.inlet_of-act.result.stores (words_in (staying s.0.frames c.args.name.serial t.parent c.inlet_of-act.result.abort) t.parent) in
     let stores : c.store_all.new.self ≡ on_tenant c.args.name.tenant (holding t.parent words) c.take_out-aborted.new.store = rw (c.as_slice.ensures, is, w1.there) at c.store_all.ensures in
     let w2 = then-changed _ _ _ _ c.store_all.new.self (holding t.parent words) w1 stores in
     let w3 = then-changed _ _ _ _ c.count_step.new.self counted w2 c.count_step.ensures in
-    let held = held-at t.parent words (staying_with c.args.name.serial t.parent c.inlet_of-act.result.abort s.0) above.0 stays in
+    let held = held-at t.parent words (staying_with c.args.name.serial t.parent c.inlet_of-act.result.abort s.0) o.parent stays in
     rw (is, w3.there, held) refl
 
 pub returns-clause-judged : goal.returns-clause-judged
@@ -154,15 +139,12 @@ returns-clause-judged g c =
     let s = c.in_ok-found.ensures.frame in
     let own_words = c.in_ok-found.ensures.words in
     let above_words = c.known-above.ensures.words in
-    let t = takes-in (g.P.Procedure.functions c.args.self.now.procedure) c.args.self.now.store c.args.worker c.args.name c.in_ok-found.parent s.0 s.1 c.in_ok-found.found.seen c.inlet_of-act.result s.2 c.known-above.ensures.rising
-    (rw (own_words, above_words) at c.inlet_of-act.ensures) (rw above_words at c.in_ok-may_take_in.ensures) in
+    let o = takes-out (g.P.Procedure.functions c.args.self.now.procedure) c.args.self.now.store c.args.worker c.args.name c.in_ok-found.parent s.0 s.1 c.in_ok-found.found.seen c.inlet_of-act.result c.take_out-aborted.new.store
+    c.requires.shaped s.2 c.known-above.ensures.rising (rw (own_words, above_words) at c.inlet_of-act.ensures) (rw above_words at c.in_ok-may_take_in.ensures) c.take_out-aborted.ensures.left in
+    let t = o.takes in
     let is = t.is in
-    let shape = shaped-in c.args.name.tenant c.args.self.now.store.tenants s.0 c.requires.shaped t.owner in
-    let w = begins c.args.self.now.store c.args.name.tenant s.0 t.owner in
-    let outs : c.take_out-aborted.new.store ≡ on_tenant c.args.name.tenant (staying_with c.args.name.serial t.parent c.inlet_of-act.result.abort) c.args.self.now.store = rw is at c.take_out-aborted.ensures.left in
-    let w1 = then-changed _ _ _ _ c.take_out-aborted.new.store (staying_with c.args.name.serial t.parent c.inlet_of-act.result.abort) w outs in
-    let above = parent-found s.0.frames c.args.name.serial t.parent s.1 shape.tree t.found t.path in
-    let stays = parent-stays s.0.frames c.args.name.serial t.parent c.inlet_of-act.result.abort s.1 above.0 shape.tree t.found t.path above.1 in
+    let w1 = o.changed in
+    let stays = o.stays in
     let words = stored c.inlet_of-act.result.stores (words_in (staying s.0.frames c.args.name.serial t.parent c.inlet_of-act.result.abort) t.parent) in
     let stores : c.store_all.new.self ≡ on_tenant c.args.name.tenant (holding t.parent words) c.take_out-aborted.new.store = rw (c.as_slice.ensures, is, w1.there) at c.store_all.ensures in
     let w2 = then-changed _ _ _ _ c.store_all.new.self (holding t.parent words) w1 stores in
@@ -171,7 +153,7 @@ returns-clause-judged g c =
     let among : judged (g.P.Procedure.functions c.args.self.now.procedure) c.args.self.now.store (Inlet c.args.worker c.args.name) ≡ Ok (taken_in s.0 c.args.worker c.args.name t.parent c.inlet_of-act.result) = t.among in
     let wakes : c.set_state.new.self ≡ on_tenant c.args.name.tenant (in_state t.parent (Ready c.args.worker)) c.count_step.new.self = rw (is, c.number.ensures.value) at c.set_state.ensures in
     let w4 = then-changed _ _ _ _ c.set_state.new.self (in_state t.parent (Ready c.args.worker)) w3 wakes in
-    let named_so = parent-named-so c.args.self.now.store c.args.name c.in_ok-found.parent t.parent s.0 above.0 t.is t.owner above.1 in
-    let waits : c.is_waiting-was_waiting.result ≡ does_wait (frame_at (staying s.0.frames c.args.name.serial t.parent c.inlet_of-act.result.abort) t.parent) = c.is_waiting-was_waiting.ensures ∙ ap is_waiting (c.known-above.ensures.state above.0 named_so) ∙ rw stays refl in
+    let named_so = parent-named-so c.args.self.now.store c.args.name c.in_ok-found.parent t.parent s.0 o.parent t.is t.owner o.found in
+    let waits : c.is_waiting-was_waiting.result ≡ does_wait (frame_at (staying s.0.frames c.args.name.serial t.parent c.inlet_of-act.result.abort) t.parent) = c.is_waiting-was_waiting.ensures ∙ ap is_waiting (c.known-above.ensures.state o.parent named_so) ∙ rw stays refl in
     let awake : (does_wait (frame_at (staying s.0.frames c.args.name.serial t.parent c.inlet_of-act.result.abort) t.parent) && (c.inlet_of-act.result.abort || c.inlet_of-act.result.wake || not (has_child (staying s.0.frames c.args.name.serial t.parent c.inlet_of-act.result.abort) t.parent))) ≡ true = sym (rw (is, w1.there, waits) at c.is_to_wake-is_woken.ensures) ∙ c.if-not-is_woken.false in
     judged-taken (g.P.Procedure.functions c.args.self.now.procedure) c.args.self.now.store (Inlet c.args.worker c.args.name) _ _ _ (among ∙ ap Ok (taken-awake s.0 c.args.worker c.args.name t.parent c.inlet_of-act.result awake)) (woken-told c.args.name c.in_ok-found.parent t.parent c.take_out-aborted.result _ t.is gone) w4.is
