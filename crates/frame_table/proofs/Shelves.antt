@@ -250,46 +250,11 @@ push_shelf old new keys room places key slot above s less knows vacant u len cap
         none_some : {X : Type 0} (x : X) → None ≡ Some x → ⊥
         none_some x e = absurd (cc)
 
-pub push_slots : {T : Type 0} (old new : Slab (Kept T)) (keys : List ℕ) (room places key : ℕ) (kept : Kept T) → IsShelf old keys room places → get old key ≡ None → Updates old new key (Some kept) → slots_in new (keys ++ key ∷ []) ≡ slots_in old keys ++ kept.slot ∷ []
-push_slots old new keys room places key kept s vacant u =
-    let absent = vacant_absent old [] keys key s.here vacant in
+pub push_slots : {T : Type 0} (old new : Slab (Kept T)) (keys : List ℕ) (key : ℕ) (kept : Kept T) → AllHere old [] keys → get old key ≡ None → Updates old new key (Some kept) → slots_in new (keys ++ key ∷ []) ≡ slots_in old keys ++ kept.slot ∷ []
+push_slots old new keys key kept here vacant u =
+    let absent = vacant_absent old [] keys key here vacant in
     let same = slots_in-same old new keys (λ k has. u.others k (λ e. false≢true (sym absent ∙ (ap (has_number keys) (sym e) ∙ has)))) in
     slots_in-append new keys (key ∷ []) ∙ (rw (same, u.changed) refl)
-
--- a place that is named stands among the slots
-pub stands_within : {T : Type 0} (slots : List (TenantSlot T)) (parent above : Option ℕ) (at : ℕ) → StandsUnder slots parent above → above ≡ Some at → at < length slots
-stands_within slots None None at s is = absurd (cc)
-stands_within slots None (Some a) at s is = absurd s
-stands_within slots (Some p) None at s is = absurd s
-stands_within slots (Some p) (Some a) at s is = within slots p a at s (some_same a at is)
-  where
-    some_same : (a b : ℕ) → Some a ≡ Some b → a ≡ b
-    some_same a b e = cc
-
-    within : {T : Type 0} (slots : List (TenantSlot T)) (p a at : ℕ) → StandsUnder slots (Some p) (Some a) → a ≡ at → at < length slots
-    within slots p a at s e = rw e at s.0
-
--- the key of a parent that is named
-pub knows_some : {T : Type 0} (slab : Slab (Kept T)) (keys : List ℕ) (parent above : Option ℕ) (at key : ℕ) → AllHere slab [] keys → StandsUnder (slots_in slab keys) parent above → above ≡ Some at → key ≡ get_or keys at key → KnowsParent slab keys parent (Some key)
-knows_some slab keys parent above at key h s is read = named slab keys parent at key h (subst (λ o. StandsUnder (slots_in slab keys) parent o) is s) read
-  where
-    named : {T : Type 0} (slab : Slab (Kept T)) (keys : List ℕ) (parent : Option ℕ) (at key : ℕ) → AllHere slab [] keys → StandsUnder (slots_in slab keys) parent (Some at) → key ≡ get_or keys at key → KnowsParent slab keys parent (Some key)
-    named slab keys None at key h s read = absurd s
-    named slab keys (Some p) at key h s read = knows_read slab keys p at key h s read
-
-pub knows_none : {T : Type 0} (slab : Slab (Kept T)) (keys : List ℕ) (parent above : Option ℕ) → StandsUnder (slots_in slab keys) parent above → above ≡ None → KnowsParent slab keys parent None
-knows_none slab keys parent above s is = root slab keys parent (subst (λ o. StandsUnder (slots_in slab keys) parent o) is s)
-  where
-    root : {T : Type 0} (slab : Slab (Kept T)) (keys : List ℕ) (parent : Option ℕ) → StandsUnder (slots_in slab keys) parent None → KnowsParent slab keys parent None
-    root slab keys None s = tt
-    root slab keys (Some p) s = absurd s
-
--- a parent stands where it stood after its count was written
-pub stands_set : {T : Type 0} (slots : List (TenantSlot T)) (parent : Option ℕ) (p at : ℕ) (slot : TenantSlot T) (count : ℕ) → parent ≡ Some p → at < length slots → slice_index (serials_of slots) at ≡ p → slot ≡ get_or slots at slot → StandsUnder (set slots at (record slot { children = count })) parent (Some at)
-stands_set {T} slots parent p at slot count is lt found read =
-    let after : TenantSlot T = record slot { children = count } in
-    let within : at < length (set slots at after) = rw (length-set slots at after) lt in
-    rw is (within, serial_read (set slots at after) at after within (sym (get_or-set_same slots at after after lt)) ∙ (sym (serial_read slots at slot lt read) ∙ found))
 
 length-with_slot : {T : Type 0} (p : ℕ) (change : TenantSlot T → TenantSlot T) (slots : List (TenantSlot T)) → length (with_slot p change slots) ≡ length slots
 length-with_slot p change [] = refl

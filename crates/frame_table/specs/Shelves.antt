@@ -1,10 +1,11 @@
 -- How a tenant's slots are kept: in a slab, with an index of their keys by rising serial.
-use Rattle.std.specs.Prelude.{◌≡◌, ℕ, ◌<◌, ◌≤◌, Bool, true, false, not, if◌then◌else◌, ◌||◌, ◌&&◌, ◌==◌, List, [], ◌∷◌, ◌++◌, Option, Some, None, IsSome, length, slice_index, map, drop}
+use Rattle.std.specs.Prelude.{◌≡◌, ℕ, ◌<◌, ◌≤◌, Bool, true, false, not, if◌then◌else◌, ◌||◌, ◌&&◌, ◌==◌, List, [], ◌∷◌, ◌++◌, Option, Some, None, IsSome, length, slice_index, get_or, set, map, drop}
 use Rattle.std.specs.Borrow.{Bor}
 use Rattle.slab.specs.Slab.{Slab, get, slab_len}
 use Rattle.frame_table.specs.declared.slot.Slot.{Slot as TenantSlot}
 use Rattle.frame_table.specs.Places.{has_number}
-use Rattle.frame_table.specs.Slots.{frames_from, is_kept, serials_of}
+use Rattle.frame_table.specs.declared.names.State.TheVariants.{Ready}
+use Rattle.frame_table.specs.Slots.{frames_from, is_kept, serials_of, root_under}
 use Rattle.frame_table.specs.declared.shelf.Kept.{Kept}
 
 -- a number of places, and slots by rising serial
@@ -122,3 +123,33 @@ values_in slab keys = map (λ slot. slot.value) (slots_in slab keys)
 abbrev pub slots_after : {T : Type 0} → ℕ → Option (Bor (Shelved T)) → List (TenantSlot T)
 slots_after at None = []
 slots_after at (Some shelf) = drop at shelf.now.slots
+
+-- the slot with a serial, and the place that it stands at
+pub record IsSeenAt {T : Type 0} (slots : List (TenantSlot T)) (serial at : ℕ) (slot : TenantSlot T) : Type 0 where
+  pub within : at < length slots
+  pub named : slice_index (serials_of slots) at ≡ serial
+  pub read : slot ≡ get_or slots at slot
+
+-- the slot with a serial is changed so, and told this
+pub record Changes {T : Type 0} (old new : Shelved T) (serial : ℕ) (change : TenantSlot T → TenantSlot T) (Told : TenantSlot T → Type 0) : Type 0 where
+  pub at : ℕ
+  pub slot : TenantSlot T
+  pub seen : IsSeenAt old.slots serial at slot
+  pub changed : new ≡ record old { slots = set old.slots at (change slot) }
+  pub told : Told slot
+
+-- the keys of all slots of a slab, each once, with the parents' before their children's
+pub record AreKeys {T : Type 0} (slab : Slab (Kept T)) (keys : List ℕ) : Type 0 where
+  pub here : AllHere slab [] keys
+  pub apart : AreApartKeys keys
+  pub counted : slab_len slab ≡ length keys
+
+-- the key of the slot with a serial, and the place that it stands at
+pub record IsKeyAt {T : Type 0} (slab : Slab (Kept T)) (keys : List ℕ) (serial at key : ℕ) : Type 0 where
+  pub within : at < length keys
+  pub read : key ≡ get_or keys at key
+  pub named : slice_index (serials_of (slots_in slab keys)) at ≡ serial
+
+-- the slot of a new frame that is ready at this home
+abbrev pub new_slot : {T : Type 0} → List (TenantSlot T) → ℕ → Option ℕ → ℕ → T → TenantSlot T
+new_slot slots serial parent home value = record { serial = serial; parent = parent; root = root_under slots parent serial; state = Ready home; children = 0; value = value }

@@ -3,23 +3,31 @@
 //! Seen as the list of slots by rising serial, and a number of places. What makes that true: each key
 //! of the index is of a slot of its own, each slot of the slab has its key in the index, a slot
 //! that has a parent keeps the key of the parent's slot, which stands before it, and none is marked.
-//! A slot is found by its serial alone, so one that is used again never answers for an old name.
-ghost use Rattle.std.specs.Prelude.{◌≡◌, ℕ, ◌+◌, ◌<◌, ◌≤◌, ◌++◌, not, filter, vec_len, vec_capacity, [], ◌∷◌, true, false, Some, length, IfOk, IfSome, IfNone, get_or, set, slice_index, take, drop};
+//! A slot is looked for first under the key that its serial is guessed to have, which stays its key while
+//! it is there: else by a search of the serials. It is found by its serial alone, so one that is used
+//! again never answers for an old name.
+ghost use Rattle.std.specs.Prelude.{◌≡◌, ℕ, ◌+◌, ◌<◌, ◌≤◌, ◌++◌, not, filter, vec_len, vec_capacity, [], ◌∷◌, true, false, Some, length, IfOk, IfSome, IfNone, get_or, set, slice_index, take, drop, ◌-◌, ⊤};
 ghost use Rattle.slab.specs.Slab.{get, slab_len, ContainsKey, Updates};
 ghost use Rattle.frame_table.specs.declared.shelf.Kept.{Kept};
 ghost use Rattle.std.specs.List.{remove};
-ghost use Rattle.frame_table.specs.Slots.{serials_of, IsLinked, kept_slots, gone_values, slot_values, child_slots};
+ghost use Rattle.frame_table.specs.Slots.{serials_of, IsLinked, kept_slots, gone_values, slot_values, child_slots, Rises, has_slot, has_parent_slot, AllCountsBelow, with_child, root_under, children_at};
 ghost use Rattle.frame_table.specs.Readies.{ready_in};
-ghost use Rattle.frame_table.specs.Shelves.{slots_in, AllHere, AreApartKeys, StandsUnder, HasLink, is_taken_in, Marks, AreThere, NoneMarked, is_marked, swept_in, values_in};
+ghost use Rattle.frame_table.specs.Places.{RisesBy, has_number};
+ghost use Rattle.frame_table.specs.Shelves.{slots_in, AllHere, AreApartKeys, AreKeys, IsKeyAt, IsSeenAt, Changes, KnowsParent, new_slot, HasLink, is_taken_in, Marks, AreThere, NoneMarked, is_marked, swept_in, values_in};
 
 use crate::names::State;
 use crate::ready::ReadyFrames;
 use crate::serials::Serials;
 use crate::slot::Slot;
 use crate::window::Window;
+use guesses::Guesses;
 use slab::Slab;
 use std::alloc::{AllocError, Allocator, Global};
 use std::marker::Model;
+
+/// How many places there are for guesses at least; else there are four for each slot, so that those
+/// of frames that live long seldom go to others.
+const FEWEST: usize = 64;
 
 /// One slot as the slab keeps it.
 #[derive(Clone, Copy)]
@@ -37,6 +45,7 @@ pub(crate) struct Shelf<T, A: Allocator = Global> {
     places: usize,
     slab: Slab<Kept<T>, A>,
     order: Window<usize, A>,
+    guesses: Guesses<A>,
 }
 
 impl<T, A: Allocator> Model for Shelf<T, A> {
@@ -58,11 +67,13 @@ impl<T: Copy, A: Allocator> Shelf<T, A> {
         ensures { IfOk result (λ s. s ≡ record { places = places; slots = [] }) }
     {
         let slab = Slab::with_capacity(alloc.clone()?, places)?;
-        let order = Window::new(alloc, places)?;
+        let order = Window::new(alloc.clone()?, places)?;
+        let guesses = Guesses::new(alloc, (4 * places).max(FEWEST))?;
         Ok(Shelf {
             places,
             slab,
             order,
+            guesses,
         })
     }
 
@@ -90,6 +101,26 @@ impl<T: Copy, A: Allocator> Shelf<T, A> {
         self.slab[key].slot
     }
 
+    /// The slot with a serial.
+    #[inline(always)]
+    pub(crate) fn find(&self, serials: &Serials<A>, serial: u64) -> Option<Slot<T>>
+        requires index { serials.now.serials ≡ serials_of self.now.slots }
+        requires rise { Rises self.now.slots }
+        ensures found { IfSome result (λ slot. (at : ℕ) × IsSeenAt self.now.slots serial at slot) }
+        ensures none { IfNone result (has_slot self.now.slots serial ≡ false) }
+    {
+        let key = self.guesses.guess(serial);
+        if let Some(kept) = self.slab.get(key) {
+            if kept.slot.serial == serial {
+                return Some(kept.slot);
+            }
+        }
+        match serials.search(serial) {
+            Some(at) => Some(self.at(at)),
+            None => None,
+        }
+    }
+
     /// Adds the serials of the slots from a place on.
     pub(crate) fn add_serials(&self, from: usize, serials: &mut Serials<A>)
         requires within { from ≤ length self.now.slots }
@@ -97,7 +128,7 @@ impl<T: Copy, A: Allocator> Shelf<T, A> {
         ensures { serials.new ≡ record serials.old { serials = serials.old.serials ++ serials_of (drop from self.now.slots) } }
     {
         for at in from..self.len() {
-            serials.push(self.at(at).serial, None);
+            serials.push(self.at(at).serial);
         }
     }
 
@@ -127,23 +158,72 @@ impl<T: Copy, A: Allocator> Shelf<T, A> {
         put_kept(&mut self.slab, key, slot);
     }
 
-    /// Puts a slot behind the others, under the parent that stands at the place `above`.
+    /// Puts the slot with a serial that is there into another state, and gives the one that it was in.
     #[inline(always)]
-    pub(crate) fn push(&mut self, slot: Slot<T>, above: Option<usize>)
-        requires room { length self.old.slots < self.old.places }
-        requires parent { StandsUnder self.old.slots slot.parent above }
-        ensures { self.new ≡ record self.old { slots = self.old.slots ++ slot ∷ [] } }
+    pub(crate) fn set_state(&mut self, serials: &Serials<A>, serial: u64, state: State) -> State
+        requires index { serials.now.serials ≡ serials_of self.old.slots }
+        requires rise { Rises self.old.slots }
+        requires there { has_slot self.old.slots serial ≡ true }
+        ensures { Changes self.old self.new serial (λ slot. record slot { state = state }) (λ slot. result ≡ slot.state) }
     {
-        let above = match above {
-            Some(at) => Some(self.order.at(at)),
-            None => None,
-        };
+        let key = key_of(&self.slab, &self.order, &self.guesses, serials, serial);
+        let was = self.slab[key].slot.state;
+        put_state(&mut self.slab, key, state);
+        was
+    }
+
+    /// Counts one child less of the slot with a serial that is there.
+    #[inline(always)]
+    pub(crate) fn forget_child(&mut self, serials: &Serials<A>, serial: u64)
+        requires index { serials.now.serials ≡ serials_of self.old.slots }
+        requires rise { Rises self.old.slots }
+        requires there { has_slot self.old.slots serial ≡ true }
+        requires counted { 0 < children_at self.old.slots serial }
+        ensures { Changes self.old self.new serial (λ slot. record slot { children = slot.children - 1 }) (λ slot. ⊤) }
+    {
+        let key = key_of(&self.slab, &self.order, &self.guesses, serials, serial);
+        count_less(&mut self.slab, key);
+    }
+
+    /// Puts the slot of a ready frame behind the others, and counts one more child of its parent.
+    #[inline(always)]
+    pub(crate) fn push(
+        &mut self,
+        serials: &Serials<A>,
+        serial: u64,
+        parent: Option<u64>,
+        home: u8,
+        value: T,
+    )
+        requires room { length self.old.slots < self.old.places }
+        requires index { serials.now.serials ≡ serials_of self.old.slots }
+        requires rise { Rises self.old.slots }
+        requires there { has_parent_slot self.old.slots parent ≡ true }
+        requires few { AllCountsBelow 4096 self.old.slots }
+        ensures { self.new ≡ record self.old { slots = with_child parent self.old.slots ++ new_slot self.old.slots serial parent home value ∷ [] } }
+    {
+        let (root, above) = adopt(
+            &mut self.slab,
+            &self.order,
+            &mut self.guesses,
+            serials,
+            parent,
+            serial,
+        );
         let key = self.slab.insert_reserved(Kept {
-            slot,
+            slot: Slot {
+                serial,
+                parent,
+                root,
+                state: State::Ready(home),
+                children: 0,
+                value,
+            },
             above,
             marked: false,
         });
         self.order.push(key);
+        self.guesses.put(serial, key);
     }
 
     /// Removes the slots under the one with this serial, which stands at a place, and adds their values
@@ -208,6 +288,110 @@ fn put_kept<T: Copy, A: Allocator>(slab: &mut Slab<Kept<T>, A>, key: usize, slot
 {
     let kept = slab[key];
     slab[key] = Kept { slot, ..kept };
+}
+
+/// The key of the slot with a serial that is there: the guessed one, or that at the place that a search
+/// finds.
+#[inline(always)]
+fn key_of<T: Copy, A: Allocator>(
+    slab: &Slab<Kept<T>, A>,
+    order: &Window<usize, A>,
+    guesses: &Guesses<A>,
+    serials: &Serials<A>,
+    serial: u64,
+) -> usize
+    requires keys { AreKeys slab.now order.now.list }
+    requires index { serials.now.serials ≡ serials_of (slots_in slab.now order.now.list) }
+    requires rise { Rises (slots_in slab.now order.now.list) }
+    requires there { has_slot (slots_in slab.now order.now.list) serial ≡ true }
+    ensures { (at : ℕ) × IsKeyAt slab.now order.now.list serial at result }
+{
+    let key = guesses.guess(serial);
+    if let Some(kept) = slab.get(key) {
+        if kept.slot.serial == serial {
+            return key;
+        }
+    }
+    search_key(order, serials, serial)
+}
+
+/// The key of the slot with a serial that is there, wherever it was guessed.
+#[cold]
+#[inline(never)]
+fn search_key<A: Allocator>(order: &Window<usize, A>, serials: &Serials<A>, serial: u64) -> usize
+    requires rise { RisesBy (λ n. n) serials.now.serials }
+    requires there { has_number serials.now.serials serial ≡ true }
+    requires long { length serials.now.serials ≡ length order.now.list }
+    ensures { (at : ℕ) × (at < length order.now.list) × (result ≡ get_or order.now.list at result) × (slice_index serials.now.serials at ≡ serial) }
+{
+    order.at(serials.known_place(serial))
+}
+
+/// Counts one more child of a parent, and gives the root of the new frame, and the parent's key.
+#[inline(always)]
+fn adopt<T: Copy, A: Allocator>(
+    slab: &mut Slab<Kept<T>, A>,
+    order: &Window<usize, A>,
+    guesses: &mut Guesses<A>,
+    serials: &Serials<A>,
+    parent: Option<u64>,
+    serial: u64,
+) -> (u64, Option<usize>)
+    requires keys { AreKeys slab.old order.now.list }
+    requires index { serials.now.serials ≡ serials_of (slots_in slab.old order.now.list) }
+    requires rise { Rises (slots_in slab.old order.now.list) }
+    requires there { has_parent_slot (slots_in slab.old order.now.list) parent ≡ true }
+    requires few { AllCountsBelow 4096 (slots_in slab.old order.now.list) }
+    ensures keys { AreKeys slab.new order.now.list }
+    ensures slots { slots_in slab.new order.now.list ≡ with_child parent (slots_in slab.old order.now.list) }
+    ensures root { result.0 ≡ root_under (slots_in slab.old order.now.list) parent serial }
+    ensures above { KnowsParent slab.new order.now.list parent result.1 }
+    ensures capacity { slab.new.capacity ≡ slab.old.capacity }
+{
+    match parent {
+        None => (serial, None),
+        Some(name) => {
+            let key = key_of(slab, order, guesses, serials, name);
+            let root = slab[key].slot.root;
+            count_more(slab, key);
+            guesses.put(name, key);
+            (root, Some(key))
+        }
+    }
+}
+
+/// Puts the slot under a key into another state.
+fn put_state<T: Copy, A: Allocator>(slab: &mut Slab<Kept<T>, A>, key: usize, state: State)
+    requires { ContainsKey slab.old key }
+    ensures put { (kept : Kept T) → get slab.old key ≡ Some kept → Updates slab.old slab.new key (Some (record kept { slot = record kept.slot { state = state } })) }
+    ensures len { slab_len slab.new ≡ slab_len slab.old }
+    ensures capacity { slab.new.capacity ≡ slab.old.capacity }
+{
+    slab[key].slot.state = state;
+}
+
+/// Counts one more child of the slot under a key.
+fn count_more<T: Copy, A: Allocator>(slab: &mut Slab<Kept<T>, A>, key: usize)
+    requires there { ContainsKey slab.old key }
+    requires few { (kept : Kept T) → get slab.old key ≡ Some kept → kept.slot.children < 4096 }
+    ensures put { (kept : Kept T) → get slab.old key ≡ Some kept → Updates slab.old slab.new key (Some (record kept { slot = record kept.slot { children = kept.slot.children + 1 } })) }
+    ensures len { slab_len slab.new ≡ slab_len slab.old }
+    ensures capacity { slab.new.capacity ≡ slab.old.capacity }
+{
+    let children = slab[key].slot.children;
+    slab[key].slot.children = children + 1;
+}
+
+/// Counts one child less of the slot under a key.
+fn count_less<T: Copy, A: Allocator>(slab: &mut Slab<Kept<T>, A>, key: usize)
+    requires there { ContainsKey slab.old key }
+    requires some { (kept : Kept T) → get slab.old key ≡ Some kept → 1 ≤ kept.slot.children }
+    ensures put { (kept : Kept T) → get slab.old key ≡ Some kept → Updates slab.old slab.new key (Some (record kept { slot = record kept.slot { children = kept.slot.children - 1 } })) }
+    ensures len { slab_len slab.new ≡ slab_len slab.old }
+    ensures capacity { slab.new.capacity ≡ slab.old.capacity }
+{
+    let children = slab[key].slot.children;
+    slab[key].slot.children = children - 1;
 }
 
 /// Marks a slot.

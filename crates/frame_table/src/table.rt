@@ -408,6 +408,7 @@ fn tenant_place<T: Copy, A: Allocator>(
 }
 
 /// Where a tenant's tree stands, wherever it was guessed.
+#[cold]
 #[inline(never)]
 fn search_tenant<T: Copy, A: Allocator>(trees: &[TenantFrames<T, A>], tenant: u64) -> Option<usize>
     requires { RisesBy (λ tree. tree.tenant) trees.now }

@@ -7,7 +7,6 @@
 ghost use Rattle.std.specs.Prelude.{◌≡◌, ◌+◌, ◌<◌, ◌≤◌, ◌↔◌, ◌++◌, [], ◌∷◌, true, false, length, vec_len, vec_capacity, IsTrue, IfOk, IfSome};
 ghost use Rattle.frame_table.specs.Frames.{frame_at, has_frame, path_in, root_of, children_of, aborted, frames_under, frames_without, values_of, with_state, ready_frames, AllBelow, entry_of, newest_ready_of, HasValue, has_parent, IsReadyAt, IsTree};
 ghost use Rattle.frame_table.specs.Slots.{frames_from, IsLinked, Rises, has_parent_slot, AllCountsBelow, with_child, root_under, without_child, CountsAtParent, serials_of};
-ghost use Rattle.frame_table.specs.Shelves.{StandsUnder};
 ghost use Rattle.frame_table.specs.Tables.{new_frame};
 
 use crate::names::{Entry, FrameId, State};
@@ -101,8 +100,8 @@ impl<T: Copy, A: Allocator> TenantFrames<T, A> {
         ensures entry { result ≡ entry_of self.now.tenant (frame_at self.now.frames serial) }
         ensures tree { IsTree self.now.frames }
     {
-        match self.serials.place_of(serial) {
-            Some(at) => Some(self.shelf.at(at).entry(self.tenant)),
+        match self.shelf.find(&self.serials, serial) {
+            Some(slot) => Some(slot.entry(self.tenant)),
             None => None,
         }
     }
@@ -122,8 +121,8 @@ impl<T: Copy, A: Allocator> TenantFrames<T, A> {
         ensures child { IsTrue result ↔ (0 < length (children_of self.now.frames serial)) }
         ensures leaf { result ≡ false → children_of self.now.frames serial ≡ [] }
     {
-        match self.serials.place_of(serial) {
-            Some(at) => self.shelf.at(at).children > 0,
+        match self.shelf.find(&self.serials, serial) {
+            Some(slot) => slot.children > 0,
             None => false,
         }
     }
@@ -170,19 +169,8 @@ impl<T: Copy, A: Allocator> TenantFrames<T, A> {
         requires room { length self.old.frames < self.old.places }
         ensures { self.new ≡ record self.old { frames = self.old.frames ++ new_frame self.old.frames serial parent home value ∷ [] } }
     {
-        let (root, above) = adopt(&mut self.shelf, &self.serials, parent, serial);
-        self.shelf.push(
-            Slot {
-                serial,
-                parent,
-                root,
-                state: State::Ready(home),
-                children: 0,
-                value,
-            },
-            above,
-        );
-        self.serials.push(serial, above);
+        self.shelf.push(&self.serials, serial, parent, home, value);
+        self.serials.push(serial);
         self.ready.push(serial, home);
     }
 
@@ -192,10 +180,8 @@ impl<T: Copy, A: Allocator> TenantFrames<T, A> {
         requires { IsTrue (has_frame self.old.frames serial) }
         ensures { self.new ≡ record self.old { frames = with_state serial state self.old.frames } }
     {
-        let at = self.serials.known_place(serial);
-        let slot = self.shelf.at(at);
-        self.shelf.put(at, Slot { state, ..slot });
-        self.ready.follow(serial, slot.state, state);
+        let was = self.shelf.set_state(&self.serials, serial, state);
+        self.ready.follow(serial, was, state);
     }
 
     /// Removes the frames under one, and adds their values to `removed`.
@@ -254,40 +240,6 @@ impl<T: Copy, A: Allocator> TenantFrames<T, A> {
     }
 }
 
-/// Counts one more child at the parent, and gives the root of the new frame, and where the parent
-/// stands.
-#[inline(always)]
-fn adopt<T: Copy, A: Allocator>(
-    shelf: &mut Shelf<T, A>,
-    serials: &Serials<A>,
-    parent: Option<u64>,
-    serial: u64,
-) -> (u64, Option<usize>)
-    requires index { serials.now.serials ≡ serials_of shelf.old.slots }
-    requires rise { Rises shelf.old.slots }
-    requires there { has_parent_slot shelf.old.slots parent ≡ true }
-    requires few { AllCountsBelow 4096 shelf.old.slots }
-    ensures counted { shelf.new ≡ record shelf.old { slots = with_child parent shelf.old.slots } }
-    ensures root { result.0 ≡ root_under shelf.old.slots parent serial }
-    ensures above { StandsUnder shelf.new.slots parent result.1 }
-{
-    match parent {
-        None => (serial, None),
-        Some(above) => {
-            let at = serials.known_place(above);
-            let slot = shelf.at(at);
-            shelf.put(
-                at,
-                Slot {
-                    children: slot.children + 1,
-                    ..slot
-                },
-            );
-            (slot.root, Some(at))
-        }
-    }
-}
-
 /// Counts one child less at the parent.
 #[inline(always)]
 fn forget<T: Copy, A: Allocator>(shelf: &mut Shelf<T, A>, serials: &Serials<A>, parent: Option<u64>)
@@ -298,14 +250,6 @@ fn forget<T: Copy, A: Allocator>(shelf: &mut Shelf<T, A>, serials: &Serials<A>, 
     ensures { shelf.new ≡ record shelf.old { slots = without_child parent shelf.old.slots } }
 {
     if let Some(above) = parent {
-        let at = serials.known_place(above);
-        let slot = shelf.at(at);
-        shelf.put(
-            at,
-            Slot {
-                children: slot.children - 1,
-                ..slot
-            },
-        );
+        shelf.forget_child(serials, above);
     }
 }

@@ -54,12 +54,6 @@ impl<T: Copy, A: Allocator> Window<T, A> {
         self.items.len() - self.start
     }
 
-    /// How many places before the list are out of use: no fact rests on it.
-    #[inline(always)]
-    pub(crate) fn start(&self) -> usize {
-        self.start
-    }
-
     /// The element at a place.
     #[inline(always)]
     pub(crate) fn at(&self, at: usize) -> T

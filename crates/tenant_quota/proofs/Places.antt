@@ -1,6 +1,7 @@
 -- Where a tenant's account stands in a list that rises.
-use Rattle.std.proofs.Common.{◌≡◌, ◌≢◌, ℕ, zero, suc, ◌<◌, ◌≤◌, true, false, cond, eqb, ltb, List, [], ◌∷◌, length, get_or, Some, None, refl, ap, subst, arith}
+use Rattle.std.proofs.Common.{◌≡◌, ◌≢◌, ℕ, zero, suc, ◌<◌, ◌≤◌, true, false, cond, eqb, ltb, List, [], ◌∷◌, length, get_or, Some, None, refl, ap, sym, ◌∙◌, subst, arith}
 use Rattle.std.proofs.lemmas.Bool.{ltb-true, ltb-false, lt-ltb, eq-eqb, ne_eqb, eqb-true}
+use Rattle.std.proofs.lemmas.List.{get_or_default}
 use Rattle.std.specs.List.Sorted.{IsPartitionedBy, IsPartitionPoint}
 use Rattle.tenant_quota.specs.declared.account.Account.{Account}
 use Rattle.tenant_quota.specs.Accounts.{account_of, count_below, AllEntries, IsRising}
@@ -84,6 +85,15 @@ place_read t (e ∷ es) d lt is =
     count_below_cases t e es (λ i. i < suc (length es) → (get_or (e ∷ es) i d).0 ≡ t → account_of t (e ∷ es) ≡ Some (get_or (e ∷ es) i d).1)
     (λ below within same. rw (ne_eqb e.0 t (omega arith)) (place_read t es d (omega arith) same))
     (λ above within same. rw (eq-eqb e.0 t same)) lt is
+
+-- two reads of the entry at the place
+pub own_read : (t i : ℕ) (es : List (ℕ × Account)) (e f : ℕ × Account) → i ≡ count_below t es → i < length es → e ≡ get_or es i e → e.0 ≡ t → f ≡ get_or es i f → Some f.1 ≡ account_of t es
+own_read t i es e f place lt at own again =
+    let within : count_below t es < length es = subst (λ k. k < length es) place lt in
+    let entry : e ≡ get_or es (count_below t es) e = at ∙ ap (λ k. get_or es k e) place in
+    let entry_again : f ≡ get_or es (count_below t es) e = again ∙ get_or_default es i f e lt ∙ ap (λ k. get_or es k e) place in
+    let account = place_read t es e within (ap (λ (x : ℕ × Account). x.0) (sym entry) ∙ own) in
+    ap (λ (x : ℕ × Account). Some x.1) entry_again ∙ sym account
 
 -- where the entry at a tenant's place is another's, or there is none, the tenant isn't there
 pub place_absent : (t : ℕ) (es : List (ℕ × Account)) → IsRising es → ((d : ℕ × Account) → count_below t es < length es → (get_or es (count_below t es) d).0 ≢ t) → account_of t es ≡ None

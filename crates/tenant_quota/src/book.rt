@@ -70,6 +70,7 @@ fn place_of(guesses: &Guesses, accounts: &[(u64, Account)], tenant: u64) -> usiz
 }
 
 /// The same place, by halves.
+#[cold]
 #[inline(never)]
 fn search(accounts: &[(u64, Account)], tenant: u64) -> usize
     requires { IsRising accounts.now }
@@ -297,8 +298,24 @@ impl<A: Allocator> Book<A> {
         Ok(before)
     }
 
-    /// The tenant's account, or None where it isn't there.
+    /// The tenant's account, or None where it isn't there. The guess is looked at first.
+    #[inline(always)]
     fn account(&self, tenant: u64) -> Option<Account>
+        ensures account { result ≡ account_of tenant self.now.accounts }
+        ensures sound { IsSound self.now }
+    {
+        let accounts: &[(u64, Account)] = &self.accounts;
+        let guess = self.guesses[(tenant % GUESSES) as usize] as usize;
+        if guess < accounts.len() && accounts[guess].0 == tenant {
+            return Some(accounts[guess].1);
+        }
+        self.look_up(tenant)
+    }
+
+    /// The same, by halves.
+    #[cold]
+    #[inline(never)]
+    fn look_up(&self, tenant: u64) -> Option<Account>
         ensures account { result ≡ account_of tenant self.now.accounts }
         ensures sound { IsSound self.now }
     {

@@ -1,6 +1,6 @@
 use Rattle.std.proofs.Common.{ap, length, [], refl, sym, ◌∙◌, arith}
 use Rattle.frame_table.specs.declared.names.State.TheVariants.{Ready}
-use Rattle.frame_table.specs.Slots.{with_child}
+use Rattle.frame_table.specs.Slots.{with_child, root_under}
 use Rattle.frame_table.proofs.Forest.{linked_rises}
 use Rattle.frame_table.proofs.Finds.{has_parent-slots, frames_from-length}
 use Rattle.frame_table.proofs.Trees.{few_counts, added_sound, added_frames}
@@ -10,19 +10,16 @@ use Rattle.frame_table.proofs.Lengths.{length_more}
 use Rattle.frame_table.proofs.Indexes.{length-serials_of, added_index}
 use Rattle.frame_table.proofs.tree.TenantFrames.add.Goals as goal
 
-pub adopt-root-requires-clause-rise : goal.adopt-root-requires-clause-rise
-adopt-root-requires-clause-rise g c = linked_rises [] _ c.self.invariant.sound.linked
+pub push-requires-clause-rise : goal.push-requires-clause-rise
+push-requires-clause-rise g c = linked_rises [] _ c.self.invariant.sound.linked
 
-pub adopt-root-requires-clause-index : goal.adopt-root-requires-clause-index
-adopt-root-requires-clause-index g c = c.self.invariant.index
-
-pub adopt-root-requires-clause-there : goal.adopt-root-requires-clause-there
-adopt-root-requires-clause-there g c =
+pub push-requires-clause-there : goal.push-requires-clause-there
+push-requires-clause-there g c =
     let there = rw (← c.self.view_is) at c.requires.parent in
     sym (has_parent-slots c.self.inside.shelf.slots c.args.parent) ∙ there
 
-pub adopt-root-requires-clause-few : goal.adopt-root-requires-clause-few
-adopt-root-requires-clause-few g c =
+pub push-requires-clause-few : goal.push-requires-clause-few
+push-requires-clause-few g c =
     let room = rw (← c.self.view_is) at c.requires.room in
     few_counts c.self.inside.shelf.slots (length c.self.inside.ready.frames) 4096 c.self.invariant.sound (omega (arith, room, c.self.invariant.few))
 
@@ -30,7 +27,7 @@ pub push-requires-clause-room : goal.push-requires-clause-room
 push-requires-clause-room g c =
     let room = rw (← c.self.view_is) at c.requires.room in
     let long = frames_from-length [] c.self.inside.shelf.slots in
-    rw c.adopt-root.ensures.counted (omega (arith, room, long, length-with_child c.args.parent c.self.inside.shelf.slots))
+    omega (arith, room, long)
 
 pub push-requires-2 : goal.push-requires-2
 push-requires-2 g c =
@@ -51,13 +48,13 @@ invariant_of-self g c =
     let above = rw (← c.self.view_is) at c.requires.above in
     let there = rw (← c.self.view_is) at c.requires.parent in
     let room = rw (← c.self.view_is) at c.requires.room in
-    let whole = rw c.adopt-root.ensures.counted at c.push.ensures in
+    let root = root_under slots c.args.parent c.args.serial in
     let long = frames_from-length [] slots in
-    rw (whole, c.push-2.ensures, c.push-3.ensures) (is_tenant _ _ _ _ _
-    (added_sound slots _ (length c.self.inside.ready.frames) c.args.serial c.adopt-root.result.0 c.args.home c.args.parent c.args.value c.self.invariant.sound above there c.adopt-root.ensures.root refl)
+    rw (c.push.ensures, c.push-2.ensures, c.push-3.ensures) (is_tenant _ _ _ _ _
+    (added_sound slots _ (length c.self.inside.ready.frames) c.args.serial root c.args.home c.args.parent c.args.value c.self.invariant.sound above there refl refl)
     (added_index slots c.args.parent _ c.self.inside.serials.serials c.self.invariant.index)
     (added_ready slots c.args.parent _ c.args.home c.self.inside.ready.frames c.self.invariant.ready_frames refl)
-    (omega (arith, room, long, length-with_child c.args.parent slots, length_more (with_child c.args.parent slots) (record { serial = c.args.serial; parent = c.args.parent; root = c.adopt-root.result.0; state = Ready c.args.home; children = 0; value = c.args.value })))
+    (omega (arith, room, long, length-with_child c.args.parent slots, length_more (with_child c.args.parent slots) (record { serial = c.args.serial; parent = c.args.parent; root = root; state = Ready c.args.home; children = 0; value = c.args.value })))
     c.self.invariant.few
     c.self.invariant.serial_places
     c.self.invariant.ready_places)
@@ -65,6 +62,6 @@ invariant_of-self g c =
 pub returns : goal.returns
 returns g c =
     let slots = c.self.inside.shelf.slots in
-    let whole = rw c.adopt-root.ensures.counted at c.push.ensures in
-    let frames = added_frames slots _ c.args.serial c.adopt-root.result.0 c.args.home c.args.parent c.args.value refl in
-    rw (← c.self.view_is, whole, frames) refl
+    let root = root_under slots c.args.parent c.args.serial in
+    let frames = added_frames slots _ c.args.serial root c.args.home c.args.parent c.args.value refl in
+    rw (← c.self.view_is, c.push.ensures, frames) refl

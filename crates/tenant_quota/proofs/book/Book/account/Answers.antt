@@ -1,45 +1,16 @@
--- The entry at the tenant's place is its own, or the tenant isn't there.
-use Rattle.std.proofs.Common.{◌≡◌, ◌≢◌, ℕ, ◌<◌, ◌≤◌, length, List, get_or, Some, None, ap, sym, ◌∙◌, subst, arith}
-use Rattle.std.proofs.lemmas.List.{get_or_default}
+-- Where the guess is right, the account is the tenant's.
+use Rattle.std.proofs.Common.{ℕ, Some, sym, ap, ◌∙◌}
 use Rattle.tenant_quota.specs.declared.account.Account.{Account}
-use Rattle.tenant_quota.specs.Accounts.{account_of, count_below, IsRising}
-use Rattle.tenant_quota.proofs.Places.{place_read, place_absent}
+use Rattle.tenant_quota.specs.Accounts.{IsRising}
+use Rattle.tenant_quota.proofs.Places.{count_below-found, own_read}
 use Rattle.tenant_quota.proofs.book.Book.account.Goals as goal
-use Rattle.tenant_quota.proofs.book.Book.account.Goals.{else-place-len-via-then-place-len+else-index-tenant, else-place-len-via-else-place-len}
 
--- two reads of the entry at the place
-own_read : (t i : ℕ) (read es : List (ℕ × Account)) (e f : ℕ × Account) → read ≡ es → i ≡ count_below t read → i < length es → e ≡ get_or es i e → e.0 ≡ t → f ≡ get_or es i f → Some f.1 ≡ account_of t es
-own_read t i read es e f same is lt at own again =
-    let place : i ≡ count_below t es = is ∙ ap (count_below t) same in
-    let within : count_below t es < length es = subst (λ k. k < length es) place lt in
-    let entry : e ≡ get_or es (count_below t es) e = at ∙ ap (λ k. get_or es k e) place in
-    let entry_again : f ≡ get_or es (count_below t es) e = again ∙ get_or_default es i f e lt ∙ ap (λ k. get_or es k e) place in
-    let account = place_read t es e within (ap (λ (x : ℕ × Account). x.0) (sym entry) ∙ own) in
-    ap (λ (x : ℕ × Account). Some x.1) entry_again ∙ sym account
-
-other_read : (t i : ℕ) (read es : List (ℕ × Account)) (e : ℕ × Account) → IsRising es → read ≡ es → i ≡ count_below t read → i < length es → e ≡ get_or es i e → e.0 ≢ t → account_of t es ≡ None
-other_read t i read es e rising same is lt at other =
-    let place : i ≡ count_below t es = is ∙ ap (count_below t) same in
-    place_absent t es rising (λ d within own. other (ap (λ (x : ℕ × Account). x.0) (at ∙ get_or_default es i e d lt ∙ ap (λ k. get_or es k d) place) ∙ own))
-
-no_read : (t i : ℕ) (read es : List (ℕ × Account)) → IsRising es → read ≡ es → i ≡ count_below t read → length es ≤ i → account_of t es ≡ None
-no_read t i read es rising same is past =
-    let place : i ≡ count_below t es = is ∙ ap (count_below t) same in
-    place_absent t es rising (λ d within own. absurd (omega arith))
-
-pub returns-then-index-tenant-clause-account : goal.returns-then-index-tenant-clause-account
-returns-then-index-tenant-clause-account g c =
-    let lt : c.place_of-place.result < length c.self.inside.accounts.items = omega (arith, c.deref.ensures.len, ap length c.deref.ensures.value) in
-    rw (← c.self.view_is) (own_read c.args.tenant _ _ _ c.index.result.now _ c.deref.ensures.value c.place_of-place.ensures lt c.index.ensures c.if-index-tenant.true c.index-then-index-tenant.ensures)
-
-pub returns-clause-account : goal.returns-clause-account
-returns-clause-account g c =
-    rw (← c.self.view_is)
-    (elim c.else-place-len.branch [
-      | else-place-len-via-then-place-len+else-index-tenant w ↦
-          let lt : c.place_of-place.result < length c.self.inside.accounts.items = omega (arith, c.deref.ensures.len, ap length c.deref.ensures.value) in
-          sym (other_read c.args.tenant _ _ _ w.index.result.now c.self.invariant.sound.rising c.deref.ensures.value c.place_of-place.ensures lt w.index.ensures w.if-index-tenant.false)
-      | else-place-len-via-else-place-len w ↦
-          let past : length c.self.inside.accounts.items ≤ c.place_of-place.result = omega (arith, c.deref.ensures.len, ap length c.deref.ensures.value) in
-          sym (no_read c.args.tenant _ _ _ c.self.invariant.sound.rising c.deref.ensures.value c.place_of-place.ensures past)
-    ])
+pub returns-then-accounts-guess-clause-account : goal.returns-then-accounts-guess-clause-account
+returns-then-accounts-guess-clause-account g c =
+    let one = c.index-accounts-guess.result in
+    let again = c.index-accounts-guess-then-accounts-guess.is in
+    let rising : IsRising c.deref-accounts.result.now = rw c.deref-accounts.ensures.value c.self.invariant.sound.rising in
+    let place = count_below-found c.args.tenant c.deref-accounts.result.now _ one rising c.if-guess-accounts.true c.if-accounts-guess.true in
+    let own = ap (λ (x : ℕ × Account). x.0) c.index-accounts-guess.is ∙ c.if-accounts-guess.true in
+    let read = own_read c.args.tenant _ c.deref-accounts.result.now one _ place c.if-guess-accounts.true c.index-accounts-guess.is own again in
+    rw (← c.self.view_is, ← c.deref-accounts.ensures.value) (ap (λ (x : ℕ × Account). Some x.1) (sym again) ∙ read)
