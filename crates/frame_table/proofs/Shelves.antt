@@ -1,11 +1,10 @@
 -- Slots under keys: reading, writing and adding them.
-use Rattle.std.proofs.Common.{◌≡◌, ◌≢◌, ℕ, zero, suc, ◌+◌, ◌-◌, ◌<◌, Bool, true, false, ◌||◌, eqb, List, [], ◌∷◌, ◌++◌, Option, Some, None, IsSome, length, take, get_or, set, refl, ap, sym, ◌∙◌, inl, inr, arith, append_assoc, append-nil, subst, slice_index}
-use Rattle.std.proofs.lemmas.List.{get_or-set_same, length-set}
+use Rattle.std.proofs.Common.{◌≡◌, ◌≢◌, ℕ, zero, suc, ◌+◌, ◌-◌, ◌<◌, Bool, true, false, ◌||◌, eqb, List, [], ◌∷◌, ◌++◌, Option, Some, None, IsSome, length, take, get_or, set, refl, ap, sym, ◌∙◌, inl, inr, arith, append_assoc, append-nil, subst}
 use Rattle.std.proofs.lemmas.Bool.{cases_eq, false≢true, eq-eqb, ne_eqb}
 use Rattle.slab.specs.Slab.{Slab, get, slab_len, ContainsKey, Updates}
 use Rattle.frame_table.specs.declared.slot.Slot.{Slot as TenantSlot}
 use Rattle.frame_table.specs.declared.shelf.Kept.{Kept}
-use Rattle.frame_table.specs.Slots.{serials_of, with_slot, with_child, without_child}
+use Rattle.frame_table.specs.Slots.{with_slot, with_child, without_child}
 use Rattle.frame_table.specs.Places.{has_number}
 use Rattle.frame_table.specs.Shelves.{with_found, slots_in, AreApartKeys, HasSerial, KnowsParent, IsHere, AllHere, IsShelf, StandsUnder}
 use Rattle.frame_table.proofs.Search.{serial_read}
