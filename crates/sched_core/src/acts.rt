@@ -18,6 +18,7 @@ use frame_table::{FrameId, State};
 use sched_rules::{Act, InletAct, Procedure, Refusal, Stores, Then, Worker};
 use sched_store::Store;
 use std::alloc::Allocator;
+use tenant_quota::Left;
 
 impl<P: Procedure, A: Allocator> Engine<P, A> {
     /// A frame that the worker runs, where its tenant has a step left.
@@ -45,7 +46,7 @@ impl<P: Procedure, A: Allocator> Engine<P, A> {
     {
         let found = self.running(worker, name)?;
         let act = self.procedure.next(&found.sight);
-        may_do(&self.store, name, &found, &act)
+        may_do(&self.store, name, found.seen.left, &found.words, &act)
     }
 
     /// What a frame that the worker computes stores of an answer, if it may be brought.
@@ -163,14 +164,15 @@ fn has_child_for<A: Allocator>(store: &Store<A>, name: FrameId, after: &Then) ->
 pub(crate) fn may_do<A: Allocator>(
     store: &Store<A>,
     name: FrameId,
-    found: &Found<'_>,
+    left: Left,
+    words: &Words,
     act: &Act,
 ) -> Result<(), Refusal>
-    ensures { (tenant : Tenant) (frame : Frame (List ℕ)) → IsSeen store.now name tenant frame found.now.seen → found.now.words ≡ words_under store.now name
+    ensures { (tenant : Tenant) (frame : Frame (List ℕ)) (seen : Seen) → IsSeen store.now name tenant frame seen → seen.left ≡ left → words.now ≡ words_under store.now name
         → result ≡ unless (act_tests tenant frame act.now) tt }
 {
     let has_child = has_child_for(store, name, &act.after);
-    may_act(&found.words, has_child, found.seen.left, act)
+    may_act(words, has_child, left, act)
 }
 
 /// Whether a parent of these words may take a child in so, by this worker.

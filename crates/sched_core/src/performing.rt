@@ -14,7 +14,7 @@ ghost use Rattle.sched_core.specs.Judging.{IsJudged, IsCome, staying_with};
 
 use crate::acts::{may_do, may_take_in};
 use crate::decide::is_waiting;
-use crate::engine::{Engine, known, own};
+use crate::engine::{Engine, Found, known, own};
 use frame_table::{FrameId, State};
 use sched_rules::{Did, DidOf, InletAct, Procedure, Refusal, Then, Worker};
 use sched_store::Store;
@@ -52,10 +52,10 @@ impl<P: Procedure, A: Allocator> Engine<P, A> {
         ensures judged { IsJudged (P.functions self.old.procedure) self.old.store (AdvanceStep worker name) result self.new.store }
         ensures procedure { self.new.procedure ≡ self.old.procedure }
     {
-        let found = self.running(worker, name)?;
-        let act = self.procedure.next_of(fitting, &found.sight);
-        may_do(&self.store, name, &found, &act)?;
-        let is_root = found.seen.parent.is_none();
+        let Found { seen, words, sight } = self.running(worker, name)?;
+        let act = &self.procedure.next_of(fitting, &sight);
+        may_do(&self.store, name, seen.left, &words, act)?;
+        let is_root = seen.parent.is_none();
         self.store.store_all(name, act.stores.as_slice());
         self.store.count_step(name.tenant);
         Ok(self.go_on(worker, name, is_root, &act.after))
