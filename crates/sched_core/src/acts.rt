@@ -79,13 +79,13 @@ impl<P: Procedure, A: Allocator> Engine<P, A> {
         Ok(stores)
     }
 
-    /// A returned frame and its parent's name, where its tenant has a step left.
+    /// A returned frame's words and its parent's name, where its tenant has a step left.
     #[inline(always)]
-    pub(crate) fn returned(&self, name: FrameId) -> Result<(Found<'_>, FrameId), Refusal>
+    pub(crate) fn returned(&self, name: FrameId) -> Result<(Words<'_>, FrameId), Refusal>
         ensures frame { MatchResult result
-            (λ found. (tenant : Tenant) × (frame : Frame (List ℕ)) × IsReturnedUnder self.now.store name found.1 tenant frame found.0.seen)
+            (λ found. (tenant : Tenant) × (frame : Frame (List ℕ)) × (seen : Seen) × IsReturnedUnder self.now.store name found.1 tenant frame seen)
             (λ refusal. (worker : ℕ) → shared_refusal (P.functions self.now.procedure) self.now.store (InletStep worker name) ≡ Some refusal) }
-        ensures words { IfOk result (λ found. found.0.words ≡ words_under self.now.store name) }
+        ensures words { IfOk result (λ found. found.0 ≡ words_under self.now.store name) }
     {
         let found = look_in(&self.store, name)?;
         let Some(parent) = found.seen.parent else {
@@ -97,17 +97,17 @@ impl<P: Procedure, A: Allocator> Engine<P, A> {
         if found.seen.left.steps == 0 {
             return Err(Refusal::NoSteps);
         }
-        Ok((found, parent))
+        Ok((found.words, parent))
     }
 
     /// Whether a returned frame may be taken in by its parent.
     pub(crate) fn may_inlet(&self, worker: Worker, name: FrameId) -> Result<(), Refusal>
         ensures refusal { refusal_in result ≡ shared_refusal (P.functions self.now.procedure) self.now.store (InletStep worker name) }
     {
-        let (found, parent) = self.returned(name)?;
-        let above = known(&self.store, parent);
-        let act = self.procedure.inlet(&above.words, &found.words);
-        may_take_in(&self.store, worker, &above.words, &act)
+        let (own, parent) = self.returned(name)?;
+        let (_, above) = known(&self.store, parent);
+        let act = self.procedure.inlet(&above, &own);
+        may_take_in(&self.store, worker, &above, &act)
     }
 
     /// Whether a frame's job may be given up: no step is left, or what the frame does next can't be done.

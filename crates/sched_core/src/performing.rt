@@ -53,8 +53,8 @@ impl<P: Procedure, A: Allocator> Engine<P, A> {
         ensures procedure { self.new.procedure ≡ self.old.procedure }
     {
         let Found { seen, words, sight } = self.running(worker, name)?;
-        let act = &self.procedure.next_of(fitting, &sight);
-        may_do(&self.store, name, seen.left, &words, act)?;
+        let act = self.procedure.next_of(fitting, &sight);
+        may_do(&self.store, name, seen.left, &words, &act)?;
         let is_root = seen.parent.is_none();
         self.store.store_all(name, act.stores.as_slice());
         self.store.count_step(name.tenant);
@@ -119,11 +119,11 @@ impl<P: Procedure, A: Allocator> Engine<P, A> {
         ensures judged { IsJudged (P.functions self.old.procedure) self.old.store (InletStep worker name) result self.new.store }
         ensures procedure { self.new.procedure ≡ self.old.procedure }
     {
-        let (found, parent) = self.returned(name)?;
-        let above = known(&self.store, parent);
-        let act = self.procedure.inlet_of(fitting, &above.words, &found.words);
-        may_take_in(&self.store, worker, &above.words, &act)?;
-        let was_waiting = is_waiting(above.state);
+        let (own, parent) = self.returned(name)?;
+        let (state, above) = known(&self.store, parent);
+        let act = self.procedure.inlet_of(fitting, &above, &own);
+        may_take_in(&self.store, worker, &above, &act)?;
+        let was_waiting = is_waiting(state);
         let aborted = take_out(&mut self.store, name, parent, act.abort);
         let is_woken = is_to_wake(&self.store, parent, was_waiting, &act);
         self.store.store_all(parent, act.stores.as_slice());
