@@ -11,7 +11,7 @@ ghost use Rattle.sched_store.specs.Reads.{sight_of, words_under, frames_in, is_b
 ghost use Rattle.sched_core.specs.Keeping.{IsFitting};
 ghost use Rattle.sched_core.specs.Seeing.{IsSeen, IsRunning, IsReturnedUnder};
 
-use crate::decide::{first_of, is_computed_by, is_outside, is_returned, is_run_by, may_act};
+use crate::decide::{first_of_four, is_computed_by, is_outside, is_returned, is_run_by, may_act};
 use crate::engine::{Engine, Found, Seen, known, look_in, own};
 use cactus_stack::Words;
 use frame_table::{FrameId, State};
@@ -64,7 +64,7 @@ impl<P: Procedure, A: Allocator> Engine<P, A> {
         let found = look_in(&self.store, name)?;
         let seen = found.seen;
         let stores = self.procedure.accept_of(fitting, &found.words, answer);
-        first_of(&[
+        first_of_four(
             (
                 !is_computed_by(seen.state, worker.number()),
                 Refusal::NotComputing,
@@ -75,7 +75,7 @@ impl<P: Procedure, A: Allocator> Engine<P, A> {
             ),
             (seen.left.steps == 0, Refusal::NoSteps),
             (is_outside(stores.as_slice(), &found.words), Refusal::BadAct),
-        ])?;
+        )?;
         Ok(stores)
     }
 

@@ -15,17 +15,17 @@ returns-in_err-found-clause-refusal g c =
     let p = err_from_is_err_and c.from_residual.result c.from_residual.ensures.1 in
     passed-on _ _ _ _ p.1 p.2 (lost-answer (g.P.Procedure.functions c.args.self.now.procedure) c.args.self.now.store c.args.worker c.args.name c.args.answer.now _ c.in_err-found.ensures.frame)
 
-pub returns-in_err-first_of-clause-refusal : goal.returns-in_err-first_of-clause-refusal
-returns-in_err-first_of-clause-refusal g c =
+pub returns-in_err-first_of_four-clause-refusal : goal.returns-in_err-first_of_four-clause-refusal
+returns-in_err-first_of_four-clause-refusal g c =
     let s = c.in_ok-found.ensures.frame in
     let words = c.in_ok-found.ensures.words in
-    let p = err_from_is_err_and c.from_residual-in_err-first_of.result c.from_residual-in_err-first_of.ensures.1 in
+    let p = err_from_is_err_and c.from_residual-in_err-first_of_four.result c.from_residual-in_err-first_of_four.ensures.1 in
     passed-on _ _ _ _ p.1 p.2 (sym (answer-told (g.P.Procedure.functions c.args.self.now.procedure) c.args.self.now.store c.args.worker c.args.name c.args.answer.now s.0 s.1 c.in_ok-found.found.seen c.is_computed_by.result c.ne.result c.is_outside.result _ s.2
-    (rw (← c.number.ensures.value) c.is_computed_by.ensures) (cc (g.met.P.Procedure.compares c.args.self.now.procedure, words)) (cc words) c.in_err-first_of.ensures))
+    (rw (← c.number.ensures.value) c.is_computed_by.ensures) (cc (g.met.P.Procedure.compares c.args.self.now.procedure, words)) (cc words) c.in_err-first_of_four.ensures))
 
 pub returns-clause-refusal : goal.returns-clause-refusal
 returns-clause-refusal g c =
     let s = c.in_ok-found.ensures.frame in
     let words = c.in_ok-found.ensures.words in
     answer-told (g.P.Procedure.functions c.args.self.now.procedure) c.args.self.now.store c.args.worker c.args.name c.args.answer.now s.0 s.1 c.in_ok-found.found.seen c.is_computed_by.result c.ne.result c.is_outside.result _ s.2
-    (rw (← c.number.ensures.value) c.is_computed_by.ensures) (cc (g.met.P.Procedure.compares c.args.self.now.procedure, words)) (cc words) c.in_ok-first_of.ensures
+    (rw (← c.number.ensures.value) c.is_computed_by.ensures) (cc (g.met.P.Procedure.compares c.args.self.now.procedure, words)) (cc words) c.in_ok-first_of_four.ensures
