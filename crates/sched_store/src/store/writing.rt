@@ -74,10 +74,11 @@ impl<A: Allocator> Store<A> {
         requires nobody { is_held state ≡ false }
         ensures { self.new ≡ on_tenant name.tenant (in_state name.serial state) self.old }
     {
-        let number = worker.number();
-        self.places[number as usize] = None;
+        // The frame is mostly found just before: its place isn't looked up again where nothing was written since.
         let table = &mut self.table;
         table.set_state(name, state);
+        let number = worker.number();
+        self.places[number as usize] = None;
     }
 
     /// The worker runs the frame. It held none before, or this one.
@@ -88,8 +89,8 @@ impl<A: Allocator> Store<A> {
         ensures { self.new ≡ on_tenant name.tenant (in_state name.serial (Running worker)) self.old }
     {
         let number = worker.number();
-        self.places[number as usize] = Some(name);
         self.table.set_state(name, State::Running(number));
+        self.places[number as usize] = Some(name);
     }
 
     /// The worker computes for the frame. It held none before, or this one.
@@ -100,8 +101,8 @@ impl<A: Allocator> Store<A> {
         ensures { self.new ≡ on_tenant name.tenant (in_state name.serial (Computing worker)) self.old }
     {
         let number = worker.number();
-        self.places[number as usize] = Some(name);
         self.table.set_state(name, State::Computing(number));
+        self.places[number as usize] = Some(name);
     }
 }
 
