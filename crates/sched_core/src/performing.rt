@@ -56,8 +56,8 @@ impl<P: Procedure, A: Allocator> Engine<P, A> {
         let act = self.procedure.next_of(fitting, &sight);
         may_do(&self.store, name, seen.left, &words, &act)?;
         let is_root = seen.parent.is_none();
-        self.store.store_all(name, act.stores.as_slice());
         self.store.count_step(name.tenant);
+        self.store.store_all(name, act.stores.as_slice());
         Ok(self.go_on(worker, name, is_root, &act.after))
     }
 
