@@ -74,11 +74,10 @@ impl<A: Allocator> Store<A> {
         requires nobody { is_held state ≡ false }
         ensures { self.new ≡ on_tenant name.tenant (in_state name.serial state) self.old }
     {
-        // The frame is mostly found just before: its place isn't looked up again where nothing was written since.
-        let table = &mut self.table;
-        table.set_state(name, state);
         let number = worker.number();
         self.places[number as usize] = None;
+        let table = &mut self.table;
+        table.set_state(name, state);
     }
 
     /// The worker runs the frame. It held none before, or this one.
@@ -89,8 +88,8 @@ impl<A: Allocator> Store<A> {
         ensures { self.new ≡ on_tenant name.tenant (in_state name.serial (Running worker)) self.old }
     {
         let number = worker.number();
-        self.table.set_state(name, State::Running(number));
         self.places[number as usize] = Some(name);
+        self.table.set_state(name, State::Running(number));
     }
 
     /// The worker computes for the frame. It held none before, or this one.
@@ -101,8 +100,8 @@ impl<A: Allocator> Store<A> {
         ensures { self.new ≡ on_tenant name.tenant (in_state name.serial (Computing worker)) self.old }
     {
         let number = worker.number();
-        self.table.set_state(name, State::Computing(number));
         self.places[number as usize] = Some(name);
+        self.table.set_state(name, State::Computing(number));
     }
 }
 
