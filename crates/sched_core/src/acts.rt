@@ -61,20 +61,19 @@ impl<P: Procedure, A: Allocator> Engine<P, A> {
         ensures refusal { refusal_in result ≡ shared_refusal (P.functions self.now.procedure) self.now.store (AnswerStep worker name answer.now) }
         ensures stores { IfOk result (λ stores. stores ≡ (P.functions self.now.procedure).accept (words_under self.now.store name) answer.now) }
     {
-        let found = look_in(&self.store, name)?;
-        let seen = found.seen;
-        let stores = self.procedure.accept_of(fitting, &found.words, answer);
+        let Found { seen, words, .. } = look_in(&self.store, name)?;
+        let stores = self.procedure.accept_of(fitting, &words, answer);
         first_of_four(
             (
                 !is_computed_by(seen.state, worker.number()),
                 Refusal::NotComputing,
             ),
             (
-                self.procedure.asked(answer) != self.procedure.input(&found.words),
+                self.procedure.asked(answer) != self.procedure.input(&words),
                 Refusal::Mismatch,
             ),
             (seen.left.steps == 0, Refusal::NoSteps),
-            (is_outside(stores.as_slice(), &found.words), Refusal::BadAct),
+            (is_outside(stores.as_slice(), &words), Refusal::BadAct),
         )?;
         Ok(stores)
     }
