@@ -11,13 +11,14 @@ ghost use Rattle.sched_store.specs.Reads.{sight_of, words_under, frames_in, is_b
 ghost use Rattle.sched_core.specs.Keeping.{IsFitting};
 ghost use Rattle.sched_core.specs.Seeing.{IsSeen, IsRunning, IsReturnedUnder};
 
-use crate::decide::{first_of, is_computed_by, is_outside, is_returned, is_run_by, may_act};
+use crate::decide::{first_of_four, is_computed_by, is_outside, is_returned, is_run_by, may_act};
 use crate::engine::{Engine, Found, Seen, known, look_in, own};
 use cactus_stack::Words;
 use frame_table::{FrameId, State};
 use sched_rules::{Act, InletAct, Procedure, Refusal, Stores, Then, Worker};
 use sched_store::Store;
 use std::alloc::Allocator;
+use tenant_quota::Left;
 
 impl<P: Procedure, A: Allocator> Engine<P, A> {
     /// A frame that the worker runs, where its tenant has a step left.
@@ -45,7 +46,7 @@ impl<P: Procedure, A: Allocator> Engine<P, A> {
     {
         let found = self.running(worker, name)?;
         let act = self.procedure.next(&found.sight);
-        may_do(&self.store, name, &found, &act)
+        may_do(&self.store, name, found.seen.left, &found.words, &act)
     }
 
     /// What a frame that the worker computes stores of an answer, if it may be brought.
@@ -60,31 +61,30 @@ impl<P: Procedure, A: Allocator> Engine<P, A> {
         ensures refusal { refusal_in result ≡ shared_refusal (P.functions self.now.procedure) self.now.store (AnswerStep worker name answer.now) }
         ensures stores { IfOk result (λ stores. stores ≡ (P.functions self.now.procedure).accept (words_under self.now.store name) answer.now) }
     {
-        let found = look_in(&self.store, name)?;
-        let seen = found.seen;
-        let stores = self.procedure.accept_of(fitting, &found.words, answer);
-        first_of(&[
+        let Found { seen, words, .. } = look_in(&self.store, name)?;
+        let stores = self.procedure.accept_of(fitting, &words, answer);
+        first_of_four(
             (
                 !is_computed_by(seen.state, worker.number()),
                 Refusal::NotComputing,
             ),
             (
-                self.procedure.asked(answer) != self.procedure.input(&found.words),
+                self.procedure.asked(answer) != self.procedure.input(&words),
                 Refusal::Mismatch,
             ),
             (seen.left.steps == 0, Refusal::NoSteps),
-            (is_outside(stores.as_slice(), &found.words), Refusal::BadAct),
-        ])?;
+            (is_outside(stores.as_slice(), &words), Refusal::BadAct),
+        )?;
         Ok(stores)
     }
 
-    /// A returned frame and its parent's name, where its tenant has a step left.
+    /// A returned frame's words and its parent's name, where its tenant has a step left.
     #[inline(always)]
-    pub(crate) fn returned(&self, name: FrameId) -> Result<(Found<'_>, FrameId), Refusal>
+    pub(crate) fn returned(&self, name: FrameId) -> Result<(Words<'_>, FrameId), Refusal>
         ensures frame { MatchResult result
-            (λ found. (tenant : Tenant) × (frame : Frame (List ℕ)) × IsReturnedUnder self.now.store name found.1 tenant frame found.0.seen)
+            (λ found. (tenant : Tenant) × (frame : Frame (List ℕ)) × (seen : Seen) × IsReturnedUnder self.now.store name found.1 tenant frame seen)
             (λ refusal. (worker : ℕ) → shared_refusal (P.functions self.now.procedure) self.now.store (InletStep worker name) ≡ Some refusal) }
-        ensures words { IfOk result (λ found. found.0.words ≡ words_under self.now.store name) }
+        ensures words { IfOk result (λ found. found.0 ≡ words_under self.now.store name) }
     {
         let found = look_in(&self.store, name)?;
         let Some(parent) = found.seen.parent else {
@@ -96,17 +96,17 @@ impl<P: Procedure, A: Allocator> Engine<P, A> {
         if found.seen.left.steps == 0 {
             return Err(Refusal::NoSteps);
         }
-        Ok((found, parent))
+        Ok((found.words, parent))
     }
 
     /// Whether a returned frame may be taken in by its parent.
     pub(crate) fn may_inlet(&self, worker: Worker, name: FrameId) -> Result<(), Refusal>
         ensures refusal { refusal_in result ≡ shared_refusal (P.functions self.now.procedure) self.now.store (InletStep worker name) }
     {
-        let (found, parent) = self.returned(name)?;
-        let above = known(&self.store, parent);
-        let act = self.procedure.inlet(&above.words, &found.words);
-        may_take_in(&self.store, worker, &above.words, &act)
+        let (own, parent) = self.returned(name)?;
+        let (_, above) = known(&self.store, parent);
+        let act = self.procedure.inlet(&above, &own);
+        may_take_in(&self.store, worker, &above, &act)
     }
 
     /// Whether a frame's job may be given up: no step is left, or what the frame does next can't be done.
@@ -163,14 +163,15 @@ fn has_child_for<A: Allocator>(store: &Store<A>, name: FrameId, after: &Then) ->
 pub(crate) fn may_do<A: Allocator>(
     store: &Store<A>,
     name: FrameId,
-    found: &Found<'_>,
+    left: Left,
+    words: &Words,
     act: &Act,
 ) -> Result<(), Refusal>
-    ensures { (tenant : Tenant) (frame : Frame (List ℕ)) → IsSeen store.now name tenant frame found.now.seen → found.now.words ≡ words_under store.now name
+    ensures { (tenant : Tenant) (frame : Frame (List ℕ)) (seen : Seen) → IsSeen store.now name tenant frame seen → seen.left ≡ left → words.now ≡ words_under store.now name
         → result ≡ unless (act_tests tenant frame act.now) tt }
 {
     let has_child = has_child_for(store, name, &act.after);
-    may_act(&found.words, has_child, found.seen.left, act)
+    may_act(words, has_child, left, act)
 }
 
 /// Whether a parent of these words may take a child in so, by this worker.

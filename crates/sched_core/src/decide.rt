@@ -1,6 +1,6 @@
 //! The tests that decide a step, as functions over values: each answers what the definition of its
 //! name does.
-ghost use Rattle.std.specs.Prelude.{◌≡◌, ◌+◌, ◌≤◌, ◌==◌, ◌||◌, not, ℕ, false, List, length};
+ghost use Rattle.std.specs.Prelude.{◌≡◌, ◌+◌, ◌≤◌, ◌==◌, ◌||◌, ◌∷◌, [], not, ℕ, false, List, length};
 ghost use Rattle.cactus_stack.specs.Nodes.{charge as charge_for};
 ghost use Rattle.frame_table.specs.Frames.{Frame};
 ghost use Rattle.sched_rules.specs.Trees.{Tenant, left as left_of, has_child as has_child_of, is_outside as is_outside_of};
@@ -23,6 +23,31 @@ pub fn first_of(tests: &[(bool, Refusal)]) -> Result<(), Refusal>
         if test.0 {
             return Err(test.1);
         }
+    }
+    Ok(())
+}
+
+/// The same of four tests.
+#[inline(always)]
+pub fn first_of_four(
+    first: (bool, Refusal),
+    second: (bool, Refusal),
+    third: (bool, Refusal),
+    fourth: (bool, Refusal),
+) -> Result<(), Refusal>
+    ensures { result ≡ unless (first ∷ second ∷ third ∷ fourth ∷ []) tt }
+{
+    if first.0 {
+        return Err(first.1);
+    }
+    if second.0 {
+        return Err(second.1);
+    }
+    if third.0 {
+        return Err(third.1);
+    }
+    if fourth.0 {
+        return Err(fourth.1);
     }
     Ok(())
 }
@@ -163,11 +188,11 @@ pub fn may_act(words: &Words, has_child: bool, left: Left, act: &Act) -> Result<
     if is_bad_act(words, has_child, act) {
         return Err(Refusal::BadAct);
     }
-    first_of(&[
-        (is_spawn(&act.after) && left.nodes == 0, Refusal::NoNodes),
-        (
-            (left.segments as usize) < segments_for(words.len(), &act.after),
-            Refusal::NoSegments,
-        ),
-    ])
+    if is_spawn(&act.after) && left.nodes == 0 {
+        return Err(Refusal::NoNodes);
+    }
+    if (left.segments as usize) < segments_for(words.len(), &act.after) {
+        return Err(Refusal::NoSegments);
+    }
+    Ok(())
 }

@@ -103,16 +103,16 @@ pub(crate) fn own<A: Allocator>(store: &Store<A>, name: FrameId) -> Words<'_>
     }
 }
 
-/// What a frame that is there is doing, its words, and what it sees.
+/// What a frame that is there is doing, and its words.
 #[inline(always)]
-pub(crate) fn known<A: Allocator>(store: &Store<A>, name: FrameId) -> Sighted<'_>
+pub(crate) fn known<A: Allocator>(store: &Store<A>, name: FrameId) -> (State, Words<'_>)
     requires { IsSome (named store.now name) }
-    ensures state { (frame : Frame (List ℕ)) → named store.now name ≡ Some frame → result.state ≡ frame.state }
-    ensures words { result.words ≡ words_under store.now name }
+    ensures state { (frame : Frame (List ℕ)) → named store.now name ≡ Some frame → result.0 ≡ frame.state }
+    ensures words { result.1 ≡ words_under store.now name }
     ensures rising { AreRising store.now.tenants }
 {
     match store.look_up(name) {
-        Some(sighted) => sighted,
+        Some(sighted) => (sighted.state, sighted.words),
         None => unreachable!(),
     }
 }

@@ -6,7 +6,7 @@ ghost use Rattle.sched_rules.specs.declared.step.StepOf.TheVariants.{Take as Tak
 ghost use Rattle.sched_store.specs.Reads.{is_busy_among};
 ghost use Rattle.sched_core.specs.Judging.{IsJudged};
 
-use crate::decide::{first_of, is_out_of_reach, is_ready_at};
+use crate::decide::{first_of_four, is_out_of_reach, is_ready_at};
 use crate::engine::{Engine, look};
 use frame_table::FrameId;
 use sched_rules::{Did, DidOf, Procedure, Refusal, Worker};
@@ -19,12 +19,12 @@ impl<P: Procedure, A: Allocator> Engine<P, A> {
         ensures free { IfOk result (λ _. is_busy_among worker self.now.store.tenants ≡ false) }
     {
         let seen = look(&self.store, name)?;
-        first_of(&[
+        first_of_four(
             (!seen.state.is_ready(), Refusal::NotReady),
             (!is_ready_at(seen.state, worker.number()), Refusal::NotHere),
             (seen.left.steps == 0, Refusal::NoSteps),
             (self.store.is_busy(worker), Refusal::Busy),
-        ])
+        )
     }
 
     /// Whether the worker may run a ready frame whose home is another's.
@@ -33,7 +33,7 @@ impl<P: Procedure, A: Allocator> Engine<P, A> {
         ensures free { IfOk result (λ _. is_busy_among worker self.now.store.tenants ≡ false) }
     {
         let seen = look(&self.store, name)?;
-        first_of(&[
+        first_of_four(
             (!seen.state.is_ready(), Refusal::NotReady),
             (
                 is_out_of_reach(seen.state, from, worker.number()),
@@ -41,7 +41,7 @@ impl<P: Procedure, A: Allocator> Engine<P, A> {
             ),
             (seen.left.steps == 0, Refusal::NoSteps),
             (self.store.is_busy(worker), Refusal::Busy),
-        ])
+        )
     }
 
     /// The worker runs a ready frame of its own.

@@ -14,7 +14,7 @@ ghost use Rattle.sched_core.specs.Judging.{IsJudged, IsCome, staying_with};
 
 use crate::acts::{may_do, may_take_in};
 use crate::decide::is_waiting;
-use crate::engine::{Engine, known, own};
+use crate::engine::{Engine, Found, known, own};
 use frame_table::{FrameId, State};
 use sched_rules::{Did, DidOf, InletAct, Procedure, Refusal, Then, Worker};
 use sched_store::Store;
@@ -52,12 +52,12 @@ impl<P: Procedure, A: Allocator> Engine<P, A> {
         ensures judged { IsJudged (P.functions self.old.procedure) self.old.store (AdvanceStep worker name) result self.new.store }
         ensures procedure { self.new.procedure ≡ self.old.procedure }
     {
-        let found = self.running(worker, name)?;
-        let act = self.procedure.next_of(fitting, &found.sight);
-        may_do(&self.store, name, &found, &act)?;
-        let is_root = found.seen.parent.is_none();
-        self.store.store_all(name, act.stores.as_slice());
+        let Found { seen, words, sight } = self.running(worker, name)?;
+        let act = self.procedure.next_of(fitting, &sight);
+        may_do(&self.store, name, seen.left, &words, &act)?;
+        let is_root = seen.parent.is_none();
         self.store.count_step(name.tenant);
+        self.store.store_all(name, act.stores.as_slice());
         Ok(self.go_on(worker, name, is_root, &act.after))
     }
 
@@ -119,11 +119,11 @@ impl<P: Procedure, A: Allocator> Engine<P, A> {
         ensures judged { IsJudged (P.functions self.old.procedure) self.old.store (InletStep worker name) result self.new.store }
         ensures procedure { self.new.procedure ≡ self.old.procedure }
     {
-        let (found, parent) = self.returned(name)?;
-        let above = known(&self.store, parent);
-        let act = self.procedure.inlet_of(fitting, &above.words, &found.words);
-        may_take_in(&self.store, worker, &above.words, &act)?;
-        let was_waiting = is_waiting(above.state);
+        let (own, parent) = self.returned(name)?;
+        let (state, above) = known(&self.store, parent);
+        let act = self.procedure.inlet_of(fitting, &above, &own);
+        may_take_in(&self.store, worker, &above, &act)?;
+        let was_waiting = is_waiting(state);
         let aborted = take_out(&mut self.store, name, parent, act.abort);
         let is_woken = is_to_wake(&self.store, parent, was_waiting, &act);
         self.store.store_all(parent, act.stores.as_slice());

@@ -11,6 +11,7 @@ use std::alloc::Allocator;
 
 impl<P: Procedure, A: Allocator> Engine<P, A> {
     /// Takes a step, or refuses it, where all frames may be known to fit.
+    #[inline(always)]
     pub(crate) fn step(&mut self, step: &Step<P>, fitting: bool) -> Result<Did<P>, Refusal>
     where
         A: Clone,

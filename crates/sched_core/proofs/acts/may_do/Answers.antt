@@ -3,6 +3,6 @@ use Rattle.sched_core.proofs.Deciding.{seen-words, seen-child}
 use Rattle.sched_core.proofs.acts.may_do.Goals as goal
 
 pub returns : goal.returns
-returns g c tenant frame is words =
-    c.may_act.ensures tenant frame (seen-words c.args.store.now c.args.name tenant frame c.args.found.now.seen is ∙ sym words)
-    (rw (seen-child c.args.store.now c.args.name tenant frame c.args.found.now.seen is) (c.has_child_for-has_child.ensures _)) (sym is.left)
+returns g c tenant frame seen is left words =
+    c.may_act.ensures tenant frame (seen-words c.args.store.now c.args.name tenant frame seen is ∙ sym words)
+    (rw (seen-child c.args.store.now c.args.name tenant frame seen is) (c.has_child_for-has_child.ensures _)) (sym is.left ∙ left)

@@ -6,26 +6,26 @@ use Rattle.sched_core.proofs.engine.Engine.accepted.Goals as goal
 
 pub accept_of-stores-requires : goal.accept_of-stores-requires
 accept_of-stores-requires g c so =
-    let s = c.in_ok-found.ensures.frame in
+    let s = c.in_ok-seen.ensures.frame in
     let procedure = c.args.self.now.procedure in
-    rw c.in_ok-found.ensures.words (own-fits (g.P.Procedure.fits procedure) (g.P.Procedure.rooted procedure) c.args.self.now.store c.args.name s.0 s.1 c.in_ok-found.found.seen (c.requires so) s.2)
+    rw c.in_ok-seen.ensures.words (own-fits (g.P.Procedure.fits procedure) (g.P.Procedure.rooted procedure) c.args.self.now.store c.args.name s.0 s.1 c.in_ok-seen.field-0.seen (c.requires so) s.2)
 
-pub returns-in_err-found-clause-refusal : goal.returns-in_err-found-clause-refusal
-returns-in_err-found-clause-refusal g c =
+pub returns-in_err-seen-clause-refusal : goal.returns-in_err-seen-clause-refusal
+returns-in_err-seen-clause-refusal g c =
     let p = err_from_is_err_and c.from_residual.result c.from_residual.ensures.1 in
-    passed-on _ _ _ _ p.1 p.2 (lost-answer (g.P.Procedure.functions c.args.self.now.procedure) c.args.self.now.store c.args.worker c.args.name c.args.answer.now _ c.in_err-found.ensures.frame)
+    passed-on _ _ _ _ p.1 p.2 (lost-answer (g.P.Procedure.functions c.args.self.now.procedure) c.args.self.now.store c.args.worker c.args.name c.args.answer.now _ c.in_err-seen.ensures.frame)
 
-pub returns-in_err-first_of-clause-refusal : goal.returns-in_err-first_of-clause-refusal
-returns-in_err-first_of-clause-refusal g c =
-    let s = c.in_ok-found.ensures.frame in
-    let words = c.in_ok-found.ensures.words in
-    let p = err_from_is_err_and c.from_residual-in_err-first_of.result c.from_residual-in_err-first_of.ensures.1 in
-    passed-on _ _ _ _ p.1 p.2 (sym (answer-told (g.P.Procedure.functions c.args.self.now.procedure) c.args.self.now.store c.args.worker c.args.name c.args.answer.now s.0 s.1 c.in_ok-found.found.seen c.is_computed_by.result c.ne.result c.is_outside.result _ s.2
-    (rw (← c.number.ensures.value) c.is_computed_by.ensures) (cc (g.met.P.Procedure.compares c.args.self.now.procedure, words)) (cc words) c.in_err-first_of.ensures))
+pub returns-in_err-first_of_four-clause-refusal : goal.returns-in_err-first_of_four-clause-refusal
+returns-in_err-first_of_four-clause-refusal g c =
+    let s = c.in_ok-seen.ensures.frame in
+    let words = c.in_ok-seen.ensures.words in
+    let p = err_from_is_err_and c.from_residual-in_err-first_of_four.result c.from_residual-in_err-first_of_four.ensures.1 in
+    passed-on _ _ _ _ p.1 p.2 (sym (answer-told (g.P.Procedure.functions c.args.self.now.procedure) c.args.self.now.store c.args.worker c.args.name c.args.answer.now s.0 s.1 c.in_ok-seen.field-0.seen c.is_computed_by.result c.ne.result c.is_outside.result _ s.2
+    (rw (← c.number.ensures.value) c.is_computed_by.ensures) (cc (g.met.P.Procedure.compares c.args.self.now.procedure, words)) (cc words) c.in_err-first_of_four.ensures))
 
 pub returns-clause-refusal : goal.returns-clause-refusal
 returns-clause-refusal g c =
-    let s = c.in_ok-found.ensures.frame in
-    let words = c.in_ok-found.ensures.words in
-    answer-told (g.P.Procedure.functions c.args.self.now.procedure) c.args.self.now.store c.args.worker c.args.name c.args.answer.now s.0 s.1 c.in_ok-found.found.seen c.is_computed_by.result c.ne.result c.is_outside.result _ s.2
-    (rw (← c.number.ensures.value) c.is_computed_by.ensures) (cc (g.met.P.Procedure.compares c.args.self.now.procedure, words)) (cc words) c.in_ok-first_of.ensures
+    let s = c.in_ok-seen.ensures.frame in
+    let words = c.in_ok-seen.ensures.words in
+    answer-told (g.P.Procedure.functions c.args.self.now.procedure) c.args.self.now.store c.args.worker c.args.name c.args.answer.now s.0 s.1 c.in_ok-seen.field-0.seen c.is_computed_by.result c.ne.result c.is_outside.result _ s.2
+    (rw (← c.number.ensures.value) c.is_computed_by.ensures) (cc (g.met.P.Procedure.compares c.args.self.now.procedure, words)) (cc words) c.in_ok-first_of_four.ensures

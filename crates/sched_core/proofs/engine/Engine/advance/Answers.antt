@@ -15,66 +15,73 @@ use Rattle.sched_core.proofs.engine.Engine.advance.Goals as goal
 
 pub next_of-act-requires : goal.next_of-act-requires
 next_of-act-requires g c so =
-    let s = c.in_ok-found.ensures.frame in
+    let s = c.in_ok-seen.ensures.frame in
     let procedure = c.args.self.now.procedure in
-    rw c.in_ok-found.ensures.sight (seen-fits (g.P.Procedure.fits procedure) (g.P.Procedure.rooted procedure) c.args.self.now.store c.args.name s.0 s.1 c.in_ok-found.found.seen (c.requires.fits so) s.2.seen_so)
+    rw c.in_ok-seen.ensures.sight (seen-fits (g.P.Procedure.fits procedure) (g.P.Procedure.rooted procedure) c.args.self.now.store c.args.name s.0 s.1 c.in_ok-seen.field-0.seen (c.requires.fits so) s.2.seen_so)
 
 pub returns-in_err-may_do-clause-judged : goal.returns-in_err-may_do-clause-judged
 returns-in_err-may_do-clause-judged g c =
-    let s = c.in_ok-found.ensures.frame in
+    let s = c.in_ok-seen.ensures.frame in
     let p = err_from_is_err_and c.from_residual-in_err-may_do.result c.from_residual-in_err-may_do.ensures.1 in
     judged-refused (g.P.Procedure.functions c.args.self.now.procedure) c.args.self.now.store (Advance c.args.worker c.args.name) _ _ _ _ p.1 p.2
-    (advance-told (g.P.Procedure.functions c.args.self.now.procedure) c.args.self.now.store c.args.worker c.args.name s.0 s.1 c.in_ok-found.found.seen c.next_of-act.result _ s.2 (c.next_of-act.ensures ∙ ap (g.P.Procedure.functions c.args.self.now.procedure).next c.in_ok-found.ensures.sight)
-    (c.in_err-may_do.ensures s.0 s.1 s.2.seen_so c.in_ok-found.ensures.words)) refl
-
-pub store_all-requires-clause-inside : goal.store_all-requires-clause-inside
-store_all-requires-clause-inside g c =
-    let s = c.in_ok-found.ensures.frame in
-    let t = sets-out (g.P.Procedure.functions c.args.self.now.procedure) c.args.self.now.store c.args.worker c.args.name s.0 s.1 c.in_ok-found.found.seen c.next_of-act.result s.2 (c.next_of-act.ensures ∙ ap (g.P.Procedure.functions c.args.self.now.procedure).next c.in_ok-found.ensures.sight)
-    (c.in_ok-may_do.ensures s.0 s.1 s.2.seen_so c.in_ok-found.ensures.words) in
-    let own = named-words c.args.self.now.store c.args.name s.0 s.1 t.owner t.found in
-    rw (c.as_slice.ensures, own) (act-inside (is_outside c.next_of-act.result.stores s.1.value) _ t.passes.1.1.0)
+    (advance-told (g.P.Procedure.functions c.args.self.now.procedure) c.args.self.now.store c.args.worker c.args.name s.0 s.1 c.in_ok-seen.field-0.seen c.next_of-act.result _ s.2 (c.next_of-act.ensures ∙ ap (g.P.Procedure.functions c.args.self.now.procedure).next c.in_ok-seen.ensures.sight)
+    (c.in_err-may_do.ensures s.0 s.1 _ s.2.seen_so refl c.in_ok-seen.ensures.words)) refl
 
 pub count_step-requires : goal.count_step-requires
 count_step-requires g c =
-    let s = c.in_ok-found.ensures.frame in
-    let t = sets-out (g.P.Procedure.functions c.args.self.now.procedure) c.args.self.now.store c.args.worker c.args.name s.0 s.1 c.in_ok-found.found.seen c.next_of-act.result s.2 (c.next_of-act.ensures ∙ ap (g.P.Procedure.functions c.args.self.now.procedure).next c.in_ok-found.ensures.sight)
-    (c.in_ok-may_do.ensures s.0 s.1 s.2.seen_so c.in_ok-found.ensures.words) in
-    let words = stored c.next_of-act.result.stores s.1.value in
-    let own = named-words c.args.self.now.store c.args.name s.0 s.1 t.owner t.found in
-    let stored : c.store_all.new.self ≡ on_tenant c.args.name.tenant (holding c.args.name.serial words) c.args.self.now.store = rw (c.as_slice.ensures, own) at c.store_all.ensures in
+    let s = c.in_ok-seen.ensures.frame in
+    let t = sets-out (g.P.Procedure.functions c.args.self.now.procedure) c.args.self.now.store c.args.worker c.args.name s.0 s.1 c.in_ok-seen.field-0.seen c.next_of-act.result s.2 (c.next_of-act.ensures ∙ ap (g.P.Procedure.functions c.args.self.now.procedure).next c.in_ok-seen.ensures.sight)
+    (c.in_ok-may_do.ensures s.0 s.1 _ s.2.seen_so refl c.in_ok-seen.ensures.words) in
     let w = begins c.args.self.now.store c.args.name.tenant s.0 t.owner in
-    let w1 = then-changed _ _ _ _ c.store_all.new.self (holding c.args.name.serial words) w stored in
-    step-left _ _ _ _ w1 t.passes.1.0
+    step-left _ _ _ _ w t.passes.1.0
+
+pub store_all-requires-clause-there : goal.store_all-requires-clause-there
+store_all-requires-clause-there g c =
+    let s = c.in_ok-seen.ensures.frame in
+    let t = sets-out (g.P.Procedure.functions c.args.self.now.procedure) c.args.self.now.store c.args.worker c.args.name s.0 s.1 c.in_ok-seen.field-0.seen c.next_of-act.result s.2 (c.next_of-act.ensures ∙ ap (g.P.Procedure.functions c.args.self.now.procedure).next c.in_ok-seen.ensures.sight)
+    (c.in_ok-may_do.ensures s.0 s.1 _ s.2.seen_so refl c.in_ok-seen.ensures.words) in
+    let w = begins c.args.self.now.store c.args.name.tenant s.0 t.owner in
+    let w1 = then-changed _ _ _ _ c.count_step.new.self counted w c.count_step.ensures in
+    rw (w1.there, t.found) refl
+
+pub store_all-requires-clause-inside : goal.store_all-requires-clause-inside
+store_all-requires-clause-inside g c =
+    let s = c.in_ok-seen.ensures.frame in
+    let t = sets-out (g.P.Procedure.functions c.args.self.now.procedure) c.args.self.now.store c.args.worker c.args.name s.0 s.1 c.in_ok-seen.field-0.seen c.next_of-act.result s.2 (c.next_of-act.ensures ∙ ap (g.P.Procedure.functions c.args.self.now.procedure).next c.in_ok-seen.ensures.sight)
+    (c.in_ok-may_do.ensures s.0 s.1 _ s.2.seen_so refl c.in_ok-seen.ensures.words) in
+    let w = begins c.args.self.now.store c.args.name.tenant s.0 t.owner in
+    let w1 = then-changed _ _ _ _ c.count_step.new.self counted w c.count_step.ensures in
+    let own = named-words c.count_step.new.self c.args.name (counted s.0) s.1 w1.there t.found in
+    rw (c.as_slice.ensures, own) (act-inside (is_outside c.next_of-act.result.stores s.1.value) _ t.passes.1.1.0)
 
 pub go_on-requires : goal.go_on-requires
 go_on-requires g c =
-    let s = c.in_ok-found.ensures.frame in
-    let t = sets-out (g.P.Procedure.functions c.args.self.now.procedure) c.args.self.now.store c.args.worker c.args.name s.0 s.1 c.in_ok-found.found.seen c.next_of-act.result s.2 (c.next_of-act.ensures ∙ ap (g.P.Procedure.functions c.args.self.now.procedure).next c.in_ok-found.ensures.sight)
-    (c.in_ok-may_do.ensures s.0 s.1 s.2.seen_so c.in_ok-found.ensures.words) in
-    let words = stored c.next_of-act.result.stores s.1.value in
-    let own = named-words c.args.self.now.store c.args.name s.0 s.1 t.owner t.found in
-    let stored : c.store_all.new.self ≡ on_tenant c.args.name.tenant (holding c.args.name.serial words) c.args.self.now.store = rw (c.as_slice.ensures, own) at c.store_all.ensures in
+    let s = c.in_ok-seen.ensures.frame in
+    let t = sets-out (g.P.Procedure.functions c.args.self.now.procedure) c.args.self.now.store c.args.worker c.args.name s.0 s.1 c.in_ok-seen.field-0.seen c.next_of-act.result s.2 (c.next_of-act.ensures ∙ ap (g.P.Procedure.functions c.args.self.now.procedure).next c.in_ok-seen.ensures.sight)
+    (c.in_ok-may_do.ensures s.0 s.1 _ s.2.seen_so refl c.in_ok-seen.ensures.words) in
     let w = begins c.args.self.now.store c.args.name.tenant s.0 t.owner in
-    let w1 = then-changed _ _ _ _ c.store_all.new.self (holding c.args.name.serial words) w stored in
-    let w2 = then-changed _ _ _ _ c.count_step.new.self counted w1 c.count_step.ensures in
+    let w1 = then-changed _ _ _ _ c.count_step.new.self counted w c.count_step.ensures in
+    let own = named-words c.count_step.new.self c.args.name (counted s.0) s.1 w1.there t.found in
+    let words = stored c.next_of-act.result.stores s.1.value in
+    let stored : c.store_all.new.self ≡ on_tenant c.args.name.tenant (holding c.args.name.serial words) c.count_step.new.self = rw (c.as_slice.ensures, own) at c.store_all.ensures in
+    let w2 = then-changed _ _ _ _ c.store_all.new.self (holding c.args.name.serial words) w1 stored in
     let shape = shaped-in c.args.name.tenant c.args.self.now.store.tenants s.0 c.requires.shaped t.owner in
-    let on = goes-on c.args.self.now.store c.count_step.new.self c.args.name c.args.worker c.next_of-act.result s.0 s.1 shape t.found t.passes w2 in
+    let on = goes-on c.args.self.now.store c.store_all.new.self c.args.name c.args.worker c.next_of-act.result s.0 s.1 shape t.found t.passes w2 in
     (_, _, on)
 
 pub returns-clause-judged : goal.returns-clause-judged
 returns-clause-judged g c =
-    let s = c.in_ok-found.ensures.frame in
-    let t = sets-out (g.P.Procedure.functions c.args.self.now.procedure) c.args.self.now.store c.args.worker c.args.name s.0 s.1 c.in_ok-found.found.seen c.next_of-act.result s.2 (c.next_of-act.ensures ∙ ap (g.P.Procedure.functions c.args.self.now.procedure).next c.in_ok-found.ensures.sight)
-    (c.in_ok-may_do.ensures s.0 s.1 s.2.seen_so c.in_ok-found.ensures.words) in
-    let words = stored c.next_of-act.result.stores s.1.value in
-    let own = named-words c.args.self.now.store c.args.name s.0 s.1 t.owner t.found in
-    let stored : c.store_all.new.self ≡ on_tenant c.args.name.tenant (holding c.args.name.serial words) c.args.self.now.store = rw (c.as_slice.ensures, own) at c.store_all.ensures in
+    let s = c.in_ok-seen.ensures.frame in
+    let t = sets-out (g.P.Procedure.functions c.args.self.now.procedure) c.args.self.now.store c.args.worker c.args.name s.0 s.1 c.in_ok-seen.field-0.seen c.next_of-act.result s.2 (c.next_of-act.ensures ∙ ap (g.P.Procedure.functions c.args.self.now.procedure).next c.in_ok-seen.ensures.sight)
+    (c.in_ok-may_do.ensures s.0 s.1 _ s.2.seen_so refl c.in_ok-seen.ensures.words) in
     let w = begins c.args.self.now.store c.args.name.tenant s.0 t.owner in
-    let w1 = then-changed _ _ _ _ c.store_all.new.self (holding c.args.name.serial words) w stored in
-    let w2 = then-changed _ _ _ _ c.count_step.new.self counted w1 c.count_step.ensures in
+    let w1 = then-changed _ _ _ _ c.count_step.new.self counted w c.count_step.ensures in
+    let own = named-words c.count_step.new.self c.args.name (counted s.0) s.1 w1.there t.found in
+    let words = stored c.next_of-act.result.stores s.1.value in
+    let stored : c.store_all.new.self ≡ on_tenant c.args.name.tenant (holding c.args.name.serial words) c.count_step.new.self = rw (c.as_slice.ensures, own) at c.store_all.ensures in
+    let w2 = then-changed _ _ _ _ c.store_all.new.self (holding c.args.name.serial words) w1 stored in
     let shape = shaped-in c.args.name.tenant c.args.self.now.store.tenants s.0 c.requires.shaped t.owner in
-    let on = goes-on c.args.self.now.store c.count_step.new.self c.args.name c.args.worker c.next_of-act.result s.0 s.1 shape t.found t.passes w2 in
-    let root : c.is_none-is_root.result ≡ is_root s.1.path = root-is c.is_none-is_root.result c.in_ok-found.found.seen s.1.path c.is_none-is_root.ensures s.2.seen_so.root in
-    come-on (g.P.Procedure.functions c.args.self.now.procedure) c.args.self.now.store (Advance c.args.worker c.args.name) c.args.name.tenant _ c.count_step.new.self _ c.go_on.result _ w2 (c.go_on.ensures.came _ _ on root)
+    let on = goes-on c.args.self.now.store c.store_all.new.self c.args.name c.args.worker c.next_of-act.result s.0 s.1 shape t.found t.passes w2 in
+    let root : c.is_none-is_root.result ≡ is_root s.1.path = root-is c.is_none-is_root.result c.in_ok-seen.field-0.seen s.1.path c.is_none-is_root.ensures s.2.seen_so.root in
+    come-on (g.P.Procedure.functions c.args.self.now.procedure) c.args.self.now.store (Advance c.args.worker c.args.name) c.args.name.tenant _ c.store_all.new.self _ c.go_on.result _ w2 (c.go_on.ensures.came _ _ on root)
     (rw (seen-serial s.0.frames c.args.name.serial s.1 t.found) at t.among) (λ own. refl)

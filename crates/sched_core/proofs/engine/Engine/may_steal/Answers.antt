@@ -10,5 +10,5 @@ returns-in_err-seen-clause-refusal g c =
 pub returns-clause-refusal : goal.returns-clause-refusal
 returns-clause-refusal g c =
     let s = c.in_ok-seen.ensures in
-    rw (c.first_of.ensures, c.is_ready.ensures, c.is_out_of_reach.ensures, c.number.ensures.value, c.is_busy.ensures.busy)
+    rw (c.first_of_four.ensures, c.is_ready.ensures, c.is_out_of_reach.ensures, c.number.ensures.value, c.is_busy.ensures.busy)
     (steal-decided (g.P.Procedure.functions c.args.self.now.procedure) c.args.self.now.store c.args.worker c.args.from c.args.name s.0 s.1 c.in_ok-seen.seen s.2 c.is_busy.ensures.rising)
