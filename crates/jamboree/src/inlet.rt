@@ -16,6 +16,7 @@ use crate::view::Changes;
 use sched_rules::{InletAct, Stores};
 
 /// To wake the parent and no more.
+#[inline(always)]
 pub(crate) fn wakes() -> InletAct
     ensures { result ≡ wakes }
 {
@@ -27,6 +28,7 @@ pub(crate) fn wakes() -> InletAct
 }
 
 /// The score of a child, seen from the parent.
+#[inline(always)]
 fn seen(child: &View) -> i32
     ensures value { result ≡ seen (frame_in child.now) }
     ensures low { negsuc 199999 ≤ℤ result }
@@ -36,6 +38,7 @@ fn seen(child: &View) -> i32
 }
 
 /// The greater of the best score and the child's.
+#[inline(always)]
 fn best_of(frame: &View, child: &View) -> i32
     ensures value { result ≡ int_max frame.now.best (seen (frame_in child.now)) }
     ensures low { negsuc 199999 ≤ℤ result }
@@ -45,6 +48,7 @@ fn best_of(frame: &View, child: &View) -> i32
 }
 
 /// The number of a child's choice.
+#[inline(always)]
 fn number_of(frame: &View, child: &View) -> usize
     requires { may_be_child (frame_in frame.now) (frame_in child.now) ≡ true }
     ensures value { result ≡ child.now.number }
@@ -56,6 +60,7 @@ fn number_of(frame: &View, child: &View) -> usize
 
 /// The inlet of a frame for a child of it: a score of at least beta ends the frame and all else
 /// below it.
+#[inline(always)]
 pub(crate) fn takes_in(frame: &View, child: &View) -> InletAct
     requires { may_be_child (frame_in frame.now) (frame_in child.now) ≡ true }
     ensures { result ≡ inlet_of (frame_in frame.now) (frame_in child.now) }
@@ -68,6 +73,7 @@ pub(crate) fn takes_in(frame: &View, child: &View) -> InletAct
 }
 
 /// What the inlet stores, by the child's score and role.
+#[inline(always)]
 fn stores_of(frame: &View, child: &View) -> Stores
     requires { may_be_child (frame_in frame.now) (frame_in child.now) ≡ true }
     ensures { result ≡ pairs_of (changes_of (frame_in frame.now) (frame_in child.now)) }
@@ -95,6 +101,7 @@ fn stores_of(frame: &View, child: &View) -> Stores
 }
 
 /// A score of at least beta is the frame's, with the child's choice, and the frame is done.
+#[inline(always)]
 fn ended(frame: &View, child: &View) -> Stores
     requires { may_be_child (frame_in frame.now) (frame_in child.now) ≡ true }
     ensures { (test low higher : Bool) → result ≡ pairs_of (changes_by true test low higher (frame_in frame.now) (frame_in child.now)) }
@@ -109,6 +116,7 @@ fn ended(frame: &View, child: &View) -> Stores
 }
 
 /// A test that isn't above its window settles its choice.
+#[inline(always)]
 fn low(frame: &View, child: &View) -> Stores
     requires { may_be_child (frame_in frame.now) (frame_in child.now) ≡ true }
     ensures { (higher : Bool) → result ≡ pairs_of (changes_by false true true higher (frame_in frame.now) (frame_in child.now)) }
@@ -120,6 +128,7 @@ fn low(frame: &View, child: &View) -> Stores
 }
 
 /// A test above its window has failed: its score says only that the choice is worth more.
+#[inline(always)]
 fn failed(frame: &View, child: &View) -> Stores
     requires { may_be_child (frame_in frame.now) (frame_in child.now) ≡ true }
     ensures { (higher : Bool) → result ≡ pairs_of (changes_by false true false higher (frame_in frame.now) (frame_in child.now)) }
@@ -130,6 +139,7 @@ fn failed(frame: &View, child: &View) -> Stores
 }
 
 /// A search in full that is above the floor gives the best score and its choice.
+#[inline(always)]
 fn raised(frame: &View, child: &View) -> Stores
     requires { may_be_child (frame_in frame.now) (frame_in child.now) ≡ true }
     ensures { (low : Bool) → result ≡ pairs_of (changes_by false false low true (frame_in frame.now) (frame_in child.now)) }
@@ -144,6 +154,7 @@ fn raised(frame: &View, child: &View) -> Stores
 }
 
 /// A search in full that isn't settles its choice.
+#[inline(always)]
 fn kept(frame: &View, child: &View) -> Stores
     requires { may_be_child (frame_in frame.now) (frame_in child.now) ≡ true }
     ensures { (low : Bool) → result ≡ pairs_of (changes_by false false low false (frame_in frame.now) (frame_in child.now)) }

@@ -23,6 +23,7 @@ use othello_moves::{after, choice, choice_count};
 use sched_rules::{Act, Stores, Then};
 
 /// To return without a store.
+#[inline(always)]
 pub(crate) fn returns() -> Act
     ensures { result ≡ returns }
 {
@@ -33,6 +34,7 @@ pub(crate) fn returns() -> Act
 }
 
 /// To wait for a child.
+#[inline(always)]
 fn waits() -> Act
     ensures { result ≡ record { stores = []; after = Wait } }
 {
@@ -43,6 +45,7 @@ fn waits() -> Act
 }
 
 /// To be computed outside.
+#[inline(always)]
 fn computes() -> Act
     ensures { result ≡ record { stores = []; after = Compute } }
 {
@@ -54,6 +57,7 @@ fn computes() -> Act
 
 /// The next act of a new frame, whose board is this: it is computed outside near the leaves and
 /// where the game is over; else its choices are counted.
+#[inline(always)]
 pub(crate) fn opening(grain: u8, frame: &View, board: Board) -> Act
     ensures { result ≡ opening_on grain (frame_in frame.now) board.own board.opp }
 {
@@ -80,6 +84,7 @@ pub(crate) fn opening(grain: u8, frame: &View, board: Board) -> Act
 }
 
 /// The greater of alpha and the best score: only a score above it still counts.
+#[inline(always)]
 pub(crate) fn floor(frame: &View) -> i32
     ensures value { result ≡ floor (frame_in frame.now) }
     ensures low { negsuc 199999 ≤ℤ result }
@@ -89,6 +94,7 @@ pub(crate) fn floor(frame: &View) -> i32
 }
 
 /// To open a child for the choice of this number, in this role and with this window.
+#[inline(always)]
 fn opens(frame: &View, role: Role, number: usize, alpha: i32, beta: i32) -> Then
     requires deep { 0 < frame.now.depth }
     requires low { negsuc 999999 ≤ℤ alpha }
@@ -102,6 +108,7 @@ fn opens(frame: &View, role: Role, number: usize, alpha: i32, beta: i32) -> Then
 
 /// The next act while the first choice is searched: its child is opened with the whole window, and
 /// awaited.
+#[inline(always)]
 fn first_search(frame: &View) -> Act
     requires { 0 < frame.now.depth }
     ensures { result ≡ first_search ((frame_in frame.now).spawned == 0) (frame_in frame.now) }
@@ -120,6 +127,7 @@ fn first_search(frame: &View) -> Act
 
 /// The next act while choices are tested: the first choice that isn't settled is searched again,
 /// where its test has failed; else the next one is tested; else the frame is done, or waits.
+#[inline(always)]
 fn tests(frame: &View, words: &Words) -> Act
     requires deep { 0 < frame.now.depth }
     requires entries { length words.now ≡ 12 + frame.now.count }
@@ -139,6 +147,7 @@ fn tests(frame: &View, words: &Words) -> Act
 }
 
 /// To be done, and to return.
+#[inline(always)]
 fn ends() -> Act
     ensures { result ≡ record { stores = pairs_of (ToPhase 4 ∷ []); after = Return } }
 {
@@ -151,6 +160,7 @@ fn ends() -> Act
 }
 
 /// To search a choice again, above the greater of alpha and the best score.
+#[inline(always)]
 fn search_again(frame: &View, number: usize) -> Act
     requires deep { 0 < frame.now.depth }
     requires inside { number < frame.now.count }
@@ -165,6 +175,7 @@ fn search_again(frame: &View, number: usize) -> Act
 }
 
 /// To test the next choice, just above the greater of alpha and the best score.
+#[inline(always)]
 fn test(frame: &View, number: usize) -> Act
     requires deep { 0 < frame.now.depth }
     requires next { number ≡ (frame_in frame.now).spawned }
@@ -182,6 +193,7 @@ fn test(frame: &View, number: usize) -> Act
 }
 
 /// The next act of a frame that knows its board, in these words.
+#[inline(always)]
 pub(crate) fn later_act(frame: &View, words: &Words) -> Act
     requires later { (frame_in frame.now).phase ≢ 0 }
     requires entries { length words.now ≡ 12 + frame.now.count }
@@ -196,6 +208,7 @@ pub(crate) fn later_act(frame: &View, words: &Words) -> Act
 }
 
 /// The next act of a root in these words.
+#[inline(always)]
 pub(crate) fn root_act(grain: u8, frame: &View, words: &Words) -> Act
     requires { length words.now ≡ 12 + frame.now.count }
     ensures { result ≡ act_of grain (frame_with frame.now (statuses_in words.now)) None }

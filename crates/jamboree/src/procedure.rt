@@ -70,6 +70,7 @@ impl View {
 }
 
 /// The next act of a frame in these words with no level above it: only a root has one.
+#[inline(always)]
 fn act_alone(grain: u8, frame: &View, own: &Words) -> Act
     requires { length own.now ≡ 12 + frame.now.count }
     ensures { result ≡ (if (frame_in frame.now).role == 0 then act_of grain (frame_with frame.now (statuses_in own.now)) None else returns) }
@@ -237,6 +238,7 @@ fn inlet_at(frame: &View, words: &Words) -> InletAct
 }
 
 /// The inlet of a frame for this child: one that may not be a child of it only wakes it.
+#[inline(always)]
 fn inlet_under(frame: &View, child: &View) -> InletAct
     ensures { (own below : List ℕ) → result ≡ (if may_be_child (frame_with frame.now own) (frame_with child.now below) then inlet_of (frame_with frame.now own) (frame_with child.now below) else wakes) }
 {
@@ -247,6 +249,7 @@ fn inlet_under(frame: &View, child: &View) -> InletAct
 }
 
 /// What a frame stores of an answer.
+#[inline(always)]
 fn answered(answer: &LeafAnswer) -> Stores
     ensures { result ≡ pairs_of (changes_of_answer answer.now) }
 {

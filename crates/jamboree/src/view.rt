@@ -397,6 +397,7 @@ impl Changes {
 }
 
 /// A new child of this depth, with this window, in this role, for the choice of this number.
+#[inline(always)]
 pub(crate) fn spawn(depth: u8, alpha: i32, beta: i32, role: Role, number: usize) -> Then
     requires low { negsuc 999999 ≤ℤ alpha }
     requires high { alpha ≤ℤ pos 1000000 }
