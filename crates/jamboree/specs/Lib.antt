@@ -3,3 +3,4 @@ pub mod Views
 pub mod Levels
 pub mod Codes
 pub mod Replies
+pub mod Plans

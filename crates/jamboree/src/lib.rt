@@ -23,11 +23,13 @@
 //! ```
 #![tactic(auto)]
 
+mod act;
 mod codes;
 mod frame;
 mod inlet;
 mod next;
 mod phases;
+mod plan;
 mod procedure;
 mod reading;
 mod reply;
