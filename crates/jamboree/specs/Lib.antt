@@ -4,3 +4,4 @@ pub mod Levels
 pub mod Codes
 pub mod Replies
 pub mod Plans
+pub mod Intakes

@@ -1,13 +1,15 @@
-//! The act of a plan.
+//! The act of a plan, and the inlet of an intake.
 ghost use Rattle.std.specs.Prelude.{◌≡◌, []};
+ghost use Rattle.jamboree.specs.Intakes.{inlet_for, stores_for};
 ghost use Rattle.jamboree.specs.Plans.{act_for, spawn_of};
 
 use crate::codes::NONE;
+use crate::intake::{Finding, Intake};
 use crate::phases::{Phase, Status};
 use crate::plan::{NewChild, Plan};
 use crate::view::{Changes, spawn};
 use leaf_search::INF;
-use sched_rules::{Act, Stores, Then};
+use sched_rules::{Act, InletAct, Stores, Then};
 
 impl NewChild {
     /// To open it.
@@ -90,5 +92,57 @@ fn without_stores(after: Then) -> Act
     Act {
         stores: Stores::new(),
         after,
+    }
+}
+
+impl Finding {
+    /// What is stored of it.
+    #[inline(always)]
+    fn stores(self) -> Stores
+        ensures { result ≡ stores_for self }
+    {
+        let mut changes = Changes::new();
+        match self {
+            Finding::Nothing => {}
+            Finding::Ended(told, code) => {
+                changes.best(told.score);
+                changes.chosen(code);
+                changes.status(told.number, Status::Settled);
+                changes.phase(Phase::Done);
+            }
+            Finding::Low(told) => {
+                changes.best(told.score);
+                changes.status(told.number, Status::Settled);
+            }
+            Finding::Failed(number) => {
+                changes.status(usize::from(number), Status::Failed);
+            }
+            Finding::Raised(told, code) => {
+                changes.best(told.score);
+                changes.chosen(code);
+                changes.status(told.number, Status::Settled);
+                changes.phase(Phase::Tests);
+            }
+            Finding::Kept(told) => {
+                changes.best(told.score);
+                changes.status(told.number, Status::Settled);
+                changes.phase(Phase::Tests);
+            }
+        }
+        changes.stores()
+    }
+}
+
+impl Intake {
+    /// The inlet.
+    #[inline(always)]
+    pub(crate) fn inlet(self) -> InletAct
+        ensures { result ≡ inlet_for self }
+    {
+        InletAct {
+            stores: self.finding.stores(),
+            abort: self.abort,
+            wake: true,
+        }
     }
 }

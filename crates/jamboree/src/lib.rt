@@ -27,6 +27,7 @@ mod act;
 mod codes;
 mod frame;
 mod inlet;
+mod intake;
 mod next;
 mod phases;
 mod plan;

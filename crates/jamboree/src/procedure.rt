@@ -1,13 +1,14 @@
 //! The search procedure.
-ghost use Rattle.std.specs.Prelude.{◌≡◌, ◌≤◌, ◌+◌, ◌↔◌, ◌==◌, ◌&&◌, true, ◌∷◌, IsSome, IfSome, Some, None, List, ℕ, length, nat_lt, if◌then◌else◌};
+ghost use Rattle.std.specs.Prelude.{◌≡◌, ◌≤◌, ◌+◌, ◌↔◌, ◌==◌, ◌&&◌, true, ◌∷◌, IsSome, IfSome, Some, None, List, [], ℕ, length, nat_lt, if◌then◌else◌};
 ghost use Rattle.othello_board.specs.Words.{cells};
 ghost use Rattle.othello_moves.specs.Choices.{choices};
 ghost use Rattle.jamboree_rules.specs.Frames.{may_be_child};
 ghost use Rattle.jamboree_rules.specs.Places.{frame_of, is_formed, pairs_of};
-ghost use Rattle.jamboree_rules.specs.Acts.{returns, act_of, next_act, wakes, inlet_of};
+ghost use Rattle.jamboree_rules.specs.Acts.{returns, act_of, next_act, wakes, inlet_of, inlet_act};
 ghost use Rattle.jamboree_rules.specs.Leaves.{changes_of_answer};
 ghost use Rattle.jamboree_rules.specs.Fits.{AreFitting};
 ghost use Rattle.sched_rules.specs.Laws.{AllFit};
+ghost use Rattle.jamboree.specs.Intakes.{inlet_for};
 ghost use Rattle.jamboree.specs.Levels.{above_of};
 ghost use Rattle.jamboree.specs.Plans.{act_for};
 ghost use Rattle.jamboree.specs.Views.{frame_in, frame_with, statuses_in};
@@ -15,6 +16,7 @@ ghost use Rattle.jamboree.specs.Views.{frame_in, frame_with, statuses_in};
 use crate::codes::coded;
 use crate::frame::View;
 use crate::inlet::{takes_in, wakes};
+use crate::intake::Intake;
 use crate::next::{board_under, later, of_root, opening};
 use crate::phases::{Phase, Role};
 use crate::plan::Plan;
@@ -165,6 +167,49 @@ fn plan_of(grain: u8, fitting: bool, sight: &Sight) -> Plan
     plan_fitting(grain, sight)
 }
 
+/// What a frame takes in of a child of these words.
+fn intake_at(frame: &View, words: &Words) -> Intake
+    ensures { (statuses : List ℕ) → inlet_for result ≡ (if is_formed words.now && may_be_child (frame_with frame.now statuses) (frame_of words.now) then inlet_of (frame_with frame.now statuses) (frame_of words.now) else wakes) }
+{
+    if !is_formed(words) {
+        return wakes();
+    }
+    intake_under(frame, &view(words))
+}
+
+/// What a frame takes in of this child: one that may not be a child of it only wakes it.
+#[inline(always)]
+fn intake_under(frame: &View, child: &View) -> Intake
+    ensures { (own below : List ℕ) → inlet_for result ≡ (if may_be_child (frame_with frame.now own) (frame_with child.now below) then inlet_of (frame_with frame.now own) (frame_with child.now below) else wakes) }
+{
+    if !child.may_be_under(frame) {
+        return wakes();
+    }
+    takes_in(frame, child)
+}
+
+/// What a frame in these words takes in of a child in those.
+fn intake_seen(own: &Words, child: &Words) -> Intake
+    ensures { inlet_for result ≡ inlet_act own.now child.now }
+{
+    if !is_formed(own) {
+        return wakes();
+    }
+    intake_at(&view(own), child)
+}
+
+/// The same, where words that are known to fit need not be tested.
+#[inline(always)]
+fn intake_of(fitting: bool, own: &Words, child: &Words) -> Intake
+    requires { fitting ≡ true → AllFit AreFitting (own.now ∷ child.now ∷ []) }
+    ensures { inlet_for result ≡ inlet_act own.now child.now }
+{
+    if !fitting {
+        return intake_seen(own, child);
+    }
+    intake_under(&view(own), &view(child))
+}
+
 impl Procedure for Jamboree {
     ghost use Rattle.std.specs.Prelude.{refl};
     ghost use Rattle.jamboree_rules.specs.Fits.{IsRoot};
@@ -190,10 +235,7 @@ impl Procedure for Jamboree {
 
     /// What the child's score says of its choice; words of no frame and child only wake.
     fn inlet(&self, own: &Words, child: &Words) -> InletAct {
-        if !is_formed(own) {
-            return wakes();
-        }
-        inlet_at(&view(own), child)
+        intake_seen(own, child).inlet()
     }
 
     /// The frame's board, depth and window.
@@ -228,10 +270,7 @@ impl Procedure for Jamboree {
     /// What the child's score says of its choice. Words that fit have the form of a frame.
     #[inline(always)]
     fn inlet_of(&self, fitting: bool, own: &Words, child: &Words) -> InletAct {
-        if !fitting {
-            return self.inlet(own, child);
-        }
-        inlet_under(&view(own), &view(child))
+        intake_of(fitting, own, child).inlet()
     }
 
     /// The answer's score and choice, and the frame is done. Words that fit have the form of a frame.
@@ -252,27 +291,6 @@ impl Procedure for Jamboree {
     ghost inlet_keeps = { λ procedure. inlet-keeps (jamboree procedure.grain) refl };
 
     ghost accept_keeps = { λ procedure. accept-keeps (jamboree procedure.grain) refl refl refl refl };
-}
-
-/// The inlet of a frame for a child of these words.
-fn inlet_at(frame: &View, words: &Words) -> InletAct
-    ensures { (statuses : List ℕ) → result ≡ (if is_formed words.now && may_be_child (frame_with frame.now statuses) (frame_of words.now) then inlet_of (frame_with frame.now statuses) (frame_of words.now) else wakes) }
-{
-    if !is_formed(words) {
-        return wakes();
-    }
-    inlet_under(frame, &view(words))
-}
-
-/// The inlet of a frame for this child: one that may not be a child of it only wakes it.
-#[inline(always)]
-fn inlet_under(frame: &View, child: &View) -> InletAct
-    ensures { (own below : List ℕ) → result ≡ (if may_be_child (frame_with frame.now own) (frame_with child.now below) then inlet_of (frame_with frame.now own) (frame_with child.now below) else wakes) }
-{
-    if !child.may_be_under(frame) {
-        return wakes();
-    }
-    takes_in(frame, child)
 }
 
 /// What a frame stores of an answer.

@@ -389,7 +389,7 @@ impl Changes {
     #[inline(always)]
     pub(crate) fn status(&mut self, number: usize, status: Status)
         requires room { length self.old < 8 }
-        requires small { number ≤ 128 }
+        requires small { number ≤ 255 }
         ensures { self.new ≡ self.old ++ pair_of (ToStatus number (status_number status)) ∷ [] }
     {
         self.stores.push(12 + number, status.number());
