@@ -3,3 +3,5 @@ pub mod Views
 pub mod Levels
 pub mod Codes
 pub mod Replies
+pub mod Plans
+pub mod Intakes

@@ -6,27 +6,28 @@ ghost use Rattle.othello_moves.specs.Choices.{choices};
 ghost use Rattle.jamboree_rules.specs.Frames.{floor, may_be_child};
 ghost use Rattle.jamboree_rules.specs.Places.{pairs_of};
 ghost use Rattle.jamboree_rules.specs.Acts.{seen, changes_by, changes_of, wakes, inlet_of};
+ghost use Rattle.jamboree.specs.Intakes.{inlet_for, stores_for};
 ghost use Rattle.jamboree.specs.Views.{frame_in};
 
 use crate::codes::code_at;
 use crate::frame::View;
+use crate::intake::{Finding, Intake, Told};
 use crate::next::floor;
-use crate::phases::{Phase, Role, Status};
-use crate::view::Changes;
-use sched_rules::{InletAct, Stores};
+use crate::phases::Role;
 
 /// To wake the parent and no more.
-pub(crate) fn wakes() -> InletAct
-    ensures { result ≡ wakes }
+#[inline(always)]
+pub(crate) fn wakes() -> Intake
+    ensures { inlet_for result ≡ wakes }
 {
-    InletAct {
-        stores: Stores::new(),
+    Intake {
+        finding: Finding::Nothing,
         abort: false,
-        wake: true,
     }
 }
 
 /// The score of a child, seen from the parent.
+#[inline(always)]
 fn seen(child: &View) -> i32
     ensures value { result ≡ seen (frame_in child.now) }
     ensures low { negsuc 199999 ≤ℤ result }
@@ -36,6 +37,7 @@ fn seen(child: &View) -> i32
 }
 
 /// The greater of the best score and the child's.
+#[inline(always)]
 fn best_of(frame: &View, child: &View) -> i32
     ensures value { result ≡ int_max frame.now.best (seen (frame_in child.now)) }
     ensures low { negsuc 199999 ≤ℤ result }
@@ -45,6 +47,7 @@ fn best_of(frame: &View, child: &View) -> i32
 }
 
 /// The number of a child's choice.
+#[inline(always)]
 fn number_of(frame: &View, child: &View) -> usize
     requires { may_be_child (frame_in frame.now) (frame_in child.now) ≡ true }
     ensures value { result ≡ child.now.number }
@@ -54,23 +57,24 @@ fn number_of(frame: &View, child: &View) -> usize
     child.number as usize
 }
 
-/// The inlet of a frame for a child of it: a score of at least beta ends the frame and all else
+/// What a frame takes in of a child of it: a score of at least beta ends the frame and all else
 /// below it.
-pub(crate) fn takes_in(frame: &View, child: &View) -> InletAct
+#[inline(always)]
+pub(crate) fn takes_in(frame: &View, child: &View) -> Intake
     requires { may_be_child (frame_in frame.now) (frame_in child.now) ≡ true }
-    ensures { result ≡ inlet_of (frame_in frame.now) (frame_in child.now) }
+    ensures { inlet_for result ≡ inlet_of (frame_in frame.now) (frame_in child.now) }
 {
-    InletAct {
-        stores: stores_of(frame, child),
+    Intake {
+        finding: finding_of(frame, child),
         abort: frame.beta <= seen(child),
-        wake: true,
     }
 }
 
-/// What the inlet stores, by the child's score and role.
-fn stores_of(frame: &View, child: &View) -> Stores
+/// What the child's score says, by its role.
+#[inline(always)]
+fn finding_of(frame: &View, child: &View) -> Finding
     requires { may_be_child (frame_in frame.now) (frame_in child.now) ≡ true }
-    ensures { result ≡ pairs_of (changes_of (frame_in frame.now) (frame_in child.now)) }
+    ensures { stores_for result ≡ pairs_of (changes_of (frame_in frame.now) (frame_in child.now)) }
 {
     let score = seen(child);
     if frame.beta <= score {
@@ -95,62 +99,64 @@ fn stores_of(frame: &View, child: &View) -> Stores
 }
 
 /// A score of at least beta is the frame's, with the child's choice, and the frame is done.
-fn ended(frame: &View, child: &View) -> Stores
+#[inline(always)]
+fn ended(frame: &View, child: &View) -> Finding
     requires { may_be_child (frame_in frame.now) (frame_in child.now) ≡ true }
-    ensures { (test low higher : Bool) → result ≡ pairs_of (changes_by true test low higher (frame_in frame.now) (frame_in child.now)) }
+    ensures { (test low higher : Bool) → stores_for result ≡ pairs_of (changes_by true test low higher (frame_in frame.now) (frame_in child.now)) }
 {
     let number = number_of(frame, child);
-    let mut changes = Changes::new();
-    changes.best(seen(child));
-    changes.chosen(code_at(frame.board, number));
-    changes.status(number, Status::Settled);
-    changes.phase(Phase::Done);
-    changes.stores()
+    let code = code_at(frame.board, number);
+    let score = seen(child);
+    Finding::Ended(Told { score, number }, code)
+}
+
+/// The greater of the best score and the child's, for its choice.
+#[inline(always)]
+fn told(frame: &View, child: &View) -> Told
+    requires { may_be_child (frame_in frame.now) (frame_in child.now) ≡ true }
+    ensures score { result.score ≡ int_max frame.now.best (seen (frame_in child.now)) }
+    ensures number { result.number ≡ child.now.number }
+{
+    let number = number_of(frame, child);
+    let score = best_of(frame, child);
+    Told { score, number }
 }
 
 /// A test that isn't above its window settles its choice.
-fn low(frame: &View, child: &View) -> Stores
+#[inline(always)]
+fn low(frame: &View, child: &View) -> Finding
     requires { may_be_child (frame_in frame.now) (frame_in child.now) ≡ true }
-    ensures { (higher : Bool) → result ≡ pairs_of (changes_by false true true higher (frame_in frame.now) (frame_in child.now)) }
+    ensures { (higher : Bool) → stores_for result ≡ pairs_of (changes_by false true true higher (frame_in frame.now) (frame_in child.now)) }
 {
-    let mut changes = Changes::new();
-    changes.best(best_of(frame, child));
-    changes.status(number_of(frame, child), Status::Settled);
-    changes.stores()
+    Finding::Low(told(frame, child))
 }
 
 /// A test above its window has failed: its score says only that the choice is worth more.
-fn failed(frame: &View, child: &View) -> Stores
+#[inline(always)]
+fn failed(frame: &View, child: &View) -> Finding
     requires { may_be_child (frame_in frame.now) (frame_in child.now) ≡ true }
-    ensures { (higher : Bool) → result ≡ pairs_of (changes_by false true false higher (frame_in frame.now) (frame_in child.now)) }
+    ensures { (higher : Bool) → stores_for result ≡ pairs_of (changes_by false true false higher (frame_in frame.now) (frame_in child.now)) }
 {
-    let mut changes = Changes::new();
-    changes.status(number_of(frame, child), Status::Failed);
-    changes.stores()
+    let number = number_of(frame, child);
+    Finding::Failed(number as u8)
 }
 
 /// A search in full that is above the floor gives the best score and its choice.
-fn raised(frame: &View, child: &View) -> Stores
+#[inline(always)]
+fn raised(frame: &View, child: &View) -> Finding
     requires { may_be_child (frame_in frame.now) (frame_in child.now) ≡ true }
-    ensures { (low : Bool) → result ≡ pairs_of (changes_by false false low true (frame_in frame.now) (frame_in child.now)) }
+    ensures { (low : Bool) → stores_for result ≡ pairs_of (changes_by false false low true (frame_in frame.now) (frame_in child.now)) }
 {
-    let number = number_of(frame, child);
-    let mut changes = Changes::new();
-    changes.best(best_of(frame, child));
-    changes.chosen(code_at(frame.board, number));
-    changes.status(number, Status::Settled);
-    changes.phase(Phase::Tests);
-    changes.stores()
+    let told = told(frame, child);
+    let code = code_at(frame.board, told.number);
+    Finding::Raised(told, code)
 }
 
 /// A search in full that isn't settles its choice.
-fn kept(frame: &View, child: &View) -> Stores
+#[inline(always)]
+fn kept(frame: &View, child: &View) -> Finding
     requires { may_be_child (frame_in frame.now) (frame_in child.now) ≡ true }
-    ensures { (low : Bool) → result ≡ pairs_of (changes_by false false low false (frame_in frame.now) (frame_in child.now)) }
+    ensures { (low : Bool) → stores_for result ≡ pairs_of (changes_by false false low false (frame_in frame.now) (frame_in child.now)) }
 {
-    let mut changes = Changes::new();
-    changes.best(best_of(frame, child));
-    changes.status(number_of(frame, child), Status::Settled);
-    changes.phase(Phase::Tests);
-    changes.stores()
+    Finding::Kept(told(frame, child))
 }

@@ -5,9 +5,10 @@
 //! child that has returned, what it is computed from near the leaves ([`LeafAnswer::compute`], which
 //! is called outside the scheduler's lock), and what it stores of the answer. What these acts are is
 //! written in `jamboree_rules`, over a frame's board, window, phase and statuses; the code reads a
-//! frame's words once into a typed view (`view`, the one module that knows places) and answers with
-//! just these acts. Words that have not the form of a frame return, and their inlet only wakes; of frames
-//! that are known to fit the form isn't tested.
+//! frame's words once into a typed view (`view`, the one module that knows places), decides by it on a
+//! plan or an intake (`plan`, `intake`), and answers with just these acts, each made once (`act`).
+//! Words that have not the form of a frame return, and their inlet only wakes; of frames that are
+//! known to fit the form isn't tested.
 //!
 //! `Jamboree` is a lawful procedure: whatever the order of spawns, steals, inlets and aborts, each
 //! frame fits its children (`AreFitting`), and the words that a job keeps of its returned root give a
@@ -23,11 +24,14 @@
 //! ```
 #![tactic(auto)]
 
+mod act;
 mod codes;
 mod frame;
 mod inlet;
+mod intake;
 mod next;
 mod phases;
+mod plan;
 mod procedure;
 mod reading;
 mod reply;

@@ -1,19 +1,25 @@
 //! The search procedure.
-ghost use Rattle.std.specs.Prelude.{◌≡◌, ◌≤◌, ◌+◌, ◌↔◌, ◌==◌, ◌&&◌, true, ◌∷◌, IsSome, IfSome, Some, None, List, ℕ, length, nat_lt, if◌then◌else◌};
+ghost use Rattle.std.specs.Prelude.{◌≡◌, ◌≤◌, ◌+◌, ◌↔◌, ◌==◌, ◌&&◌, true, ◌∷◌, IsSome, IfSome, Some, None, List, [], ℕ, length, nat_lt, if◌then◌else◌};
 ghost use Rattle.othello_board.specs.Words.{cells};
 ghost use Rattle.othello_moves.specs.Choices.{choices};
 ghost use Rattle.jamboree_rules.specs.Frames.{may_be_child};
 ghost use Rattle.jamboree_rules.specs.Places.{frame_of, is_formed, pairs_of};
-ghost use Rattle.jamboree_rules.specs.Acts.{returns, act_of, next_act, wakes, inlet_of};
+ghost use Rattle.jamboree_rules.specs.Acts.{returns, act_of, next_act, wakes, inlet_of, inlet_act};
 ghost use Rattle.jamboree_rules.specs.Leaves.{changes_of_answer};
+ghost use Rattle.jamboree_rules.specs.Fits.{AreFitting};
+ghost use Rattle.sched_rules.specs.Laws.{AllFit};
+ghost use Rattle.jamboree.specs.Intakes.{inlet_for};
 ghost use Rattle.jamboree.specs.Levels.{above_of};
+ghost use Rattle.jamboree.specs.Plans.{act_for};
 ghost use Rattle.jamboree.specs.Views.{frame_in, frame_with, statuses_in};
 
 use crate::codes::coded;
 use crate::frame::View;
 use crate::inlet::{takes_in, wakes};
-use crate::next::{board_under, later_act, opening, returns, root_act};
+use crate::intake::Intake;
+use crate::next::{board_under, later, of_root, opening};
 use crate::phases::{Phase, Role};
+use crate::plan::Plan;
 use crate::view::{Changes, SIZE, are_root_words, is_formed, read_leaf, view};
 use cactus_stack::{Sight, Words};
 use jamboree_rules::{Leaf, LeafAnswer};
@@ -69,62 +75,144 @@ impl View {
     }
 }
 
-/// The next act of a frame in these words with no level above it: only a root has one.
-fn act_alone(grain: u8, frame: &View, own: &Words) -> Act
+/// What a frame in these words does next with no level above it: only a root does something.
+#[inline(always)]
+fn plan_alone(grain: u8, frame: &View, own: &Words) -> Plan
     requires { length own.now ≡ 12 + frame.now.count }
-    ensures { result ≡ (if (frame_in frame.now).role == 0 then act_of grain (frame_with frame.now (statuses_in own.now)) None else returns) }
+    ensures { act_for result ≡ (if (frame_in frame.now).role == 0 then act_of grain (frame_with frame.now (statuses_in own.now)) None else returns) }
 {
     match frame.role {
-        Role::Root => return root_act(grain, frame, own),
-        _ => return returns(),
+        Role::Root => of_root(grain, frame, own),
+        _ => Plan::Returns,
     }
 }
 
-/// The next act of a frame in these words under this parent: only a child of it has one.
+/// What a frame in these words does next under this parent: only a child of it does something.
 #[inline(always)]
-fn act_under(grain: u8, frame: &View, own: &Words, parent: &View) -> Act
+fn plan_under(grain: u8, frame: &View, own: &Words, parent: &View) -> Plan
     requires { length own.now ≡ 12 + frame.now.count }
-    ensures { (others : List ℕ) → result ≡ (if may_be_child (frame_with parent.now others) (frame_in frame.now) then act_of grain (frame_with frame.now (statuses_in own.now)) (Some (frame_with parent.now others)) else returns) }
+    ensures { (others : List ℕ) → act_for result ≡ (if may_be_child (frame_with parent.now others) (frame_in frame.now) then act_of grain (frame_with frame.now (statuses_in own.now)) (Some (frame_with parent.now others)) else returns) }
 {
     if !frame.may_be_under(parent) {
-        return returns();
+        return Plan::Returns;
     }
     match frame.phase {
-        Phase::New => {
-            return opening(grain, frame, board_under(frame, parent));
-        }
-        _ => return later_act(frame, own),
+        Phase::New => opening(grain, frame, board_under(frame, parent)),
+        _ => later(frame, own),
     }
 }
 
-/// The next act of a frame in these words under a parent in those: only a child of it has one.
-fn act_below(grain: u8, frame: &View, own: &Words, above: &Words) -> Act
+/// What a frame in these words does next under a parent in those: only a child of it does something.
+fn plan_below(grain: u8, frame: &View, own: &Words, above: &Words) -> Plan
     requires { length own.now ≡ 12 + frame.now.count }
-    ensures { result ≡ (if is_formed above.now && may_be_child (frame_of above.now) (frame_in frame.now) then act_of grain (frame_with frame.now (statuses_in own.now)) (Some (frame_of above.now)) else returns) }
+    ensures { act_for result ≡ (if is_formed above.now && may_be_child (frame_of above.now) (frame_in frame.now) then act_of grain (frame_with frame.now (statuses_in own.now)) (Some (frame_of above.now)) else returns) }
 {
     if !is_formed(above) {
-        return returns();
+        return Plan::Returns;
     }
-    act_under(grain, frame, own, &view(above))
+    plan_under(grain, frame, own, &view(above))
 }
 
-/// The next act of a frame in these words, under a parent in those, if there is one.
-fn act_tested(grain: u8, own: &Words, parent: Option<Words>) -> Act
-    ensures { result ≡ next_act grain (own.now ∷ above_of parent.entry) }
+/// What a frame in these words does next, under a parent in those, if there is one.
+fn plan_tested(grain: u8, own: &Words, parent: Option<Words>) -> Plan
+    ensures { act_for result ≡ next_act grain (own.now ∷ above_of parent.entry) }
 {
     if !is_formed(own) {
-        return returns();
+        return Plan::Returns;
     }
     let frame = view(own);
     match parent {
-        Some(above) => act_below(grain, &frame, own, &above),
-        None => act_alone(grain, &frame, own),
+        Some(above) => plan_below(grain, &frame, own, &above),
+        None => plan_alone(grain, &frame, own),
     }
+}
+
+/// What is done next by what sees these words.
+fn plan_seen(grain: u8, sight: &Sight) -> Plan
+    ensures { act_for result ≡ next_act grain sight.now }
+{
+    match sight.up(0) {
+        Some(own) => plan_tested(grain, &own, sight.up(1)),
+        None => Plan::Returns,
+    }
+}
+
+/// The same, where all words fit and so have the form of a frame.
+#[inline(always)]
+fn plan_fitting(grain: u8, sight: &Sight) -> Plan
+    requires { AllFit AreFitting sight.now }
+    ensures { act_for result ≡ next_act grain sight.now }
+{
+    match sight.up(0) {
+        Some(own) => {
+            let frame = view(&own);
+            match sight.up(1) {
+                Some(above) => plan_under(grain, &frame, &own, &view(&above)),
+                None => plan_alone(grain, &frame, &own),
+            }
+        }
+        None => Plan::Returns,
+    }
+}
+
+/// The same, where words that are known to fit need not be tested.
+#[inline(always)]
+fn plan_of(grain: u8, fitting: bool, sight: &Sight) -> Plan
+    requires { fitting ≡ true → AllFit AreFitting sight.now }
+    ensures { act_for result ≡ next_act grain sight.now }
+{
+    if !fitting {
+        return plan_seen(grain, sight);
+    }
+    plan_fitting(grain, sight)
+}
+
+/// What a frame takes in of a child of these words.
+fn intake_at(frame: &View, words: &Words) -> Intake
+    ensures { (statuses : List ℕ) → inlet_for result ≡ (if is_formed words.now && may_be_child (frame_with frame.now statuses) (frame_of words.now) then inlet_of (frame_with frame.now statuses) (frame_of words.now) else wakes) }
+{
+    if !is_formed(words) {
+        return wakes();
+    }
+    intake_under(frame, &view(words))
+}
+
+/// What a frame takes in of this child: one that may not be a child of it only wakes it.
+#[inline(always)]
+fn intake_under(frame: &View, child: &View) -> Intake
+    ensures { (own below : List ℕ) → inlet_for result ≡ (if may_be_child (frame_with frame.now own) (frame_with child.now below) then inlet_of (frame_with frame.now own) (frame_with child.now below) else wakes) }
+{
+    if !child.may_be_under(frame) {
+        return wakes();
+    }
+    takes_in(frame, child)
+}
+
+/// What a frame in these words takes in of a child in those.
+fn intake_seen(own: &Words, child: &Words) -> Intake
+    ensures { inlet_for result ≡ inlet_act own.now child.now }
+{
+    if !is_formed(own) {
+        return wakes();
+    }
+    intake_at(&view(own), child)
+}
+
+/// The same, where words that are known to fit need not be tested.
+#[inline(always)]
+fn intake_of(fitting: bool, own: &Words, child: &Words) -> Intake
+    requires { fitting ≡ true → AllFit AreFitting (own.now ∷ child.now ∷ []) }
+    ensures { inlet_for result ≡ inlet_act own.now child.now }
+{
+    if !fitting {
+        return intake_seen(own, child);
+    }
+    intake_under(&view(own), &view(child))
 }
 
 impl Procedure for Jamboree {
     ghost use Rattle.std.specs.Prelude.{refl};
-    ghost use Rattle.jamboree_rules.specs.Fits.{AreFitting, IsRoot};
+    ghost use Rattle.jamboree_rules.specs.Fits.{IsRoot};
     ghost use Rattle.jamboree_rules.specs.Procedure.{jamboree};
     ghost use Rattle.jamboree_rules.proofs.Keeping.{next-keeps, inlet-keeps};
     ghost use Rattle.jamboree_rules.proofs.Answers.{accept-keeps};
@@ -142,18 +230,12 @@ impl Procedure for Jamboree {
 
     /// The act of the frame's phase; words of no frame return.
     fn next(&self, sight: &Sight) -> Act {
-        match sight.up(0) {
-            Some(own) => act_tested(self.grain, &own, sight.up(1)),
-            None => returns(),
-        }
+        plan_seen(self.grain, sight).act()
     }
 
     /// What the child's score says of its choice; words of no frame and child only wake.
     fn inlet(&self, own: &Words, child: &Words) -> InletAct {
-        if !is_formed(own) {
-            return wakes();
-        }
-        inlet_at(&view(own), child)
+        intake_seen(own, child).inlet()
     }
 
     /// The frame's board, depth and window.
@@ -182,28 +264,13 @@ impl Procedure for Jamboree {
     /// The act of the frame's phase. Words that fit have the form of a frame.
     #[inline(always)]
     fn next_of(&self, fitting: bool, sight: &Sight) -> Act {
-        if !fitting {
-            return self.next(sight);
-        }
-        match sight.up(0) {
-            Some(own) => {
-                let frame = view(&own);
-                match sight.up(1) {
-                    Some(above) => return act_under(self.grain, &frame, &own, &view(&above)),
-                    None => return act_alone(self.grain, &frame, &own),
-                }
-            }
-            None => return returns(),
-        }
+        plan_of(self.grain, fitting, sight).act()
     }
 
     /// What the child's score says of its choice. Words that fit have the form of a frame.
     #[inline(always)]
     fn inlet_of(&self, fitting: bool, own: &Words, child: &Words) -> InletAct {
-        if !fitting {
-            return self.inlet(own, child);
-        }
-        inlet_under(&view(own), &view(child))
+        intake_of(fitting, own, child).inlet()
     }
 
     /// The answer's score and choice, and the frame is done. Words that fit have the form of a frame.
@@ -226,27 +293,8 @@ impl Procedure for Jamboree {
     ghost accept_keeps = { λ procedure. accept-keeps (jamboree procedure.grain) refl refl refl refl };
 }
 
-/// The inlet of a frame for a child of these words.
-fn inlet_at(frame: &View, words: &Words) -> InletAct
-    ensures { (statuses : List ℕ) → result ≡ (if is_formed words.now && may_be_child (frame_with frame.now statuses) (frame_of words.now) then inlet_of (frame_with frame.now statuses) (frame_of words.now) else wakes) }
-{
-    if !is_formed(words) {
-        return wakes();
-    }
-    inlet_under(frame, &view(words))
-}
-
-/// The inlet of a frame for this child: one that may not be a child of it only wakes it.
-fn inlet_under(frame: &View, child: &View) -> InletAct
-    ensures { (own below : List ℕ) → result ≡ (if may_be_child (frame_with frame.now own) (frame_with child.now below) then inlet_of (frame_with frame.now own) (frame_with child.now below) else wakes) }
-{
-    if !child.may_be_under(frame) {
-        return wakes();
-    }
-    takes_in(frame, child)
-}
-
 /// What a frame stores of an answer.
+#[inline(always)]
 fn answered(answer: &LeafAnswer) -> Stores
     ensures { result ≡ pairs_of (changes_of_answer answer.now) }
 {

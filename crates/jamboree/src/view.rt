@@ -389,7 +389,7 @@ impl Changes {
     #[inline(always)]
     pub(crate) fn status(&mut self, number: usize, status: Status)
         requires room { length self.old < 8 }
-        requires small { number ≤ 128 }
+        requires small { number ≤ 255 }
         ensures { self.new ≡ self.old ++ pair_of (ToStatus number (status_number status)) ∷ [] }
     {
         self.stores.push(12 + number, status.number());
@@ -397,6 +397,7 @@ impl Changes {
 }
 
 /// A new child of this depth, with this window, in this role, for the choice of this number.
+#[inline(always)]
 pub(crate) fn spawn(depth: u8, alpha: i32, beta: i32, role: Role, number: usize) -> Then
     requires low { negsuc 999999 ≤ℤ alpha }
     requires high { alpha ≤ℤ pos 1000000 }

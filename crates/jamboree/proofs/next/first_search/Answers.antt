@@ -1,8 +1,8 @@
-use Rattle.std.proofs.Common.{arith}
+use Rattle.std.proofs.Common.{ℕ, ◌+◌, [], ◌∷◌, arith, ap}
 use Rattle.std.proofs.lemmas.Int.{ints}
 use Rattle.std.specs.Prelude.{◌≤ℤ◌, ◌<ℤ◌, pos, negsuc, neg_ℤ}
 use Rattle.jamboree.specs.Views.{frame_in}
-use Rattle.jamboree.proofs.ActLemmas.{negated, two-stores, act-by, spawns-by, first-by}
+use Rattle.jamboree.proofs.ActLemmas.{negated, act-by, spawns-by, first-by}
 use Rattle.jamboree.proofs.next.first_search.Goals as goal
 
 pub returns : goal.returns
@@ -12,5 +12,5 @@ returns c =
     let window : v.alpha <ℤ v.beta = v.window in
     let high : v.beta ≤ℤ pos 200000 = v.greatest in
     first-by (frame_in v) _ c.if-frame-ne0.false
-    (act-by _ _ _ _ (two-stores _ _ _ _ _ _ c.new-changes.ensures c.spawned.ensures c.status.ensures c.stores.ensures)
-    (spawns-by (frame_in v) 1 0 _ (neg_ℤ v.beta) _ (neg_ℤ v.alpha) c.opens.result c.opens.ensures (negated v.beta (omega (arith, ints)) (omega (arith, ints))) (negated v.alpha (omega (arith, ints)) (omega (arith, ints)))))
+    (act-by _ _ _ _ (ap (λ (n : ℕ). (11, n + 1) ∷ (12 + n, 1) ∷ []) c.child.ensures.number)
+    (spawns-by (frame_in v) 1 0 _ (neg_ℤ v.beta) _ (neg_ℤ v.alpha) _ c.child.ensures.spawned (negated v.beta (omega (arith, ints)) (omega (arith, ints))) (negated v.alpha (omega (arith, ints)) (omega (arith, ints)))))

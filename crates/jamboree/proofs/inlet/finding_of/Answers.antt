@@ -4,10 +4,11 @@ use Rattle.std.proofs.lemmas.Int.{ints}
 use Rattle.jamboree_rules.specs.Frames.{floor}
 use Rattle.jamboree_rules.specs.Acts.{seen}
 use Rattle.jamboree.specs.Numbers.{role_number}
+use Rattle.jamboree.specs.Intakes.{stores_for}
 use Rattle.jamboree.specs.Views.{frame_in}
 use Rattle.jamboree.proofs.InletLemmas.{by-end, by-low, by-failed, by-raised, by-kept, other-role, le-of, lt-of, wide-seen}
 use Rattle.jamboree.proofs.ActLemmas.{wide, negated}
-use Rattle.jamboree.proofs.inlet.stores_of.Goals as goal
+use Rattle.jamboree.proofs.inlet.finding_of.Goals as goal
 
 below : {a b : ℤ} → negsuc 199999 ≤ℤ a → a <ℤ b → negsuc 200000 ≤ℤ b
 below l w = omega (arith, ints)
@@ -29,7 +30,7 @@ returns-then-frame-score c =
     let high : v.beta ≤ℤ pos 200000 = v.greatest in
     let beta = wide v.beta (omega (arith, ints)) (omega (arith, ints)) in
     let score = wide-seen c.seen-score.result (seen d) c.seen-score.ensures.value c.seen-score.ensures.low c.seen-score.ensures.high in
-    by-end f d c.ended.result (le-of _ _ v.beta (seen d) true beta score c.if-frame-score.true) c.ended.ensures
+    by-end f d (stores_for c.ended.result) (le-of _ _ v.beta (seen d) true beta score c.if-frame-score.true) c.ended.ensures
 
 pub returns-then-score-child : goal.returns-then-score-child
 returns-then-score-child c =
@@ -42,7 +43,7 @@ returns-then-score-child c =
     let high : v.beta ≤ℤ pos 200000 = v.greatest in
     let beta = wide v.beta (omega (arith, ints)) (omega (arith, ints)) in
     let score = wide-seen c.seen-score.result (seen d) c.seen-score.ensures.value c.seen-score.ensures.low c.seen-score.ensures.high in
-    by-low f d c.low.result (le-of _ _ v.beta (seen d) false beta score c.if-frame-score.false) (ap role_number c.in-Test.is)
+    by-low f d (stores_for c.low.result) (le-of _ _ v.beta (seen d) false beta score c.if-frame-score.false) (ap role_number c.in-Test.is)
     (le-of _ _ (seen d) (neg_ℤ w.beta) true score (negated w.beta (below w.least w.window) (top w.greatest)) c.if-score-child.true)
     c.low.ensures
 
@@ -57,7 +58,7 @@ returns-else-score-child c =
     let high : v.beta ≤ℤ pos 200000 = v.greatest in
     let beta = wide v.beta (omega (arith, ints)) (omega (arith, ints)) in
     let score = wide-seen c.seen-score.result (seen d) c.seen-score.ensures.value c.seen-score.ensures.low c.seen-score.ensures.high in
-    by-failed f d c.failed.result (le-of _ _ v.beta (seen d) false beta score c.if-frame-score.false) (ap role_number c.in-Test.is)
+    by-failed f d (stores_for c.failed.result) (le-of _ _ v.beta (seen d) false beta score c.if-frame-score.false) (ap role_number c.in-Test.is)
     (le-of _ _ (seen d) (neg_ℤ w.beta) false score (negated w.beta (below w.least w.window) (top w.greatest)) c.if-score-child.false)
     c.failed.ensures
 
@@ -72,7 +73,7 @@ returns-then-floor-score c =
     let high : v.beta ≤ℤ pos 200000 = v.greatest in
     let beta = wide v.beta (omega (arith, ints)) (omega (arith, ints)) in
     let score = wide-seen c.seen-score.result (seen d) c.seen-score.ensures.value c.seen-score.ensures.low c.seen-score.ensures.high in
-    by-raised f d c.raised.result (le-of _ _ v.beta (seen d) false beta score c.if-frame-score.false) (other-role w.role c.in_default.not-Test)
+    by-raised f d (stores_for c.raised.result) (le-of _ _ v.beta (seen d) false beta score c.if-frame-score.false) (other-role w.role c.in_default.not-Test)
     (lt-of _ _ (floor f) (seen d) true (wide-seen c.floor.result (floor f) c.floor.ensures.value c.floor.ensures.low (more c.floor.ensures.high)) score c.if-floor-score.true)
     c.raised.ensures
 
@@ -87,6 +88,6 @@ returns-else-floor-score c =
     let high : v.beta ≤ℤ pos 200000 = v.greatest in
     let beta = wide v.beta (omega (arith, ints)) (omega (arith, ints)) in
     let score = wide-seen c.seen-score.result (seen d) c.seen-score.ensures.value c.seen-score.ensures.low c.seen-score.ensures.high in
-    by-kept f d c.kept.result (le-of _ _ v.beta (seen d) false beta score c.if-frame-score.false) (other-role w.role c.in_default.not-Test)
+    by-kept f d (stores_for c.kept.result) (le-of _ _ v.beta (seen d) false beta score c.if-frame-score.false) (other-role w.role c.in_default.not-Test)
     (lt-of _ _ (floor f) (seen d) false (wide-seen c.floor.result (floor f) c.floor.ensures.value c.floor.ensures.low (more c.floor.ensures.high)) score c.if-floor-score.false)
     c.kept.ensures

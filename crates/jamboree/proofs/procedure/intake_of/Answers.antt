@@ -1,10 +1,10 @@
 use Rattle.jamboree.specs.Views.{frame_with, statuses_in}
 use Rattle.jamboree.proofs.SightLemmas.{inlet-by-form}
-use Rattle.jamboree.proofs.procedure.JamboreeProcedure.inlet_of.Goals as goal
+use Rattle.jamboree.proofs.procedure.intake_of.Goals as goal
 
 pub returns : goal.returns
 returns c =
     let w = c.args.own.now in
     let d = c.args.child.now in
     inlet-by-form w d (frame_with c.view.result (statuses_in w)) (frame_with c.view-2.result (statuses_in d)) _ (c.requires c.if-not-fitting.false).0.2.formed (c.requires c.if-not-fitting.false).1.0.2.formed c.view.ensures.frame c.view-2.ensures.frame
-    (c.inlet_under.ensures (statuses_in w) (statuses_in d))
+    (c.intake_under.ensures (statuses_in w) (statuses_in d))

@@ -5,33 +5,33 @@ use Rattle.jamboree_rules.specs.Acts.{returns, act_of, next_act}
 use Rattle.jamboree.specs.Levels.{above_of}
 use Rattle.jamboree.specs.Views.{frame_with, statuses_in}
 use Rattle.jamboree.proofs.SightLemmas.{first-two, first-formed, second-formed, act-by-form, act-under-none}
-use Rattle.jamboree.proofs.procedure.JamboreeProcedure.next_of.Goals as goal
+use Rattle.jamboree.proofs.procedure.plan_fitting.Goals as goal
 
 pub view-frame-requires : goal.view-frame-requires
-view-frame-requires c = first-formed c.args.sight.now c.in-Some.own (c.requires c.if-not-fitting.false) (sym c.in-Some.is ∙ c.up.ensures)
+view-frame-requires c = first-formed c.args.sight.now c.in-Some.own c.requires (sym c.in-Some.is ∙ c.up.ensures)
 
 pub view-requires : goal.view-requires
-view-requires c = second-formed c.args.sight.now (Some c.in-Some-up.above) (c.requires c.if-not-fitting.false) (sym c.in-Some-up.is ∙ c.up-in-Some.ensures)
+view-requires c = second-formed c.args.sight.now (Some c.in-Some-up.above) c.requires (sym c.in-Some-up.is ∙ c.up-in-Some.ensures)
 
 pub returns-in-Some-up : goal.returns-in-Some-up
 returns-in-Some-up c =
-    let grain = c.args.self.now.grain in
+    let grain = c.args.grain in
     let sight = c.args.sight.now in
     let own = c.in-Some.own in
     let above = c.in-Some-up.above in
     let first : Some own ≡ slice_get sight 0 = sym c.in-Some.is ∙ c.up.ensures in
     let second : Some above ≡ slice_get sight 1 = sym c.in-Some-up.is ∙ c.up-in-Some.ensures in
-    act-by-form grain own above (frame_with c.view-frame.result (statuses_in own)) (frame_with c.view.result (statuses_in above)) _ (first-formed sight own (c.requires c.if-not-fitting.false) first) (second-formed sight (Some above) (c.requires c.if-not-fitting.false) second) c.view-frame.ensures.frame c.view.ensures.frame
-    (c.act_under.ensures (statuses_in above))
+    act-by-form grain own above (frame_with c.view-frame.result (statuses_in own)) (frame_with c.view.result (statuses_in above)) _ (first-formed sight own c.requires first) (second-formed sight (Some above) c.requires second) c.view-frame.ensures.frame c.view.ensures.frame
+    (c.plan_under.ensures (statuses_in above))
     ∙ ap (λ (o : Option (List ℕ)). next_act grain (own ∷ above_of o)) second ∙ first-two grain sight own first
 
 pub returns-in-None-up : goal.returns-in-None-up
 returns-in-None-up c =
-    let grain = c.args.self.now.grain in
+    let grain = c.args.grain in
     let sight = c.args.sight.now in
     let own = c.in-Some.own in
     let f = frame_with c.view-frame.result (statuses_in own) in
     let first : Some own ≡ slice_get sight 0 = sym c.in-Some.is ∙ c.up.ensures in
-    act-under-none grain own f _ (first-formed sight own (c.requires c.if-not-fitting.false) first) c.view-frame.ensures.frame
-    (c.act_alone.ensures ∙ ap (λ (g : Frame). if g.role == 0 then act_of grain f None else returns) c.view-frame.ensures.frame)
+    act-under-none grain own f _ (first-formed sight own c.requires first) c.view-frame.ensures.frame
+    (c.plan_alone.ensures ∙ ap (λ (g : Frame). if g.role == 0 then act_of grain f None else returns) c.view-frame.ensures.frame)
     ∙ ap (λ (o : Option (List ℕ)). next_act grain (own ∷ above_of o)) (sym c.in-None-up.is ∙ c.up-in-Some.ensures) ∙ first-two grain sight own first

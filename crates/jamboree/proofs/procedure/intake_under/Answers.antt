@@ -3,7 +3,7 @@ use Rattle.jamboree_rules.specs.Frames.{may_be_child}
 use Rattle.jamboree.specs.Views.{frame_in, frame_with}
 use Rattle.jamboree.proofs.InletLemmas.{then-by, else-by}
 use Rattle.jamboree.proofs.SightLemmas.{inlet-with}
-use Rattle.jamboree.proofs.procedure.inlet_under.Goals as goal
+use Rattle.jamboree.proofs.procedure.intake_under.Goals as goal
 
 pub returns-then-not-may_be_under : goal.returns-then-not-may_be_under
 returns-then-not-may_be_under c own below =

@@ -1,0 +1,26 @@
+-- The act that a plan stands for.
+use Rattle.std.specs.Prelude.{◌+◌, [], ◌∷◌, true, false}
+use Rattle.sched_rules.specs.declared.act.Act.{Act}
+use Rattle.sched_rules.specs.declared.act.Then.{Then}
+use Rattle.sched_rules.specs.declared.act.Then.TheVariants.{Spawn, Wait, Compute, Return}
+use Rattle.jamboree_rules.specs.Acts.{returns, opening}
+use Rattle.jamboree_rules.specs.Places.{Phase, Spawned, Status, pairs_of, given_words, frame_size}
+use Rattle.jamboree.specs.declared.plan.NewChild.{NewChild}
+use Rattle.jamboree.specs.declared.plan.Plan.{Plan}
+use Rattle.jamboree.specs.declared.plan.Plan.TheVariants.{Returns, Waits, Computes, Ends, Computed, Counts, Starts, Again}
+use Rattle.jamboree.specs.Numbers.{role_number}
+
+-- the opening of a child
+abbrev pub spawn_of : NewChild → Then
+spawn_of c = Spawn (given_words c.depth c.alpha c.beta (role_number c.role) c.number) frame_size
+
+-- the act of a plan
+abbrev pub act_for : Plan → Act
+act_for Returns = returns
+act_for Waits = record { stores = []; after = Wait }
+act_for Computes = record { stores = []; after = Compute }
+act_for Ends = record { stores = pairs_of (Phase 4 ∷ []); after = Return }
+act_for (Computed board) = opening true board.own board.opp 0
+act_for (Counts board count) = opening false board.own board.opp count
+act_for (Starts child) = record { stores = pairs_of (Spawned (child.number + 1) ∷ Status child.number 1 ∷ []); after = spawn_of child }
+act_for (Again child) = record { stores = pairs_of (Status child.number 4 ∷ []); after = spawn_of child }

@@ -1,0 +1,148 @@
+//! The act of a plan, and the inlet of an intake.
+ghost use Rattle.std.specs.Prelude.{◌≡◌, []};
+ghost use Rattle.jamboree.specs.Intakes.{inlet_for, stores_for};
+ghost use Rattle.jamboree.specs.Plans.{act_for, spawn_of};
+
+use crate::codes::NONE;
+use crate::intake::{Finding, Intake};
+use crate::phases::{Phase, Status};
+use crate::plan::{NewChild, Plan};
+use crate::view::{Changes, spawn};
+use leaf_search::INF;
+use sched_rules::{Act, InletAct, Stores, Then};
+
+impl NewChild {
+    /// To open it.
+    #[inline(always)]
+    fn spawn(&self) -> Then
+        ensures { result ≡ spawn_of self.now }
+    {
+        spawn(self.depth, self.alpha, self.beta, self.role, self.number)
+    }
+}
+
+impl Plan {
+    /// The act.
+    #[inline(always)]
+    pub(crate) fn act(self) -> Act
+        ensures { result ≡ act_for self }
+    {
+        match self {
+            Plan::Returns => return without_stores(Then::Return),
+            Plan::Waits => return without_stores(Then::Wait),
+            Plan::Computes => return without_stores(Then::Compute),
+            Plan::Ends => {
+                let mut changes = Changes::new();
+                changes.phase(Phase::Done);
+                return Act {
+                    stores: changes.stores(),
+                    after: Then::Return,
+                };
+            }
+            Plan::Computed(board) => {
+                let mut changes = Changes::new();
+                changes.own_bits(board.own);
+                changes.opp_bits(board.opp);
+                changes.phase(Phase::Computing);
+                return Act {
+                    stores: changes.stores(),
+                    after: Then::Compute,
+                };
+            }
+            Plan::Counts(board, count) => {
+                let mut changes = Changes::new();
+                changes.own_bits(board.own);
+                changes.opp_bits(board.opp);
+                changes.phase(Phase::First);
+                changes.best(-INF);
+                changes.chosen(NONE);
+                changes.count(count);
+                changes.spawned(0);
+                return Act {
+                    stores: changes.stores(),
+                    after: Then::Grow(count),
+                };
+            }
+            Plan::Starts(child) => {
+                let mut changes = Changes::new();
+                changes.spawned(child.number + 1);
+                changes.status(child.number, Status::Runs);
+                return Act {
+                    stores: changes.stores(),
+                    after: child.spawn(),
+                };
+            }
+            Plan::Again(child) => {
+                let mut changes = Changes::new();
+                changes.status(child.number, Status::RunsAgain);
+                return Act {
+                    stores: changes.stores(),
+                    after: child.spawn(),
+                };
+            }
+        }
+    }
+}
+
+/// To do this, and to store nothing.
+#[inline(always)]
+fn without_stores(after: Then) -> Act
+    ensures { result ≡ record { stores = []; after = after } }
+{
+    Act {
+        stores: Stores::new(),
+        after,
+    }
+}
+
+impl Finding {
+    /// What is stored of it.
+    #[inline(always)]
+    fn stores(self) -> Stores
+        ensures { result ≡ stores_for self }
+    {
+        let mut changes = Changes::new();
+        match self {
+            Finding::Nothing => {}
+            Finding::Ended(told, code) => {
+                changes.best(told.score);
+                changes.chosen(code);
+                changes.status(told.number, Status::Settled);
+                changes.phase(Phase::Done);
+            }
+            Finding::Low(told) => {
+                changes.best(told.score);
+                changes.status(told.number, Status::Settled);
+            }
+            Finding::Failed(number) => {
+                changes.status(usize::from(number), Status::Failed);
+            }
+            Finding::Raised(told, code) => {
+                changes.best(told.score);
+                changes.chosen(code);
+                changes.status(told.number, Status::Settled);
+                changes.phase(Phase::Tests);
+            }
+            Finding::Kept(told) => {
+                changes.best(told.score);
+                changes.status(told.number, Status::Settled);
+                changes.phase(Phase::Tests);
+            }
+        }
+        changes.stores()
+    }
+}
+
+impl Intake {
+    /// The inlet.
+    #[inline(always)]
+    pub(crate) fn inlet(self) -> InletAct
+        ensures { result ≡ inlet_for self }
+    {
+        InletAct {
+            stores: self.finding.stores(),
+            abort: self.abort,
+            wake: true,
+        }
+    }
+}
