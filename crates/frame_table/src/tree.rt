@@ -6,7 +6,7 @@
 //! listed beside them.
 ghost use Rattle.std.specs.Prelude.{◌≡◌, ◌+◌, ◌<◌, ◌≤◌, ◌↔◌, ◌++◌, [], ◌∷◌, true, false, length, vec_len, vec_capacity, IsTrue, IfOk, IfSome};
 ghost use Rattle.frame_table.specs.Frames.{frame_at, has_frame, path_in, root_of, children_of, aborted, frames_under, frames_without, values_of, with_state, ready_frames, AllBelow, entry_of, newest_ready_of, HasValue, has_parent, IsReadyAt, IsTree};
-ghost use Rattle.frame_table.specs.Slots.{frames_from, IsLinked, Rises, has_parent_slot, AllCountsBelow, with_child, root_under, without_child, CountsAtParent, serials_of};
+ghost use Rattle.frame_table.specs.Slots.{frames_from, IsLinked, Rises, has_parent_slot, AllCountsBelow, with_child, root_under, serials_of};
 ghost use Rattle.frame_table.specs.Tables.{new_frame};
 ghost use Rattle.frame_table.specs.Readies.{one_if_ready};
 
@@ -238,22 +238,7 @@ impl<T: Copy, A: Allocator> TenantFrames<T, A> {
         let at = self.serials.known_place(serial);
         let slot = self.shelf.take(at);
         self.serials.remove(at);
-        forget(&mut self.shelf, &self.serials, slot.parent);
         self.ready.leave(serial, slot.state);
         slot
-    }
-}
-
-/// Counts one child less at the parent.
-#[inline(always)]
-fn forget<T: Copy, A: Allocator>(shelf: &mut Shelf<T, A>, serials: &Serials<A>, parent: Option<u64>)
-    requires index { serials.now.serials ≡ serials_of shelf.old.slots }
-    requires rise { Rises shelf.old.slots }
-    requires there { has_parent_slot shelf.old.slots parent ≡ true }
-    requires counted { CountsAtParent shelf.old.slots parent }
-    ensures { shelf.new ≡ record shelf.old { slots = without_child parent shelf.old.slots } }
-{
-    if let Some(above) = parent {
-        shelf.forget_child(serials, above);
     }
 }
