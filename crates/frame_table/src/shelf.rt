@@ -167,10 +167,13 @@ impl<T: Copy, A: Allocator> Shelf<T, A> {
         requires there { has_slot self.old.slots serial ≡ true }
         ensures { Changes self.old self.new serial (λ slot. record slot { state = state }) (λ slot. result ≡ slot.state) }
     {
-        let key = key_of(&self.slab, &self.order, &self.guesses, serials, serial);
-        let was = self.slab[key].slot.state;
-        put_state(&mut self.slab, key, state);
-        was
+        match guessed_key(&self.slab, &self.order, &self.guesses, serial) {
+            Some(key) => put_state(&mut self.slab, key, state),
+            None => {
+                let key = search_key(&self.order, serials, serial);
+                put_state(&mut self.slab, key, state)
+            }
+        }
     }
 
     /// Puts the slot of a ready frame behind the others, and counts one more child of its parent.
@@ -281,6 +284,26 @@ fn put_kept<T: Copy, A: Allocator>(slab: &mut Slab<Kept<T>, A>, key: usize, slot
     slab[key] = Kept { slot, ..kept };
 }
 
+/// The key of the slot with a serial, if it is the guessed one.
+#[inline(always)]
+fn guessed_key<T: Copy, A: Allocator>(
+    slab: &Slab<Kept<T>, A>,
+    order: &Window<usize, A>,
+    guesses: &Guesses<A>,
+    serial: u64,
+) -> Option<usize>
+    requires { AreKeys slab.now order.now.list }
+    ensures { IfSome result (λ key. (at : ℕ) × IsKeyAt slab.now order.now.list serial at key) }
+{
+    let key = guesses.guess(serial);
+    if let Some(kept) = slab.get(key) {
+        if kept.slot.serial == serial {
+            return Some(key);
+        }
+    }
+    None
+}
+
 /// The key of the slot with a serial that is there: the guessed one, or that at the place that a search
 /// finds.
 #[inline(always)]
@@ -297,13 +320,10 @@ fn key_of<T: Copy, A: Allocator>(
     requires there { has_slot (slots_in slab.now order.now.list) serial ≡ true }
     ensures { (at : ℕ) × IsKeyAt slab.now order.now.list serial at result }
 {
-    let key = guesses.guess(serial);
-    if let Some(kept) = slab.get(key) {
-        if kept.slot.serial == serial {
-            return key;
-        }
+    match guessed_key(slab, order, guesses, serial) {
+        Some(key) => key,
+        None => search_key(order, serials, serial),
     }
-    search_key(order, serials, serial)
 }
 
 /// The key of the slot with a serial that is there, wherever it was guessed.
@@ -373,14 +393,18 @@ fn disown<T: Copy, A: Allocator>(
     }
 }
 
-/// Puts the slot under a key into another state.
-fn put_state<T: Copy, A: Allocator>(slab: &mut Slab<Kept<T>, A>, key: usize, state: State)
+/// Puts the slot under a key into another state, and gives the one that it was in.
+#[inline(always)]
+fn put_state<T: Copy, A: Allocator>(slab: &mut Slab<Kept<T>, A>, key: usize, state: State) -> State
     requires { ContainsKey slab.old key }
     ensures put { (kept : Kept T) → get slab.old key ≡ Some kept → Updates slab.old slab.new key (Some (record kept { slot = record kept.slot { state = state } })) }
+    ensures was { (kept : Kept T) → get slab.old key ≡ Some kept → result ≡ kept.slot.state }
     ensures len { slab_len slab.new ≡ slab_len slab.old }
     ensures capacity { slab.new.capacity ≡ slab.old.capacity }
 {
+    let was = slab[key].slot.state;
     slab[key].slot.state = state;
+    was
 }
 
 /// Counts one more child of the slot under a key.
