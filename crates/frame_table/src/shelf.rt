@@ -11,7 +11,7 @@ ghost use Rattle.slab.specs.Slab.{get, slab_len, ContainsKey, Updates};
 ghost use Rattle.frame_table.specs.declared.shelf.Kept.{Kept};
 ghost use Rattle.frame_table.specs.declared.slot.Slot.{Slot};
 ghost use Rattle.std.specs.List.{remove};
-ghost use Rattle.frame_table.specs.Slots.{serials_of, IsLinked, kept_slots, gone_values, slot_values, child_slots, Rises, has_slot, has_parent_slot, AllCountsBelow, with_child, root_under, without_child, CountsAtParent};
+ghost use Rattle.frame_table.specs.Slots.{serials_of, IsLinked, kept_slots, gone_values, slot_values, child_slots, Rises, has_slot, has_parent_slot, AllCountsBelow, with_child, root_at, root_under, without_child, CountsAtParent};
 ghost use Rattle.frame_table.specs.Readies.{ready_in};
 ghost use Rattle.frame_table.specs.Places.{RisesBy, has_number};
 ghost use Rattle.frame_table.specs.Shelves.{slots_in, AllHere, AreApartKeys, AreKeys, IsKeyAt, IsSeenAt, Changes, KnowsParent, new_slot, HasLink, is_taken_in, Marks, AreThere, NoneMarked, is_marked, swept_in, values_in};
@@ -304,28 +304,6 @@ fn guessed_key<T: Copy, A: Allocator>(
     None
 }
 
-/// The key of the slot with a serial that is there: the guessed one, or that at the place that a search
-/// finds.
-#[inline(always)]
-fn key_of<T: Copy, A: Allocator>(
-    slab: &Slab<Kept<T>, A>,
-    order: &Window<usize, A>,
-    guesses: &Guesses<A>,
-    serials: &Serials<A>,
-    serial: u64,
-) -> usize
-    requires keys { AreKeys slab.now order.now.list }
-    requires index { serials.now.serials ≡ serials_of (slots_in slab.now order.now.list) }
-    requires rise { Rises (slots_in slab.now order.now.list) }
-    requires there { has_slot (slots_in slab.now order.now.list) serial ≡ true }
-    ensures { (at : ℕ) × IsKeyAt slab.now order.now.list serial at result }
-{
-    match guessed_key(slab, order, guesses, serial) {
-        Some(key) => key,
-        None => search_key(order, serials, serial),
-    }
-}
-
 /// The key of the slot with a serial that is there, wherever it was guessed.
 #[cold]
 #[inline(never)]
@@ -361,14 +339,38 @@ fn adopt<T: Copy, A: Allocator>(
 {
     match parent {
         None => (serial, None),
-        Some(name) => {
-            let key = key_of(slab, order, guesses, serials, name);
-            let root = slab[key].slot.root;
-            count_more(slab, key);
-            guesses.put(name, key);
-            (root, Some(key))
-        }
+        Some(name) => match guessed_key(slab, order, guesses, name) {
+            Some(key) => (enroll(slab, order, name, key), Some(key)),
+            None => {
+                let key = search_key(order, serials, name);
+                guesses.put(name, key);
+                (enroll(slab, order, name, key), Some(key))
+            }
+        },
     }
+}
+
+/// Counts one more child of the frame whose slot stands under a key, and gives its root.
+#[inline(always)]
+fn enroll<T: Copy, A: Allocator>(
+    slab: &mut Slab<Kept<T>, A>,
+    order: &Window<usize, A>,
+    name: u64,
+    key: usize,
+) -> u64
+    requires keys { AreKeys slab.old order.now.list }
+    requires rise { Rises (slots_in slab.old order.now.list) }
+    requires few { AllCountsBelow 4096 (slots_in slab.old order.now.list) }
+    requires named { (at : ℕ) × IsKeyAt slab.old order.now.list name at key }
+    ensures keys { AreKeys slab.new order.now.list }
+    ensures slots { slots_in slab.new order.now.list ≡ with_child (Some name) (slots_in slab.old order.now.list) }
+    ensures root { result ≡ root_at (slots_in slab.old order.now.list) name }
+    ensures above { KnowsParent slab.new order.now.list (Some name) (Some key) }
+    ensures capacity { slab.new.capacity ≡ slab.old.capacity }
+{
+    let root = slab[key].slot.root;
+    count_more(slab, key);
+    root
 }
 
 /// Counts one child less of a parent, whose slot stands under a key.
