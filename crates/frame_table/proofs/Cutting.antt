@@ -1,5 +1,5 @@
 -- A shelf of which some slots went.
-use Rattle.std.proofs.Common.{◌≡◌, ◌≢◌, ℕ, zero, suc, ◌+◌, ◌<◌, ◌≤◌, Bool, true, false, not, ◌||◌, eqb, List, [], ◌∷◌, ◌++◌, Option, Some, None, IsSome, get_or, slice_index, length, append-nil, map, refl, ap, sym, ◌∙◌, inl, inr, arith, subst}
+use Rattle.std.proofs.Common.{◌≡◌, ◌≢◌, ℕ, zero, suc, ◌+◌, ◌<◌, ◌≤◌, Bool, true, false, not, ◌||◌, eqb, List, [], ◌∷◌, ◌++◌, Option, Some, None, IsSome, get_or, slice_index, take, length, append-nil, map, refl, ap, sym, ◌∙◌, inl, inr, arith, subst}
 use Rattle.std.specs.List.{filter, remove}
 use Rattle.std.proofs.lemmas.Bool.{cases_eq, cases_Bool, false≢true, eq-eqb, ne_eqb, not-true}
 use Rattle.slab.specs.Slab.{Slab, get, slab_len}
@@ -10,14 +10,21 @@ use Rattle.frame_table.specs.Places.{has_number}
 use Rattle.frame_table.specs.Shelves.{with_found, slots_in, AreApartKeys, HasSerial, KnowsParent, IsHere, AllHere, IsShelf, AreThere, is_marked, marked_in, swept_in, values_in}
 use Rattle.frame_table.proofs.Cuts.{IsClosed, IsClosed-from_follows, kept_follows}
 use Rattle.frame_table.proofs.Lengths.{length-filter-le}
-use Rattle.frame_table.specs.Shelves.{Marks}
+use Rattle.frame_table.specs.Shelves.{Marks, AreKeys, IsKeyAt}
 use Rattle.frame_table.proofs.Search.{above_at, serial_read}
-use Rattle.frame_table.proofs.Shelves.{has_number-append, has_number-at, slots_in-length, slot_read}
+use Rattle.frame_table.proofs.Shelves.{has_number-append, has_number-at, here_read, slots_in-length, slot_read}
+use Rattle.frame_table.proofs.Keys.{key_found, knows_key}
+use Rattle.frame_table.proofs.Changes.{parent_below}
 
 -- the slot that is here
 pub here_found : {T : Type 0} (slab : Slab (Kept T)) (before : List ℕ) (o : Option (Kept T)) → IsHere slab before o → (kept : Kept T) × (o ≡ Some kept)
 here_found slab before None h = absurd h
 here_found slab before (Some x) h = (x, refl)
+
+-- the slot of a serial
+pub named_slot : {T : Type 0} (p : ℕ) (o : Option (Kept T)) → HasSerial p o → (y : Kept T) × (o ≡ Some y) × (y.slot.serial ≡ p)
+named_slot p None h = absurd h
+named_slot p (Some y) h = (y, refl, h)
 
 pub all_there : {T : Type 0} (slab : Slab (Kept T)) (before keys : List ℕ) → AllHere slab before keys → AreThere slab keys
 all_there slab before [] h = tt
@@ -109,16 +116,12 @@ here-filter {T} old new by_key by_serial all before (k ∷ keys) s b w c h =
           ]
         ]
 
-    serial : {T : Type 0} (p : ℕ) (o : Option (Kept T)) → HasSerial p o → (y : Kept T) × (o ≡ Some y) × (y.slot.serial ≡ p)
-    serial p None h = absurd h
-    serial p (Some y) h = (y, refl, h)
-
     parent : {T : Type 0} (old new : Slab (Kept T)) (by_key by_serial : ℕ → Bool) (all before : List ℕ) (parent above : Option ℕ) → Stays old new by_key by_serial all → ((k : ℕ) → has_number before k ≡ true → has_number all k ≡ true) → ((p : ℕ) → parent ≡ Some p → by_serial p ≡ true) → KnowsParent old before parent above → KnowsParent new (filter by_key before) parent above
     parent old new by_key by_serial all before None None s b up k = tt
     parent old new by_key by_serial all before None (Some a) s b up k = absurd k
     parent old new by_key by_serial all before (Some p) None s b up k = absurd k
     parent old new by_key by_serial all before (Some p) (Some a) s b up k =
-        let y = serial p (get old a) k.1 in
+        let y = named_slot p (get old a) k.1 in
         let stays : by_key a ≡ true = s.agree a y.0 (b a k.0) y.1 ∙ (ap by_serial y.2 ∙ up p refl) in
         (has_number-filter by_key before a k.0 stays, rw (s.renew a y.0 (b a k.0) y.1 stays) y.2)
 
@@ -202,6 +205,14 @@ marked_there under slots all old marked (k ∷ keys) m t = (subst (λ o. IsSome 
     some : {T : Type 0} (under : ℕ) (slots : List (TenantSlot T)) (all : List ℕ) (k : ℕ) (o : Option (Kept T)) → IsSome o → IsSome (marked_in under slots all k o)
     some under slots all k None t = t
     some under slots all k (Some x) t = refl
+
+-- what is there is one slot
+by_one : {T : Type 0} (o : Option (Kept T)) (x y : Kept T) → o ≡ Some x → o ≡ Some y → x.slot.serial ≡ y.slot.serial
+by_one {T} o x y a b = ap (λ (o : Option (Kept T)). serial_or o) (sym a ∙ b)
+  where
+    serial_or : {T : Type 0} → Option (Kept T) → ℕ
+    serial_or None = 0
+    serial_or (Some k) = k.slot.serial
 
 -- a slot was taken away under its key, which was no slot's parent
 pub record HasTaken {T : Type 0} (old new : Slab (Kept T)) (order : List ℕ) (at key : ℕ) (kept : Kept T) : Type 0 where
@@ -309,13 +320,6 @@ taken_stays old new order at key kept t h rise =
       renew = λ k x has is stays.
           t.others k (λ e. false≢true (rw (eq-eqb k key e) at stays)) ∙ (is ∙ ap (λ b. Some (record x { marked = b })) (unmarked old [] order k x h has is));
     }
-  where
-    by_one : {T : Type 0} (o : Option (Kept T)) (x y : Kept T) → o ≡ Some x → o ≡ Some y → x.slot.serial ≡ y.slot.serial
-    by_one {T} o x y a b = ap (λ (o : Option (Kept T)). serial_or o) (sym a ∙ b)
-      where
-        serial_or : {T : Type 0} → Option (Kept T) → ℕ
-        serial_or None = 0
-        serial_or (Some k) = k.slot.serial
 
 -- the slots without the one at a place, by serials
 slots_without : {T : Type 0} (xs : List (TenantSlot T)) (i n : ℕ) → Rises xs → i < length xs → slice_index (serials_of xs) i ≡ n → filter (λ s. not (eqb s.serial n)) xs ≡ remove xs i
@@ -354,3 +358,59 @@ taken_shelf old new order left room places at key kept t s rise leaf is long len
       slab_room = omega (arith, s.slab_room, capacity);
       order_room = s.order_room;
     }
+
+-- the parent of a slot that was taken away is known as before
+pub taken_knows : {T : Type 0} (old new : Slab (Kept T)) (order : List ℕ) (at key : ℕ) (kept : Kept T) → HasTaken old new order at key kept → AllHere old [] order → IsLinked [] (slots_in old order) → AreKeys new (remove order at) → KnowsParent new (remove order at) kept.slot.parent kept.above
+taken_knows {T} old new order at key kept t h linked are =
+    let here : IsHere old (take at order) (Some kept) = subst (λ o. IsHere old (take at order) o) t.was (here_read old order at key h t.within t.read) in
+    let within : at < length (slots_in old order) = rw (slots_in-length old [] order h) t.within in
+    let read = sym (slot_read old order at key kept kept.slot h t.within t.read t.was) in
+    still old new (take at order) (remove order at) key kept kept.slot.parent kept.above t.was t.others (λ p is. (parent_below [] (slots_in old order) at kept.slot p linked within read is).0) are here.1
+  where
+    still : {T : Type 0} (old new : Slab (Kept T)) (before keys : List ℕ) (key : ℕ) (kept : Kept T) (parent above : Option ℕ) → get old key ≡ Some kept → ((k : ℕ) → k ≢ key → get new k ≡ get old k) → ((p : ℕ) → parent ≡ Some p → p < kept.slot.serial) → AreKeys new keys → KnowsParent old before parent above → KnowsParent new keys parent above
+    still old new before keys key kept None None was others below are k = tt
+    still old new before keys key kept None (Some a) was others below are k = absurd k
+    still old new before keys key kept (Some p) None was others below are k = absurd k
+    still {T} old new before keys key kept (Some p) (Some a) was others below are k =
+        let y = named_slot p (get old a) k.1 in
+        let other : a ≢ key = λ e. omega (arith, below p refl, y.2, by_one (get old a) y.0 kept y.1 (ap (get old) e ∙ was)) in
+        let found : get new a ≡ Some y.0 = others a other ∙ y.1 in
+        let place = key_found new keys p a y.0 are found y.2 in
+        knows_key new keys (Some p) p place.0 a refl are place.1
+
+-- what stands under a parent's key
+pub record IsParentKey {T : Type 0} (slab : Slab (Kept T)) (keys : List ℕ) (parent : Option ℕ) (key : ℕ) : Type 0 where
+  pub name : ℕ
+  pub at : ℕ
+  pub kept : Kept T
+  pub is : parent ≡ Some name
+  pub key_at : IsKeyAt slab keys name at key
+  pub found : get slab key ≡ Some kept
+
+pub parent_key : {T : Type 0} (slab : Slab (Kept T)) (keys : List ℕ) (parent above : Option ℕ) (key : ℕ) → above ≡ Some key → AreKeys slab keys → KnowsParent slab keys parent above → IsParentKey slab keys parent key
+parent_key {T} slab keys parent above key is are k = of slab keys parent key are (rw is at k)
+  where
+    of : {T : Type 0} (slab : Slab (Kept T)) (keys : List ℕ) (parent : Option ℕ) (key : ℕ) → AreKeys slab keys → KnowsParent slab keys parent (Some key) → IsParentKey slab keys parent key
+    of slab keys None key are k = absurd k
+    of slab keys (Some p) key are k =
+        let y = named_slot p (get slab key) k.1 in
+        let place = key_found slab keys p key y.0 are y.1 y.2 in
+        record { name = p; at = place.0; kept = y.0; is = refl; key_at = place.1; found = y.1 }
+
+-- no key is a root's
+pub no_parent_key : {T : Type 0} (slab : Slab (Kept T)) (keys : List ℕ) (parent above : Option ℕ) → above ≡ None → KnowsParent slab keys parent above → parent ≡ None
+no_parent_key slab keys None above is k = refl
+no_parent_key slab keys (Some p) above is k = absurd (rw is at k)
+
+-- slots rise without the one at a place
+pub rises_remove : {T : Type 0} (xs : List (TenantSlot T)) (i : ℕ) → Rises xs → Rises (remove xs i)
+rises_remove [] zero rise = tt
+rises_remove [] (suc i) rise = tt
+rises_remove (x ∷ xs) zero rise = rise.1
+rises_remove (x ∷ xs) (suc i) rise = (above x.serial xs i rise.0, rises_remove xs i rise.1)
+  where
+    above : {T : Type 0} (n : ℕ) (xs : List (TenantSlot T)) (i : ℕ) → AllAbove n xs → AllAbove n (remove xs i)
+    above n [] zero a = tt
+    above n [] (suc i) a = tt
+    above n (x ∷ xs) zero a = a.1
+    above n (x ∷ xs) (suc i) a = (a.0, above n xs i a.1)

@@ -8,9 +8,11 @@ use Rattle.frame_table.specs.declared.slot.Slot.{Slot as TenantSlot}
 use Rattle.frame_table.specs.declared.shelf.Kept.{Kept}
 use Rattle.frame_table.specs.Places.{has_number}
 use Rattle.frame_table.specs.Slots.{serials_of}
-use Rattle.frame_table.specs.Shelves.{slots_in, AllHere, AreApartKeys, KnowsParent, IsShelf, AreKeys, IsKeyAt, IsSeenAt}
+use Rattle.frame_table.specs.Shelves.{slots_in, AllHere, AreApartKeys, KnowsParent, IsShelf, AreKeys, IsKeyAt, IsSeenAt, Changes}
+use Rattle.frame_table.specs.declared.names.State.{State}
 use Rattle.frame_table.proofs.Search.{serial_read}
-use Rattle.frame_table.proofs.Shelves.{here_contains, AreLike, updated_like, all_here_like, slots_in-put, slots_in-length, slot_read, knows_read}
+use Rattle.frame_table.proofs.Indexes.{length-serials_of}
+use Rattle.frame_table.proofs.Shelves.{here_contains, AreLike, updated_like, all_here_like, slots_in-put, slots_in-length, slot_read, knows_read, kept_read}
 
 -- a slot that is filled is within, and counted
 filled_within : {X : Type 0} (slots : List (Option X)) (key : ℕ) → is_some (get_or slots key None) ≡ true → key < length slots
@@ -80,6 +82,10 @@ key_found slab keys serial key kept are found named =
 pub key_searched : {T : Type 0} (slab : Slab (Kept T)) (keys serials : List ℕ) (serial at key : ℕ) → serials ≡ serials_of (slots_in slab keys) → at < length keys → key ≡ get_or keys at key → slice_index serials at ≡ serial → IsKeyAt slab keys serial at key
 key_searched slab keys serials serial at key is within read found = record { within = within; read = read; named = rw is at found }
 
+-- as many serials as keys
+pub index_long : {T : Type 0} (slab : Slab (Kept T)) (keys serials : List ℕ) → serials ≡ serials_of (slots_in slab keys) → AreKeys slab keys → length serials ≡ length keys
+index_long slab keys serials is are = ap length is ∙ (length-serials_of (slots_in slab keys) ∙ slots_in-length slab [] keys are.here)
+
 pub are_keys : {T : Type 0} (slab : Slab (Kept T)) (keys : List ℕ) (room places : ℕ) → IsShelf slab keys room places → AreKeys slab keys
 are_keys slab keys room places s = record { here = s.here; apart = s.apart; counted = s.counted }
 
@@ -124,3 +130,22 @@ pub knows_key : {T : Type 0} (slab : Slab (Kept T)) (keys : List ℕ) (parent : 
 knows_key slab keys parent name at key is are k =
     let within : at < length (slots_in slab keys) = rw (slots_in-length slab [] keys are.here) k.within in
     rw is (knows_read slab keys name at key are.here (within, k.named) k.read)
+
+-- the slot with a serial in another state, told the one that it was in
+pub record HasState {T : Type 0} (old new : Slab (Kept T)) (key : ℕ) (was state : State) : Type 0 where
+  pub put : Puts old new key (λ slot. record slot { state = state })
+  pub told : (kept : Kept T) → get old key ≡ Some kept → was ≡ kept.slot.state
+  pub len : slab_len new ≡ slab_len old
+  pub capacity : new.capacity ≡ old.capacity
+
+pub state_shelf : {T : Type 0} (old new : Slab (Kept T)) (keys : List ℕ) (room places serial at key : ℕ) (was state : State) → IsShelf old keys room places → IsKeyAt old keys serial at key → HasState old new key was state → IsShelf new keys room places
+state_shelf old new keys room places serial at key was state s k h =
+    let kept = kept_read old keys at key s.here k.within k.read in
+    changed_shelf old new keys room places key (λ slot. record slot { state = state }) kept.0 s kept.1 (record { serial = λ slot. refl; parent = λ slot. refl }) h.put h.len h.capacity
+
+pub state_changes : {T : Type 0} (old new : Slab (Kept T)) (keys : List ℕ) (room places serial at key : ℕ) (was state : State) → IsShelf old keys room places → IsKeyAt old keys serial at key → HasState old new key was state → Changes (record { places = places; slots = slots_in old keys }) (record { places = places; slots = slots_in new keys }) serial (λ slot. record slot { state = state }) (λ slot. was ≡ slot.state)
+state_changes old new keys room places serial at key was state s k h =
+    let kept = kept_read old keys at key s.here k.within k.read in
+    let are = are_keys old keys room places s in
+    let slots = changed_slots old new keys serial at key (λ slot. record slot { state = state }) kept.0 are k kept.1 h.put in
+    record { at = at; slot = kept.0.slot; seen = seen_at old keys serial at key kept.0 are k kept.1; changed = ap (λ xs. record { places = places; slots = xs }) slots; told = h.told kept.0 kept.1 }

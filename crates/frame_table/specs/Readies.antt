@@ -38,6 +38,10 @@ put_ready serial (Computing worker) frames = frames
 put_ready serial Waiting frames = frames
 put_ready serial Returned frames = frames
 
+-- one for a frame that is ready
+abbrev pub one_if_ready : State → ℕ
+one_if_ready state = if is_ready state then 1 else 0
+
 -- the last of ready frames
 abbrev pub newest_of : List ReadyFrame → Option ReadyFrame
 newest_of [] = None

@@ -6,11 +6,12 @@
 //! A slot is looked for first under the key that its serial is guessed to have, which stays its key while
 //! it is there: else by a search of the serials. It is found by its serial alone, so one that is used
 //! again never answers for an old name.
-ghost use Rattle.std.specs.Prelude.{◌≡◌, ℕ, ◌+◌, ◌<◌, ◌≤◌, ◌++◌, not, filter, vec_len, vec_capacity, [], ◌∷◌, true, false, Some, length, IfOk, IfSome, IfNone, get_or, set, slice_index, take, drop, ◌-◌, ⊤};
+ghost use Rattle.std.specs.Prelude.{◌≡◌, ℕ, ◌+◌, ◌<◌, ◌≤◌, ◌++◌, not, filter, vec_len, vec_capacity, [], ◌∷◌, true, false, Some, length, IfOk, IfSome, IfNone, get_or, set, slice_index, take, drop, ◌-◌};
 ghost use Rattle.slab.specs.Slab.{get, slab_len, ContainsKey, Updates};
 ghost use Rattle.frame_table.specs.declared.shelf.Kept.{Kept};
+ghost use Rattle.frame_table.specs.declared.slot.Slot.{Slot};
 ghost use Rattle.std.specs.List.{remove};
-ghost use Rattle.frame_table.specs.Slots.{serials_of, IsLinked, kept_slots, gone_values, slot_values, child_slots, Rises, has_slot, has_parent_slot, AllCountsBelow, with_child, root_under, children_at};
+ghost use Rattle.frame_table.specs.Slots.{serials_of, IsLinked, kept_slots, gone_values, slot_values, child_slots, Rises, has_slot, has_parent_slot, AllCountsBelow, with_child, root_at, root_under, without_child, CountsAtParent};
 ghost use Rattle.frame_table.specs.Readies.{ready_in};
 ghost use Rattle.frame_table.specs.Places.{RisesBy, has_number};
 ghost use Rattle.frame_table.specs.Shelves.{slots_in, AllHere, AreApartKeys, AreKeys, IsKeyAt, IsSeenAt, Changes, KnowsParent, new_slot, HasLink, is_taken_in, Marks, AreThere, NoneMarked, is_marked, swept_in, values_in};
@@ -166,23 +167,13 @@ impl<T: Copy, A: Allocator> Shelf<T, A> {
         requires there { has_slot self.old.slots serial ≡ true }
         ensures { Changes self.old self.new serial (λ slot. record slot { state = state }) (λ slot. result ≡ slot.state) }
     {
-        let key = key_of(&self.slab, &self.order, &self.guesses, serials, serial);
-        let was = self.slab[key].slot.state;
-        put_state(&mut self.slab, key, state);
-        was
-    }
-
-    /// Counts one child less of the slot with a serial that is there.
-    #[inline(always)]
-    pub(crate) fn forget_child(&mut self, serials: &Serials<A>, serial: u64)
-        requires index { serials.now.serials ≡ serials_of self.old.slots }
-        requires rise { Rises self.old.slots }
-        requires there { has_slot self.old.slots serial ≡ true }
-        requires counted { 0 < children_at self.old.slots serial }
-        ensures { Changes self.old self.new serial (λ slot. record slot { children = slot.children - 1 }) (λ slot. ⊤) }
-    {
-        let key = key_of(&self.slab, &self.order, &self.guesses, serials, serial);
-        count_less(&mut self.slab, key);
+        match guessed_key(&self.slab, &self.order, &self.guesses, serial) {
+            Some(key) => put_state(&mut self.slab, key, state),
+            None => {
+                let key = search_key(&self.order, serials, serial);
+                put_state(&mut self.slab, key, state)
+            }
+        }
     }
 
     /// Puts the slot of a ready frame behind the others, and counts one more child of its parent.
@@ -265,17 +256,20 @@ impl<T: Copy, A: Allocator> Shelf<T, A> {
         }
     }
 
-    /// Takes the slot at a place away, which is no slot's parent.
+    /// Takes the slot at a place away, which is no slot's parent, and counts one child less of its own.
     #[inline(always)]
     pub(crate) fn take(&mut self, at: usize) -> Slot<T>
         requires within { at < length self.old.slots }
         requires linked { IsLinked [] self.old.slots }
         requires leaf { child_slots (slice_index (serials_of self.old.slots) at) self.old.slots ≡ [] }
-        ensures left { self.new ≡ record self.old { slots = remove self.old.slots at } }
+        requires counted { (slot : Slot T) → slot ≡ get_or self.old.slots at slot → CountsAtParent (remove self.old.slots at) slot.parent }
+        ensures left { self.new ≡ record self.old { slots = without_child result.parent (remove self.old.slots at) } }
         ensures value { result ≡ get_or self.old.slots at result }
     {
         let key = self.order.remove(at);
-        self.slab.remove(key).slot
+        let gone = self.slab.remove(key);
+        disown(&mut self.slab, &self.order, gone.slot.parent, gone.above);
+        gone.slot
     }
 }
 
@@ -290,29 +284,24 @@ fn put_kept<T: Copy, A: Allocator>(slab: &mut Slab<Kept<T>, A>, key: usize, slot
     slab[key] = Kept { slot, ..kept };
 }
 
-/// The key of the slot with a serial that is there: the guessed one, or that at the place that a search
-/// finds.
+/// The key of the slot with a serial, if it is the guessed one.
 #[inline(always)]
-fn key_of<T: Copy, A: Allocator>(
+fn guessed_key<T: Copy, A: Allocator>(
     slab: &Slab<Kept<T>, A>,
     order: &Window<usize, A>,
     guesses: &Guesses<A>,
-    serials: &Serials<A>,
     serial: u64,
-) -> usize
-    requires keys { AreKeys slab.now order.now.list }
-    requires index { serials.now.serials ≡ serials_of (slots_in slab.now order.now.list) }
-    requires rise { Rises (slots_in slab.now order.now.list) }
-    requires there { has_slot (slots_in slab.now order.now.list) serial ≡ true }
-    ensures { (at : ℕ) × IsKeyAt slab.now order.now.list serial at result }
+) -> Option<usize>
+    requires { AreKeys slab.now order.now.list }
+    ensures { IfSome result (λ key. (at : ℕ) × IsKeyAt slab.now order.now.list serial at key) }
 {
     let key = guesses.guess(serial);
     if let Some(kept) = slab.get(key) {
         if kept.slot.serial == serial {
-            return key;
+            return Some(key);
         }
     }
-    search_key(order, serials, serial)
+    None
 }
 
 /// The key of the slot with a serial that is there, wherever it was guessed.
@@ -350,24 +339,74 @@ fn adopt<T: Copy, A: Allocator>(
 {
     match parent {
         None => (serial, None),
-        Some(name) => {
-            let key = key_of(slab, order, guesses, serials, name);
-            let root = slab[key].slot.root;
-            count_more(slab, key);
-            guesses.put(name, key);
-            (root, Some(key))
-        }
+        Some(name) => match guessed_key(slab, order, guesses, name) {
+            Some(key) => (enroll(slab, order, name, key), Some(key)),
+            None => {
+                let key = search_key(order, serials, name);
+                guesses.put(name, key);
+                (enroll(slab, order, name, key), Some(key))
+            }
+        },
     }
 }
 
-/// Puts the slot under a key into another state.
-fn put_state<T: Copy, A: Allocator>(slab: &mut Slab<Kept<T>, A>, key: usize, state: State)
+/// Counts one more child of the frame whose slot stands under a key, and gives its root.
+#[inline(always)]
+fn enroll<T: Copy, A: Allocator>(
+    slab: &mut Slab<Kept<T>, A>,
+    order: &Window<usize, A>,
+    name: u64,
+    key: usize,
+) -> u64
+    requires keys { AreKeys slab.old order.now.list }
+    requires rise { Rises (slots_in slab.old order.now.list) }
+    requires few { AllCountsBelow 4096 (slots_in slab.old order.now.list) }
+    requires named { (at : ℕ) × IsKeyAt slab.old order.now.list name at key }
+    ensures keys { AreKeys slab.new order.now.list }
+    ensures slots { slots_in slab.new order.now.list ≡ with_child (Some name) (slots_in slab.old order.now.list) }
+    ensures root { result ≡ root_at (slots_in slab.old order.now.list) name }
+    ensures above { KnowsParent slab.new order.now.list (Some name) (Some key) }
+    ensures capacity { slab.new.capacity ≡ slab.old.capacity }
+{
+    let root = slab[key].slot.root;
+    count_more(slab, key);
+    root
+}
+
+/// Counts one child less of a parent, whose slot stands under a key.
+#[inline(always)]
+fn disown<T: Copy, A: Allocator>(
+    slab: &mut Slab<Kept<T>, A>,
+    order: &Window<usize, A>,
+    parent: Option<u64>,
+    above: Option<usize>,
+)
+    requires keys { AreKeys slab.old order.now.list }
+    requires rise { Rises (slots_in slab.old order.now.list) }
+    requires above { KnowsParent slab.old order.now.list parent above }
+    requires counted { CountsAtParent (slots_in slab.old order.now.list) parent }
+    ensures keys { AreKeys slab.new order.now.list }
+    ensures slots { slots_in slab.new order.now.list ≡ without_child parent (slots_in slab.old order.now.list) }
+    ensures capacity { slab.new.capacity ≡ slab.old.capacity }
+{
+    match above {
+        Some(key) => count_less(slab, key),
+        None => {}
+    }
+}
+
+/// Puts the slot under a key into another state, and gives the one that it was in.
+#[inline(always)]
+fn put_state<T: Copy, A: Allocator>(slab: &mut Slab<Kept<T>, A>, key: usize, state: State) -> State
     requires { ContainsKey slab.old key }
     ensures put { (kept : Kept T) → get slab.old key ≡ Some kept → Updates slab.old slab.new key (Some (record kept { slot = record kept.slot { state = state } })) }
+    ensures was { (kept : Kept T) → get slab.old key ≡ Some kept → result ≡ kept.slot.state }
     ensures len { slab_len slab.new ≡ slab_len slab.old }
     ensures capacity { slab.new.capacity ≡ slab.old.capacity }
 {
+    let was = slab[key].slot.state;
     slab[key].slot.state = state;
+    was
 }
 
 /// Counts one more child of the slot under a key.

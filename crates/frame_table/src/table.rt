@@ -9,6 +9,7 @@ ghost use Rattle.std.specs.Borrow.{sem};
 ghost use Rattle.frame_table.specs.Frames.{frame_at, has_frame, path_in, root_of, children_of, frames_under, frames_without, values_of, with_state, ready_frames, AllBelow, entry_of, newest_ready_of, names_of, HasValue, IsTree, IsReadyAt};
 ghost use Rattle.frame_table.specs.Tables.{frames_of, places_of, tenant_count, KeepsOthers, KeepsOtherTenants, serial_of, IsParentIn, new_frame, has_tenant, IsAt, IsTreeOf, HasNoTree, AreApart, first_ready_of};
 ghost use Rattle.frame_table.specs.Places.{RisesBy, IsPlaceFor};
+ghost use Rattle.frame_table.specs.Readies.{one_if_ready};
 
 use crate::names::{Entry, FrameId, State};
 use crate::tree::TenantFrames;
@@ -121,9 +122,9 @@ impl<T: Copy, A: Allocator> FrameTable<T, A> {
         ensures entry { result ≡ entry_of f.tenant (frame_at (frames_of self.now f.tenant) f.serial) }
         ensures tree { IsTree (frames_of self.now f.tenant) }
     {
-        match find_tree(self.trees.as_slice(), &self.guesses, f.tenant) {
+        match guessed_tree(self.trees.as_slice(), &self.guesses, f.tenant) {
             Some(tree) => tree.find(f.serial),
-            None => None,
+            None => search_frame(self.trees.as_slice(), f.tenant, f.serial),
         }
     }
 
@@ -175,9 +176,9 @@ impl<T: Copy, A: Allocator> FrameTable<T, A> {
         ensures child { IsTrue result ↔ (0 < length (children_of (frames_of self.now f.tenant) f.serial)) }
         ensures leaf { result ≡ false → children_of (frames_of self.now f.tenant) f.serial ≡ [] }
     {
-        match find_tree(self.trees.as_slice(), &self.guesses, f.tenant) {
+        match guessed_tree(self.trees.as_slice(), &self.guesses, f.tenant) {
             Some(tree) => tree.has_child(f.serial),
-            None => false,
+            None => search_child(self.trees.as_slice(), f.tenant, f.serial),
         }
     }
 
@@ -292,9 +293,8 @@ impl<T: Copy, A: Allocator> FrameTable<T, A> {
     {
         let at = known_tenant(self.trees.as_slice(), &self.guesses, f.tenant);
         let tree = &mut self.trees[at];
-        let before = tree.ready();
-        tree.set_state(f.serial, state);
-        self.ready = self.ready - before + tree.ready();
+        let was = tree.set_state(f.serial, state);
+        self.ready = recount(self.ready, was, state);
     }
 
     /// Removes the frames under one, which stays: those whose path goes through it to a further
@@ -340,10 +340,9 @@ impl<T: Copy, A: Allocator> FrameTable<T, A> {
     {
         let at = known_tenant(self.trees.as_slice(), &self.guesses, f.tenant);
         let tree = &mut self.trees[at];
-        let before = tree.ready();
-        let value = tree.remove(f.serial);
-        self.ready = self.ready - before + tree.ready();
-        value
+        let gone = tree.remove(f.serial);
+        self.ready = recount(self.ready, gone.state, State::Returned);
+        gone.value
     }
 }
 
@@ -388,8 +387,42 @@ fn guess_again<T: Copy, A: Allocator>(guesses: &mut Guesses<A>, trees: &[TenantF
     }
 }
 
-/// Where a tenant's tree stands: where it is guessed to, or else where a search finds it.
+/// How many frames are ready after one went from a state to another.
 #[inline(always)]
+fn recount(ready: usize, was: State, now: State) -> usize
+    requires few { ready ≤ 262144 }
+    requires counted { one_if_ready was ≤ ready + one_if_ready now }
+    ensures { result + one_if_ready was ≡ ready + one_if_ready now }
+{
+    let mut count = ready;
+    if now.is_ready() {
+        count += 1;
+    }
+    if was.is_ready() {
+        count -= 1;
+    }
+    count
+}
+
+/// Where a tenant's tree stands, if that is where it is guessed to.
+#[inline(always)]
+fn guessed_place<T: Copy, A: Allocator>(
+    trees: &[TenantFrames<T, A>],
+    guesses: &Guesses<A>,
+    tenant: u64,
+) -> Option<usize>
+    requires { RisesBy (λ tree. tree.tenant) trees.now }
+    ensures within { IfSome result (λ at. at < length trees.now) }
+    ensures found { IfSome result (IsAt trees.now tenant) }
+{
+    let guess = guesses.guess(tenant);
+    if guess < trees.len() && trees[guess].tenant() == tenant {
+        return Some(guess);
+    }
+    None
+}
+
+/// Where a tenant's tree stands: where it is guessed to, or else where a search finds it.
 fn tenant_place<T: Copy, A: Allocator>(
     trees: &[TenantFrames<T, A>],
     guesses: &Guesses<A>,
@@ -400,16 +433,13 @@ fn tenant_place<T: Copy, A: Allocator>(
     ensures found { IfSome result (IsAt trees.now tenant) }
     ensures none { IfNone result (has_tenant trees.now tenant ≡ false) }
 {
-    let guess = guesses.guess(tenant);
-    if guess < trees.len() && trees[guess].tenant() == tenant {
-        return Some(guess);
+    match guessed_place(trees, guesses, tenant) {
+        Some(at) => Some(at),
+        None => search_tenant(trees, tenant),
     }
-    search_tenant(trees, tenant)
 }
 
 /// Where a tenant's tree stands, wherever it was guessed.
-#[cold]
-#[inline(never)]
 fn search_tenant<T: Copy, A: Allocator>(trees: &[TenantFrames<T, A>], tenant: u64) -> Option<usize>
     requires { RisesBy (λ tree. tree.tenant) trees.now }
     ensures within { IfSome result (λ at. at < length trees.now) }
@@ -424,7 +454,6 @@ fn search_tenant<T: Copy, A: Allocator>(trees: &[TenantFrames<T, A>], tenant: u6
 }
 
 /// A tenant's tree.
-#[inline(always)]
 fn find_tree<'a, T: Copy, A: Allocator>(
     trees: &'a [TenantFrames<T, A>],
     guesses: &Guesses<A>,
@@ -440,6 +469,74 @@ fn find_tree<'a, T: Copy, A: Allocator>(
     }
 }
 
+/// A tenant's tree, if it stands where it is guessed to. A step asks by this, and leaves the search to
+/// functions that are called: else what a search finds is tested a second time on its way.
+#[inline(always)]
+fn guessed_tree<'a, T: Copy, A: Allocator>(
+    trees: &'a [TenantFrames<T, A>],
+    guesses: &Guesses<A>,
+    tenant: u64,
+) -> Option<&'a TenantFrames<T, A>>
+    requires { RisesBy (λ tree. tree.tenant) trees.now }
+    ensures { IfSome result (λ tree. IsTreeOf trees.now tenant tree.now) }
+{
+    match guessed_place(trees, guesses, tenant) {
+        Some(at) => Some(&trees[at]),
+        None => None,
+    }
+}
+
+/// A tenant's tree, wherever it was guessed.
+fn search_tree<T: Copy, A: Allocator>(
+    trees: &[TenantFrames<T, A>],
+    tenant: u64,
+) -> Option<&TenantFrames<T, A>>
+    requires { RisesBy (λ tree. tree.tenant) trees.now }
+    ensures found { IfSome result (λ tree. IsTreeOf trees.now tenant tree.now) }
+    ensures none { IfNone result (HasNoTree trees.now tenant) }
+{
+    match search_tenant(trees, tenant) {
+        Some(at) => Some(&trees[at]),
+        None => None,
+    }
+}
+
+/// What is known of a frame, wherever its tenant's tree was guessed.
+#[cold]
+#[inline(never)]
+fn search_frame<T: Copy, A: Allocator>(
+    trees: &[TenantFrames<T, A>],
+    tenant: u64,
+    serial: u64,
+) -> Option<Entry<T>>
+    requires { RisesBy (λ tree. tree.tenant) trees.now }
+    ensures entry { result ≡ entry_of tenant (frame_at (frames_of trees.now tenant) serial) }
+    ensures tree { IsTree (frames_of trees.now tenant) }
+{
+    match search_tree(trees, tenant) {
+        Some(tree) => tree.find(serial),
+        None => None,
+    }
+}
+
+/// Whether a frame has a child, wherever its tenant's tree was guessed.
+#[cold]
+#[inline(never)]
+fn search_child<T: Copy, A: Allocator>(
+    trees: &[TenantFrames<T, A>],
+    tenant: u64,
+    serial: u64,
+) -> bool
+    requires { RisesBy (λ tree. tree.tenant) trees.now }
+    ensures child { IsTrue result ↔ (0 < length (children_of (frames_of trees.now tenant) serial)) }
+    ensures leaf { result ≡ false → children_of (frames_of trees.now tenant) serial ≡ [] }
+{
+    match search_tree(trees, tenant) {
+        Some(tree) => tree.has_child(serial),
+        None => false,
+    }
+}
+
 /// Where the tree of a tenant stands that has places.
 #[inline(always)]
 fn known_tenant<T: Copy, A: Allocator>(
@@ -452,7 +549,22 @@ fn known_tenant<T: Copy, A: Allocator>(
     ensures within { result < length trees.now }
     ensures found { IsAt trees.now tenant result }
 {
-    match tenant_place(trees, guesses, tenant) {
+    match guessed_place(trees, guesses, tenant) {
+        Some(at) => at,
+        None => search_known(trees, tenant),
+    }
+}
+
+/// Where the tree of a tenant stands that has places, wherever it was guessed.
+#[cold]
+#[inline(never)]
+fn search_known<T: Copy, A: Allocator>(trees: &[TenantFrames<T, A>], tenant: u64) -> usize
+    requires rise { RisesBy (λ tree. tree.tenant) trees.now }
+    requires there { has_tenant trees.now tenant ≡ true }
+    ensures within { result < length trees.now }
+    ensures found { IsAt trees.now tenant result }
+{
+    match search_tenant(trees, tenant) {
         Some(at) => at,
         None => unreachable!(),
     }

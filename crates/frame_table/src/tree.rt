@@ -6,8 +6,9 @@
 //! listed beside them.
 ghost use Rattle.std.specs.Prelude.{◌≡◌, ◌+◌, ◌<◌, ◌≤◌, ◌↔◌, ◌++◌, [], ◌∷◌, true, false, length, vec_len, vec_capacity, IsTrue, IfOk, IfSome};
 ghost use Rattle.frame_table.specs.Frames.{frame_at, has_frame, path_in, root_of, children_of, aborted, frames_under, frames_without, values_of, with_state, ready_frames, AllBelow, entry_of, newest_ready_of, HasValue, has_parent, IsReadyAt, IsTree};
-ghost use Rattle.frame_table.specs.Slots.{frames_from, IsLinked, Rises, has_parent_slot, AllCountsBelow, with_child, root_under, without_child, CountsAtParent, serials_of};
+ghost use Rattle.frame_table.specs.Slots.{frames_from, IsLinked, Rises, has_parent_slot, AllCountsBelow, with_child, root_under, serials_of};
 ghost use Rattle.frame_table.specs.Tables.{new_frame};
+ghost use Rattle.frame_table.specs.Readies.{one_if_ready};
 
 use crate::names::{Entry, FrameId, State};
 use crate::ready::ReadyFrames;
@@ -174,14 +175,16 @@ impl<T: Copy, A: Allocator> TenantFrames<T, A> {
         self.ready.push(serial, home);
     }
 
-    /// Puts a frame into another state.
+    /// Puts a frame into another state, and gives the one that it was in.
     #[inline(always)]
-    pub(crate) fn set_state(&mut self, serial: u64, state: State)
+    pub(crate) fn set_state(&mut self, serial: u64, state: State) -> State
         requires { IsTrue (has_frame self.old.frames serial) }
-        ensures { self.new ≡ record self.old { frames = with_state serial state self.old.frames } }
+        ensures frames { self.new ≡ record self.old { frames = with_state serial state self.old.frames } }
+        ensures count { length (ready_frames self.new.frames) + one_if_ready result ≡ length (ready_frames self.old.frames) + one_if_ready state }
     {
         let was = self.shelf.set_state(&self.serials, serial, state);
         self.ready.follow(serial, was, state);
+        was
     }
 
     /// Removes the frames under one, and adds their values to `removed`.
@@ -223,33 +226,19 @@ impl<T: Copy, A: Allocator> TenantFrames<T, A> {
         self.ready.clear();
     }
 
-    /// Removes a frame that has no child, and gives its value.
+    /// Removes a frame that has no child, and gives its slot.
     #[inline(always)]
-    pub(crate) fn remove(&mut self, serial: u64) -> T
+    pub(crate) fn remove(&mut self, serial: u64) -> Slot<T>
         requires there { IsTrue (has_frame self.old.frames serial) }
         requires leaf { children_of self.old.frames serial ≡ [] }
         ensures left { self.new ≡ record self.old { frames = frames_without serial self.old.frames } }
-        ensures value { HasValue (frame_at self.old.frames serial) result }
+        ensures value { HasValue (frame_at self.old.frames serial) result.value }
+        ensures count { length (ready_frames self.new.frames) + one_if_ready result.state ≡ length (ready_frames self.old.frames) }
     {
         let at = self.serials.known_place(serial);
         let slot = self.shelf.take(at);
         self.serials.remove(at);
-        forget(&mut self.shelf, &self.serials, slot.parent);
         self.ready.leave(serial, slot.state);
-        slot.value
-    }
-}
-
-/// Counts one child less at the parent.
-#[inline(always)]
-fn forget<T: Copy, A: Allocator>(shelf: &mut Shelf<T, A>, serials: &Serials<A>, parent: Option<u64>)
-    requires index { serials.now.serials ≡ serials_of shelf.old.slots }
-    requires rise { Rises shelf.old.slots }
-    requires there { has_parent_slot shelf.old.slots parent ≡ true }
-    requires counted { CountsAtParent shelf.old.slots parent }
-    ensures { shelf.new ≡ record shelf.old { slots = without_child parent shelf.old.slots } }
-{
-    if let Some(above) = parent {
-        shelf.forget_child(serials, above);
+        slot
     }
 }

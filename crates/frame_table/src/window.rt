@@ -92,6 +92,8 @@ impl<T: Copy, A: Allocator> Window<T, A> {
     }
 
     /// Moves the list to the front, and adds an element at the end.
+    #[cold]
+    #[inline(never)]
     fn push_from_front(&mut self, element: T)
         requires { length self.old.list < self.old.places }
         ensures { self.new ≡ record self.old { list = self.old.list ++ element ∷ [] } }
@@ -112,6 +114,10 @@ impl<T: Copy, A: Allocator> Window<T, A> {
         let behind = self.len() - at - 1;
         if behind == 0 {
             self.truncate(at);
+            return gone;
+        }
+        if at == 0 {
+            self.start += 1;
             return gone;
         }
         if at < behind {

@@ -1,39 +1,12 @@
-use Rattle.std.proofs.Common.{◌+◌, Some, refl, ◌∙◌}
-use Rattle.frame_table.proofs.Search.{with_child-set, root_under-found, count_at}
-use Rattle.frame_table.proofs.Shelves.{contains_read, knows_like}
-use Rattle.frame_table.proofs.Keys.{seen_at, changed_like, changed_keys, changed_slots, knows_key}
+use Rattle.frame_table.proofs.Indexes.{serials_of-rises, there_at}
+use Rattle.frame_table.proofs.Keys.{index_long}
 use Rattle.frame_table.proofs.shelf.adopt.Goals as goal
 
-pub index-requires : goal.index-requires
-index-requires g c =
-    let k = c.key_of-key.ensures in
-    contains_read c.args.slab.now c.args.order.now.list k.0 c.key_of-key.result c.requires.keys.here k.1.within k.1.read
+pub search_key-key-requires-clause-rise : goal.search_key-key-requires-clause-rise
+search_key-key-requires-clause-rise g c = rw c.requires.index (serials_of-rises _ c.requires.rise)
 
-pub count_more-requires-clause-few : goal.count_more-requires-clause-few
-count_more-requires-clause-few g c kept found =
-    let k = c.key_of-key.ensures in
-    let seen = seen_at c.args.slab.now c.args.order.now.list c.in-Some.name k.0 c.key_of-key.result kept c.requires.keys k.1 found in
-    count_at _ _ _ _ c.requires.few seen.within seen.read
+pub search_key-key-requires-clause-there : goal.search_key-key-requires-clause-there
+search_key-key-requires-clause-there g c = there_at _ _ _ c.requires.index (rw c.in-Some.is at c.requires.there)
 
-pub returns-in-Some-clause-keys : goal.returns-in-Some-clause-keys
-returns-in-Some-clause-keys g c =
-    changed_keys c.args.slab.now c.count_more.new.slab c.args.order.now.list c.key_of-key.result (λ slot. record slot { children = slot.children + 1 }) c.index.result.now c.requires.keys c.index.ensures (record { serial = λ slot. refl; parent = λ slot. refl }) c.count_more.ensures.put c.count_more.ensures.len
-
-pub returns-in-Some-clause-slots : goal.returns-in-Some-clause-slots
-returns-in-Some-clause-slots g c =
-    let k = c.key_of-key.ensures in
-    let seen = seen_at c.args.slab.now c.args.order.now.list c.in-Some.name k.0 c.key_of-key.result c.index.result.now c.requires.keys k.1 c.index.ensures in
-    changed_slots c.args.slab.now c.count_more.new.slab c.args.order.now.list c.in-Some.name k.0 c.key_of-key.result (λ slot. record slot { children = slot.children + 1 }) c.index.result.now c.requires.keys k.1 c.index.ensures c.count_more.ensures.put
-    ∙ with_child-set _ c.args.parent c.in-Some.name k.0 c.index.result.now.slot c.in-Some.is c.requires.rise seen.within seen.named seen.read
-
-pub returns-in-Some-clause-root : goal.returns-in-Some-clause-root
-returns-in-Some-clause-root g c =
-    let k = c.key_of-key.ensures in
-    let seen = seen_at c.args.slab.now c.args.order.now.list c.in-Some.name k.0 c.key_of-key.result c.index.result.now c.requires.keys k.1 c.index.ensures in
-    root_under-found _ c.args.parent c.in-Some.name k.0 c.args.serial c.index.result.now.slot c.in-Some.is c.requires.rise seen.within seen.named seen.read
-
-pub returns-in-Some-clause-above : goal.returns-in-Some-clause-above
-returns-in-Some-clause-above g c =
-    let k = c.key_of-key.ensures in
-    let like = changed_like c.args.slab.now c.count_more.new.slab c.key_of-key.result (λ slot. record slot { children = slot.children + 1 }) c.index.result.now c.index.ensures (record { serial = λ slot. refl; parent = λ slot. refl }) c.count_more.ensures.put in
-    knows_like c.args.slab.now c.count_more.new.slab c.args.order.now.list c.args.parent (Some c.key_of-key.result) like (knows_key c.args.slab.now c.args.order.now.list c.args.parent c.in-Some.name k.0 c.key_of-key.result c.in-Some.is c.requires.keys k.1)
+pub search_key-key-requires-clause-long : goal.search_key-key-requires-clause-long
+search_key-key-requires-clause-long g c = index_long c.args.slab.now c.args.order.now.list _ c.requires.index c.requires.keys

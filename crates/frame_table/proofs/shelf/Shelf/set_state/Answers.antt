@@ -1,22 +1,52 @@
-use Rattle.std.proofs.Common.{refl, ap}
+use Rattle.frame_table.proofs.Indexes.{serials_of-rises, there_at}
 use Rattle.frame_table.proofs.Shelves.{contains_read}
-use Rattle.frame_table.proofs.Keys.{are_keys, seen_at, changed_shelf, changed_slots}
+use Rattle.frame_table.proofs.Keys.{are_keys, index_long, key_searched, HasState, state_shelf, state_changes}
 use Rattle.frame_table.proofs.shelf.Shelf.set_state.Goals as goal
 
-pub index-requires : goal.index-requires
-index-requires g c =
-    let k = c.key_of-key.ensures in
-    contains_read c.self.inside.slab c.self.inside.order.list k.0 c.key_of-key.result c.self.invariant.here k.1.within k.1.read
+pub guessed_key-requires : goal.guessed_key-requires
+guessed_key-requires g c = are_keys _ _ _ _ c.self.invariant
+
+pub put_state-requires : goal.put_state-requires
+put_state-requires g c =
+    let k = c.in-Some.ensures in
+    contains_read c.self.inside.slab c.self.inside.order.list k.0 c.in-Some.key c.self.invariant.here k.1.within k.1.read
+
+pub search_key-key-requires-clause-rise : goal.search_key-key-requires-clause-rise
+search_key-key-requires-clause-rise g c = rw c.requires.index (serials_of-rises _ c.requires.rise)
+
+pub search_key-key-requires-clause-there : goal.search_key-key-requires-clause-there
+search_key-key-requires-clause-there g c = there_at _ _ _ c.requires.index c.requires.there
+
+pub search_key-key-requires-clause-long : goal.search_key-key-requires-clause-long
+search_key-key-requires-clause-long g c = index_long c.self.inside.slab c.self.inside.order.list _ (rw (← c.self.view_is) at c.requires.index) (are_keys _ _ _ _ c.self.invariant)
+
+pub put_state-requires-in-None : goal.put_state-requires-in-None
+put_state-requires-in-None g c =
+    let k = c.search_key-key.ensures in
+    contains_read c.self.inside.slab c.self.inside.order.list k.0 c.search_key-key.result c.self.invariant.here k.1 k.2
 
 pub invariant_of-self : goal.invariant_of-self
 invariant_of-self g c =
-    changed_shelf c.self.inside.slab c.put_state.new.slab c.self.inside.order.list _ _ c.key_of-key.result (λ slot. record slot { state = c.args.state }) c.index.result.now c.self.invariant c.index.ensures (record { serial = λ slot. refl; parent = λ slot. refl }) c.put_state.ensures.put c.put_state.ensures.len c.put_state.ensures.capacity
+    let k = c.in-Some.ensures in
+    let state : HasState c.self.inside.slab c.put_state.new.slab c.in-Some.key c.put_state.result c.args.state = record { put = c.put_state.ensures.put; told = c.put_state.ensures.was; len = c.put_state.ensures.len; capacity = c.put_state.ensures.capacity } in
+    state_shelf _ _ c.self.inside.order.list _ _ c.args.serial k.0 _ _ _ c.self.invariant k.1 state
 
-pub returns : goal.returns
-returns g c =
-    let slab = c.self.inside.slab in
-    let order = c.self.inside.order.list in
-    let k = c.key_of-key.ensures in
-    let are = are_keys slab order _ _ c.self.invariant in
-    let slots = changed_slots slab c.put_state.new.slab order c.args.serial k.0 c.key_of-key.result (λ slot. record slot { state = c.args.state }) c.index.result.now are k.1 c.index.ensures c.put_state.ensures.put in
-    rw (← c.self.view_is) (record { at = k.0; slot = c.index.result.now.slot; seen = seen_at slab order c.args.serial k.0 c.key_of-key.result c.index.result.now are k.1 c.index.ensures; changed = ap (λ xs. record { places = c.self.inside.places; slots = xs }) slots; told = refl })
+pub invariant_of-self-in-None : goal.invariant_of-self-in-None
+invariant_of-self-in-None g c =
+    let k = c.search_key-key.ensures in
+    let at = key_searched c.self.inside.slab c.self.inside.order.list _ c.args.serial k.0 c.search_key-key.result (rw (← c.self.view_is) at c.requires.index) k.1 k.2 k.3 in
+    let state : HasState c.self.inside.slab c.put_state-in-None.new.slab c.search_key-key.result c.put_state-in-None.result c.args.state = record { put = c.put_state-in-None.ensures.put; told = c.put_state-in-None.ensures.was; len = c.put_state-in-None.ensures.len; capacity = c.put_state-in-None.ensures.capacity } in
+    state_shelf _ _ c.self.inside.order.list _ _ c.args.serial k.0 _ _ _ c.self.invariant at state
+
+pub returns-in-Some : goal.returns-in-Some
+returns-in-Some g c =
+    let k = c.in-Some.ensures in
+    let state : HasState c.self.inside.slab c.put_state.new.slab c.in-Some.key c.put_state.result c.args.state = record { put = c.put_state.ensures.put; told = c.put_state.ensures.was; len = c.put_state.ensures.len; capacity = c.put_state.ensures.capacity } in
+    rw (← c.self.view_is) (state_changes _ _ c.self.inside.order.list _ _ c.args.serial k.0 _ _ _ c.self.invariant k.1 state)
+
+pub returns-in-None : goal.returns-in-None
+returns-in-None g c =
+    let k = c.search_key-key.ensures in
+    let at = key_searched c.self.inside.slab c.self.inside.order.list _ c.args.serial k.0 c.search_key-key.result (rw (← c.self.view_is) at c.requires.index) k.1 k.2 k.3 in
+    let state : HasState c.self.inside.slab c.put_state-in-None.new.slab c.search_key-key.result c.put_state-in-None.result c.args.state = record { put = c.put_state-in-None.ensures.put; told = c.put_state-in-None.ensures.was; len = c.put_state-in-None.ensures.len; capacity = c.put_state-in-None.ensures.capacity } in
+    rw (← c.self.view_is) (state_changes _ _ c.self.inside.order.list _ _ c.args.serial k.0 _ _ _ c.self.invariant at state)

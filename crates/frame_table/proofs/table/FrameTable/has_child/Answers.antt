@@ -2,10 +2,16 @@ use Rattle.frame_table.proofs.table.FrameTable.has_child.Goals as goal
 
 pub returns-in-Some-clause-child : goal.returns-in-Some-clause-child
 returns-in-Some-clause-child g c =
-    let tree = rw c.as_slice.ensures.value at c.in-Some.ensures.found in
+    let tree = rw c.as_slice.ensures.value at c.in-Some.ensures in
     rw (← c.self.view_is, tree.frames) c.has_child.ensures.child
 
 pub returns-in-Some-clause-leaf : goal.returns-in-Some-clause-leaf
 returns-in-Some-clause-leaf g c =
-    let tree = rw c.as_slice.ensures.value at c.in-Some.ensures.found in
+    let tree = rw c.as_slice.ensures.value at c.in-Some.ensures in
     rw (← c.self.view_is, tree.frames) c.has_child.ensures.leaf
+
+pub returns-in-None-clause-child : goal.returns-in-None-clause-child
+returns-in-None-clause-child g c = rw (← c.self.view_is, ← c.as_slice-in-None.ensures.value) c.search_child.ensures.child
+
+pub returns-in-None-clause-leaf : goal.returns-in-None-clause-leaf
+returns-in-None-clause-leaf g c = rw (← c.self.view_is, ← c.as_slice-in-None.ensures.value) c.search_child.ensures.leaf

@@ -1,10 +1,13 @@
 use Rattle.std.proofs.Common.{[], refl, sym, ◌∙◌, arith}
 use Rattle.std.specs.List.{remove}
 use Rattle.std.proofs.lemmas.List.Edits.{length-remove}
+use Rattle.frame_table.specs.Slots.{without_child}
+use Rattle.frame_table.specs.Frames.{is_ready}
 use Rattle.frame_table.proofs.Shelves.{length-without_child}
 use Rattle.frame_table.proofs.Forest.{linked_rises, has_frame-frames_from}
-use Rattle.frame_table.proofs.Finds.{found}
-use Rattle.frame_table.proofs.Changes.{lost_counted}
+use Rattle.frame_table.proofs.Finds.{found, ready_frames-length}
+use Rattle.frame_table.proofs.Counts.{length-filter_remove}
+use Rattle.frame_table.proofs.Changes.{lost_counted, ready-without_child}
 use Rattle.frame_table.proofs.Trees.{found_value, leaf_slots, lost, lost_sound, lost_frames}
 use Rattle.frame_table.proofs.Readies.{is_tenant, tenant_rises, ready_in-remove, ready_in-without_child}
 use Rattle.frame_table.proofs.Indexes.{found_at, index_rises, there_at, removed_index, serials_of-without_child}
@@ -27,12 +30,11 @@ take-slot-requires-clause-leaf g c =
     let leaf = rw (← c.self.view_is) at c.requires.leaf in
     rw place.found (leaf_slots c.self.inside.shelf.slots c.args.serial c.self.invariant.sound.linked leaf)
 
-pub forget-requires : goal.forget-requires
-forget-requires g c =
+pub take-slot-requires-clause-counted : goal.take-slot-requires-clause-counted
+take-slot-requires-clause-counted g c slot is =
     let place = found_at _ _ _ _ c.self.invariant.index c.known_place-at.ensures.within c.known_place-at.ensures.found in
     let leaf = rw (← c.self.view_is) at c.requires.leaf in
-    let h = lost c.self.inside.shelf.slots _ c.known_place-at.result c.args.serial c.take-slot.result c.self.invariant.sound place.within place.found c.take-slot.ensures.value leaf in
-    rw (c.remove.ensures, c.take-slot.ensures.left) (record { index = removed_index c.self.inside.shelf.slots c.self.inside.serials.serials c.known_place-at.result c.self.invariant.index; rise = linked_rises [] _ h.linked; there = h.parent; counted = lost_counted _ _ c.take-slot.result h })
+    lost_counted _ _ slot (lost c.self.inside.shelf.slots _ c.known_place-at.result c.args.serial slot c.self.invariant.sound place.within place.found is leaf)
 
 pub remove-requires : goal.remove-requires
 remove-requires g c = c.known_place-at.ensures.within
@@ -46,7 +48,7 @@ invariant_of-self g c =
     let slots = c.self.inside.shelf.slots in
     let leaf = rw (← c.self.view_is) at c.requires.leaf in
     let gone = ready_in-remove slots c.known_place-at.result c.args.serial c.take-slot.result (linked_rises [] slots c.self.invariant.sound.linked) place.within place.found c.take-slot.ensures.value in
-    rw (c.forget.ensures, c.take-slot.ensures.left, c.leave.ensures, c.remove.ensures) (is_tenant _ _ _ _ _
+    rw (c.take-slot.ensures.left, c.leave.ensures, c.remove.ensures) (is_tenant _ _ _ _ _
     (lost_sound slots _ _ _ c.known_place-at.result c.args.serial c.take-slot.result c.self.invariant.sound place.within place.found c.take-slot.ensures.value leaf refl refl)
     (removed_index slots c.self.inside.serials.serials c.known_place-at.result c.self.invariant.index ∙ sym (serials_of-without_child c.take-slot.result.parent (remove slots c.known_place-at.result)))
     (rw (ready_in-without_child c.take-slot.result.parent (remove slots c.known_place-at.result), c.self.invariant.ready_frames) gone)
@@ -60,10 +62,20 @@ returns-clause-left g c =
     let place = found_at _ _ _ _ c.self.invariant.index c.known_place-at.ensures.within c.known_place-at.ensures.found in
     let leaf = rw (← c.self.view_is) at c.requires.leaf in
     let frames = lost_frames c.self.inside.shelf.slots _ _ _ c.known_place-at.result c.args.serial c.take-slot.result c.self.invariant.sound place.within place.found c.take-slot.ensures.value leaf refl refl in
-    rw (← c.self.view_is, c.forget.ensures, c.take-slot.ensures.left, frames) refl
+    rw (← c.self.view_is, c.take-slot.ensures.left, frames) refl
 
 pub returns-clause-value : goal.returns-clause-value
 returns-clause-value g c =
     let place = found_at _ _ _ _ c.self.invariant.index c.known_place-at.ensures.within c.known_place-at.ensures.found in
     let f = found [] c.self.inside.shelf.slots c.known_place-at.result c.args.serial c.take-slot.result c.self.invariant.sound.linked tt place.within place.found c.take-slot.ensures.value in
     rw (← c.self.view_is) (found_value _ c.take-slot.result c.args.serial f.0 c.take-slot.result.value f.1 refl)
+
+pub returns-clause-count : goal.returns-clause-count
+returns-clause-count g c =
+    let place = found_at _ _ _ _ c.self.invariant.index c.known_place-at.ensures.within c.known_place-at.ensures.found in
+    let slots = c.self.inside.shelf.slots in
+    let slot = c.take-slot.result in
+    let left = remove slots c.known_place-at.result in
+    let old = ready_frames-length {T = g.row.T.Denot} [] slots in
+    let new = ready_frames-length {T = g.row.T.Denot} [] (without_child slot.parent left) in
+    rw (← c.self.view_is, c.take-slot.ensures.left, old, new, ready-without_child slot.parent left) (length-filter_remove (λ x. is_ready x.state) slots c.known_place-at.result slot place.within c.take-slot.ensures.value)
