@@ -36,13 +36,6 @@ negated b low high = omega (arith, ints)
 pub negated-more : (b : ℤ) → negsuc 199999 ≤ℤ b → b ≤ℤ pos 200000 → to_z w32 (of_z w32 (pos 0 -ℤ to_z w32 (of_z w32 (to_z w32 (of_z w32 b) +ℤ pos 1)))) ≡ neg_ℤ (b +ℤ pos 1)
 negated-more b low high = omega (arith, ints)
 
--- two stores, one after the other, from none
-pub two-stores : (a b c d : List (ℕ × ℕ)) (p q : ℕ × ℕ) → a ≡ [] → b ≡ a ++ p ∷ [] → c ≡ b ++ q ∷ [] → d ≡ c → d ≡ p ∷ q ∷ []
-two-stores a b c d p q ea eb ec ed = ed ∙ ec ∙ ap (λ (xs : List (ℕ × ℕ)). xs ++ q ∷ []) (eb ∙ ap (λ (xs : List (ℕ × ℕ)). xs ++ p ∷ []) ea)
-
-pub one-store : (a b c : List (ℕ × ℕ)) (p : ℕ × ℕ) → a ≡ [] → b ≡ a ++ p ∷ [] → c ≡ b → c ≡ p ∷ []
-one-store a b c p ea eb ec = ec ∙ eb ∙ ap (λ (xs : List (ℕ × ℕ)). xs ++ p ∷ []) ea
-
 -- an act by its parts
 pub act-by : (stores stores' : List (ℕ × ℕ)) (after after' : Then) → stores ≡ stores' → after ≡ after' → ◌≡◌ {A = Act} (record { stores = stores; after = after }) (record { stores = stores'; after = after' })
 act-by stores stores' after after' es ea = rw (es, ea) refl

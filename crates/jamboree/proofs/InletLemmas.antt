@@ -47,15 +47,6 @@ pub by-kept : (f c : Frame) (stores : List (ℕ × ℕ)) → int_le f.beta (seen
 by-kept f c stores under other small e =
     e (int_le (seen c) (neg_ℤ c.beta)) ∙ changes-same _ _ _ _ _ _ _ _ f c under (other-number c.role 2 other) refl small
 
--- stores one after the other, from none
-pub three-stores : (a b c d e : List (ℕ × ℕ)) (p q r : ℕ × ℕ) → a ≡ [] → b ≡ a ++ p ∷ [] → c ≡ b ++ q ∷ [] → d ≡ c ++ r ∷ [] → e ≡ d → e ≡ p ∷ q ∷ r ∷ []
-three-stores a b c d e p q r ea eb ec ed ee =
-    ee ∙ ed ∙ ap (λ (xs : List (ℕ × ℕ)). xs ++ r ∷ []) (ec ∙ ap (λ (xs : List (ℕ × ℕ)). xs ++ q ∷ []) (eb ∙ ap (λ (xs : List (ℕ × ℕ)). xs ++ p ∷ []) ea))
-
-pub four-stores : (a b c d e g : List (ℕ × ℕ)) (p q r s : ℕ × ℕ) → a ≡ [] → b ≡ a ++ p ∷ [] → c ≡ b ++ q ∷ [] → d ≡ c ++ r ∷ [] → e ≡ d ++ s ∷ [] → g ≡ e → g ≡ p ∷ q ∷ r ∷ s ∷ []
-four-stores a b c d e g p q r s ea eb ec ed ee eg =
-    eg ∙ ee ∙ ap (λ (xs : List (ℕ × ℕ)). xs ++ s ∷ []) (ed ∙ ap (λ (xs : List (ℕ × ℕ)). xs ++ r ∷ []) (ec ∙ ap (λ (xs : List (ℕ × ℕ)). xs ++ q ∷ []) (eb ∙ ap (λ (xs : List (ℕ × ℕ)). xs ++ p ∷ []) ea)))
-
 -- a score in 32 bits
 pub wide-seen : (r s : ℤ) → r ≡ s → negsuc 199999 ≤ℤ r → r ≤ℤ pos 1000000 → to_z w32 (of_z w32 r) ≡ s
 wide-seen r s e low high = wide r (omega (arith, ints)) high ∙ e
