@@ -1,5 +1,5 @@
 -- The stores of an inlet, case by case.
-use Rattle.std.specs.Prelude.{◌≡◌, ◌≢◌, ℕ, ◌==◌, ◌&&◌, Bool, true, false, ℤ, pos, negsuc, neg_ℤ, ◌≤ℤ◌, int_le, int_lt, List, [], ◌∷◌, ◌++◌, refl, if◌then◌else◌}
+use Rattle.std.specs.Prelude.{◌≡◌, ◌≢◌, ℕ, ◌==◌, ◌&&◌, Bool, true, false, ℤ, pos, negsuc, neg_ℤ, ◌≤ℤ◌, int_le, int_lt, List, refl, if◌then◌else◌}
 use Rattle.std.specs.Int.{int_max}
 use Rattle.std.proofs.Common.{to_z, of_z, w32, sym, ◌∙◌, ap, subst, arith}
 use Rattle.std.proofs.lemmas.Int.{ints, clamps}
