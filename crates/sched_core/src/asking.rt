@@ -1,4 +1,4 @@
-//! Whether the procedure knows that its frames fit.
+//! Whether a core knows that its frames fit.
 ghost use Rattle.std.specs.Prelude.{◌≡◌, true};
 ghost use Rattle.sched_laws.specs.Fitted.{RootFits};
 

@@ -24,8 +24,7 @@
 //! (`specs/Keeping.antt`) is that each tenant has its shape, which every step keeps: a tree by rising
 //! serial, no frame under one that computes or has returned, live jobs and roots one to one, nothing
 //! used beyond what is reserved. A core knows besides that all its frames fit, as long as its procedure
-//! told so of the root of each taken Submit, and then asks it of frames without a look whether they do
-//! (`asking`).
+//! told so of the root of each Submit that was offered (`asking`), and the procedure is told.
 //!
 //! ```text
 //! let mut core = Core::new(alloc, config, Fan)?;
