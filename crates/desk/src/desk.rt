@@ -162,10 +162,13 @@ impl<L: Hands> Desk<L> {
             for _ in rt.forever() {}
             unreachable!()
         }
-        let did = self.enter(rt).offer(badge, step)?;
+        let mut kept = self.enter(rt);
+        let did = kept.offer(badge, step)?;
+        let has_sleepers = kept.has_sleepers();
+        drop(kept);
         match Ends::of(&did) {
-            Ends::Nothing => {}
-            Ends::InReady => self.ready.notify_one(),
+            Ends::InReady if has_sleepers => self.ready.notify_one(),
+            Ends::InReady | Ends::Nothing => {}
             Ends::Job => self.ended.notify_all(),
         }
         Ok(did)
@@ -174,9 +177,12 @@ impl<L: Hands> Desk<L> {
     /// Some frame that is ready, with its home (a worker's number, or 0 for the hall). Waits until
     /// there is one, or the desk is closed; `None` only where it is closed.
     pub fn next_ready<R: Wait>(&self, rt: &R) -> Option<(FrameId, u8)> {
-        let kept = self
-            .ready
-            .wait_while(rt, self.enter(rt), |kept| !kept.has_news());
+        let mut kept = self.enter(rt);
+        if !kept.has_news() {
+            kept.begin_sleep();
+            kept = self.ready.wait_while(rt, kept, |kept| !kept.has_news());
+            kept.end_sleep();
+        }
         kept.next_ready()
     }
 

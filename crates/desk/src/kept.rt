@@ -38,6 +38,7 @@ pub(crate) struct Kept<L: Hands> {
     badges: u64,
     before: u128,
     closed: bool,
+    sleepers: u32,
 }
 
 // Clauses see the hall, and whether the desk is closed.
@@ -94,6 +95,7 @@ impl<L: Hands> Kept<L> {
             badges: 0,
             before,
             closed: false,
+            sleepers: 0,
         }
     }
 
@@ -253,6 +255,25 @@ impl<L: Hands> Kept<L> {
         } else {
             self.hall.core().any_ready()
         }
+    }
+
+    /// One worker more sleeps until a frame is ready.
+    pub(crate) fn begin_sleep(&mut self)
+        ensures { self.new ≡ self.old }
+    {
+        self.sleepers = self.sleepers.wrapping_add(1);
+    }
+
+    /// One worker fewer sleeps.
+    pub(crate) fn end_sleep(&mut self)
+        ensures { self.new ≡ self.old }
+    {
+        self.sleepers = self.sleepers.wrapping_sub(1);
+    }
+
+    /// Whether some worker sleeps until a frame is ready.
+    pub(crate) fn has_sleepers(&self) -> bool {
+        self.sleepers > 0
     }
 
     /// Nobody waits from now on.

@@ -1,4 +1,4 @@
-ghost use Rattle.std.specs.Prelude.{◌≡◌, ℕ, ◌+◌, ◌<◌, ◌≤◌, ◌↔◌, IfOk, OnOk, OnErr, IsOk, IsSome, IfSome, option_map, length, nat_lt};
+ghost use Rattle.std.specs.Prelude.{◌≡◌, ℕ, ◌+◌, ◌<◌, ◌≤◌, ◌↔◌, IfOk, OnOk, OnErr, IsOk, IsSome, IfSome, option_copied, option_map, length, nat_lt};
 ghost use Rattle.tenant_quota.specs.Accounts.{account_of, count_below, IsRising};
 
 use crate::account::{Account, Left};
@@ -242,15 +242,6 @@ impl<A: Allocator> Book<A> {
         Some(account.left())
     }
 
-    /// How many nodes the tenant ever opened, or None where it isn't there.
-    pub fn opened(&self, tenant: u64) -> Option<u32>
-        ensures opened { result ≡ opened_of tenant self.now }
-        ensures sound { IsSound self.now }
-    {
-        let account = self.account(tenant)?;
-        Some(account.opened)
-    }
-
     /// What the tenant has reserved, or None where it isn't there.
     pub fn reserved(&self, tenant: u64) -> Option<Reserve>
         ensures reserved { result ≡ reserve_of tenant self.now }
@@ -300,14 +291,14 @@ impl<A: Allocator> Book<A> {
 
     /// The tenant's account, or None where it isn't there. The guess is looked at first.
     #[inline(always)]
-    fn account(&self, tenant: u64) -> Option<Account>
-        ensures account { result ≡ account_of tenant self.now.accounts }
+    fn account(&self, tenant: u64) -> Option<&Account>
+        ensures account { option_copied result ≡ account_of tenant self.now.accounts }
         ensures sound { IsSound self.now }
     {
         let accounts: &[(u64, Account)] = &self.accounts;
         let guess = self.guesses[(tenant % GUESSES) as usize] as usize;
         if guess < accounts.len() && accounts[guess].0 == tenant {
-            return Some(accounts[guess].1);
+            return Some(&accounts[guess].1);
         }
         self.look_up(tenant)
     }
@@ -315,13 +306,13 @@ impl<A: Allocator> Book<A> {
     /// The same, by halves.
     #[cold]
     #[inline(never)]
-    fn look_up(&self, tenant: u64) -> Option<Account>
-        ensures account { result ≡ account_of tenant self.now.accounts }
+    fn look_up(&self, tenant: u64) -> Option<&Account>
+        ensures account { option_copied result ≡ account_of tenant self.now.accounts }
         ensures sound { IsSound self.now }
     {
         let place = place_of(&self.guesses, &self.accounts, tenant);
         if place < self.accounts.len() && self.accounts[place].0 == tenant {
-            return Some(self.accounts[place].1);
+            return Some(&self.accounts[place].1);
         }
         None
     }

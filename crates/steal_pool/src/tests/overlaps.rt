@@ -11,19 +11,21 @@ use std::sync::atomic::{AtomicBool, Ordering};
 use std::test::Fail;
 use std::thread;
 
-/// The first computation waits within a limit until it is let go on.
+/// The computation of this number waits within a limit until it is let go on.
 #[derive(Drop)]
 struct Held {
-    by_second: bool,
+    number: u64,
+    by_later: bool,
     began: AtomicBool,
     let_go: AtomicBool,
     late: AtomicBool,
 }
 
-/// A gate whose first computation is let go on by the second, or else by the scenario.
-fn first_is_held(by_second: bool) -> Held {
+/// A gate whose computation of this number is let go on by a later one, or else by the scenario.
+fn is_held(number: u64, by_later: bool) -> Held {
     Held {
-        by_second,
+        number,
+        by_later,
         began: AtomicBool::new(false),
         let_go: AtomicBool::new(false),
         late: AtomicBool::new(false),
@@ -45,10 +47,10 @@ impl Gate for Held {
     fn before(&self, _worker: Worker, _task: &Task) {}
 
     fn inside(&self, _worker: Worker, number: u64) {
-        if number == 2 && self.by_second {
+        if number > self.number && self.by_later {
             self.let_go.store(true, Ordering::SeqCst);
         }
-        if number == 1 {
+        if number == self.number {
             self.began.store(true, Ordering::SeqCst);
             if !is_set(&self.let_go) {
                 self.late.store(true, Ordering::SeqCst);
@@ -79,7 +81,7 @@ impl Scenario for TwoJobs {
 #[test]
 fn two_computations_overlap(rt: HostRuntime) -> Result<(), Fail> {
     for workers in [2, 8] {
-        let gate = first_is_held(true);
+        let gate = is_held(1, true);
         let table = Table {
             scenario: &TwoJobs,
             gate: &gate,
@@ -87,6 +89,49 @@ fn two_computations_overlap(rt: HostRuntime) -> Result<(), Fail> {
             grain: 0,
             room: None,
             segments: 8,
+        };
+        let played = play(&rt, rt.alloc(), &table).ok_or("no pool")?;
+        assert!(rt; played.content && played.whole);
+        assert!(rt; !gate.late.load(Ordering::SeqCst));
+    }
+    Ok(())
+}
+
+/// How often the scenario lets others run, so that workers with nothing to do fall asleep.
+const IDLE_TURNS: u32 = 10_000;
+
+/// One job of depth 1, asked once all workers have had time to fall asleep.
+#[derive(Drop)]
+struct OneJob;
+
+impl Scenario for OneJob {
+    fn play<L: Hands, R: Wait>(&self, rt: &R, desk: &Desk<L>) -> bool {
+        let Some(mut seat) = seat(rt, desk, 16, 16) else {
+            return false;
+        };
+        for _ in 0..IDLE_TURNS {
+            thread::yield_now();
+        }
+        let asked = desk.ask(rt, &mut seat, &opening(), 1).is_ok();
+        let found = is_found(rt, desk, &seat, 1, &opening(), 1);
+        desk.leave(rt, seat);
+        asked && found
+    }
+}
+
+/// A worker's step that makes a frame ready wakes a worker that sleeps: while the job's second
+/// computation waits, another worker begins the third.
+#[test]
+fn a_ready_frame_wakes_a_worker(rt: HostRuntime) -> Result<(), Fail> {
+    for workers in [2, 8] {
+        let gate = is_held(2, true);
+        let table = Table {
+            scenario: &OneJob,
+            gate: &gate,
+            workers,
+            grain: 0,
+            room: None,
+            segments: 16,
         };
         let played = play(&rt, rt.alloc(), &table).ok_or("no pool")?;
         assert!(rt; played.content && played.whole);
@@ -156,7 +201,7 @@ fn goes_on<L: Hands, R: Wait>(rt: &R, desk: &Desk<L>, gate: &Held, seat: Seat<L>
 #[test]
 fn late_answers(rt: HostRuntime) -> Result<(), Fail> {
     for leaves in [true, false] {
-        let gate = first_is_held(false);
+        let gate = is_held(1, false);
         let table = Table {
             scenario: &Late {
                 gate: &gate,

@@ -1,5 +1,6 @@
 -- The account is within its reserve, and what it has left is charged to nobody.
 use Rattle.std.proofs.Common.{◌≡◌, ℕ, ◌+◌, ◌≤◌, Some, ap, sym, ◌∙◌, arith}
+use Rattle.std.specs.Prelude.{option_copied}
 use Rattle.tenant_quota.specs.declared.account.Account.{Account}
 use Rattle.tenant_quota.specs.declared.account.Left.{Left}
 use Rattle.tenant_quota.specs.Accounts.{account_of, left_in, IsWithinReserve, charged_segments}
@@ -14,7 +15,7 @@ left_is_there b t a l sound account left =
     omega (arith, sound.segments_reserved, ap (λ (x : Left). x.segments) left)
 
 pub left-requires : goal.left-requires
-left-requires g c = AllEntries-of (λ e. IsWithinReserve e.1) c.args.tenant _ _ (sym c.account.ensures.account ∙ c.in_ok-account.was) c.account.ensures.sound.within
+left-requires g c = AllEntries-of (λ e. IsWithinReserve e.1) c.args.tenant _ _ (sym c.account.ensures.account ∙ ap option_copied c.in_ok-account.was) c.account.ensures.sound.within
 
 pub returns-clause-there : goal.returns-clause-there
-returns-clause-there g c = left_is_there c.args.self.now c.args.tenant _ _ c.account.ensures.sound (sym c.account.ensures.account ∙ c.in_ok-account.was) c.left.ensures
+returns-clause-there g c = left_is_there c.args.self.now c.args.tenant _ _ c.account.ensures.sound (sym c.account.ensures.account ∙ ap option_copied c.in_ok-account.was) c.left.ensures
