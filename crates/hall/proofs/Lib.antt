@@ -1,3 +1,4 @@
 pub mod Using
 pub mod Lists
 pub mod Halls
+pub mod Entries

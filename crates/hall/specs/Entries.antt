@@ -1,29 +1,71 @@
--- What a journal's entry stands for, in the journal of a tenant.
-use Rattle.std.specs.Prelude.{ℕ}
+-- What a journal's entries stand for, in the journal of a tenant.
+use Rattle.std.specs.Prelude.{ℕ, ◌+◌, Bool, true, false, if◌then◌else◌, List, [], ◌∷◌, ◌++◌, map, take, drop}
 use Rattle.sched_rules.specs.declared.step.StepOf.{StepOf}
 use Rattle.sched_rules.specs.declared.step.StepOf.TheVariants.{Admit, Submit, Take, Steal, Advance, Answer, Inlet, Finish, Spend, Cancel, Leave}
 use Rattle.frame_table.specs.declared.names.FrameId.{FrameId}
 use Rattle.jamboree_rules.specs.declared.leaf.LeafAnswer.{LeafAnswer}
 use Rattle.jamboree_rules.specs.Places.{root_words, frame_size}
 use Rattle.hall.specs.declared.entry.Entry.{Entry}
-use Rattle.hall.specs.declared.entry.Entry.TheVariants.{Admitted, Asked, Taken, Stolen, Advanced, Answered, TakenIn, Finished, Spent, Cancelled}
+use Rattle.hall.specs.declared.entry.Entry.TheVariants.{Taken, Stolen, Advanced, TakenIn, Finished, Spent, Long}
+use Rattle.hall.specs.declared.entry.LongEntry.{LongEntry}
+use Rattle.hall.specs.declared.entry.LongEntry.TheVariants.{Admitted, Asked, Answered, Cancelled}
 
 -- the name of a tenant's frame
 abbrev pub named : ℕ → ℕ → FrameId
 named number serial = record { tenant = number; serial = serial }
 
--- the tenant's step that an entry was made of
-abbrev pub step_in : ℕ → Entry → StepOf LeafAnswer
-step_in number (Admitted reserve) = Admit number reserve
-step_in number (Asked depth own opp) = Submit number (root_words own opp depth) frame_size
-step_in number (Taken worker serial) = Take worker (named number serial)
-step_in number (Stolen worker from serial) = Steal worker from (named number serial)
-step_in number (Advanced worker serial) = Advance worker (named number serial)
-step_in number (Answered worker serial answer) = Answer worker (named number serial) answer
-step_in number (TakenIn worker serial) = Inlet worker (named number serial)
-step_in number (Finished worker serial) = Finish worker (named number serial)
-step_in number (Spent serial) = Spend (named number serial)
-step_in number (Cancelled job) = Cancel number job
+-- whether an entry's step stands in a long one
+abbrev pub is_long : Entry → Bool
+is_long (Taken worker serial) = false
+is_long (Stolen worker from serial) = false
+is_long (Advanced worker serial) = false
+is_long (TakenIn worker serial) = false
+is_long (Finished worker serial) = false
+is_long (Spent serial) = false
+is_long Long = true
+
+-- whether a step that goes on is kept in a long entry
+abbrev pub is_long_step : {A : Type 0} → StepOf A → Bool
+is_long_step (Admit number quota) = true
+is_long_step (Submit number words size) = true
+is_long_step (Take worker name) = false
+is_long_step (Steal worker from name) = false
+is_long_step (Advance worker name) = false
+is_long_step (Answer worker name answer) = true
+is_long_step (Inlet worker name) = false
+is_long_step (Finish worker name) = false
+is_long_step (Spend name) = false
+is_long_step (Cancel number job) = true
+is_long_step (Leave number) = false
+
+-- the tenant's step that a short entry was made of, alone in a list; none of the entry that stands for a long one
+abbrev pub short_steps : ℕ → Entry → List (StepOf LeafAnswer)
+short_steps number (Taken worker serial) = Take worker (named number serial) ∷ []
+short_steps number (Stolen worker from serial) = Steal worker from (named number serial) ∷ []
+short_steps number (Advanced worker serial) = Advance worker (named number serial) ∷ []
+short_steps number (TakenIn worker serial) = Inlet worker (named number serial) ∷ []
+short_steps number (Finished worker serial) = Finish worker (named number serial) ∷ []
+short_steps number (Spent serial) = Spend (named number serial) ∷ []
+short_steps number Long = []
+
+-- the tenant's step that a long entry was made of
+abbrev pub long_step : ℕ → LongEntry → StepOf LeafAnswer
+long_step number (Admitted reserve) = Admit number reserve
+long_step number (Asked depth own opp) = Submit number (root_words own opp depth) frame_size
+long_step number (Answered worker serial answer) = Answer worker (named number serial) answer
+long_step number (Cancelled job) = Cancel number job
+
+-- the tenant's steps that these entries and these long entries stand for, in order: each entry's own, or the next long entry's
+abbrev pub steps_in : ℕ → List Entry → List LongEntry → List (StepOf LeafAnswer)
+steps_in number [] longs = []
+steps_in number (entry ∷ entries) longs =
+    if is_long entry then map (long_step number) (take 1 longs) ++ steps_in number entries (drop 1 longs)
+    else short_steps number entry ++ steps_in number entries longs
+
+-- how many of these entries have a long one
+abbrev pub long_count : List Entry → ℕ
+long_count [] = 0
+long_count (entry ∷ entries) = (if is_long entry then 1 else 0) + long_count entries
 
 -- the serial of the frame that a step names, and 0 where it names none
 abbrev pub serial_in : {A : Type 0} → StepOf A → ℕ

@@ -2,10 +2,10 @@
 ghost use Rattle.std.specs.Prelude.{◌≡◌, ◌++◌, ◌∷◌, ◌<◌, ◌≤◌, ◌^◌, [], true, length, IfOk};
 ghost use Rattle.jamboree_laws.specs.Replies.{IsSearch};
 ghost use Rattle.sched_rules.specs.Runs.{tenant_of};
-ghost use Rattle.hall.specs.Entries.{serial_in};
+ghost use Rattle.hall.specs.Entries.{is_long_step, serial_in};
 ghost use Rattle.hall.specs.Journals.{admitted_journal, goes_on, has_journal, journal_in, place_in, places_in, with_step, AreRising};
 
-use crate::entry::Entry;
+use crate::entry::{Entry, LongEntry};
 use guesses::Guesses;
 use jamboree::Jamboree;
 use sched_rules::Step;
@@ -23,34 +23,40 @@ pub(crate) struct Journal<A: Allocator = Global> {
     tenant: u64,
     places: usize,
     entries: Vec<Entry, A>,
+    longs: Vec<LongEntry, A>,
 }
 
 // Clauses see the tenant's number, the number of places, and the steps.
 impl<A: Allocator> Model for Journal<A> {
-    ghost use Rattle.std.specs.Prelude.{◌≤◌, map, vec_capacity};
-    ghost use Rattle.hall.specs.Entries.{step_in};
+    ghost use Rattle.std.specs.Prelude.{◌≡◌, ◌≤◌, length, vec_capacity};
+    ghost use Rattle.hall.specs.Entries.{steps_in, long_count};
     ghost use Rattle.hall.specs.Journals.{JournalOf};
 
     ghost Value = { JournalOf };
 
-    ghost view = { λ j. record { tenant = j.tenant; places = j.places; steps = map (step_in j.tenant) j.entries.items } };
+    ghost view = { λ j. record { tenant = j.tenant; places = j.places; steps = steps_in j.tenant j.entries.items j.longs.items } };
 
-    ghost invariant = { λ j. j.places ≤ vec_capacity j.entries };
+    ghost invariant = { λ j. (j.places ≤ vec_capacity j.entries) × (j.places ≤ vec_capacity j.longs) × (long_count j.entries.items ≡ length j.longs.items) };
 }
 
 impl<A: Allocator> Journal<A> {
     /// The journal of a tenant that is admitted with this reservation. It makes all places.
     pub(crate) fn new(alloc: A, tenant: u64, reserve: Reserve) -> Result<Journal<A>, AllocError>
+    where
+        A: Clone,
         ensures journal { IfOk result (λ journal. journal ≡ admitted_journal tenant reserve) }
         ensures limit { reserve.nodes ≤ 65536 }
     {
         let places = 16 * reserve.nodes() as usize + BESIDE_NODES;
-        let mut entries = Vec::with_capacity(alloc, places)?;
-        entries.push_reserved(Entry::Admitted(reserve));
+        let mut entries = Vec::with_capacity(alloc.clone()?, places)?;
+        let mut longs = Vec::with_capacity(alloc, places)?;
+        entries.push_reserved(Entry::Long);
+        longs.push_reserved(LongEntry::Admitted(reserve));
         Ok(Journal {
             tenant,
             places,
             entries,
+            longs,
         })
     }
 
@@ -77,7 +83,25 @@ impl<A: Allocator> Journal<A> {
         requires search { IsSearch step.now }
         ensures { self.new ≡ record self.old { steps = self.old.steps ++ step.now ∷ [] } }
     {
-        self.entries.push_reserved(Entry::of(step));
+        let entry = Entry::of(step);
+        if entry.is_long() {
+            return self.write_long(step);
+        }
+        self.entries.push_reserved(entry);
+    }
+
+    /// The same of a step that is kept in a long entry.
+    fn write_long(&mut self, step: &Step<Jamboree>)
+        requires own { tenant_of step.now ≡ self.old.tenant }
+        requires serial { serial_in step.now < 2 ^ 32 }
+        requires place { length self.old.steps < self.old.places }
+        requires goes_on { goes_on step.now ≡ true }
+        requires search { IsSearch step.now }
+        requires long { is_long_step step.now ≡ true }
+        ensures { self.new ≡ record self.old { steps = self.old.steps ++ step.now ∷ [] } }
+    {
+        self.entries.push_reserved(Entry::Long);
+        self.longs.push_reserved(LongEntry::of(step));
     }
 }
 

@@ -2,7 +2,10 @@
 ghost use Rattle.std.specs.Prelude.{◌≡◌, [], ◌∷◌};
 ghost use Rattle.tenant_quota.specs.Quota.{Quota};
 ghost use Rattle.sched_rules.specs.declared.job.Job.TheVariants.{Live, Done, Spent};
-ghost use Rattle.sched_rules.specs.declared.step.StepOf.TheVariants.{Admit, Cancel, Leave};
+ghost use Rattle.sched_rules.specs.declared.step.StepOf.TheVariants.{Admit, Take, Advance, Spend, Cancel, Leave};
+ghost use Rattle.hall.specs.declared.entry.Entry.TheVariants.{Taken, Advanced, Spent as SpentEntry, Long};
+ghost use Rattle.hall.specs.declared.entry.LongEntry.TheVariants.{Admitted, Cancelled};
+ghost use Rattle.hall.specs.Entries.{steps_in, long_count};
 ghost use Rattle.hall.specs.Journals.{journals_after, gone_by, total_length, admitted_journal, journal_in};
 ghost use Rattle.hall.specs.Uses.{uses};
 
@@ -15,6 +18,15 @@ pub fn journals_of_two_tenants()
     ensures ended { (quota : Quota) → journals_after (Leave 1) (journals_after (Cancel 1 3) (admitted_journal 1 quota ∷ admitted_journal 2 quota ∷ [])) ≡ admitted_journal 2 quota ∷ [] }
     ensures gone { (quota : Quota) → gone_by (Leave 1) (journals_after (Cancel 1 3) (admitted_journal 1 quota ∷ admitted_journal 2 quota ∷ [])) ≡ 3 }
     ensures length { (quota : Quota) → total_length (journals_after (Cancel 1 3) (admitted_journal 1 quota ∷ admitted_journal 2 quota ∷ [])) ≡ 3 }
+{}
+
+/// An admission, a Take, a Cancel and an Advance of tenant 7: two long entries, each where its place is
+/// in the journal. Where a long entry is wanting, so is its step.
+pub fn entries_of_a_journal()
+    ensures in_order { (quota : Quota) → steps_in 7 (Long ∷ Taken 1 3 ∷ Long ∷ Advanced 2 4 ∷ []) (Admitted quota ∷ Cancelled 5 ∷ [])
+        ≡ Admit 7 quota ∷ Take 1 (record { tenant = 7; serial = 3 }) ∷ Cancel 7 5 ∷ Advance 2 (record { tenant = 7; serial = 4 }) ∷ [] }
+    ensures count { long_count (Long ∷ Taken 1 3 ∷ Long ∷ Advanced 2 4 ∷ []) ≡ 2 }
+    ensures wanting { steps_in 7 (Long ∷ SpentEntry 6 ∷ []) [] ≡ Spend (record { tenant = 7; serial = 6 }) ∷ [] }
 {}
 
 /// A tenant with five counted steps and three jobs, of which two have ended: its admission, the five

@@ -1,5 +1,5 @@
 use super::*;
-use crate::entry::Entry;
+use crate::entry::{Entry, LongEntry};
 use frame_table::FrameId;
 use linked_list_allocator::LocalHeap;
 use othello_board::Board;
@@ -18,10 +18,11 @@ fn opening() -> Result<Position, Fail> {
     })
 }
 
-/// An entry of a journal takes at most 48 bytes.
+/// An entry of a journal takes 8 bytes, and a long one at most 48.
 #[test]
 fn entries_are_small(rt: HostRuntime) {
-    assert!(rt; size_of::<Entry>() <= 48);
+    assert_eq!(rt; size_of::<Entry>(), 8);
+    assert!(rt; size_of::<LongEntry>() <= 48);
 }
 
 /// The five steps of a worker that compute and finish the job under this root.

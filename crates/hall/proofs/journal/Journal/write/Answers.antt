@@ -1,0 +1,23 @@
+-- There is room for the entry, which stands for the step.
+use Rattle.std.proofs.Common.{ap, sym, ◌∙◌, arith}
+use Rattle.hall.specs.Entries.{long_count}
+use Rattle.hall.proofs.Entries.{has-room, written-short, long_count-more}
+use Rattle.hall.proofs.journal.Journal.write.Goals as goal
+
+pub push_reserved-requires : goal.push_reserved-requires
+push_reserved-requires g c =
+    let room = has-room c.self.inside.tenant c.self.inside.places c.self.inside.entries.items c.self.inside.longs.items c.args.self.now c.self.view_is c.self.invariant.2 c.requires.place in
+    omega (arith, room.0, c.self.invariant.0, c.self.inside.entries.ok.0)
+
+pub invariant_of-self : goal.invariant_of-self
+invariant_of-self g c =
+    let short = sym c.is_long.ensures ∙ c.if-is_long.false in
+    let more = rw short at (long_count-more c.of-entry.result c.self.inside.entries.items) in
+    let same = ap long_count c.push_reserved.ensures.items in
+    (omega (arith, c.self.invariant.0, c.push_reserved.ensures.capacity), c.self.invariant.1, omega (arith, same, more, c.self.invariant.2))
+
+pub returns : goal.returns
+returns g c =
+    let short = sym c.is_long.ensures ∙ c.if-is_long.false in
+    written-short c.self.inside.tenant c.self.inside.places c.of-entry.result c.self.inside.entries.items c.push_reserved.new.self.items c.self.inside.longs.items c.args.self.now c.args.step.now c.self.view_is c.push_reserved.ensures.items short
+    (rw c.requires.own at (c.of-entry.ensures.short short))

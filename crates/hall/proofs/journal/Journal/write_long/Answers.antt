@@ -1,0 +1,29 @@
+-- There is room for both entries, and the long one stands for the step.
+use Rattle.std.proofs.Common.{[], ◌∷◌, length, length-append, ap, arith}
+use Rattle.hall.specs.declared.entry.Entry.TheVariants.{Long}
+use Rattle.hall.specs.Entries.{long_count}
+use Rattle.hall.proofs.Entries.{has-room, written-long, long_count-more}
+use Rattle.hall.proofs.journal.Journal.write_long.Goals as goal
+
+pub push_reserved-requires : goal.push_reserved-requires
+push_reserved-requires g c =
+    let room = has-room c.self.inside.tenant c.self.inside.places c.self.inside.entries.items c.self.inside.longs.items c.args.self.now c.self.view_is c.self.invariant.2 c.requires.place in
+    omega (arith, room.0, c.self.invariant.0, c.self.inside.entries.ok.0)
+
+pub push_reserved-requires-2 : goal.push_reserved-requires-2
+push_reserved-requires-2 g c =
+    let room = has-room c.self.inside.tenant c.self.inside.places c.self.inside.entries.items c.self.inside.longs.items c.args.self.now c.self.view_is c.self.invariant.2 c.requires.place in
+    omega (arith, room.1, c.self.invariant.1, c.self.inside.longs.ok.0)
+
+pub invariant_of-self : goal.invariant_of-self
+invariant_of-self g c =
+    let more = long_count-more Long c.self.inside.entries.items in
+    let same = ap long_count c.push_reserved.ensures.items in
+    let added = ap length c.push_reserved-2.ensures.items in
+    let one = length-append c.self.inside.longs.items (c.of.result ∷ []) in
+    (omega (arith, c.self.invariant.0, c.push_reserved.ensures.capacity), omega (arith, c.self.invariant.1, c.push_reserved-2.ensures.capacity), omega (arith, same, more, added, one, c.self.invariant.2))
+
+pub returns : goal.returns
+returns g c =
+    written-long c.self.inside.tenant c.self.inside.places c.self.inside.entries.items c.push_reserved.new.self.items c.of.result c.self.inside.longs.items c.push_reserved-2.new.self.items c.args.self.now c.args.step.now c.self.view_is c.self.invariant.2 c.push_reserved.ensures.items c.push_reserved-2.ensures.items
+    (rw c.requires.own at c.of.ensures)
