@@ -163,15 +163,15 @@ impl<L: Hands> Desk<L> {
             unreachable!()
         }
         let mut kept = self.enter(rt);
-        let did = kept.offer(badge, step)?;
+        let answer = kept.offer(badge, step);
         let has_sleepers = kept.has_sleepers();
         drop(kept);
-        match Ends::of(&did) {
+        match Ends::of(&answer) {
             Ends::InReady if has_sleepers => self.ready.notify_one(),
             Ends::InReady | Ends::Nothing => {}
             Ends::Job => self.ended.notify_all(),
         }
-        Ok(did)
+        answer
     }
 
     /// Some frame that is ready, with its home (a worker's number, or 0 for the hall). Waits until

@@ -65,11 +65,11 @@ pub(crate) enum Ends {
 }
 
 impl Ends {
-    /// What a taken step of a worker changed.
-    pub(crate) fn of(did: &Did<Jamboree>) -> Ends {
-        match did {
-            DidOf::Spawned(_) | DidOf::TakenIn(Some(_), _) => Ends::InReady,
-            DidOf::Finished(_) | DidOf::Spent(_) => Ends::Job,
+    /// What a worker's step changed that was answered so.
+    pub(crate) fn of(answer: &Result<Did<Jamboree>, Refusal>) -> Ends {
+        match answer {
+            Ok(DidOf::Spawned(_)) | Ok(DidOf::TakenIn(Some(_), _)) => Ends::InReady,
+            Ok(DidOf::Finished(_)) | Ok(DidOf::Spent(_)) => Ends::Job,
             _ => Ends::Nothing,
         }
     }
@@ -112,17 +112,12 @@ impl<L: Hands> Kept<L> {
         ensures memory { result ≢ Err OutOfMemory }
     {
         let Kept { hall, book, .. } = self;
-        match hall.offer(step) {
-            Ok(did) => {
-                book.add(mine, 1);
-                book.audit(mine);
-                Ok(did)
-            }
-            Err(refusal) => {
-                book.audit(mine);
-                Err(refusal)
-            }
+        let answer = hall.offer(step);
+        if answer.is_ok() {
+            book.add(mine, 1);
         }
+        book.audit(mine);
+        answer
     }
 
     /// Admits a tenant under the number after the greatest so far.
@@ -219,9 +214,11 @@ impl<L: Hands> Kept<L> {
         ensures closed { self.new.closed ≡ self.old.closed }
         ensures memory { result ≢ Err OutOfMemory }
     {
-        let did = self.take(&mut badge.mine, step)?;
-        badge.steps += 1;
-        Ok(did)
+        let answer = self.take(&mut badge.mine, step);
+        if answer.is_ok() {
+            badge.steps += 1;
+        }
+        answer
     }
 
     /// What became of a seat's job.

@@ -39,7 +39,7 @@ use Rattle.hall.specs.Halls.{HallOf, empty_hall, hall_after, Explains, IsExplain
 use Rattle.hall.proofs.Lists.{none-there, step-own, step-other, step-length, step-total, step-rising, step-upto, step-begun, without-own, without-other, without-length, without-total, without-rising, without-upto, without-begun, push-own, push-other, push-total, push-rising, push-upto, push-begun, total-within, found-at, at-read, at-removed}
 use Rattle.hall.proofs.Using.{step-used, serial-given, journal-reserves, journal-short, journal-shaped}
 
-abbrev Step : Type 0
+abbrev pub Step : Type 0
 Step = StepOf LeafAnswer
 
 -- a hall where nobody was yet

@@ -174,14 +174,12 @@ impl<A: Allocator> Hall<A> {
         ensures count { OnOk result (count_of self.new ≡ count_of self.old + 1) }
         ensures memory { result ≢ Err OutOfMemory }
     {
-        match self.core.step(step) {
-            Ok(did) => {
-                write(&self.guesses, &mut self.journals, number, step);
-                self.count += 1;
-                Ok(did)
-            }
-            Err(refusal) => Err(refusal),
+        let answer = self.core.step(step);
+        if answer.is_ok() {
+            write(&self.guesses, &mut self.journals, number, step);
+            self.count += 1;
         }
+        answer
     }
 
     /// Lets a tenant go, and its journal with it.

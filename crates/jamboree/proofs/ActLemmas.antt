@@ -1,8 +1,7 @@
 -- Acts and their windows.
-use Rattle.std.specs.Prelude.{◌≡◌, ℕ, ◌<◌, ◌^◌, ◌==◌, ◌&&◌, nat_lt, nat_le, Bool, true, false, ℤ, pos, negsuc, neg_ℤ, ◌+ℤ◌, ◌-ℤ◌, ◌≤ℤ◌, ◌<ℤ◌, List, length, slice_index, slice_index_or, slice_get, unwrap_or, Option, Some, bit_and, refl}
-use Rattle.std.specs.Int.{int_max}
-use Rattle.std.proofs.Common.{to_z, of_z, w32, sym, ◌∙◌, ap, subst, arith}
-use Rattle.std.proofs.lemmas.Int.{ints, clamps}
+use Rattle.std.specs.Prelude.{◌≡◌, ℕ, ◌<◌, ◌^◌, ◌==◌, ◌&&◌, nat_lt, nat_le, Bool, true, false, ℤ, pos, negsuc, neg_ℤ, ◌+ℤ◌, ◌-ℤ◌, ◌≤ℤ◌, List, length, slice_index, slice_index_or, slice_get, unwrap_or, Option, Some, bit_and, refl}
+use Rattle.std.proofs.Common.{to_z, of_z, w32, sym, ◌∙◌, ap, arith}
+use Rattle.std.proofs.lemmas.Int.{ints}
 use Rattle.std.proofs.lemmas.Bool.{eq-eqb}
 use Rattle.std.proofs.lemmas.Option.{unwrap_or-slice_get}
 use Rattle.othello_board.specs.declared.cells.Cell.{Cell}
@@ -15,26 +14,39 @@ use Rattle.sched_rules.specs.declared.act.Then.{Then}
 use Rattle.jamboree_rules.specs.Frames.{Frame, board, choice_at, own_word, opp_word}
 use Rattle.jamboree_rules.specs.Acts.{spawns, opening_on, first_search, tests, tests_from, act_by, act_of}
 use Rattle.jamboree_rules.proofs.BoardWords.{own-is, opp-is}
+use Rattle.jamboree.specs.declared.frame.View.{View}
 
--- windows in 32 bits
-pub wide : (s : ℤ) → negsuc 999999 ≤ℤ s → s ≤ℤ pos 1000000 → to_z w32 (of_z w32 s) ≡ s
-wide s low high = omega (arith, ints)
+-- what a call says of a score: whose it is, and its range
+abbrev pub IsScore : (most r s : ℤ) → Type 0
+IsScore most r s = record { value : r ≡ s; low : negsuc 199999 ≤ℤ r; high : r ≤ℤ most }
 
-pub floor-high : (r alpha beta best : ℤ) → r ≡ int_max (to_z w32 (of_z w32 alpha)) (to_z w32 (of_z w32 best)) → negsuc 199999 ≤ℤ alpha → alpha <ℤ beta → beta ≤ℤ pos 200000 → negsuc 999999 ≤ℤ best → best ≤ℤ pos 200000 →
-    to_z w32 (of_z w32 r) ≤ℤ pos 200000
-floor-high r alpha beta best is least window high low top =
-    let ea : to_z w32 (of_z w32 alpha) ≡ alpha = wide alpha (omega (arith, ints)) (omega (arith, ints)) in
-    let eb : to_z w32 (of_z w32 best) ≡ best = wide best low (omega (arith, ints)) in
-    let same : r ≡ int_max alpha best = is ∙ ap (λ (x : ℤ). int_max x (to_z w32 (of_z w32 best))) ea ∙ ap (λ (x : ℤ). int_max alpha x) eb in
-    let most : int_max alpha best ≤ℤ pos 200000 = omega (arith, ints, clamps) in
-    let back : to_z w32 (of_z w32 (int_max alpha best)) ≡ int_max alpha best = wide (int_max alpha best) (omega (arith, ints, clamps)) (omega (arith, ints, clamps)) in
-    subst (λ (x : ℤ). to_z w32 (of_z w32 x) ≤ℤ pos 200000) (sym same) (subst (λ (x : ℤ). x ≤ℤ pos 200000) (sym back) most)
+-- a child's score is itself in 32 bits
+pub seen-wide : (r s : ℤ) → IsScore (pos 1000000) r s → to_z w32 (of_z w32 r) ≡ s
+seen-wide r s seen = omega (arith, ints)
 
-pub negated : (b : ℤ) → negsuc 200000 ≤ℤ b → b ≤ℤ pos 200001 → to_z w32 (of_z w32 (pos 0 -ℤ to_z w32 (of_z w32 b))) ≡ neg_ℤ b
-negated b low high = omega (arith, ints)
+-- a frame's floor, too
+pub floor-wide : (r s : ℤ) → IsScore (pos 200000) r s → to_z w32 (of_z w32 r) ≡ s
+floor-wide r s floor = omega (arith, ints)
 
-pub negated-more : (b : ℤ) → negsuc 199999 ≤ℤ b → b ≤ℤ pos 200000 → to_z w32 (of_z w32 (pos 0 -ℤ to_z w32 (of_z w32 (to_z w32 (of_z w32 b) +ℤ pos 1)))) ≡ neg_ℤ (b +ℤ pos 1)
-negated-more b low high = omega (arith, ints)
+-- and its beta
+pub beta-wide : (v : View) → to_z w32 (of_z w32 v.beta) ≡ v.beta
+beta-wide v = omega (arith, ints)
+
+-- minus a frame's alpha, in 32 bits
+pub negated-alpha : (v : View) → to_z w32 (of_z w32 (pos 0 -ℤ to_z w32 (of_z w32 v.alpha))) ≡ neg_ℤ v.alpha
+negated-alpha v = omega (arith, ints)
+
+-- minus its beta
+pub negated-beta : (v : View) → to_z w32 (of_z w32 (pos 0 -ℤ to_z w32 (of_z w32 v.beta))) ≡ neg_ℤ v.beta
+negated-beta v = omega (arith, ints)
+
+-- minus its floor
+pub negated-floor : (r s : ℤ) → IsScore (pos 200000) r s → to_z w32 (of_z w32 (pos 0 -ℤ to_z w32 (of_z w32 r))) ≡ neg_ℤ s
+negated-floor r s floor = omega (arith, ints)
+
+-- minus one more than its floor
+pub negated-more : (r s : ℤ) → IsScore (pos 200000) r s → to_z w32 (of_z w32 (pos 0 -ℤ to_z w32 (of_z w32 (to_z w32 (of_z w32 r) +ℤ pos 1)))) ≡ neg_ℤ (s +ℤ pos 1)
+negated-more r s floor = omega (arith, ints)
 
 -- an act by its parts
 pub act-by : (stores stores' : List (ℕ × ℕ)) (after after' : Then) → stores ≡ stores' → after ≡ after' → ◌≡◌ {A = Act} (record { stores = stores; after = after }) (record { stores = stores'; after = after' })

@@ -4,7 +4,7 @@ use Rattle.std.proofs.Common.{sym, ◌∙◌, ap, subst}
 use Rattle.sched_rules.specs.declared.act.Act.{Act}
 use Rattle.sched_rules.specs.declared.act.InletAct.{InletAct}
 use Rattle.jamboree_rules.specs.Frames.{Frame, floor, may_be_child}
-use Rattle.jamboree_rules.specs.Places.{frame_of, is_formed, is_placed, Change, pairs_of}
+use Rattle.jamboree_rules.specs.Places.{frame_of, is_formed, Change, pairs_of}
 use Rattle.sched_rules.specs.Laws.{AllFit}
 use Rattle.jamboree_rules.specs.Fits.{AreFitting}
 use Rattle.jamboree_rules.specs.Acts.{returns, act_of, next_act, wakes, seen, changes_by, inlet_of, inlet_act}
@@ -20,11 +20,13 @@ pub no-levels : (grain : ℕ) (levels : List (List ℕ)) → None ≡ slice_get 
 no-levels grain [] e = refl
 no-levels grain (w ∷ levels) e = absurd (cc)
 
--- the act of a frame under a parent of these words, where it has the form
-pub act-under-none : (grain : ℕ) (own : List ℕ) (f : Frame) (act : Act) → is_formed own ≡ true → f ≡ frame_of own → act ≡ (if is_placed own [] then act_of grain f None else returns) → act ≡ next_act grain (own ∷ [])
-act-under-none grain own f act formed is e =
-    e ∙ ap (λ (g : Frame). if is_placed own [] then act_of grain g None else returns) is
-    ∙ ap (λ (b : Bool). if b && is_placed own [] then act_of grain (frame_of own) None else returns) (sym formed)
+-- what follows a test of a frame, where its words have the form
+pub by-form : {X : Type 0} (w : List ℕ) (f : Frame) (p : Frame → Bool) (g : Frame → X) (x other : X) → is_formed w ≡ true → f ≡ frame_of w → x ≡ (if p f then g f else other) → x ≡ (if is_formed w && p (frame_of w) then g (frame_of w) else other)
+by-form w f p g x other formed is e = e ∙ ap (λ (f : Frame). if p f then g f else other) is ∙ ap (λ (b : Bool). if b && p (frame_of w) then g (frame_of w) else other) (sym formed)
+
+-- the act of a frame under no parent, where it has the form
+pub act-under-none : (grain : ℕ) (own : List ℕ) (f : Frame) (act : Act) → is_formed own ≡ true → f ≡ frame_of own → act ≡ (if f.role == 0 then act_of grain f None else returns) → act ≡ next_act grain (own ∷ [])
+act-under-none grain own f act = by-form own f (λ g. g.role == 0) (λ g. act_of grain g None) act returns
 
 -- an inlet doesn't ask for statuses
 changes-with : (cuts test low higher : Bool) (f c : Frame) (xs ys : List ℕ) → changes_by cuts test low higher f c ≡ changes_by cuts test low higher (record f { statuses = xs }) (record c { statuses = ys })
@@ -45,9 +47,7 @@ inlet-with f c xs ys =
 -- the inlet of words of the form
 pub inlet-under : (own child : List ℕ) (f : Frame) (act : InletAct) → is_formed own ≡ true → f ≡ frame_of own →
     act ≡ (if is_formed child && may_be_child f (frame_of child) then inlet_of f (frame_of child) else wakes) → act ≡ inlet_act own child
-inlet-under own child f act formed is e =
-    e ∙ ap (λ (g : Frame). if is_formed child && may_be_child g (frame_of child) then inlet_of g (frame_of child) else wakes) is
-    ∙ ap (λ (b : Bool). if b && (is_formed child && may_be_child (frame_of own) (frame_of child)) then inlet_of (frame_of own) (frame_of child) else wakes) (sym formed)
+inlet-under own child f act = by-form own f (λ g. is_formed child && may_be_child g (frame_of child)) (λ g. inlet_of g (frame_of child)) act wakes
 
 -- the levels of frames that fit have the form
 pub first-formed : (levels : List (List ℕ)) (own : List ℕ) → AllFit AreFitting levels → Some own ≡ slice_get levels 0 → is_formed own ≡ true
@@ -63,14 +63,10 @@ second-formed (w ∷ above ∷ levels) parent fit e = subst (λ (o : Option (Lis
 pub act-by-form : (grain : ℕ) (own above : List ℕ) (f q : Frame) (act : Act) → is_formed own ≡ true → is_formed above ≡ true → f ≡ frame_of own → q ≡ frame_of above →
     act ≡ (if may_be_child q f then act_of grain f (Some q) else returns) → act ≡ next_act grain (own ∷ above ∷ [])
 act-by-form grain own above f q act formed formed_above is is_above e =
-    e ∙ ap (λ (g : Frame). if may_be_child q g then act_of grain g (Some q) else returns) is
-    ∙ ap (λ (p : Frame). if may_be_child p (frame_of own) then act_of grain (frame_of own) (Some p) else returns) is_above
-    ∙ ap (λ (b : Bool). if b && may_be_child (frame_of above) (frame_of own) then act_of grain (frame_of own) (Some (frame_of above)) else returns) (sym formed_above)
-    ∙ ap (λ (b : Bool). if b && is_placed own (above ∷ []) then act_of grain (frame_of own) (Some (frame_of above)) else returns) (sym formed)
+    by-form own f (λ g. is_formed above && may_be_child (frame_of above) g) (λ g. act_of grain g (Some (frame_of above))) act returns formed is
+    (by-form above q (λ p. may_be_child p f) (λ p. act_of grain f (Some p)) act returns formed_above is_above e)
 
 pub inlet-by-form : (own child : List ℕ) (f c : Frame) (act : InletAct) → is_formed own ≡ true → is_formed child ≡ true → f ≡ frame_of own → c ≡ frame_of child →
     act ≡ (if may_be_child f c then inlet_of f c else wakes) → act ≡ inlet_act own child
 inlet-by-form own child f c act formed formed_child is is_child e =
-    inlet-under own child f act formed is
-    (e ∙ ap (λ (d : Frame). if may_be_child f d then inlet_of f d else wakes) is_child
-    ∙ ap (λ (b : Bool). if b && may_be_child f (frame_of child) then inlet_of f (frame_of child) else wakes) (sym formed_child))
+    inlet-under own child f act formed is (by-form child c (may_be_child f) (inlet_of f) act wakes formed_child is_child e)

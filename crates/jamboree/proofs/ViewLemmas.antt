@@ -113,15 +113,18 @@ formed-parts w h e formed =
 pub frame-is : (w : List ℕ) (h : Head) (statuses : List ℕ) → h ≡ head_of w → statuses ≡ map status_of (drop 12 w) → frame_from h statuses ≡ frame_of w
 frame-is w h statuses e s = rw (e, s) refl
 
--- the scores of words in 32 bits
-pub wide-low : (w : ℕ) (s : ℤ) → s ≡ score_of w → 800000 ≤ w → w ≤ 1200000 → negsuc 199999 ≤ℤ to_z w32 (of_z w32 s)
-wide-low w s e low high = omega (arith, ints)
+-- the scores of a head in 32 bits
+pub alpha-low : (h : Head) (s : ℤ) → AreRanged h → s ≡ score_of h.alpha → negsuc 199999 ≤ℤ to_z w32 (of_z w32 s)
+alpha-low h s r e = omega (arith, ints)
 
-pub wide-high : (w : ℕ) (s : ℤ) → s ≡ score_of w → w ≤ 1200000 → to_z w32 (of_z w32 s) ≤ℤ pos 200000
-wide-high w s e high = omega (arith, ints)
+pub below-beta : (h : Head) (s t : ℤ) → AreRanged h → s ≡ score_of h.alpha → t ≡ score_of h.beta → to_z w32 (of_z w32 s) <ℤ to_z w32 (of_z w32 t)
+below-beta h s t r es et = omega (arith, ints)
 
-pub wide-least : (w : ℕ) (s : ℤ) → s ≡ score_of w → w ≤ 1200000 → negsuc 999999 ≤ℤ to_z w32 (of_z w32 s)
-wide-least w s e high = omega (arith, ints)
+pub beta-high : (h : Head) (s : ℤ) → AreRanged h → s ≡ score_of h.beta → to_z w32 (of_z w32 s) ≤ℤ pos 200000
+beta-high h s r e = omega (arith, ints)
 
-pub wide-window : (v w : ℕ) (s t : ℤ) → s ≡ score_of v → t ≡ score_of w → v < w → v ≤ 1200000 → w ≤ 1200000 → to_z w32 (of_z w32 s) <ℤ to_z w32 (of_z w32 t)
-wide-window v w s t es et below hv hw = omega (arith, ints)
+pub best-low : (h : Head) (s : ℤ) → AreRanged h → s ≡ score_of h.best → negsuc 999999 ≤ℤ to_z w32 (of_z w32 s)
+best-low h s r e = omega (arith, ints)
+
+pub best-high : (h : Head) (s : ℤ) → AreRanged h → s ≡ score_of h.best → to_z w32 (of_z w32 s) ≤ℤ pos 200000
+best-high h s r e = omega (arith, ints)

@@ -1,6 +1,6 @@
 -- An act, done: the stores, and then what comes after them.
-use Rattle.std.proofs.Common.{◌≡◌, ℕ, ◌+◌, ◌==◌, Bool, true, false, List, [], ◌∷◌, Option, Some, None, Ok, refl, sym, ◌∙◌, ap, arith}
-use Rattle.std.specs.Prelude.{◌||◌, length}
+use Rattle.std.proofs.Common.{◌≡◌, ℕ, ◌+◌, ◌==◌, Bool, true, false, List, [], ◌∷◌, Option, Some, None, Ok, refl, ◌∙◌, ap, arith}
+use Rattle.std.specs.Prelude.{◌||◌, length, IsSome}
 use Rattle.std.proofs.lemmas.Bool.Decides.{nat_tests}
 use Rattle.cactus_stack.specs.Nodes.{charge}
 use Rattle.frame_table.specs.declared.names.FrameId.{FrameId}
@@ -9,19 +9,24 @@ use Rattle.frame_table.proofs.TreeLaws.{tree-rising}
 use Rattle.sched_rules.specs.declared.act.Act.{Act}
 use Rattle.sched_rules.specs.declared.act.Then.{Then}
 use Rattle.sched_rules.specs.declared.act.Then.TheVariants.{Grow, Spawn, Go, Wait, Compute, Return}
-use Rattle.sched_rules.specs.declared.step.StepOf.{StepOf}
+use Rattle.sched_rules.specs.declared.step.StepOf.TheVariants.{Advance}
 use Rattle.sched_rules.specs.declared.step.DidOf.{DidOf}
 use Rattle.sched_rules.specs.Functions.{Functions}
-use Rattle.sched_rules.specs.Trees.{Tenant, has_child, stored, with_words, charged_for, is_outside}
-use Rattle.sched_rules.specs.Lone.{Outcome, advance_tests, holding, counted, is_bad_then, segments_for}
-use Rattle.sched_rules.specs.Cores.{Shared, with_tenant, without_tenant, with_outcome, judged, shared_with}
-use Rattle.sched_laws.specs.Shapes.{IsShaped}
+use Rattle.sched_rules.specs.Trees.{Tenant, has_child, stored, with_words, charged_for, is_outside, is_root}
+use Rattle.sched_rules.specs.Lone.{holding, counted, is_bad_then, segments_for, then_done}
+use Rattle.sched_rules.specs.Changes.{on_tenant}
+use Rattle.sched_rules.specs.Views.{named}
+use Rattle.sched_rules.specs.Cores.{Shared, with_tenant, without_tenant, with_outcome}
+use Rattle.sched_laws.specs.Shapes.{IsShaped, AreShaped}
+use Rattle.sched_laws.proofs.Answers.{shaped-in}
 use Rattle.sched_laws.proofs.Words.{length-stored, children_of-with_words, length-with_words, charged-with_words}
+use Rattle.sched_store.specs.Reads.{HasStepLeft, words_under}
 use Rattle.sched_core.specs.Seeing.{GoesOn}
 use Rattle.sched_core.specs.Judging.{IsJudged, IsCome}
 use Rattle.sched_core.proofs.Deciding.{seen-serial}
-use Rattle.sched_core.proofs.Going.{IsWith, AllPass, with_tenant-twice}
-use Rattle.sched_core.proofs.Acting.{not-false, held-found}
+use Rattle.sched_core.proofs.Going.{IsWith, with_tenant-twice, begins, then-changed, step-left}
+use Rattle.sched_core.proofs.Ending.{named-words}
+use Rattle.sched_core.proofs.Acting.{IsSetOut, not-false, held-found}
 
 without-with : (n : ℕ) (t : Tenant) (es : List (ℕ × Tenant)) → without_tenant n (with_tenant n t es) ≡ without_tenant n es
 without-with n t [] = grind (arith, nat_tests)
@@ -35,23 +40,12 @@ outcome-with : (n : ℕ) (t : Tenant) (outcome : Option Tenant) (es : List (ℕ 
 outcome-with n t None es = without-with n t es
 outcome-with n t (Some other) es = with_tenant-twice n t other es
 
--- a step that first changed its tenant and then came to this
-pub come-on : {I A : Type 0} (functions : Functions I A) (before : Shared) (step : StepOf A) (number : ℕ) (tenant : Tenant) (now : Shared) (outcome : Outcome I) (did : DidOf I) (after : Shared) →
-    IsWith before number tenant now → IsCome number outcome now did after → judged functions before step ≡ Ok outcome →
-    ((own : Option Tenant) → shared_with before step own ≡ record before { tenants = with_outcome number own before.tenants }) →
-    IsJudged functions before step (Ok did) after
-come-on functions before step number tenant now outcome did after is come among at =
-    record {
-      told = rw (among, come.told) refl;
-      left = come.left ∙ rw (is.is, outcome-with number tenant outcome.0 before.tenants, among) (sym (at outcome.0));
-    }
-
 -- an act that can't be done is one whose stores or whose rest can't
 act-can : (outside rest : Bool) → (outside || rest) ≡ false → rest ≡ false
 act-can true rest is = absurd cc
 act-can false rest is = is
 
-pub act-inside : (outside rest : Bool) → (outside || rest) ≡ false → outside ≡ false
+act-inside : (outside rest : Bool) → (outside || rest) ≡ false → outside ≡ false
 act-inside true rest is = absurd cc
 act-inside false rest is = refl
 
@@ -79,22 +73,56 @@ charged-as serial words tenant frame shape found same =
     cancel : (a b c : ℕ) → a + c ≡ b + c → a ≡ b
     cancel a b c e = omega arith
 
--- after the stores and the count of the step, the frame goes on
-pub goes-on : (shared now : Shared) (name : FrameId) (worker : ℕ) (act : Act) (tenant : Tenant) (frame : Frame (List ℕ)) →
-    IsShaped tenant → frame_at tenant.frames name.serial ≡ Some frame → AllPass (advance_tests tenant worker frame act) →
-    IsWith shared name.tenant (counted (holding name.serial (stored act.stores frame.value) tenant)) now →
-    GoesOn now name worker act.after (counted (holding name.serial (stored act.stores frame.value) tenant)) (record frame { value = stored act.stores frame.value })
-goes-on shared now name worker act tenant frame shape found passes is =
-    let words = stored act.stores frame.value in
-    let same : length words ≡ length frame.value = length-stored act.stores frame.value in
-    let serial = seen-serial tenant.frames name.serial frame found in
-    let can : is_bad_then (length frame.value) (has_child tenant.frames frame.serial) act.after ≡ false = act-can (is_outside act.stores frame.value) _ passes.1.1.0 in
-    let can' : is_bad_then (length frame.value) (has_child tenant.frames name.serial) act.after ≡ false = rw serial at can in
-    record {
-      owner = is.there;
-      found = held-found name words tenant frame found;
-      runs = not-false _ passes.0;
-      can = rw (same, child-as name.serial words tenant shape) can';
-      node = passes.1.1.1.0;
-      segments = rw (segments-as frame words act.after same, charged-as name.serial words tenant frame shape found same) passes.1.1.1.1.0;
-    }
+-- an act that may be done: the step is counted, and then the stores are done
+module _ {I A : Type 0} {functions : Functions I A} {shared : Shared} {worker : ℕ} {name : FrameId} {tenant : Tenant} {frame : Frame (List ℕ)} {act : Act} (t : IsSetOut functions shared worker name tenant frame act) where
+  -- a step is left to it
+  pub set-left : HasStepLeft shared name.tenant
+  set-left = step-left _ _ _ _ (begins shared name.tenant tenant t.owner) t.passes.1.0
+
+  module _ {now : Shared} (is : now ≡ on_tenant name.tenant counted shared) where
+    -- the tenant with the step counted
+    counted-is : IsWith shared name.tenant (counted tenant) now
+    counted-is = then-changed _ _ _ shared now counted (begins shared name.tenant tenant t.owner) is
+
+    -- its frame has the same words after the count
+    own-words : words_under now name ≡ frame.value
+    own-words = named-words now name (counted tenant) frame counted-is.there t.found
+
+    -- and is still there
+    pub counted-there : IsSome (named now name)
+    counted-there = rw (counted-is.there, t.found) refl
+
+    -- no store is outside it
+    pub counted-inside : is_outside act.stores (words_under now name) ≡ false
+    counted-inside = rw own-words (act-inside (is_outside act.stores frame.value) _ t.passes.1.1.0)
+
+    module _ {next : Shared} (stores : next ≡ on_tenant name.tenant (holding name.serial (stored act.stores (words_under now name))) now) (shaped : AreShaped shared.tenants) where
+      -- and with the stores
+      stored-is : IsWith shared name.tenant (counted (holding name.serial (stored act.stores frame.value) tenant)) next
+      stored-is = then-changed _ _ _ now next (holding name.serial (stored act.stores frame.value)) counted-is (rw own-words at stores)
+
+      -- after the stores the frame goes on
+      pub goes-on : GoesOn next name worker act.after (counted (holding name.serial (stored act.stores frame.value) tenant)) (record frame { value = stored act.stores frame.value })
+      goes-on =
+          let words = stored act.stores frame.value in
+          let shape = shaped-in name.tenant shared.tenants tenant shaped t.owner in
+          let same : length words ≡ length frame.value = length-stored act.stores frame.value in
+          let can : is_bad_then (length frame.value) (has_child tenant.frames frame.serial) act.after ≡ false = act-can (is_outside act.stores frame.value) _ t.passes.1.1.0 in
+          let can' : is_bad_then (length frame.value) (has_child tenant.frames name.serial) act.after ≡ false = rw (seen-serial tenant.frames name.serial frame t.found) at can in
+          record {
+            owner = stored-is.there;
+            found = held-found name words tenant frame t.found;
+            runs = not-false _ t.passes.0;
+            can = rw (same, child-as name.serial words tenant shape) can';
+            node = t.passes.1.1.1.0;
+            segments = rw (segments-as frame words act.after same, charged-as name.serial words tenant frame shape t.found same) t.passes.1.1.1.1.0;
+          }
+
+      -- which is judged by what comes of that
+      pub judged-advance : {root : Bool} {did : DidOf I} {after : Shared} → root ≡ is_root frame.path →
+          ((before : Tenant) (going : Frame (List ℕ)) → GoesOn next name worker act.after before going → root ≡ is_root going.path →
+          IsCome name.tenant (then_done functions before worker name going.path going.value act.after) next did after) → IsJudged functions shared (Advance worker name) (Ok did) after
+      judged-advance root came =
+          let come = came _ _ goes-on root in
+          let among = rw (seen-serial tenant.frames name.serial frame t.found) at t.among in
+          record { told = rw (among, come.told) refl; left = come.left ∙ rw (stored-is.is, outcome-with name.tenant _ _ shared.tenants, among) refl }

@@ -1,6 +1,6 @@
 -- A returned frame is taken in by its parent.
 use Rattle.std.proofs.Common.{◌≡◌, ◌≢◌, ℕ, ◌<◌, ◌==◌, Bool, true, false, List, [], ◌∷◌, Option, Some, None, Result, Ok, Err, refl, sym, ◌∙◌, ap, arith}
-use Rattle.std.specs.Prelude.{◌||◌, ◌&&◌, not}
+use Rattle.std.specs.Prelude.{◌||◌, ◌&&◌, not, IsSome, if◌then◌else◌}
 use Rattle.std.proofs.lemmas.Bool.Decides.{nat_tests}
 use Rattle.std.proofs.lemmas.Bool.{eq-eqb}
 use Rattle.frame_table.specs.declared.names.FrameId.{FrameId}
@@ -14,24 +14,24 @@ use Rattle.sched_rules.specs.declared.refusal.Refusal.{Refusal}
 use Rattle.sched_rules.specs.declared.refusal.Refusal.TheVariants.{NoTenant, NoFrame, NotReturned, BadAct, Busy}
 use Rattle.sched_rules.specs.declared.act.InletAct.{InletAct}
 use Rattle.sched_rules.specs.declared.step.StepOf.TheVariants.{Inlet}
-use Rattle.sched_rules.specs.declared.step.DidOf.{DidOf}
 use Rattle.sched_rules.specs.declared.step.DidOf.TheVariants.{TakenIn}
 use Rattle.sched_rules.specs.Functions.{Functions}
-use Rattle.sched_rules.specs.Trees.{Tenant, words_in, is_outside, has_child, stored}
-use Rattle.sched_rules.specs.Lone.{Outcome, unless, lone, refusal_in, inlet_tests, taken_in, staying, aborted_beside, does_wait, is_returned, holding, counted, in_state}
+use Rattle.sched_rules.specs.Trees.{Tenant, Tree, words_in, is_outside, has_child, stored}
+use Rattle.sched_rules.specs.Lone.{Outcome, unless, lone, refusal_in, inlet_tests, taken_in, staying, aborted_beside, does_wait, is_waiting, is_returned, holding, counted, in_state}
 use Rattle.sched_rules.specs.Changes.{on_tenant}
 use Rattle.sched_rules.specs.Views.{named}
 use Rattle.sched_rules.specs.Cores.{Shared, tenant_in, is_busy_elsewhere, unless_busy, judged, shared_refusal}
-use Rattle.sched_laws.specs.Shapes.{IsShaped, AreShaped}
+use Rattle.sched_laws.specs.Shapes.{AreShaped}
 use Rattle.sched_laws.proofs.Answers.{shaped-in}
 use Rattle.sched_laws.proofs.Consequences.{returned-leaf}
-use Rattle.sched_store.specs.Reads.{is_busy_among, AreRising, words_under}
+use Rattle.sched_store.specs.Reads.{is_busy_among, AreRising, words_under, frames_in, HasStepLeft}
 use Rattle.sched_core.specs.declared.engine.Seen.{Seen}
 use Rattle.sched_core.specs.Seeing.{MayBeTakenIn, IsReturnedUnder}
-use Rattle.sched_core.specs.Judging.{staying_with}
+use Rattle.sched_core.specs.Judging.{IsJudged, staying_with}
 use Rattle.sched_core.proofs.Deciding.{some-is}
 use Rattle.sched_core.proofs.Parents.{inlet-told}
-use Rattle.sched_core.proofs.Going.{AllPass, all-pass, IsWith, begins, then-changed}
+use Rattle.sched_core.proofs.Going.{AllPass, all-pass, IsWith, begins, then-changed, step-left}
+use Rattle.sched_core.proofs.Acting.{not-false, held-at}
 
 -- what an inlet that is taken comes to
 pub record IsInlet {I A : Type 0} (functions : Functions I A) (shared : Shared) (worker : ℕ) (name : FrameId) : Type 0 where
@@ -119,21 +119,17 @@ has-returned (Computing worker) is = absurd cc
 has-returned Waiting is = absurd cc
 has-returned Returned is = refl
 
-not-false : (b : Bool) → not b ≡ false → b ≡ true
-not-false true is = refl
-not-false false is = absurd cc
-
 -- it may be taken in
-pub may-be-taken-in : {I A : Type 0} (functions : Functions I A) (shared : Shared) (worker : ℕ) (name above : FrameId) (tenant : Tenant) (frame : Frame (List ℕ)) (act : InletAct) →
-    IsTakingIn functions shared worker name above tenant frame act → IsShaped tenant → MayBeTakenIn shared name above tenant frame
-may-be-taken-in functions shared worker name above tenant frame act t shape =
+pub may-be-taken-in : {I A : Type 0} {functions : Functions I A} {shared : Shared} {worker : ℕ} {name above : FrameId} {tenant : Tenant} {frame : Frame (List ℕ)} {act : InletAct} →
+    IsTakingIn functions shared worker name above tenant frame act → AreShaped shared.tenants → MayBeTakenIn shared name above tenant frame
+may-be-taken-in {shared = shared} {name = name} {tenant = tenant} {frame = frame} t shaped =
+    let shape = shaped-in name.tenant shared.tenants tenant shaped t.owner in
     let returned = has-returned frame.state (not-false (is_returned frame.state) t.passes.0) in
-    let serial : above.serial ≡ t.parent = ap (λ n. n.serial) t.is in
     record {
       owner = t.owner;
       found = t.found;
       tree = shape.tree;
-      under = rw serial t.path;
+      under = rw t.is t.path;
       same = ap (λ n. n.tenant) t.is;
       leaf = returned-leaf tenant name.serial frame shape t.found returned;
     }
@@ -145,10 +141,6 @@ other p c low is = omega (arith, low, is)
 pub parent-found : (frames : List (Frame (List ℕ))) (child parent : ℕ) (frame : Frame (List ℕ)) → IsTree frames → frame_at frames child ≡ Some frame → parent_of frame.path ≡ Some parent →
     (above : Frame (List ℕ)) × (frame_at frames parent ≡ Some above)
 parent-found frames child parent frame tree found path = there-found frames parent (under-there frames child parent frame tree found path)
-
-pub parent-named-so : (shared : Shared) (name above : FrameId) (parent : ℕ) (tenant : Tenant) (frame : Frame (List ℕ)) → above ≡ record { tenant = name.tenant; serial = parent } → tenant_in shared.tenants name.tenant ≡ Some tenant →
-    frame_at tenant.frames parent ≡ Some frame → named shared above ≡ Some frame
-parent-named-so shared name above parent tenant frame is owner found = rw (is, owner, found) refl
 
 pub stays-beside : (frames : List (Frame (List ℕ))) (child parent : ℕ) (frame above : Frame (List ℕ)) → IsTree frames → frame_at frames child ≡ Some frame → parent_of frame.path ≡ Some parent → frame_at frames parent ≡ Some above →
     frame_at (frames_without child frames) parent ≡ Some above
@@ -202,9 +194,6 @@ dropped parent child (frame ∷ frames) each =
       ] refl
     ] refl
 
-some-same : (x y : Frame (List ℕ)) → Some x ≡ Some y → x ≡ y
-some-same x y e = cc
-
 pub aborts-child : (frames : List (Frame (List ℕ))) (child parent : ℕ) (frame : Frame (List ℕ)) → IsTree frames → frame_at frames child ≡ Some frame → parent_of frame.path ≡ Some parent →
     aborted parent (frames_without child frames) ≡ aborted parent frames
 aborts-child frames child parent frame tree found path =
@@ -212,28 +201,62 @@ aborts-child frames child parent frame tree found path =
     let own = found-serial frames serial x at in
     let is : serial ≡ child = grind (arith, nat_tests, own, same) in
     let at_child : frame_at frames child ≡ Some x = rw (← is) at in
-    let one : x ≡ frame = some-same x frame (sym at_child ∙ found) in
+    let one : x ≡ frame = some-is x frame (sym at_child ∙ found) in
     let child_path : is_child_of parent x.path ≡ true = rw (one, path) (eq-eqb parent parent refl) in
     child-under-parent frames parent child x tree at_child child_path))
 
--- what comes of an inlet, by whether the parent is woken
-pub taken-asleep : {I : Type 0} (tenant : Tenant) (worker : ℕ) (name : FrameId) (parent : ℕ) (act : InletAct) →
-    (does_wait (frame_at (staying tenant.frames name.serial parent act.abort) parent) && (act.abort || act.wake || not (has_child (staying tenant.frames name.serial parent act.abort) parent))) ≡ false →
-    ◌≡◌ {A = Outcome I} (taken_in tenant worker name parent act) (
-      Some (counted (holding parent (stored act.stores (words_in (staying tenant.frames name.serial parent act.abort) parent)) (staying_with name.serial parent act.abort tenant))),
-      TakenIn None (aborted_beside tenant.frames name.serial parent act.abort),
-    )
-taken-asleep tenant worker name parent act asleep = rw asleep refl
+-- after that the parent's words are stored, the step is counted, and the parent is woken or not
+module _ {I A : Type 0} {functions : Functions I A} {shared : Shared} {worker : ℕ} {name above : FrameId} {tenant : Tenant} {frame : Frame (List ℕ)} {act : InletAct} {out : Shared}
+    (o : IsTakenOut functions shared worker name above tenant frame act out) where
+  -- the frames that stay
+  abbrev frames : Tree
+  frames = staying tenant.frames name.serial o.takes.parent act.abort
 
-pub taken-awake : {I : Type 0} (tenant : Tenant) (worker : ℕ) (name : FrameId) (parent : ℕ) (act : InletAct) →
-    (does_wait (frame_at (staying tenant.frames name.serial parent act.abort) parent) && (act.abort || act.wake || not (has_child (staying tenant.frames name.serial parent act.abort) parent))) ≡ true →
-    ◌≡◌ {A = Outcome I} (taken_in tenant worker name parent act) (
-      Some (in_state parent (Ready worker) (counted (holding parent (stored act.stores (words_in (staying tenant.frames name.serial parent act.abort) parent)) (staying_with name.serial parent act.abort tenant)))),
-      TakenIn (Some (record name { serial = parent })) (aborted_beside tenant.frames name.serial parent act.abort),
-    )
-taken-awake tenant worker name parent act awake = rw awake refl
+  -- the parent's words with the stores
+  abbrev words : List ℕ
+  words = stored act.stores (words_in frames o.takes.parent)
 
--- which is told by the parent's name
-pub woken-told : {I : Type 0} (name above : FrameId) (parent told gone : ℕ) → above ≡ record { tenant = name.tenant; serial = parent } → told ≡ gone →
-    ◌≡◌ {A = Result (DidOf I) Refusal} (Ok (TakenIn (Some above) told)) (Ok (TakenIn (Some (record name { serial = parent })) gone))
-woken-told name above parent told gone is same = rw (is, same) refl
+  -- the parent is still there
+  pub still-there : IsSome (named out above)
+  still-there = rw (o.takes.is, o.changed.there, o.stays) refl
+
+  -- and no store is outside it
+  pub still-inside : is_outside act.stores (words_under out above) ≡ false
+  still-inside = rw (o.takes.is, o.changed.there, o.stays) (rw o.found at o.takes.passes.1.1.0)
+
+  module _ {next : Shared} (stores : next ≡ on_tenant above.tenant (holding above.serial (stored act.stores (words_under out above))) out) where
+    -- the tenant with the stores
+    stored-is : IsWith shared name.tenant (holding o.takes.parent words (record tenant { frames = frames })) next
+    stored-is = then-changed _ _ _ out next (holding o.takes.parent words) o.changed (rw (o.takes.is, o.changed.there) at stores)
+
+    -- a step is left to it
+    pub stored-left : HasStepLeft next name.tenant
+    stored-left = step-left _ _ _ _ stored-is o.takes.passes.1.0
+
+    module _ {now : Shared} (counts : now ≡ on_tenant name.tenant counted next) where
+      -- and with the step counted
+      counted-is : IsWith shared name.tenant (counted (holding o.takes.parent words (record tenant { frames = frames }))) now
+      counted-is = then-changed _ _ _ next now counted stored-is counts
+
+      -- the parent is still there
+      pub counted-there : IsSome (named now above)
+      counted-there = rw (o.takes.is, counted-is.there, held-at o.takes.parent words (record tenant { frames = frames }) o.parent o.stays) refl
+
+      -- what is answered and left, by whether the parent is woken
+      by-waking : (woken : Bool) {gone : ℕ} {after : Shared} → (does_wait (frame_at frames o.takes.parent) && (act.abort || act.wake || not (has_child frames o.takes.parent))) ≡ woken →
+          gone ≡ aborted_beside tenant.frames name.serial o.takes.parent act.abort → after ≡ (if woken then on_tenant above.tenant (in_state above.serial (Ready worker)) now else now) →
+          IsJudged functions shared (Inlet worker name) (Ok (TakenIn (if woken then Some above else None) gone)) after
+      by-waking false wakes gone stays = record { told = rw (o.takes.among, wakes, gone) refl; left = rw (o.takes.among, wakes) (stays ∙ counted-is.is) }
+      by-waking true wakes gone stays =
+          let ready = then-changed _ _ _ now _ (in_state o.takes.parent (Ready worker)) counted-is (rw o.takes.is at stays) in
+          record { told = rw (o.takes.is, o.takes.among, wakes, gone) refl; left = rw (o.takes.among, wakes) ready.is }
+
+      -- a parent that waited is woken where the inlet says it, or no child is left
+      pub judged-inlet : (woken : Bool) {state : State} {waits : Bool} {gone : ℕ} {after : Shared} → ((parent : Frame (List ℕ)) → named shared above ≡ Some parent → state ≡ parent.state) → waits ≡ is_waiting state →
+          ((before : Tenant) → tenant_in shared.tenants name.tenant ≡ Some before → gone ≡ aborted_beside before.frames name.serial above.serial act.abort) →
+          (waits && (act.abort || act.wake || not (has_child (frames_in out above.tenant) above.serial))) ≡ woken →
+          after ≡ (if woken then on_tenant above.tenant (in_state above.serial (Ready worker)) now else now) →
+          IsJudged functions shared (Inlet worker name) (Ok (TakenIn (if woken then Some above else None) gone)) after
+      judged-inlet woken {waits = waits} seen waiting aborts wakes =
+          let waits_so : waits ≡ does_wait (frame_at frames o.takes.parent) = waiting ∙ ap is_waiting (seen o.parent (rw (o.takes.is, o.takes.owner, o.found) refl)) ∙ rw o.stays refl in
+          by-waking woken (rw (o.takes.is, o.changed.there, waits_so) at wakes) (rw o.takes.is at (aborts tenant o.takes.owner))

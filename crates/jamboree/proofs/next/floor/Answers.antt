@@ -1,6 +1,6 @@
-use Rattle.jamboree.proofs.ActLemmas.{floor-high}
+use Rattle.std.proofs.Common.{arith}
+use Rattle.std.proofs.lemmas.Int.{ints, clamps}
 use Rattle.jamboree.proofs.next.floor.Goals as goal
 
 pub returns-clause-high : goal.returns-clause-high
-returns-clause-high c =
-    let f = c.args.frame.now in floor-high c.max.result f.alpha f.beta f.best c.max.ensures.value f.least f.window f.greatest f.low f.high
+returns-clause-high c = omega (arith, ints, clamps)

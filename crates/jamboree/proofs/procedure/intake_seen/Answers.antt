@@ -3,7 +3,7 @@ use Rattle.jamboree_rules.specs.Frames.{may_be_child}
 use Rattle.jamboree_rules.specs.Places.{frame_of, is_formed}
 use Rattle.jamboree.specs.Intakes.{inlet_for}
 use Rattle.jamboree.specs.Views.{frame_with, statuses_in}
-use Rattle.jamboree.proofs.InletLemmas.{else-by, and-left}
+use Rattle.jamboree.proofs.InletLemmas.{else-first}
 use Rattle.jamboree.proofs.SightLemmas.{inlet-under}
 use Rattle.jamboree.proofs.procedure.intake_seen.Goals as goal
 
@@ -11,8 +11,7 @@ pub returns-then-not-is_formed : goal.returns-then-not-is_formed
 returns-then-not-is_formed c =
     let w = c.args.own.now in
     let d = c.args.child.now in
-    else-by (is_formed w && (is_formed d && may_be_child (frame_of w) (frame_of d))) _ _ _
-    (and-left (is_formed w) (is_formed d && may_be_child (frame_of w) (frame_of d)) (sym c.is_formed.ensures ∙ c.if-not-is_formed.true)) c.wakes.ensures
+    else-first _ (is_formed w) (is_formed d && may_be_child (frame_of w) (frame_of d)) _ _ _ c.is_formed.ensures c.if-not-is_formed.true c.wakes.ensures
 
 pub returns : goal.returns
 returns c =

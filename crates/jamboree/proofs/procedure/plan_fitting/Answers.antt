@@ -1,7 +1,6 @@
-use Rattle.std.specs.Prelude.{◌≡◌, ◌==◌, ◌∷◌, List, ℕ, Option, Some, None, slice_get, if◌then◌else◌}
+use Rattle.std.specs.Prelude.{◌≡◌, ◌∷◌, List, ℕ, Option, Some, slice_get}
 use Rattle.std.proofs.Common.{sym, ◌∙◌, ap}
-use Rattle.jamboree_rules.specs.Frames.{Frame}
-use Rattle.jamboree_rules.specs.Acts.{returns, act_of, next_act}
+use Rattle.jamboree_rules.specs.Acts.{next_act}
 use Rattle.jamboree.specs.Levels.{above_of}
 use Rattle.jamboree.specs.Views.{frame_with, statuses_in}
 use Rattle.jamboree.proofs.SightLemmas.{first-two, first-formed, second-formed, act-by-form, act-under-none}
@@ -32,6 +31,5 @@ returns-in-None-up c =
     let own = c.in-Some.own in
     let f = frame_with c.view-frame.result (statuses_in own) in
     let first : Some own ≡ slice_get sight 0 = sym c.in-Some.is ∙ c.up.ensures in
-    act-under-none grain own f _ (first-formed sight own c.requires first) c.view-frame.ensures.frame
-    (c.plan_alone.ensures ∙ ap (λ (g : Frame). if g.role == 0 then act_of grain f None else returns) c.view-frame.ensures.frame)
+    act-under-none grain own f _ (first-formed sight own c.requires first) c.view-frame.ensures.frame c.plan_alone.ensures
     ∙ ap (λ (o : Option (List ℕ)). next_act grain (own ∷ above_of o)) (sym c.in-None-up.is ∙ c.up-in-Some.ensures) ∙ first-two grain sight own first
