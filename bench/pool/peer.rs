@@ -4,8 +4,9 @@
 //!
 //! usage: pool_peer WORKERS GRAIN DEPTH, which prints how many jobs were done, the steps, the microseconds, and how many
 //! positions a serial search of the same jobs enters; pool_peer WORKERS GRAIN DEPTH timed, which times each call of
-//! `lock` too, and prints last how much of the workers' time went to them, in 100; or pool_peer positions, which prints
-//! the positions
+//! `lock` too, and prints last how much of the workers' time went to them, in 100; pool_peer WORKERS GRAIN DEPTH sparing,
+//! whose workers wake another at a frame that became ready only where one sleeps, as the proved ones do; or pool_peer
+//! positions, which prints the positions
 mod plain;
 #[path = "../search/vectors.rs"]
 mod vectors;
@@ -25,6 +26,8 @@ struct Pool {
     ended: Condvar,
     list: Mutex<Vec<Task>>,
     timed: bool,
+    sparing: bool,
+    sleepers: AtomicUsize,
 }
 
 /// How often a worker called `lock`, how long that took, and how long the worker worked.
@@ -95,7 +98,9 @@ impl Pool {
             if let Some(task) = core.any_ready() {
                 return Some(task);
             }
+            self.sleepers.fetch_add(1, Ordering::Relaxed);
             core = self.ready.wait(core).unwrap();
+            self.sleepers.fetch_sub(1, Ordering::Relaxed);
         }
     }
 
@@ -112,9 +117,10 @@ impl Pool {
             let (Deed::Get(Task { name, .. }) | Deed::Run(name) | Deed::Bring(name, ..) | Deed::TakeIn(name) | Deed::Finish(name)) = deed;
             core.spend(*name);
         }
+        let wakes = !self.sparing || self.sleepers.load(Ordering::Relaxed) > 0;
         drop(core);
         match did {
-            Did::Spawned(_) | Did::TakenIn(Some(_)) => self.ready.notify_one(),
+            Did::Spawned(_) | Did::TakenIn(Some(_)) if wakes => self.ready.notify_one(),
             Did::Finished | Did::Short => self.ended.notify_all(),
             _ => {}
         }
@@ -202,6 +208,8 @@ fn main() {
         ended: Condvar::new(),
         list: Mutex::new(Vec::new()),
         timed: words.get(4).is_some_and(|word| word == "timed"),
+        sparing: words.get(4).is_some_and(|word| word == "sparing"),
+        sleepers: AtomicUsize::new(0),
     };
     let spent = AtomicUsize::new(0);
     let start = Instant::now();

@@ -38,6 +38,7 @@ pub(crate) struct Kept<L: Hands> {
     badges: u64,
     before: u128,
     closed: bool,
+    /// How many workers sleep until a frame is ready.
     sleepers: u32,
 }
 

@@ -12,7 +12,8 @@
 //! what `alone` says, and of every other tenant that nothing changed; and that a tenant uses up
 //! (`specs/Uses.antt`) one of what it may do with each step, so that the places which its admission
 //! reserved for its journal suffice. Only [`Hall::new`] and an admission take memory. An entry of a
-//! journal takes 48 bytes: its tenant is the journal's, and its frame's serial is at most 65,536.
+//! journal takes 8 bytes: its tenant is the journal's, and its frame's serial is at most 65,536. Steps
+//! that say more (`LongEntry`) take 48 bytes in a list of their own.
 //!
 //! ```text
 //! let mut hall = Hall::new(alloc, config, 2)?;
