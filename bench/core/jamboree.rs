@@ -122,9 +122,15 @@ fn act(stores: &[(usize, u64)], after: Then) -> Act {
     Act { stores: Stores::of(stores), after }
 }
 
+/// The plies of the choice of this number: none for a pass, which is the one choice of its board.
+fn plies_of(own: &Words, number: usize) -> u64 {
+    if own.word(COUNT) > 1 { 1 } else { u64::from(choice(board(own), number) != PASS) }
+}
+
 /// Opens a child for a choice, with a window seen from the child.
 fn spawn(own: &Words, role: u64, number: usize, alpha: i32, beta: i32) -> Then {
-    Then::Spawn(Given::of(&[0, 0, own.word(DEPTH) - 1, word_of(alpha), word_of(beta), role, number as u64, NEW]), SIZE)
+    let depth = own.word(DEPTH) - plies_of(own, number);
+    Then::Spawn(Given::of(&[0, 0, depth, word_of(alpha), word_of(beta), role, number as u64, NEW]), SIZE)
 }
 
 /// The greater of alpha and the best score.

@@ -1,12 +1,15 @@
 //! A slow program of its own that answers the lines of `othello solve`, for comparison.
 //!
 //! It shares no code with the crates: a board is 8 rows of 8 letters, the players are letters, and the
-//! value of a position is the recursion of its definition, without windows.
+//! value of a position is the recursion of its definition, without windows: a move uses a ply of the
+//! depth, and a pass none.
 //!
 //!     oracle solve                   answers lines `depth position` from standard input
 //!     oracle positions N SEED MOST   writes N lines with positions from random games, depth 0 to MOST, but none
 //!                                    below which plain recursion enters more than 200,000 positions
-//!     oracle middle N SEED DEPTH     writes N lines with positions after 20 to 39 plies of random games, all of
+//!     oracle ends N SEED MOST        the same, with positions that are at most 12 plies before the end of a random
+//!                                    game: there passes are common
+//!     oracle middle N SEED DEPTH     writes N lines with positions after 20 to 39 turns of random games, all of
 //!                                    this depth
 use std::io::{self, BufRead, Write};
 
@@ -109,7 +112,7 @@ fn solve(board: &Board, player: char, depth: u32) -> (i64, String) {
         return (evaluation(board, player), "-".to_string());
     }
     if moves.is_empty() {
-        return (-solve(board, other(player), depth - 1).0, "pass".to_string());
+        return (-solve(board, other(player), depth).0, "pass".to_string());
     }
     let mut best: Option<(i64, String)> = None;
     for (row, column) in moves {
@@ -171,7 +174,7 @@ fn is_within(board: &Board, player: char, depth: u32, left: &mut usize) -> bool 
         return true;
     }
     if moves.is_empty() {
-        return is_within(board, other(player), depth - 1, left);
+        return is_within(board, other(player), depth, left);
     }
     moves.into_iter().all(|(row, column)| is_within(&played(board, player, row, column), other(player), depth - 1, left))
 }
@@ -182,26 +185,34 @@ fn is_affordable(board: &Board, player: char, depth: u32) -> bool {
     is_within(board, player, depth, &mut left)
 }
 
-/// A random game after so many plies, or where it ended before: the board and the player to move.
-fn game(random: &mut Random, plies: usize) -> (Board, char) {
+/// What comes of one turn, by a move at random or a pass, and the plies that it used; none where the game is over.
+fn turn(random: &mut Random, board: &Board, player: char) -> Option<(Board, usize)> {
+    let moves = legal(board, player);
+    if !moves.is_empty() {
+        let (row, column) = moves[random.below(moves.len())];
+        Some((played(board, player, row, column), 1))
+    } else if !legal(board, other(player)).is_empty() {
+        Some((*board, 0))
+    } else {
+        None
+    }
+}
+
+/// A random game after so many turns, or where it ended before: the board and the player to move.
+fn game(random: &mut Random, turns: usize) -> (Board, char) {
     let (mut board, mut player) = (opening(), 'X');
-    for _ in 0..plies {
-        let moves = legal(&board, player);
-        if !moves.is_empty() {
-            let (row, column) = moves[random.below(moves.len())];
-            board = played(&board, player, row, column);
-        } else if legal(&board, other(player)).is_empty() {
-            break;
+    for _ in 0..turns {
+        match turn(random, &board, player) {
+            Some((next, _)) => board = next,
+            None => break,
         }
         player = other(player);
     }
     (board, player)
 }
 
-/// One position from a random game, after a random number of plies, with a depth of at most `most`.
-fn position(random: &mut Random, most: u32) -> String {
-    let plies = random.below(60);
-    let (board, player) = game(random, plies);
+/// A position with a depth of at most `most`, but none below which plain recursion enters too many.
+fn line(random: &mut Random, (board, player): (Board, char), most: u32) -> String {
     let mut depth = random.below(most as usize + 1) as u32;
     while !is_affordable(&board, player, depth) {
         depth -= 1;
@@ -209,24 +220,51 @@ fn position(random: &mut Random, most: u32) -> String {
     format!("{depth} {}", text(&board, player))
 }
 
+/// One position from a random game, after a random number of turns, with a depth of at most `most`.
+fn position(random: &mut Random, most: u32) -> String {
+    let turns = random.below(60);
+    let place = game(random, turns);
+    line(random, place, most)
+}
+
+/// So many plies before the end of a random game a position counts as near it.
+const NEAR: usize = 12;
+
+/// One position from the last plies of a random game, with a depth of at most `most`.
+fn end(random: &mut Random, most: u32) -> String {
+    let (mut board, mut player, mut plies) = (opening(), 'X', 0);
+    let mut places = vec![(board, player, plies)];
+    while let Some((next, used)) = turn(random, &board, player) {
+        (board, player, plies) = (next, other(player), plies + used);
+        places.push((board, player, plies));
+    }
+    places.retain(|place| plies - place.2 <= NEAR);
+    let (board, player, _) = places[random.below(places.len())];
+    line(random, (board, player), most)
+}
+
 /// One position from the middle of a random game, with this depth.
 fn middle(random: &mut Random, depth: u32) -> String {
-    let plies = 20 + random.below(20);
-    let (board, player) = game(random, plies);
+    let turns = 20 + random.below(20);
+    let (board, player) = game(random, turns);
     format!("{depth} {}", text(&board, player))
 }
 
 fn main() {
     let words: Vec<String> = std::env::args().collect();
     let mut out = io::BufWriter::new(io::stdout().lock());
-    let command = words.get(1).map(String::as_str);
-    if command == Some("positions") || command == Some("middle") {
+    let drawn: Option<fn(&mut Random, u32) -> String> = match words.get(1).map(String::as_str) {
+        Some("positions") => Some(position),
+        Some("ends") => Some(end),
+        Some("middle") => Some(middle),
+        _ => None,
+    };
+    if let Some(drawn) = drawn {
         let count: usize = words[2].parse().expect("a count");
         let mut random = Random(words[3].parse().expect("a seed"));
         let depth: u32 = words[4].parse().expect("a depth");
         for _ in 0..count {
-            let line = if command == Some("middle") { middle(&mut random, depth) } else { position(&mut random, depth) };
-            writeln!(out, "{line}").unwrap();
+            writeln!(out, "{}", drawn(&mut random, depth)).unwrap();
         }
         return;
     }

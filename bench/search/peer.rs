@@ -121,7 +121,7 @@ fn search(own: u64, opp: u64, depth: u8, alpha: i32, beta: i32) -> Found {
         if moves(opp, own) == 0 {
             return Found { score: final_value(own, opp), choice: NONE, visited: 1 };
         }
-        let child = search(opp, own, depth - 1, -beta, -alpha);
+        let child = search(opp, own, depth, -beta, -alpha);
         return Found { score: -child.score, choice: PASS, visited: 1 + child.visited };
     }
     let mut best = Found { score: -INF, choice: NONE, visited: 1 };

@@ -1,56 +1,139 @@
 #!/usr/bin/env python3
-"""A client of `othello serve`: one session over one connection, with the standard library alone.
+"""A client of `othello serve`, with the standard library alone: one session, or as many as a list of positions needs.
 
 As a class:    with Session("127.0.0.1", 4711, segments=64, nodes=4096) as session:
                    job = session.ask(6, position)
                    print(session.wait(job))                # ("DONE", -3, "d3"), ("SPENT",) or ("CANCELLED",)
 
-As a command:  othello.py HOST PORT SEGMENTS NODES < lines   where each line is `depth position`; all are asked, then
-               each answer is waited for and printed in order, and at last the quota that is left.
+               for answer in Client("127.0.0.1", 4711, segments=64, nodes=65536).answers(lines):
+                   print(answer)                           # as above, or ("ERR", 27)
+
+As a command:  othello.py HOST PORT SEGMENTS NODES < lines   where each line is `depth position`: the answers in order,
+               each in the place of its line; at the end standard error says how many sessions it took.
 """
+import argparse
+import collections
+import itertools
 import socket
+import ssl
 import sys
+import threading
+import time
+
+FAULTS = {
+    10: "no segment is left",
+    11: "no node is left",
+    13: "256 jobs were asked",
+    14: "64 tenants are there, or what is asked for isn't left",
+    17: "there is no such job",
+    19: "there was no memory",
+    20: "fewer segments or nodes than are reserved, or no more of either",
+    21: "an unknown word, or another number of words",
+    22: "the line is too long",
+    23: "not a number, or outside the limits",
+    24: "the position hasn't 66 bytes",
+    25: "a byte of the position spells no cell",
+    26: "no space and side follow the cells",
+    27: "the depth is over 12",
+    28: "no HELLO yet",
+    29: "HELLO again",
+}
+USED_UP = (10, 11, 13)  # ASK: this session takes no more jobs, and another one may
+LATER = (14, 19)  # HELLO: it may come again
+ENDS = {"DONE": 4, "SPENT": 2, "CANCELLED": 2}
+# What each line may be answered by but ERR: the first word, and how many words there are.
+ANSWERS = {
+    "HELLO": {"WELCOME": 3},
+    "RESERVE": {"RESERVED": 3},
+    "ASK": {"JOB": 2},
+    "GET": {"PENDING": 2, **ENDS},
+    "WAIT": ENDS,
+    "CANCEL": {"CANCELLED": 2},
+    "QUOTA": {"QUOTA": 4},
+    "LIVE": {"LIVE": 3},
+    "BYE": {"BYE": 1},
+}
+LONGEST = 4096  # bytes of an answer, and more than any has
 
 
 class Refused(Exception):
-    """The server answered `ERR number`."""
+    """The server answered `ERR number`. The session goes on."""
 
     def __init__(self, number):
-        super().__init__(f"ERR {number}")
+        super().__init__(f"ERR {number}: {FAULTS.get(number, 'a fault that this client does not know')}")
         self.number = number
 
 
-class Session:
-    """A tenant of the server, from HELLO to BYE."""
+class Broken(ConnectionError):
+    """What this session would read next isn't known to be the answer to what it asks: a new session is needed."""
 
-    def __init__(self, host, port, segments, nodes, timeout=None):
-        self.socket = socket.create_connection((host, port), timeout)
-        self.socket.setsockopt(socket.IPPROTO_TCP, socket.TCP_NODELAY, 1)
-        self.lines = self.socket.makefile("r", encoding="ascii", newline="\n")
+
+def tls_context(authority=None):
+    """What a session over TLS needs: the host's certificate is checked, by a file of authorities where one is named."""
+    return ssl.create_default_context(cafile=authority)
+
+
+class Session:
+    """A tenant of the server, from HELLO to BYE. Threads may share it: each call is a line and its answer."""
+
+    def __init__(self, host, port, segments, nodes, timeout=None, tls=None):
+        self.lock, self.broken, self.jobs = threading.Lock(), None, 0
+        self.socket = self.connect(host, port, timeout)
         try:
-            self.segments, self.nodes = map(int, self.call("HELLO", segments, nodes)[1:])
+            self.socket.setsockopt(socket.IPPROTO_TCP, socket.TCP_NODELAY, 1)
+            if tls:
+                self.socket = tls.wrap_socket(self.socket, server_hostname=host)
+            self.lines = self.socket.makefile("rb")
+            self.call("HELLO", segments, nodes, again=(segments, nodes))
         except BaseException:
-            self.close()
+            self.socket.close()
             raise
 
-    def call(self, *words):
-        """Sends one line and gives the words of its answer."""
-        self.socket.sendall((" ".join(map(str, words)) + "\n").encode("ascii"))
-        answer = self.lines.readline()
-        if not answer.endswith("\n"):
-            raise ConnectionError("the server ended the session")
-        words = answer.split()
-        if words[0] == "ERR":
-            raise Refused(int(words[1]))
-        return words
+    def connect(self, host, port, timeout):
+        return socket.create_connection((host, port), timeout)
+
+    def call(self, word, *words, again=()):
+        """Sends one line and gives the words of its answer, in which these words of the line must stand again."""
+        line = " ".join(map(str, (word, *words)))
+        if "\n" in line:
+            raise ValueError("a line has one LF, at its end")
+        with self.lock:
+            if self.broken:
+                raise Broken(f"this session can't be used any more: {self.broken}")
+            self.broken = f"{word} was interrupted"  # until its answer has been read
+            self.socket.sendall(line.encode("latin-1") + b"\n")
+            answer = self.lines.readline(LONGEST)
+            if not answer.endswith(b"\n"):
+                self.broken = "the server ended it"
+                raise Broken(self.broken)
+            answer = answer.decode("latin-1").rstrip("\n").split(" ")
+            if answer[0] == "ERR" and len(answer) == 2:
+                self.broken = None
+                raise Refused(int(answer[1]))
+            again = [str(word) for word in again]
+            if ANSWERS[word].get(answer[0]) != len(answer) or answer[1 : 1 + len(again)] != again:
+                self.broken = f"{line!r} was answered by {' '.join(answer)!r}"
+                raise Broken(self.broken)
+            if word == "ASK":
+                self.jobs += 1
+            self.broken = None
+            return answer
+
+    def reserve(self, segments, nodes):
+        """Reserves so many segments and nodes in all: no fewer of either than before, and more of one."""
+        self.call("RESERVE", segments, nodes, again=(segments, nodes))
 
     def ask(self, depth, position):
         """Asks for a position of 66 bytes, so many plies deep (0 to 12); gives the job's number."""
-        return int(self.call("ASK", depth, position)[1])
+        return self.ask_line(f"{depth} {position}")
+
+    def ask_line(self, line):
+        """The same of a line `depth position`."""
+        return int(self.call("ASK", line, again=(self.jobs + 1,))[1])
 
     def get(self, job, word="GET"):
         """How a job stands: ("PENDING",), ("DONE", value, move), ("SPENT",) or ("CANCELLED",)."""
-        state, _, *found = self.call(word, job)
+        state, _, *found = self.call(word, job, again=(job,))
         return (state, int(found[0]), found[1]) if state == "DONE" else (state,)
 
     def wait(self, job):
@@ -59,7 +142,7 @@ class Session:
 
     def cancel(self, job):
         """Ends a job that hasn't ended."""
-        self.call("CANCEL", job)
+        self.call("CANCEL", job, again=(job,))
 
     def quota(self):
         """The segments, nodes and steps that are left."""
@@ -70,33 +153,151 @@ class Session:
         return tuple(map(int, self.call("LIVE")[1:]))
 
     def close(self):
-        """Ends the session and gives back what it reserved."""
+        """Ends the session. A broken one is dropped without a word, since BYE would wait behind what it left."""
         try:
-            self.call("BYE")
+            if not self.broken:
+                self.call("BYE")
         except (OSError, Refused):
             pass
-        self.lines.close()
-        self.socket.close()
+        finally:
+            self.broken = self.broken or "it was closed"
+            self.lines.close()
+            self.socket.close()
 
     def __enter__(self):
         return self
 
-    def __exit__(self, *_):
+    def __exit__(self, kind, *_):
+        if kind:
+            self.broken = self.broken or "it was left by a fault"
         self.close()
 
 
-def main(host, port, segments, nodes):
-    with Session(host, int(port), int(segments), int(nodes)) as session:
-        jobs = [session.ask(*line.rstrip("\r\n").split(" ", 1)) for line in sys.stdin]
-        for job in jobs:
-            print(*session.wait(job))
-        print("left", *session.quota())
+class Question:
+    """A line that was asked, or is to be asked."""
+
+    def __init__(self, line):
+        self.line = line
+        self.job = self.answer = None
+        self.alone = False  # it was spent beside others: it is asked once more, as the first job of a session
+
+
+class Client:
+    """Answers any number of positions, by as many sessions one after another as they need."""
+
+    def __init__(self, host, port, segments, nodes, ahead=16, patience=30, timeout=None, tls=None):
+        self.where = (host, port, segments, nodes, timeout, tls)
+        self.ahead, self.patience = ahead, patience
+        self.sessions = self.lost = 0
+
+    def open(self):
+        """A new session. Where the server takes none for now, it is tried again for some seconds."""
+        until = time.monotonic() + self.patience
+        while True:
+            try:
+                session = Session(*self.where)
+                self.sessions += 1
+                return session
+            except (OSError, Refused) as fault:
+                if getattr(fault, "number", 14) not in LATER or time.monotonic() > until:
+                    raise
+            time.sleep(0.1)
+
+    def answers(self, lines):
+        """Of each line `depth position`, in order: ("DONE", value, move), ("SPENT",) or ("ERR", number)."""
+        lines, window, session, losses = iter(lines), collections.deque(), None, 0
+        try:
+            while True:
+                window.extend(map(Question, itertools.islice(lines, self.ahead - len(window))))
+                if not window:
+                    return
+                session = session or self.open()
+                try:
+                    if not self.turn(session, window):
+                        session.close()
+                        session = None
+                except OSError:
+                    self.lost, losses = self.lost + 1, losses + 1
+                    session.close()
+                    session = None
+                    for question in window:
+                        question.job = None
+                    if losses > 3:
+                        raise
+                while window and window[0].answer:
+                    losses = 0
+                    yield window.popleft().answer
+        finally:
+            if session:
+                session.close()
+
+    def turn(self, session, window):
+        """Asks ahead and waits for the oldest; or, where the session is used up, for all. Whether it can be asked more."""
+        goes_on = self.ask_ahead(session, window)
+        if self.settle(session, window[0]) and goes_on:
+            return True
+        for question in window:
+            self.settle(session, question)
+        return False
+
+    def settle(self, session, question):
+        """Waits for a question that was asked. Not so where it was spent beside others: then it is asked once more."""
+        if question.job and not question.answer:
+            found = session.wait(question.job)
+            if found == ("SPENT",) and session.jobs > 1:
+                question.job, question.alone = None, True
+                return False
+            question.answer = found
+        return True
+
+    def ask_ahead(self, session, window):
+        """Asks what isn't asked yet. Whether the session can be asked more."""
+        for question in window:
+            if question.job or question.answer:
+                continue
+            if question.alone and session.jobs:
+                return False
+            try:
+                question.job = session.ask_line(question.line)
+            except Refused as refusal:
+                if refusal.number in USED_UP and session.jobs:
+                    return False
+                question.answer = ("ERR", refusal.number)
+            if question.alone:
+                break
+        return True
+
+
+def text_of(answer):
+    """An answer as the command writes it."""
+    return " ".join(map(str, answer)) + (f" {FAULTS.get(answer[1], '')}" if answer[0] == "ERR" else "")
+
+
+def main():
+    words = argparse.ArgumentParser(description="Answers lines `depth position` by a server of `othello serve`.")
+    words.add_argument("host")
+    words.add_argument("port", type=int)
+    words.add_argument("segments", type=int)
+    words.add_argument("nodes", type=int)
+    words.add_argument("--ahead", type=int, default=16, help="how many jobs are asked ahead of the waits (16)")
+    words.add_argument("--patience", type=float, default=30, help="seconds to try for a session (30)")
+    words.add_argument("--tls", action="store_true", help="speak TLS, and check the host's certificate")
+    words.add_argument("--authority", metavar="FILE", help="with --tls: the authorities to check it by")
+    asked = words.parse_args()
+    tls = tls_context(asked.authority) if asked.tls else None
+    client = Client(asked.host, asked.port, asked.segments, asked.nodes, max(asked.ahead, 1), asked.patience, tls=tls)
+    lines = (line.rstrip("\n").removesuffix("\r") for line in open(0, encoding="latin-1", newline="\n"))
+    count, start = 0, time.monotonic()
+    for count, answer in enumerate(client.answers(lines), 1):
+        print(text_of(answer), flush=True)
+    taken = time.monotonic() - start
+    print(f"{count} lines by {client.sessions} sessions, {count / taken:.0f} a second", file=sys.stderr)
 
 
 if __name__ == "__main__":
-    if len(sys.argv) != 5:
-        sys.exit(__doc__)
     try:
-        main(*sys.argv[1:])
+        main()
     except (OSError, Refused) as fault:
         sys.exit(f"othello.py: {fault}")
+    except KeyboardInterrupt:
+        sys.exit(130)

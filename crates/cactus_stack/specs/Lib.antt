@@ -2,4 +2,3 @@ pub mod Nodes
 pub mod Chains
 pub mod Lists
 pub mod Trees
-pub mod Pairs

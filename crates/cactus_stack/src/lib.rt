@@ -37,8 +37,6 @@ mod lists;
 mod node;
 mod sight;
 mod stack;
-#[cfg(test)]
-mod tests;
 mod view;
 mod words;
 

@@ -150,6 +150,7 @@ const SERVE_HELP: &str =
     "The program writes `listening 127.0.0.1:port` first, and `ended k` when k sessions have ended.
 A connection is a session. Each line is answered by one line, in order:
   HELLO s n         WELCOME s n     reserves s segments (1 to 4096) and n nodes (1 to 65536)
+  RESERVE s n       RESERVED s n    reserves more than before, while jobs run
   ASK d position    JOB k           asks for a position, d plies deep (`othello solve --help`)
   GET k             PENDING k, DONE k value move, SPENT k or CANCELLED k
   WAIT k            as GET, once the job has ended
@@ -161,9 +162,9 @@ A connection is a session. Each line is answered by one line, in order:
 A faulty line is answered by ERR and a number, and the session goes on.
   22  over 128 bytes             21  unknown word, or wrong number of words
   28  no HELLO yet               29  HELLO again
-  23  no number, or HELLO outside the limits
+  23  no number, or HELLO or RESERVE outside the limits
   27  the depth is over 12       24, 25, 26  the position, as in `solve`
   14  no room for the tenant     10, 11  no segments or nodes are left
   13  256 jobs were asked        17  no such job
-  19  no memory for the tenant
+  19  no memory for the tenant   20  RESERVE of no more than before
 ";

@@ -4,7 +4,14 @@
 //! the definitions are in `sched_toys`. Here the core itself is built and driven, in tests, which are
 //! the substance of this crate: the toy procedures step by step, with all that is read of a tenant in
 //! between; a list of steps that meets every refusal there is for a list, by `step`, by `run`, foretold
-//! by `refusal`, and for each tenant alone; and the limits of jobs and tenants.
+//! by `refusal`, and for each tenant alone; and the limits of jobs and tenants. The tests of `sched_rules`
+//! and `sched_toys` stand here too (`values`, `toys`), so that those crates are not proved once more with them.
+//!
+//! `sched_core` takes memory where a core is made, where a tenant is admitted or reserves more, and where
+//! a list of steps is run, for the answers. Its contracts say what a refused growth leaves: no core, or
+//! all as it was. They can't say that a call succeeds where there is room. Heaps of one unit more each
+//! time refuse each of these growths in turn (`growths`); all is looked at afterwards, and once room is
+//! given back the same call, with the same number of a tenant, succeeds.
 //!
 //! For lists that are drawn from a seed there is one more procedure, [`Reader`], whose frames do what
 //! their words say, so that a list of steps meets every act there is: it grows, opens children, waits,

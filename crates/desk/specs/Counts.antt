@@ -1,21 +1,34 @@
--- What contracts see of what lies under the lock, and what one call does to the hall there.
-use Rattle.std.specs.Prelude.{◌≡◌, ℕ, ◌+◌, Bool, Option, Some, None, Result, Ok, Err, if◌then◌else◌, is_ok}
+-- What contracts see of what lies under the lock, what one call does to the hall there, and for what is waited.
+use Rattle.std.specs.Prelude.{◌≡◌, ℕ, ◌+◌, ◌==◌, Bool, true, false, not, ◌&&◌, ◌||◌, Option, Some, None, Result, Ok, Err, if◌then◌else◌, is_ok}
+use Rattle.frame_table.specs.declared.names.FrameId.{FrameId}
+use Rattle.frame_table.specs.Frames.{IsReadyAt}
+use Rattle.sched_rules.specs.declared.job.Job.{Job}
+use Rattle.sched_rules.specs.declared.job.Job.TheVariants.{Live, Done as DoneJob, Spent as SpentJob, Cancelled as CancelledJob}
 use Rattle.sched_rules.specs.declared.refusal.Refusal.{Refusal}
 use Rattle.sched_rules.specs.declared.refusal.Refusal.TheVariants.{NoTenant}
 use Rattle.sched_rules.specs.declared.step.StepOf.{StepOf}
 use Rattle.sched_rules.specs.declared.step.StepOf.TheVariants.{Leave}
 use Rattle.sched_rules.specs.declared.step.DidOf.{DidOf}
+use Rattle.sched_rules.specs.declared.step.DidOf.TheVariants.{Admitted, AdmittedMore, Submitted, Took, Went, Grew, Spawned, Waited, Computing, Returned, Answered, TakenIn, Finished, Spent, Cancelled, Left}
 use Rattle.sched_rules.specs.Headline.{IsOneStep}
-use Rattle.jamboree_rules.specs.declared.leaf.Leaf.{Leaf}
-use Rattle.jamboree_rules.specs.declared.leaf.LeafAnswer.{LeafAnswer}
-use Rattle.jamboree_rules.specs.Procedure.{jamboree}
+use Rattle.sched_rules.specs.Views.{job_of, named, ready_count}
+use Rattle.hall.specs.jamboree_rules.declared.leaf.Leaf.{Leaf}
+use Rattle.hall.specs.jamboree_rules.declared.leaf.LeafAnswer.{LeafAnswer}
+use Rattle.hall.specs.jamboree_rules.Procedure.{jamboree}
 use Rattle.hall.specs.Halls.{HallOf, hall_after}
 use Rattle.desk.specs.Seats.{SeatOf}
+use Rattle.desk.specs.declared.ends.Ends.{Ends}
+use Rattle.desk.specs.declared.ends.Ends.TheVariants.{Nothing, InReady, Job as InJob}
 
--- the hall, and whether the desk is closed
+-- the hall, whether the desk is closed, and how many workers sleep until a frame is ready, by the remainder at division by 2^32
 pub record KeptOf : Type 0 where
   pub hall : HallOf
   pub closed : Bool
+  pub sleepers : ℕ
+
+-- whether the desk is closed and how many workers sleep is as it was
+abbrev pub IsAsOpen : KeptOf → KeptOf → Type 0
+IsAsOpen before after = (after.closed ≡ before.closed) × (after.sleepers ≡ before.sleepers)
 
 -- the hall after a step that was answered so, and left the tenants so
 abbrev pub after_offer : HallOf → StepOf LeafAnswer → Result (DidOf Leaf) Refusal → HallOf → HallOf
@@ -40,4 +53,47 @@ found_or_no_tenant None = Err NoTenant
 
 -- what lies under the lock, with so many more steps kept
 abbrev pub with_kept : ℕ → KeptOf → KeptOf
-with_kept steps kept = record { hall = record kept.hall { kept = kept.hall.kept + steps }; closed = kept.closed }
+with_kept steps kept = record kept { hall = record kept.hall { kept = kept.hall.kept + steps } }
+
+-- whether a job is there that hasn't ended
+abbrev pub is_live : Option Job → Bool
+is_live None = false
+is_live (Some (Live root)) = true
+is_live (Some (DoneJob words)) = false
+is_live (Some SpentJob) = false
+is_live (Some CancelledJob) = false
+
+-- whether a seat that waits for a job waits on: the desk isn't closed, and the job hasn't ended
+abbrev pub waits_on : KeptOf → ℕ → ℕ → Bool
+waits_on kept tenant job = not kept.closed && is_live (job_of kept.hall.shared tenant job)
+
+-- whether a worker that waits may go on: the desk is closed, or some frame is ready
+abbrev pub has_news : KeptOf → Bool
+has_news kept = kept.closed || not (ready_count kept.hall.shared.tenants == 0)
+
+-- what a worker that waited is given: nothing exactly where the desk is closed or no frame is ready, else a frame that is, with its home
+abbrev pub IsNext : KeptOf → Option (FrameId × ℕ) → Type 0
+IsNext kept None = (not kept.closed && not (ready_count kept.hall.shared.tenants == 0)) ≡ false
+IsNext kept (Some ready) = (kept.closed ≡ false) × IsReadyAt (named kept.hall.shared ready.0) ready.1
+
+-- what somebody may wait for that a worker's step changed: a frame became ready where a child was opened or a parent woken, and a
+-- job ended where it was finished or spent
+abbrev pub ends_of : Result (DidOf Leaf) Refusal → Ends
+ends_of (Err refusal) = Nothing
+ends_of (Ok Admitted) = Nothing
+ends_of (Ok AdmittedMore) = Nothing
+ends_of (Ok (Submitted job root)) = Nothing
+ends_of (Ok Took) = Nothing
+ends_of (Ok Went) = Nothing
+ends_of (Ok Grew) = Nothing
+ends_of (Ok (Spawned child)) = InReady
+ends_of (Ok Waited) = Nothing
+ends_of (Ok (Computing leaf)) = Nothing
+ends_of (Ok (Returned root)) = Nothing
+ends_of (Ok Answered) = Nothing
+ends_of (Ok (TakenIn None aborted)) = Nothing
+ends_of (Ok (TakenIn (Some woken) aborted)) = InReady
+ends_of (Ok (Finished job)) = InJob
+ends_of (Ok (Spent job)) = InJob
+ends_of (Ok Cancelled) = Nothing
+ends_of (Ok Left) = Nothing

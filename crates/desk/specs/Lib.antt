@@ -1,2 +1,5 @@
+pub use Rattle.hall.specs as hall
+pub use Rattle.hall.specs.jamboree as jamboree
+pub use Rattle.hall.specs.jamboree_core as jamboree_core
 pub mod Seats
 pub mod Counts

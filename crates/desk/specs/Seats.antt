@@ -1,10 +1,10 @@
 -- What contracts see of a seat, and what is shown of its jobs.
 use Rattle.std.specs.Prelude.{◌≡◌, ◌≢◌, ℕ, ◌+◌, ◌-◌, ◌==◌, List, [], ◌∷◌, ◌++◌, length, Option, Some, None, Result, Ok, Err, if◌then◌else◌}
 use Rattle.sched_rules.specs.declared.refusal.Refusal.{Refusal}
-use Rattle.sched_rules.specs.declared.refusal.Refusal.TheVariants.{NoTenant, NoSegments, NoNodes, NoJobsLeft, Full, NoJob, OldTenant, OutOfMemory}
-use Rattle.jamboree.specs.Replies.{board_of, depth_of}
-use Rattle.jamboree_core.specs.declared.outcomes.Outcome.{Outcome}
-use Rattle.jamboree_core.specs.declared.outcomes.Outcome.TheVariants.{Pending, Done, Spent, Cancelled}
+use Rattle.sched_rules.specs.declared.refusal.Refusal.TheVariants.{NoTenant, NoSegments, NoNodes, NoJobsLeft, Full, NoJob, OldTenant, OutOfMemory, Lower}
+use Rattle.hall.specs.jamboree.Replies.{board_of, depth_of}
+use Rattle.hall.specs.jamboree_core.declared.outcomes.Outcome.{Outcome}
+use Rattle.hall.specs.jamboree_core.declared.outcomes.Outcome.TheVariants.{Pending, Done, Spent, Cancelled}
 use Rattle.desk.specs.declared.seat.Asked.{Asked}
 
 -- a seat: its tenant, the number of its own steps, and what it asked, from job 1 on
@@ -24,6 +24,11 @@ with_asked asked seat = record { tenant = seat.tenant; share = seat.share + 1; a
 -- as what an admission can be refused: 64 tenants are there or too little is left, all 2^62 numbers were given, no memory
 abbrev pub admit_refusals : List Refusal
 admit_refusals = Full ∷ OldTenant ∷ OutOfMemory ∷ []
+
+-- as what a seat that asks for more can be refused: its tenant isn't there, it is no more than that reserves, a total doesn't allow
+-- it, no memory
+abbrev pub reserve_refusals : List Refusal
+reserve_refusals = NoTenant ∷ Lower ∷ Full ∷ OutOfMemory ∷ []
 
 -- as what an ask can be refused
 abbrev pub ask_refusals : List Refusal

@@ -3,9 +3,10 @@ ghost use Rattle.std.specs.Prelude.{◌≡◌, ◌≢◌, ◌+◌, ◌≤◌, []
 ghost use Rattle.sched_rules.specs.declared.refusal.Refusal.TheVariants.{NoJob, NoTenant, OutOfMemory};
 ghost use Rattle.hall.specs.Journals.{is_worker_step};
 ghost use Rattle.hall.specs.Halls.{count_of};
-ghost use Rattle.desk.specs.Seats.{admit_refusals, ask_refusals, cancel_refusals, stepped, asked_at, IsAsked, IsShown};
+ghost use Rattle.desk.specs.Seats.{admit_refusals, reserve_refusals, ask_refusals, cancel_refusals, stepped, asked_at, IsAsked, IsShown};
 
-use crate::kept::{Ends, Kept};
+use crate::ends::Ends;
+use crate::kept::Kept;
 use crate::seat::Seat;
 use crate::shares::{Badge, Hands, PARTS};
 use frame_table::FrameId;
@@ -64,6 +65,21 @@ impl<L: Hands> Desk<L> {
         ensures refused { IfErr result (Contains admit_refusals) }
     {
         self.enter(rt).admit(reserve)
+    }
+
+    /// Raises what the seat's tenant reserves to this, which is above what it reserves: as many segments and
+    /// nodes at least, and more of one. What it used stays used. Refused at most as `NoTenant`, `Lower` (not
+    /// above), `Full` and `OutOfMemory`; then seat and hall are as they were.
+    pub fn reserve<R: Wait>(
+        &self,
+        rt: &R,
+        seat: &mut Seat<L>,
+        reserve: Reserve,
+    ) -> Result<(), Refusal>
+        ensures share { MatchResult result (λ _. seat.new ≡ stepped seat.old) (λ _. seat.new ≡ seat.old) }
+        ensures refused { IfErr result (Contains reserve_refusals) }
+    {
+        self.enter(rt).reserve(seat, reserve)
     }
 
     /// Asks for the value of a position to a depth of 0 to 12 plies: the number of the job, which is

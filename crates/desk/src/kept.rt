@@ -1,19 +1,19 @@
 //! What lies under the lock: the hall, and the book of the shares.
-ghost use Rattle.std.specs.Prelude.{◌≡◌, ◌≢◌, ◌+◌, ◌^◌, ◌<◌, ◌≤◌, ◌↔◌, [], true, false, length, Ok, Err, Some, None, Contains, IfErr, IfOk, IfSome, IsNone, Option, MatchResult, option_copied};
+ghost use Rattle.std.specs.Prelude.{◌≡◌, ◌≢◌, ◌+◌, ◌%◌, ◌^◌, ◌<◌, ◌≤◌, ◌==◌, ◌↔◌, not, [], true, false, length, Ok, Err, Some, None, Contains, IfErr, IfOk, IfSome, IsNone, Option, MatchResult, option_copied};
 ghost use Rattle.sched_rules.specs.declared.refusal.Refusal.TheVariants.{NoJob, OutOfMemory};
-ghost use Rattle.sched_rules.specs.declared.step.StepOf.TheVariants.{Admit, Submit, Cancel, Leave};
+ghost use Rattle.sched_rules.specs.declared.step.StepOf.TheVariants.{Admit, AdmitMore, Submit, Cancel, Leave};
 ghost use Rattle.sched_rules.specs.declared.step.DidOf.{DidOf};
-ghost use Rattle.jamboree_rules.specs.declared.leaf.Leaf.{Leaf as LeafOf};
-ghost use Rattle.jamboree_rules.specs.Places.{root_words, frame_size};
+ghost use Rattle.hall.specs.jamboree_rules.declared.leaf.Leaf.{Leaf as LeafOf};
+ghost use Rattle.hall.specs.jamboree_rules.Places.{root_words, frame_size};
 ghost use Rattle.hall.specs.Journals.{is_worker_step};
 ghost use Rattle.hall.specs.Halls.{count_of};
 ghost use Rattle.sched_rules.specs.Headline.{is_admission};
 ghost use Rattle.sched_rules.specs.Views.{left_of, live_of, job_of};
-ghost use Rattle.jamboree_laws.specs.Replies.{IsSearch};
-ghost use Rattle.jamboree_core.specs.declared.outcomes.Outcome.{Outcome as OutcomeOf};
-ghost use Rattle.jamboree_core.specs.Outcomes.{IsOutcomeIn};
-ghost use Rattle.desk.specs.Seats.{admit_refusals, ask_refusals, cancel_refusals, stepped, asked_at, IsAsked, Shows, IsShown, IsShownOf, IsToldBy};
-ghost use Rattle.desk.specs.Counts.{IsOffered, IsLeft, with_kept, found_or_no_tenant};
+ghost use Rattle.hall.specs.jamboree_laws.Replies.{IsSearch};
+ghost use Rattle.hall.specs.jamboree_core.declared.outcomes.Outcome.{Outcome as OutcomeOf};
+ghost use Rattle.hall.specs.jamboree_core.Outcomes.{IsOutcomeIn};
+ghost use Rattle.desk.specs.Seats.{admit_refusals, reserve_refusals, ask_refusals, cancel_refusals, stepped, asked_at, IsAsked, Shows, IsShown, IsShownOf, IsToldBy};
+ghost use Rattle.desk.specs.Counts.{IsOffered, IsLeft, IsAsOpen, IsNext, with_kept, found_or_no_tenant, waits_on, has_news};
 
 use crate::seat::{Asked, JOBS, Seat};
 use crate::shares::{Badge, Hands, PARTS};
@@ -42,7 +42,7 @@ pub(crate) struct Kept<L: Hands> {
     sleepers: u32,
 }
 
-// Clauses see the hall, and whether the desk is closed.
+// Clauses see the hall, whether the desk is closed, and how many workers sleep.
 impl<L: Hands> Model for Kept<L> {
     ghost use Rattle.std.specs.Prelude.{◌≡◌, ◌+◌, ◌^◌, ◌≤◌};
     ghost use Rattle.hall.specs.Halls.{count_of};
@@ -50,30 +50,10 @@ impl<L: Hands> Model for Kept<L> {
 
     ghost Value = { KeptOf };
 
-    ghost view = { λ k. record { hall = k.hall; closed = k.closed } };
+    ghost view = { λ k. record { hall = k.hall; closed = k.closed; sleepers = k.sleepers } };
 
     ghost invariant = { λ k. (count_of k.hall ≡ k.before + k.book.total) × (k.hall.kept ≡ k.before + k.spare.amount) × (k.spare.parts ≡ k.parts)
         × (L.all ≡ 13835058055282163712) × (k.parts ≤ 13835058055282163712) × (13835058055282163712 ≤ k.parts + k.badges + k.hall.shared.newest) × (k.badges ≤ 2 ^ 62) };
-}
-
-/// What a step changed that somebody may wait for.
-pub(crate) enum Ends {
-    Nothing,
-    /// A frame became ready.
-    InReady,
-    /// A job ended.
-    Job,
-}
-
-impl Ends {
-    /// What a worker's step changed that was answered so.
-    pub(crate) fn of(answer: &Result<Did<Jamboree>, Refusal>) -> Ends {
-        match answer {
-            Ok(DidOf::Spawned(_)) | Ok(DidOf::TakenIn(Some(_), _)) => Ends::InReady,
-            Ok(DidOf::Finished(_)) | Ok(DidOf::Spent(_)) => Ends::Job,
-            _ => Ends::Nothing,
-        }
-    }
 }
 
 impl<L: Hands> Kept<L> {
@@ -83,6 +63,7 @@ impl<L: Hands> Kept<L> {
         requires parts { (blank.parts ≡ L.parts) × (L.all ≡ L.parts) × (L.all ≡ PARTS) }
         ensures hall { result.hall ≡ record hall { kept = count_of hall } }
         ensures open { result.closed ≡ false }
+        ensures none { result.sleepers ≡ 0 }
     {
         let (book, spare) = blank.open::<L>();
         let mut hall = hall;
@@ -103,14 +84,13 @@ impl<L: Hands> Kept<L> {
     /// Offers a step to the hall, and counts it for this share where it was taken.
     fn take(&mut self, mine: &mut Share<L>, step: &Step<Jamboree>) -> Result<Did<Jamboree>, Refusal>
         requires search { IsSearch step.now }
-        requires stays { is_admission step.now ≡ false }
         requires part { 0 < mine.old.parts }
         ensures step { IsOffered self.old.hall step.now result self.new.hall }
-        ensures closed { self.new.closed ≡ self.old.closed }
+        ensures others { IsAsOpen self.old self.new }
         ensures amount { MatchResult result (λ _. mine.new.amount ≡ mine.old.amount + 1) (λ _. mine.new.amount ≡ mine.old.amount) }
         ensures parts { mine.new.parts ≡ mine.old.parts }
         ensures bound { mine.new.amount ≤ 2 ^ 84 }
-        ensures memory { result ≢ Err OutOfMemory }
+        ensures memory { is_admission step.now ≡ false → result ≢ Err OutOfMemory }
     {
         let Kept { hall, book, .. } = self;
         let answer = hall.offer(step);
@@ -128,7 +108,7 @@ impl<L: Hands> Kept<L> {
             (λ _. (did : DidOf LeafOf) × IsOffered self.old.hall (Admit (self.old.hall.shared.newest + 1) reserve) (Ok did) self.new.hall)
             (λ refusal. IsOffered self.old.hall (Admit (self.old.hall.shared.newest + 1) reserve) (Err refusal) self.new.hall) }
         ensures refused { IfErr result (Contains admit_refusals) }
-        ensures closed { self.new.closed ≡ self.old.closed }
+        ensures others { IsAsOpen self.old self.new }
     {
         let Kept {
             hall,
@@ -154,6 +134,21 @@ impl<L: Hands> Kept<L> {
         }
     }
 
+    /// Raises what a seat's tenant reserves.
+    pub(crate) fn reserve(&mut self, seat: &mut Seat<L>, reserve: Reserve) -> Result<(), Refusal>
+        ensures share { MatchResult result (λ _. seat.new ≡ stepped seat.old) (λ _. seat.new ≡ seat.old) }
+        ensures step { MatchResult result
+            (λ _. (did : DidOf LeafOf) × IsOffered self.old.hall (AdmitMore seat.old.tenant reserve) (Ok did) self.new.hall)
+            (λ refusal. IsOffered self.old.hall (AdmitMore seat.old.tenant reserve) (Err refusal) self.new.hall) }
+        ensures refused { IfErr result (Contains reserve_refusals) }
+        ensures others { IsAsOpen self.old self.new }
+    {
+        let step = StepOf::AdmitMore(seat.tenant, reserve);
+        self.take(&mut seat.mine, &step)?;
+        seat.steps += 1;
+        Ok(())
+    }
+
     /// Submits the search of a position for a seat.
     pub(crate) fn ask(
         &mut self,
@@ -168,7 +163,7 @@ impl<L: Hands> Kept<L> {
         ensures step { MatchResult result
             (λ _. (did : DidOf LeafOf) × IsOffered self.old.hall (Submit seat.old.tenant (root_words position.now.board.own position.now.board.opp depth) frame_size) (Ok did) self.new.hall)
             (λ refusal. length seat.old.asked ≢ 256 → IsOffered self.old.hall (Submit seat.old.tenant (root_words position.now.board.own position.now.board.opp depth) frame_size) (Err refusal) self.new.hall) }
-        ensures closed { self.new.closed ≡ self.old.closed }
+        ensures others { IsAsOpen self.old self.new }
     {
         if seat.asked.len() == JOBS {
             return Err(Refusal::NoJobsLeft);
@@ -190,7 +185,7 @@ impl<L: Hands> Kept<L> {
         ensures step { MatchResult result
             (λ _. (did : DidOf LeafOf) × IsOffered self.old.hall (Cancel seat.old.tenant job) (Ok did) self.new.hall)
             (λ refusal. asked_at seat.old.asked job ≢ None → IsOffered self.old.hall (Cancel seat.old.tenant job) (Err refusal) self.new.hall) }
-        ensures closed { self.new.closed ≡ self.old.closed }
+        ensures others { IsAsOpen self.old self.new }
         ensures refused { IfErr result (Contains cancel_refusals) }
     {
         if asked_at(seat.asked.as_slice(), job).is_none() {
@@ -212,7 +207,7 @@ impl<L: Hands> Kept<L> {
         requires few { badge.old + 1 < 2 ^ 64 }
         ensures share { MatchResult result (λ _. badge.new ≡ badge.old + 1) (λ _. badge.new ≡ badge.old) }
         ensures step { IsOffered self.old.hall step.now result self.new.hall }
-        ensures closed { self.new.closed ≡ self.old.closed }
+        ensures others { IsAsOpen self.old self.new }
         ensures memory { result ≢ Err OutOfMemory }
     {
         let answer = self.take(&mut badge.mine, step);
@@ -235,18 +230,25 @@ impl<L: Hands> Kept<L> {
     }
 
     /// Whether a seat that asked for a job goes on waiting.
-    pub(crate) fn is_pending(&self, tenant: u64, job: u64) -> bool {
-        !self.closed && matches!(self.hall.outcome(tenant, job), Some(Outcome::Pending))
+    pub(crate) fn is_pending(&self, tenant: u64, job: u64) -> bool
+        ensures { result ≡ waits_on self.now tenant job }
+    {
+        match self.hall.outcome(tenant, job) {
+            Some(Outcome::Pending) => !self.closed,
+            _ => false,
+        }
     }
 
     /// Whether a worker that waits may go on.
-    pub(crate) fn has_news(&self) -> bool {
+    pub(crate) fn has_news(&self) -> bool
+        ensures { result ≡ has_news self.now }
+    {
         self.closed || self.hall.core().any_ready().is_some()
     }
 
-    /// A frame that is ready, unless the desk is closed.
+    /// A frame that is ready, with its home, unless the desk is closed.
     pub(crate) fn next_ready(&self) -> Option<(FrameId, u8)>
-        ensures { self.now.closed ≡ true → result ≡ None }
+        ensures { IsNext self.now result }
     {
         if self.closed {
             None
@@ -257,20 +259,22 @@ impl<L: Hands> Kept<L> {
 
     /// One worker more sleeps until a frame is ready.
     pub(crate) fn begin_sleep(&mut self)
-        ensures { self.new ≡ self.old }
+        ensures { self.new ≡ record self.old { sleepers = (self.old.sleepers + 1) % 2 ^ 32 } }
     {
         self.sleepers = self.sleepers.wrapping_add(1);
     }
 
     /// One worker fewer sleeps.
     pub(crate) fn end_sleep(&mut self)
-        ensures { self.new ≡ self.old }
+        ensures { self.new ≡ record self.old { sleepers = (self.old.sleepers + 4294967295) % 2 ^ 32 } }
     {
         self.sleepers = self.sleepers.wrapping_sub(1);
     }
 
     /// Whether some worker sleeps until a frame is ready.
-    pub(crate) fn has_sleepers(&self) -> bool {
+    pub(crate) fn has_sleepers(&self) -> bool
+        ensures { result ≡ not (self.now.sleepers == 0) }
+    {
         self.sleepers > 0
     }
 
@@ -325,7 +329,7 @@ impl<L: Hands> Kept<L> {
     pub(crate) fn leave(&mut self, seat: Seat<L>)
         requires { L.all ≡ L.parts }
         ensures step { IsLeft self.old.hall seat self.new.hall }
-        ensures closed { self.new.closed ≡ self.old.closed }
+        ensures others { IsAsOpen self.old self.new }
     {
         let Seat {
             tenant,
@@ -364,7 +368,8 @@ impl<L: Hands> Kept<L> {
     /// The hall, and whether this badge has all that was out.
     pub(crate) fn closed(self, badge: Badge<L>) -> (Hall, bool)
         requires { L.all ≡ L.parts }
-        ensures { result.1 ≡ true → count_of result.0 ≡ result.0.kept + badge }
+        ensures same { result.0 ≡ self.hall }
+        ensures whole { result.1 ≡ true → count_of result.0 ≡ result.0.kept + badge }
     {
         let Kept {
             hall,

@@ -23,7 +23,10 @@
 //! ```
 #![tactic(auto)]
 
+pub use hall::jamboree;
+
 mod desk;
+mod ends;
 mod kept;
 pub mod rows;
 mod seat;

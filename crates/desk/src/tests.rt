@@ -1,5 +1,9 @@
 ghost use Rattle.std.specs.Prelude.{◌≡◌, ◌≤◌, true};
 
+mod endings;
+mod reserving;
+mod waiting;
+
 use super::*;
 use frame_table::FrameId;
 use othello_board::Board;
@@ -26,6 +30,14 @@ fn position(own: u64, opp: u64) -> Result<Position, Fail> {
 /// The opening, Black to move.
 fn opening() -> Result<Position, Fail> {
     position(1 << 28 | 1 << 35, 1 << 27 | 1 << 36)
+}
+
+/// The same, in a thread.
+fn start(rt: &impl Abort) -> Position {
+    Position {
+        board: Board::new(1 << 28 | 1 << 35, 1 << 27 | 1 << 36).expect(rt, "a board"),
+        side: Side::Black,
+    }
 }
 
 /// A desk over a core of so many segments and nodes; each job is searched by one worker.
@@ -84,35 +96,45 @@ fn left(segments: u32, nodes: u32, steps: u32) -> Result<Left, Refusal> {
     })
 }
 
-/// A tenant's jobs: one that is done, and one that is cancelled. Its seat, and the badge of the
-/// worker of this number.
+/// A tenant's first job, which is done: its seat, and the badge of the worker of this number.
 fn work<L: Hands, R: Wait + Abort>(rt: &R, desk: &Desk<L>, number: u8) -> (Seat<L>, Badge<L>) {
     let worker = Worker::new(number).expect(rt, "a worker's number");
     let reserve = Reserve::new(4, 8).expect(rt, "within the limits");
-    let board = Board::new(1 << 28 | 1 << 35, 1 << 27 | 1 << 36).expect(rt, "a board");
-    let position = Position {
-        board,
-        side: Side::Black,
-    };
     let mut seat = desk.admit(rt, reserve).expect(rt, "there is room");
     let mut badge = desk.badge(rt).expect(rt, "there are badges");
     let root = FrameId {
         tenant: seat.tenant(),
         serial: 1,
     };
-    assert_eq!(rt; desk.ask(rt, &mut seat, &position, 0), Ok(1));
+    assert_eq!(rt; desk.ask(rt, &mut seat, &start(rt), 0), Ok(1));
     assert_eq!(rt; compute(rt, desk, &mut badge, worker, root), Some(1));
     assert_eq!(rt; reply_of(desk.wait(rt, &seat, 1)), Some((0, None)));
     assert_eq!(rt; desk.quota(rt, &seat), left(4, 7, 123));
     assert_eq!(rt; (seat.share(), badge.share()), (2, 5));
     assert_eq!(rt; desk.cancel(rt, &mut seat, 1), Err(Refusal::NoJob));
-    assert_eq!(rt; desk.ask(rt, &mut seat, &position, 0), Ok(2));
+    (seat, badge)
+}
+
+/// The seat's second job, which is cancelled.
+fn cancel_second<L: Hands, R: Wait + Abort>(rt: &R, desk: &Desk<L>, seat: Seat<L>) -> Seat<L> {
+    let mut seat = seat;
+    assert_eq!(rt; desk.ask(rt, &mut seat, &start(rt), 0), Ok(2));
     assert_eq!(rt; desk.live(rt, &seat), Ok((1, 12)));
     assert_eq!(rt; desk.cancel(rt, &mut seat, 2), Ok(()));
     assert_eq!(rt; desk.get(rt, &seat, 2), Ok(Outcome::Cancelled));
     assert_eq!(rt; desk.quota(rt, &seat), left(4, 6, 123));
     assert_eq!(rt; seat.share(), 4);
-    (seat, badge)
+    seat
+}
+
+/// Both jobs.
+fn work_twice<L: Hands, R: Wait + Abort>(
+    rt: &R,
+    desk: &Desk<L>,
+    number: u8,
+) -> (Seat<L>, Badge<L>) {
+    let (seat, badge) = work(rt, desk, number);
+    (cancel_second(rt, desk, seat), badge)
 }
 
 /// One seat, and one badge for its worker.
@@ -122,6 +144,9 @@ fn one_stays<L: Hands, R: Wait + Abort>(rt: &R, alloc: Global, blank: Blank) -> 
 {
     let desk: Desk<L> = desk_of(alloc, blank, 32, 64)?;
     let (seat, badge) = work(rt, &desk, 1);
+    assert_eq!(rt; desk.count(rt), 7);
+    let seat = cancel_second(rt, &desk, seat);
+    assert_eq!(rt; desk.count(rt), 9);
     desk.leave(rt, seat);
     assert_eq!(rt; desk.count(rt), 10);
     let (hall, is_whole) = desk.into_hall(badge);
@@ -148,7 +173,7 @@ fn start_four<'s, E, L: Hands + Send + Sync, R: Wait + Abort + Sync>(
         if handles.reserve(1).is_err() {
             return None;
         }
-        match scope.spawn(move || work(rt, desk, number)) {
+        match scope.spawn(move || work_twice(rt, desk, number)) {
             Ok(handle) => handles.push_reserved(handle),
             Err(_) => return None,
         }

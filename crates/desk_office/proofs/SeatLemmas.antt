@@ -6,19 +6,20 @@ use Rattle.std.proofs.Math.ListN.{get_or-map}
 use Rattle.std.proofs.lemmas.List.{length-map}
 use Rattle.othello_board.specs.Words.{cells, cells_of}
 use Rattle.othello_eval.specs.Minimax.{minimax, best_choice}
-use Rattle.jamboree.specs.declared.reply.Reply.{Reply}
-use Rattle.jamboree.specs.Replies.{board_of, depth_of}
-use Rattle.jamboree_core.specs.declared.outcomes.Outcome.{Outcome}
-use Rattle.jamboree_core.specs.declared.outcomes.Outcome.TheVariants.{Pending, Done, Spent, Cancelled}
+use Rattle.desk.specs.jamboree.declared.reply.Reply.{Reply}
+use Rattle.desk.specs.jamboree.Replies.{board_of, depth_of}
+use Rattle.desk.specs.jamboree_core.declared.outcomes.Outcome.{Outcome}
+use Rattle.desk.specs.jamboree_core.declared.outcomes.Outcome.TheVariants.{Pending, Done, Spent, Cancelled}
 use Rattle.sched_rules.specs.declared.refusal.Refusal.{Refusal}
 use Rattle.sched_rules.specs.declared.refusal.Refusal.TheVariants.{NoJob}
 use Rattle.sched_rules.specs.Refusals.{number_of}
-use Rattle.session.specs.Calls.{Call, Cancel, Ended, Told as ToldOf, Refused, reply_of}
+use Rattle.tenant_quota.specs.Quota.{Quota}
+use Rattle.session.specs.Calls.{Call, Cancel, Reserve, Reserved, Ended, Told as ToldOf, Refused, reply_of}
 use Rattle.session.specs.Asks.{Asked as SessionAsked, asked_at, asks_after, IsFound, IsToldOf, KeepsAsks, SaysTrue, ShowsFound}
 use Rattle.session.specs.declared.outcome.Finding.{Finding}
 use Rattle.session.specs.declared.outcome.Outcome.{Outcome as Told}
 use Rattle.desk.specs.declared.seat.Asked.{Asked}
-use Rattle.desk.specs.Seats.{SeatOf, cancel_refusals, stepped, IsShown, asked_at as seat_asked_at}
+use Rattle.desk.specs.Seats.{SeatOf, cancel_refusals, reserve_refusals, stepped, IsShown, asked_at as seat_asked_at}
 use Rattle.desk_office.specs.Offices.{ask_of, asks_of, told, told_answer}
 
 -- what was asked under a number
@@ -98,3 +99,15 @@ pub seat_cancels : (here : Option SeatOf) (before after : SeatOf) (job : ℕ) (a
     → (seat_asked_at before.asked job ≡ None → answer ≡ Err NoJob) → IfErr answer (Contains cancel_refusals) → KeepsAsks (asks_of here) (Cancel job) (reply_of (λ _. Ended job) answer) (map ask_of after.asked)
 seat_cancels here before after job answer is share none refused =
     subst (λ o. KeepsAsks (asks_of o) (Cancel job) (reply_of (λ _. Ended job) answer) (map ask_of after.asked)) (sym is) (cancels before after job answer share none refused)
+
+-- a seat reserves more
+reserves : (before after : SeatOf) (quota : Quota) (answer : Result (Unit {0}) Refusal) → MatchResult answer (λ _. after ≡ stepped before) (λ _. after ≡ before) → IfErr answer (Contains reserve_refusals)
+    → KeepsAsks (map ask_of before.asked) (Reserve quota) (reply_of (λ _. Reserved quota) answer) (map ask_of after.asked)
+reserves before after quota (Ok done) share refused = (ap (λ s. map ask_of s.asked) share, tt, tt)
+reserves before after quota (Err refusal) share refused = (ap (λ s. map ask_of s.asked) share, tt, refused_by reserve_refusals refusal refused)
+
+-- what becomes of the asks by it: they stay
+pub seat_reserves : (here : Option SeatOf) (before after : SeatOf) (quota : Quota) (answer : Result (Unit {0}) Refusal) → here ≡ Some before → MatchResult answer (λ _. after ≡ stepped before) (λ _. after ≡ before) → IfErr answer (Contains reserve_refusals)
+    → KeepsAsks (asks_of here) (Reserve quota) (reply_of (λ _. Reserved quota) answer) (map ask_of after.asked)
+seat_reserves here before after quota answer is share refused =
+    subst (λ o. KeepsAsks (asks_of o) (Reserve quota) (reply_of (λ _. Reserved quota) answer) (map ask_of after.asked)) (sym is) (reserves before after quota answer share refused)

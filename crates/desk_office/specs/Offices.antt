@@ -3,9 +3,9 @@ use Rattle.std.specs.Prelude.{List, [], map, Option, Some, None, Result, Ok, Err
 use Rattle.othello_board.specs.Words.{cells}
 use Rattle.othello_eval.specs.Minimax.{minimax, best_choice}
 use Rattle.sched_rules.specs.declared.refusal.Refusal.{Refusal}
-use Rattle.jamboree.specs.Replies.{board_of, depth_of}
-use Rattle.jamboree_core.specs.declared.outcomes.Outcome.{Outcome}
-use Rattle.jamboree_core.specs.declared.outcomes.Outcome.TheVariants.{Pending, Done, Spent, Cancelled}
+use Rattle.desk.specs.jamboree.Replies.{board_of, depth_of}
+use Rattle.desk.specs.jamboree_core.declared.outcomes.Outcome.{Outcome}
+use Rattle.desk.specs.jamboree_core.declared.outcomes.Outcome.TheVariants.{Pending, Done, Spent, Cancelled}
 use Rattle.session.specs.declared.outcome.Outcome.{Outcome as Told}
 use Rattle.session.specs.declared.outcome.Outcome.TheVariants.{Pending as pending, Done as done, Spent as spent, Cancelled as cancelled}
 use Rattle.session.specs.Asks.{Asked}

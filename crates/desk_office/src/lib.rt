@@ -8,7 +8,7 @@
 //! value.
 //!
 //! So [`serve_desk`] can promise it of the lines themselves (`TrueSession`): each `DONE k value move` bears the minimax
-//! value and the best choice of the position and the depth of the `ASK` line that was answered by `JOB k`.
+//! value and the best choice of the position and the depth of the k-th `ASK` line that was answered by `JOB`.
 //!
 //! ```text
 //! let mut source = FromReader { reader: &stream };

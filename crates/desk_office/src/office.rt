@@ -54,6 +54,13 @@ impl<L: Hands, R: Wait> Office for DeskOffice<'_, L, R> {
         Ok(())
     }
 
+    fn reserve(&mut self, reserve: Reserve) -> Result<(), Refusal> {
+        match &mut self.seat {
+            Some(seat) => self.desk.reserve(self.rt, seat, reserve),
+            None => Err(Refusal::NoTenant),
+        }
+    }
+
     fn ask(&mut self, position: &Position, depth: u8) -> Result<u64, Refusal> {
         match &mut self.seat {
             Some(seat) => self.desk.ask(self.rt, seat, position, depth),

@@ -215,7 +215,7 @@ added_ready xs parent slot home frames e state =
     rw (ready_in-append (with_child parent xs) (slot ∷ []), ready_in-with_child parent xs, state, e) refl
 
 -- a tenant, from slots that are sound by any count, their serials and the ready frames among them
-pub is_tenant : {T : Type 0} (slots : List (Slot T)) (count places : ℕ) (serials : SerialList) (ready : ReadyList) → IsSound slots count → serials.serials ≡ serials_of slots → ready.frames ≡ ready_in slots → length slots ≤ places → places ≤ 4096 → serials.places ≡ places → ready.places ≡ places → IsTenant slots places serials ready
+pub is_tenant : {T : Type 0} (slots : List (Slot T)) (count places : ℕ) (serials : SerialList) (ready : ReadyList) → IsSound slots count → serials.serials ≡ serials_of slots → ready.frames ≡ ready_in slots → length slots ≤ places → places ≤ 4096 → places ≤ serials.places → places ≤ ready.places → IsTenant slots places serials ready
 is_tenant slots count places serials ready s i e within few same_serials same = record {
   sound = record { linked = s.linked; counted = s.counted; ready_count = ap length e ∙ ready_in-length slots };
   index = i;

@@ -1,5 +1,5 @@
 -- Slots under keys: reading, writing and adding them.
-use Rattle.std.proofs.Common.{◌≡◌, ◌≢◌, ℕ, zero, suc, ◌+◌, ◌-◌, ◌<◌, Bool, true, false, ◌||◌, eqb, List, [], ◌∷◌, ◌++◌, Option, Some, None, IsSome, length, take, get_or, set, refl, ap, sym, ◌∙◌, inl, inr, arith, append_assoc, append-nil, subst}
+use Rattle.std.proofs.Common.{◌≡◌, ◌≢◌, ℕ, zero, suc, ◌+◌, ◌-◌, ◌<◌, ◌≤◌, Bool, true, false, ◌||◌, eqb, List, [], ◌∷◌, ◌++◌, Option, Some, None, IsSome, length, take, get_or, set, refl, ap, sym, ◌∙◌, inl, inr, arith, append_assoc, append-nil, subst}
 use Rattle.std.proofs.lemmas.Bool.{cases_eq, false≢true, eq-eqb, ne_eqb}
 use Rattle.slab.specs.Slab.{Slab, get, slab_len, ContainsKey, Updates}
 use Rattle.frame_table.specs.declared.slot.Slot.{Slot as TenantSlot}
@@ -266,3 +266,40 @@ length-with_child (Some p) slots = length-with_slot p (λ s. record s { children
 pub length-without_child : {T : Type 0} (parent : Option ℕ) (slots : List (TenantSlot T)) → length (without_child parent slots) ≡ length slots
 length-without_child None slots = refl
 length-without_child (Some p) slots = length-with_slot p (λ s. record s { children = s.children - 1 }) slots
+
+-- ---- more room: the slots under keys, whatever the capacity
+
+pub roomy_slots : {T : Type 0} (slab : Slab (Kept T)) (capacity : ℕ) (keys : List ℕ) → slots_in (record slab { capacity = capacity }) keys ≡ slots_in slab keys
+roomy_slots slab capacity [] = refl
+roomy_slots slab capacity (key ∷ keys) = ap (λ slots. with_found (get slab key) slots) (roomy_slots slab capacity keys)
+
+roomy_here : {T : Type 0} (slab : Slab (Kept T)) (capacity : ℕ) (before keys : List ℕ) → AllHere slab before keys → AllHere (record slab { capacity = capacity }) before keys
+roomy_here {T} slab capacity before [] here = tt
+roomy_here {T} slab capacity before (key ∷ keys) here = (knows before (get slab key) here.0, roomy_here slab capacity (before ++ key ∷ []) keys here.1)
+  where
+    above_known : (before : List ℕ) (parent above : Option ℕ) → KnowsParent slab before parent above → KnowsParent (record slab { capacity = capacity }) before parent above
+    above_known before None None k = k
+    above_known before None (Some above) k = k
+    above_known before (Some parent) None k = k
+    above_known before (Some parent) (Some above) k = k
+
+    knows : (before : List ℕ) (kept : Option (Kept T)) → IsHere slab before kept → IsHere (record slab { capacity = capacity }) before kept
+    knows before None here = here
+    knows before (Some kept) here = (here.0, above_known before kept.slot.parent kept.above here.1)
+
+pub roomy_shelf : {T : Type 0} (old new : Slab (Kept T)) (keys : List ℕ) (room room' places places' : ℕ) → IsShelf old keys room places → new ≡ record old { capacity = new.capacity } → places ≤ places' → places' ≤ new.capacity → places' ≤ room' → IsShelf new keys room' places'
+roomy_shelf {T} old new keys room room' places places' s same more wide long =
+    subst (λ (k : Slab (Kept T)). IsShelf k keys room' places') (sym same) (record {
+      here = roomy_here old new.capacity [] keys s.here;
+      apart = s.apart;
+      counted = s.counted;
+      within = omega (arith, s.within, more);
+      slab_room = wide;
+      order_room = long;
+    })
+
+pub roomy_seen : {T : Type 0} (old new : Slab (Kept T)) (keys : List ℕ) → new ≡ record old { capacity = new.capacity } → slots_in new keys ≡ slots_in old keys
+roomy_seen {T} old new keys same = ap (λ (k : Slab (Kept T)). slots_in k keys) same ∙ roomy_slots old new.capacity keys
+
+pub roomy_len : {T : Type 0} (old new : Slab (Kept T)) → new ≡ record old { capacity = new.capacity } → slab_len new ≡ slab_len old
+roomy_len {T} old new same = ap (λ (k : Slab (Kept T)). slab_len k) same

@@ -54,5 +54,5 @@ pub record IsTenant {T : Type 0} (slots : List (Slot T)) (places : ℕ) (serials
   pub ready_frames : ready.frames ≡ ready_in slots
   pub within : length slots ≤ places
   pub few : places ≤ 4096
-  pub serial_places : serials.places ≡ places
-  pub ready_places : ready.places ≡ places
+  pub serial_places : places ≤ serials.places
+  pub ready_places : places ≤ ready.places

@@ -3,7 +3,7 @@
 //! Seen as a list by rising serial, and a number of places. The last is the newest ready frame. The
 //! place of a frame that becomes ready, or no longer is, is mostly at one of the ends: those are looked
 //! at before a binary search.
-ghost use Rattle.std.specs.Prelude.{◌≡◌, ◌+◌, ◌<◌, ◌≤◌, ◌++◌, [], ◌∷◌, length, filter, not, ◌==◌, nat_lt, IfOk};
+ghost use Rattle.std.specs.Prelude.{◌≡◌, ◌+◌, ◌<◌, ◌≤◌, ◌++◌, [], ◌∷◌, length, filter, not, ◌==◌, nat_lt, IfOk, OnOk};
 ghost use Rattle.frame_table.specs.Places.{RisesBy, IsPlaceFor, inserted};
 ghost use Rattle.frame_table.specs.Readies.{newest_of, without_ready, put_ready};
 
@@ -41,6 +41,16 @@ impl<A: Allocator> ReadyFrames<A> {
     {
         let frames = Window::new(alloc, places)?;
         Ok(ReadyFrames { frames })
+    }
+
+    /// Makes as many places as these at least.
+    pub(crate) fn raise(&mut self, places: usize) -> Result<(), AllocError>
+        requires { places ≤ 4096 }
+        ensures frames { self.new.frames ≡ self.old.frames }
+        ensures more { OnOk result (places ≤ self.new.places) }
+        ensures kept { self.old.places ≤ self.new.places }
+    {
+        self.frames.raise(places)
     }
 
     /// How many there are.

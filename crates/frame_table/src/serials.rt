@@ -3,7 +3,7 @@
 //! Seen as the list of serials, and a number of places. A place is mostly asked for to remove the newest
 //! frame, or the oldest child of a single root: those are looked at before a binary search, which reads
 //! nothing but serials.
-ghost use Rattle.std.specs.Prelude.{◌≡◌, ◌<◌, ◌≤◌, ◌++◌, [], ◌∷◌, true, false, length, take, slice_index, IfOk, IfSome, IfNone};
+ghost use Rattle.std.specs.Prelude.{◌≡◌, ◌<◌, ◌≤◌, ◌++◌, [], ◌∷◌, true, false, length, take, slice_index, IfOk, OnOk, IfSome, IfNone};
 ghost use Rattle.std.specs.List.{remove};
 ghost use Rattle.frame_table.specs.Places.{RisesBy, has_number};
 
@@ -33,6 +33,16 @@ impl<A: Allocator> Serials<A> {
     {
         let serials = Window::new(alloc, places)?;
         Ok(Serials { serials })
+    }
+
+    /// Makes as many places as these at least.
+    pub(crate) fn raise(&mut self, places: usize) -> Result<(), AllocError>
+        requires { places ≤ 4096 }
+        ensures serials { self.new.serials ≡ self.old.serials }
+        ensures more { OnOk result (places ≤ self.new.places) }
+        ensures kept { self.old.places ≤ self.new.places }
+    {
+        self.serials.raise(places)
     }
 
     /// Where a serial stands.

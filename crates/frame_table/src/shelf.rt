@@ -6,7 +6,7 @@
 //! A slot is looked for first under the key that its serial is guessed to have, which stays its key while
 //! it is there: else by a search of the serials. It is found by its serial alone, so one that is used
 //! again never answers for an old name.
-ghost use Rattle.std.specs.Prelude.{◌≡◌, ℕ, ◌+◌, ◌<◌, ◌≤◌, ◌++◌, not, filter, vec_len, vec_capacity, [], ◌∷◌, true, false, Some, length, IfOk, IfSome, IfNone, get_or, set, slice_index, take, drop, ◌-◌};
+ghost use Rattle.std.specs.Prelude.{◌≡◌, ℕ, ◌+◌, ◌<◌, ◌≤◌, ◌++◌, not, filter, vec_len, vec_capacity, [], ◌∷◌, true, false, Some, length, IfOk, OnOk, OnErr, IfSome, IfNone, get_or, set, slice_index, take, drop, ◌-◌};
 ghost use Rattle.slab.specs.Slab.{get, slab_len, ContainsKey, Updates};
 ghost use Rattle.frame_table.specs.declared.shelf.Kept.{Kept};
 ghost use Rattle.frame_table.specs.declared.slot.Slot.{Slot};
@@ -76,6 +76,23 @@ impl<T: Copy, A: Allocator> Shelf<T, A> {
             order,
             guesses,
         })
+    }
+
+    /// Makes so many places, and guesses anew in a table of their size. Where a growth is refused nothing
+    /// has changed.
+    pub(crate) fn raise(&mut self, alloc: A, places: usize) -> Result<(), AllocError>
+        requires more { self.old.places ≤ places }
+        requires few { places ≤ 4096 }
+        ensures ok { OnOk result (self.new ≡ record self.old { places = places }) }
+        ensures err { OnErr result (self.new ≡ self.old) }
+    {
+        self.order.raise(places)?;
+        self.slab.reserve(places - self.order.len())?;
+        let mut guesses = Guesses::new(alloc, (4 * places).max(FEWEST))?;
+        guess_all(&self.slab, &self.order, &mut guesses);
+        self.guesses = guesses;
+        self.places = places;
+        Ok(())
     }
 
     /// How many places it has.
@@ -270,6 +287,20 @@ impl<T: Copy, A: Allocator> Shelf<T, A> {
         let gone = self.slab.remove(key);
         disown(&mut self.slab, &self.order, gone.slot.parent, gone.above);
         gone.slot
+    }
+}
+
+/// Puts down the key of each slot.
+fn guess_all<T: Copy, A: Allocator>(
+    slab: &Slab<Kept<T>, A>,
+    order: &Window<usize, A>,
+    guesses: &mut Guesses<A>,
+)
+    requires { AreKeys slab.now order.now.list }
+{
+    for at in 0..order.len() {
+        let key = order.at(at);
+        guesses.put(slab[key].slot.serial, key);
     }
 }
 

@@ -80,7 +80,8 @@ impl<T: Copy, A: Allocator> FrameTable<T, A> {
 
     /// How many places a tenant has; 0 where none were reserved.
     pub fn places(&self, tenant: u64) -> usize
-        ensures { result ≡ places_of self.now tenant }
+        ensures places { result ≡ places_of self.now tenant }
+        ensures none { result ≡ 0 → frames_of self.now tenant ≡ [] }
     {
         match find_tree(self.trees.as_slice(), &self.guesses, tenant) {
             Some(tree) => tree.places(),
@@ -224,9 +225,33 @@ impl<T: Copy, A: Allocator> FrameTable<T, A> {
         first_ready(self.trees.as_slice())
     }
 
-    /// Makes places for that many frames of a new tenant, and for their values at an abort. It alone
-    /// takes memory after `new`: `AllocError` only where a growth was refused.
+    /// Makes places for that many frames of a tenant, and for their values at an abort: of a new tenant,
+    /// or more of them for one that has places. It alone takes memory after `new`: `AllocError` only where
+    /// a growth was refused.
     pub fn reserve(&mut self, tenant: u64, segments: usize) -> Result<(), AllocError>
+    where
+        A: Clone,
+        requires more { places_of self.old tenant ≤ segments }
+        requires free { places_of self.old tenant ≡ 0 → tenant_count self.old < TENANTS }
+        requires some { 1 ≤ segments }
+        requires few { segments ≤ PLACES }
+        ensures places { OnOk result (places_of self.new tenant ≡ segments) }
+        ensures frames { OnOk result (frames_of self.new tenant ≡ frames_of self.old tenant) }
+        ensures none { places_of self.old tenant ≡ 0 → frames_of self.old tenant ≡ [] }
+        ensures kept { OnOk result (KeepsOtherTenants self.old self.new tenant) }
+        ensures one_more { OnOk result (places_of self.old tenant ≡ 0 → tenant_count self.new ≡ tenant_count self.old + 1) }
+        ensures as_many { OnOk result (0 < places_of self.old tenant → tenant_count self.new ≡ tenant_count self.old) }
+        ensures err { OnErr result (self.new ≡ self.old) }
+    {
+        if self.places(tenant) == 0 {
+            self.reserve_first(tenant, segments)
+        } else {
+            self.reserve_more(tenant, segments)
+        }
+    }
+
+    /// Makes places for that many frames of a new tenant.
+    fn reserve_first(&mut self, tenant: u64, segments: usize) -> Result<(), AllocError>
     where
         A: Clone,
         requires fresh { places_of self.old tenant ≡ 0 }
@@ -248,6 +273,28 @@ impl<T: Copy, A: Allocator> FrameTable<T, A> {
             unreachable!()
         }
         guess_again(&mut self.guesses, self.trees.as_slice());
+        Ok(())
+    }
+
+    /// Raises the number of a tenant's places. Where a growth is refused nothing has changed.
+    fn reserve_more(&mut self, tenant: u64, segments: usize) -> Result<(), AllocError>
+    where
+        A: Clone,
+        requires there { 0 < places_of self.old tenant }
+        requires more { places_of self.old tenant ≤ segments }
+        requires few { segments ≤ PLACES }
+        ensures places { OnOk result (places_of self.new tenant ≡ segments) }
+        ensures frames { OnOk result (frames_of self.new tenant ≡ frames_of self.old tenant) }
+        ensures kept { OnOk result (KeepsOtherTenants self.old self.new tenant) }
+        ensures count { OnOk result (tenant_count self.new ≡ tenant_count self.old) }
+        ensures err { OnErr result (self.new ≡ self.old) }
+    {
+        let alloc = self.alloc.clone()?;
+        self.removed.clear();
+        self.removed.reserve(segments)?;
+        let at = known_tenant(self.trees.as_slice(), &self.guesses, tenant);
+        let tree = &mut self.trees[at];
+        tree.raise(alloc, segments)?;
         Ok(())
     }
 

@@ -4,7 +4,7 @@
 //! What makes that true: slots rise, each names a parent that stands before it and the root above it,
 //! the counts of children are those of the slots, and so are the serials and the ready frames that are
 //! listed beside them.
-ghost use Rattle.std.specs.Prelude.{◌≡◌, ◌+◌, ◌<◌, ◌≤◌, ◌↔◌, ◌++◌, [], ◌∷◌, true, false, length, vec_len, vec_capacity, IsTrue, IfOk, IfSome};
+ghost use Rattle.std.specs.Prelude.{◌≡◌, ◌+◌, ◌<◌, ◌≤◌, ◌↔◌, ◌++◌, [], ◌∷◌, true, false, length, vec_len, vec_capacity, IsTrue, IfOk, OnOk, OnErr, IfSome};
 ghost use Rattle.frame_table.specs.Frames.{frame_at, has_frame, path_in, root_of, children_of, aborted, frames_under, frames_without, values_of, with_state, ready_frames, AllBelow, entry_of, newest_ready_of, HasValue, has_parent, IsReadyAt, IsTree};
 ghost use Rattle.frame_table.specs.Slots.{frames_from, IsLinked, Rises, has_parent_slot, AllCountsBelow, with_child, root_under, serials_of};
 ghost use Rattle.frame_table.specs.Tables.{new_frame};
@@ -57,6 +57,18 @@ impl<T: Copy, A: Allocator> TenantFrames<T, A> {
             serials,
             ready,
         })
+    }
+
+    /// Makes so many places. Where a growth is refused nothing has changed.
+    pub(crate) fn raise(&mut self, alloc: A, places: usize) -> Result<(), AllocError>
+        requires more { self.old.places ≤ places }
+        requires few { places ≤ 4096 }
+        ensures ok { OnOk result (self.new ≡ record self.old { places = places }) }
+        ensures err { OnErr result (self.new ≡ self.old) }
+    {
+        self.serials.raise(places)?;
+        self.ready.raise(places)?;
+        self.shelf.raise(alloc, places)
     }
 
     /// The tenant.

@@ -4,7 +4,7 @@
 //! with room for more than twice as many: those before the start are no part of the list. So what
 //! goes near the front moves what is before it, and a push that finds no room at the end first moves
 //! the list to the front, for which at least as many removals at the front have paid.
-ghost use Rattle.std.specs.Prelude.{◌≡◌, ◌<◌, ◌≤◌, ◌++◌, [], ◌∷◌, length, take, drop, set, get_or, vec_len, vec_capacity, IfOk};
+ghost use Rattle.std.specs.Prelude.{◌≡◌, ◌<◌, ◌≤◌, ◌++◌, [], ◌∷◌, length, take, drop, set, get_or, vec_len, vec_capacity, IfOk, OnOk};
 ghost use Rattle.std.specs.List.{insert, remove};
 
 use std::alloc::{AllocError, Allocator, Global};
@@ -44,6 +44,22 @@ impl<T: Copy, A: Allocator> Window<T, A> {
             start: 0,
             items,
         })
+    }
+
+    /// Makes as many places as these at least. Where a growth is refused there are as many as before.
+    pub(crate) fn raise(&mut self, places: usize) -> Result<(), AllocError>
+        requires { places ≤ 4096 }
+        ensures list { self.new.list ≡ self.old.list }
+        ensures more { OnOk result (places ≤ self.new.places) }
+        ensures kept { self.old.places ≤ self.new.places }
+    {
+        if places <= self.places {
+            return Ok(());
+        }
+        let room = 2 * places + SPARE - self.items.len();
+        self.items.reserve(room)?;
+        self.places = places;
+        Ok(())
     }
 
     /// How many elements there are.

@@ -22,6 +22,3 @@
 mod table;
 
 pub use table::{Guesses, MOST};
-
-#[cfg(test)]
-mod tests;

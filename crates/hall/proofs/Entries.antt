@@ -3,13 +3,13 @@ use Rattle.std.proofs.Common.{◌≡◌, ℕ, ◌+◌, ◌<◌, ◌≤◌, false
 use Rattle.std.specs.Prelude.{if◌then◌else◌}
 use Rattle.std.proofs.lemmas.Bool.{cases_Bool, false≢true}
 use Rattle.sched_rules.specs.declared.step.StepOf.{StepOf}
-use Rattle.jamboree_rules.specs.declared.leaf.LeafAnswer.{LeafAnswer}
+use Rattle.jamboree_core.specs.jamboree_rules.declared.leaf.LeafAnswer.{LeafAnswer}
 use Rattle.hall.specs.declared.entry.Entry.{Entry}
 use Rattle.hall.specs.declared.entry.Entry.TheVariants.{Taken, Stolen, Advanced, TakenIn, Finished, Spent, Long}
 use Rattle.hall.specs.declared.entry.LongEntry.{LongEntry}
 use Rattle.hall.specs.Entries.{is_long, short_steps, long_step, steps_in, long_count}
-use Rattle.hall.specs.Journals.{JournalOf}
-use Rattle.hall.proofs.Lists.{longer}
+use Rattle.hall.specs.Journals.{JournalOf, longer, places_with, raise_in}
+use Rattle.hall.proofs.Lists.{further}
 
 abbrev Step : Type 0
 Step = StepOf LeafAnswer
@@ -94,15 +94,22 @@ has-room n p es ls j is count place =
     (omega (arith, long, steps, places, place), omega (arith, long, steps, places, place, few, count))
 
 -- a step is written as a short entry
-pub written-short : (n p : ℕ) (e : Entry) (es new : List Entry) (ls : List LongEntry) (j : JournalOf) (step : Step) → seen n p es ls ≡ j → new ≡ es ++ e ∷ [] → is_long e ≡ false → short_steps j.tenant e ≡ step ∷ [] → seen n p new ls ≡ longer step j
+pub written-short : (n p : ℕ) (e : Entry) (es new : List Entry) (ls : List LongEntry) (j : JournalOf) (step : Step) → seen n p es ls ≡ j → new ≡ es ++ e ∷ [] → is_long e ≡ false → short_steps j.tenant e ≡ step ∷ [] → seen n p new ls ≡ further step j
 written-short n p e es new ls j step is pushed short one =
     let own : short_steps n e ≡ step ∷ [] = ap (λ (k : JournalOf). short_steps k.tenant e) is ∙ one in
     let steps = ap (λ (k : List Entry). steps_in n k ls) pushed ∙ steps_in-short n e es ls short ∙ ap (λ (k : List Step). steps_in n es ls ++ k) own in
-    ap (λ (k : List Step). record { tenant = n; places = p; steps = k }) steps ∙ ap (longer step) is
+    ap (λ (k : List Step). record { tenant = n; places = p; steps = k }) steps ∙ ap (further step) is
 
 -- a step is written as a long one
-pub written-long : (n p : ℕ) (es new : List Entry) (l : LongEntry) (ls more : List LongEntry) (j : JournalOf) (step : Step) → seen n p es ls ≡ j → long_count es ≡ length ls → new ≡ es ++ Long ∷ [] → more ≡ ls ++ l ∷ [] → long_step j.tenant l ≡ step → seen n p new more ≡ longer step j
+pub written-long : (n p : ℕ) (es new : List Entry) (l : LongEntry) (ls more : List LongEntry) (j : JournalOf) (step : Step) → seen n p es ls ≡ j → long_count es ≡ length ls → new ≡ es ++ Long ∷ [] → more ≡ ls ++ l ∷ [] → long_step j.tenant l ≡ step → seen n p new more ≡ further step j
 written-long n p es new l ls more j step is count pushed added one =
     let own : long_step n l ≡ step = ap (λ (k : JournalOf). long_step k.tenant l) is ∙ one in
     let steps = ap (λ (k : List Entry). steps_in n k more) pushed ∙ ap (λ (k : List LongEntry). steps_in n (es ++ Long ∷ []) k) added ∙ steps_in-long n l es ls count ∙ ap (λ (k : Step). steps_in n es ls ++ k ∷ []) own in
-    ap (λ (k : List Step). record { tenant = n; places = p; steps = k }) steps ∙ ap (longer step) is
+    ap (λ (k : List Step). record { tenant = n; places = p; steps = k }) steps ∙ ap (further step) is
+
+-- a step that raises what is reserved is written as a long one, in the places that it makes
+pub written-raise : (n p q : ℕ) (es new : List Entry) (l : LongEntry) (ls more : List LongEntry) (j : JournalOf) (step : Step) → seen n p es ls ≡ j → long_count es ≡ length ls → new ≡ es ++ Long ∷ [] → more ≡ ls ++ l ∷ [] → long_step j.tenant l ≡ step →
+    q ≡ places_with (raise_in step) j → seen n q new more ≡ longer step j
+written-raise n p q es new l ls more j step is count pushed added one places =
+    ap (λ (k : JournalOf). record { tenant = k.tenant; places = q; steps = k.steps }) (written-long n p es new l ls more j step is count pushed added one)
+    ∙ ap (λ (r : ℕ). record { tenant = j.tenant; places = r; steps = j.steps ++ step ∷ [] }) places

@@ -1,11 +1,13 @@
 -- Journals by their tenants' numbers: one more step in one of them, one fewer of them, one more.
-use Rattle.std.proofs.Common.{◌≡◌, ◌≢◌, ℕ, zero, suc, ◌+◌, ◌<◌, ◌≤◌, true, false, eqb, List, [], ◌∷◌, ◌++◌, length, get_or, refl, ap, sym, ◌∙◌, arith, inl, inr, length-append, ◌*◌, subst}
+use Rattle.std.proofs.Common.{◌≡◌, ◌≢◌, ℕ, zero, suc, ◌+◌, ◌<◌, ◌≤◌, true, false, eqb, List, [], ◌∷◌, ◌++◌, Option, Some, None, length, get_or, refl, ap, sym, ◌∙◌, arith, inl, inr, length-append, ◌*◌, subst}
 use Rattle.std.proofs.Math.ListN.{set}
 use Rattle.std.specs.List.{remove}
 use Rattle.std.proofs.lemmas.Bool.{cases_Bool, false≢true, eqb-true, ne_eqb, eq-eqb}
 use Rattle.sched_rules.specs.declared.step.StepOf.{StepOf}
-use Rattle.jamboree_rules.specs.declared.leaf.LeafAnswer.{LeafAnswer}
-use Rattle.hall.specs.Journals.{JournalOf, journal_in, places_in, has_journal, place_in, with_step, without_journal, total_length, AreAbove, AreRising, AreUpTo, IsBegun, AreBegun}
+use Rattle.jamboree_core.specs.jamboree_rules.declared.leaf.LeafAnswer.{LeafAnswer}
+use Rattle.tenant_quota.specs.Quota.{Quota, IsWithinLimits}
+use Rattle.sched_rules.specs.declared.step.StepOf.TheVariants.{Admit, AdmitMore, Submit, Take, Steal, Advance, Answer, Inlet, Finish, Spend, Cancel, Leave}
+use Rattle.hall.specs.Journals.{reserve_in, raise_in, newer, reserved_after, reserved_in, one_for, raise_count, places_for, places_with, longer, goes_on, JournalOf, journal_in, places_in, has_journal, place_in, with_step, without_journal, total_length, AreAbove, AreRising, AreUpTo, IsBegun, AreBegun}
 
 abbrev Js : Type 0
 Js = List JournalOf
@@ -13,9 +15,47 @@ Js = List JournalOf
 abbrev Step : Type 0
 Step = StepOf LeafAnswer
 
--- the journal with one more step
-abbrev pub longer : Step → JournalOf → JournalOf
-longer step journal = record journal { steps = journal.steps ++ step ∷ [] }
+-- the journal with one more step, in the same places
+abbrev pub further : Step → JournalOf → JournalOf
+further step journal = record journal { steps = journal.steps ++ step ∷ [] }
+
+-- where the step raises nothing
+pub further-longer : (step : Step) (j : JournalOf) → raise_in step ≡ None → further step j ≡ longer step j
+further-longer step j none = ap (λ (r : Option Quota). record { tenant = j.tenant; places = places_with r j; steps = j.steps ++ step ∷ [] }) (sym none)
+
+-- what is reserved after one more step, and how many raises there are
+pub reserved-more : {A : Type 0} (now : Quota) (steps : List (StepOf A)) (step : StepOf A) → reserved_after now (steps ++ step ∷ []) ≡ newer (reserved_after now steps) (reserve_in step)
+reserved-more now [] step = refl
+reserved-more now (s ∷ steps) step = reserved-more (newer now (reserve_in s)) steps step
+
+pub raise-more : {A : Type 0} (steps : List (StepOf A)) (step : StepOf A) → raise_count (steps ++ step ∷ []) ≡ raise_count steps + one_for (raise_in step)
+raise-more [] step = omega arith
+raise-more (s ∷ steps) step = (let rest = raise-more steps step in omega (arith, rest))
+
+-- a step that goes on reserves what it raises
+pub going-reserves : {A : Type 0} (step : StepOf A) → goes_on step ≡ true → reserve_in step ≡ raise_in step
+going-reserves (Admit number quota) goes = absurd (false≢true goes)
+going-reserves (AdmitMore number quota) goes = refl
+going-reserves (Submit number words size) goes = refl
+going-reserves (Take worker name) goes = refl
+going-reserves (Steal worker from name) goes = refl
+going-reserves (Advance worker name) goes = refl
+going-reserves (Answer worker name answer) goes = refl
+going-reserves (Inlet worker name) goes = refl
+going-reserves (Finish worker name) goes = refl
+going-reserves (Spend name) goes = refl
+going-reserves (Cancel number job) goes = refl
+going-reserves (Leave number) goes = refl
+
+-- a raise is within the limits
+abbrev pub IsAllowed : Option Quota → Type 0
+IsAllowed None = Unit {0}
+IsAllowed (Some quota) = IsWithinLimits quota
+
+-- and brings a segment or a node
+abbrev pub Brings : Option Quota → Quota → Type 0
+Brings None now = Unit {0}
+Brings (Some quota) now = now.segments + now.nodes + 1 ≤ quota.segments + quota.nodes
 
 -- where there is none
 pub none-there : (n : ℕ) (js : Js) → has_journal n js ≡ false → journal_in js n ≡ []
@@ -78,23 +118,65 @@ step-upto m n step (j ∷ js) upto = elim (cases_Bool (eqb j.tenant n)) [
   | inr other ↦ rw other (upto.0, step-upto m n step js upto.1)
 ]
 
+-- what a step raises is what is reserved after it
+raised-after : (step : Step) (steps : List Step) (r : Option Quota) → goes_on step ≡ true → raise_in step ≡ r → reserved_in (steps ++ step ∷ []) ≡ newer (reserved_in steps) r
+raised-after step steps r goes is =
+    reserved-more (record { segments = 0; nodes = 0 }) steps step ∙ ap (newer (reserved_in steps)) (going-reserves step goes ∙ is)
+
+pub counted-after : (step : Step) (steps : List Step) (r : Option Quota) → raise_in step ≡ r → raise_count (steps ++ step ∷ []) ≡ raise_count steps + one_for r
+counted-after step steps r is = raise-more steps step ∙ ap (λ (o : Option Quota). raise_count steps + one_for o) is
+
+-- the places of a journal with one more step
+pub longer-places : (step : Step) (j : JournalOf) → goes_on step ≡ true → j.places ≡ places_for (reserved_in j.steps) + raise_count j.steps →
+    places_with (raise_in step) j ≡ places_for (reserved_in (j.steps ++ step ∷ [])) + raise_count (j.steps ++ step ∷ [])
+longer-places step j goes places = by (raise_in step) refl
+  where
+    by : (r : Option Quota) → raise_in step ≡ r → places_with r j ≡ places_for (reserved_in (j.steps ++ step ∷ [])) + raise_count (j.steps ++ step ∷ [])
+    by None is =
+        let nodes = ap (λ (q : Quota). q.nodes) (raised-after step j.steps None goes is) in
+        let count = counted-after step j.steps None is in omega (arith, nodes, count, places)
+    by (Some quota) is =
+        let nodes = ap (λ (q : Quota). q.nodes) (raised-after step j.steps (Some quota) goes is) in
+        let count = counted-after step j.steps (Some quota) is in omega (arith, nodes, count)
+
 -- a journal that has a place for one more
-longer-begun : (step : Step) (j : JournalOf) → length j.steps < j.places → IsBegun j → IsBegun (longer step j)
-longer-begun step j place is =
-    record {
+longer-begun : (step : Step) (j : JournalOf) → goes_on step ≡ true → IsAllowed (raise_in step) → Brings (raise_in step) (reserved_in j.steps) → length j.steps < places_with (raise_in step) j → IsBegun j → IsBegun (longer step j)
+longer-begun step j goes allowed brings place is = by (raise_in step) refl allowed brings
+  where
+    begun : (reserved_in (j.steps ++ step ∷ [])).segments ≤ 4096 → (reserved_in (j.steps ++ step ∷ [])).nodes ≤ 65536 →
+        raise_count (j.steps ++ step ∷ []) ≤ (reserved_in (j.steps ++ step ∷ [])).segments + (reserved_in (j.steps ++ step ∷ [])).nodes → IsBegun (longer step j)
+    begun segments nodes raised = record {
       quota = is.quota;
       later = is.later ++ step ∷ [];
       begins = ap (λ (steps : List Step). steps ++ step ∷ []) is.begins;
-      places = is.places;
-      limit = is.limit;
+      places = longer-places step j goes is.places;
+      segments = segments;
+      nodes = nodes;
+      raised = raised;
       within = let one = length-append j.steps (step ∷ []) in omega (arith, one, place);
     }
 
-pub step-begun : (n : ℕ) (step : Step) (js : Js) → length (journal_in js n) < places_in js n → AreBegun js → AreBegun (with_step n step js)
-step-begun n step [] place begun = tt
-step-begun n step (j ∷ js) place begun = elim (cases_Bool (eqb j.tenant n)) [
-  | inl same ↦ rw same (longer-begun step j (rw same at place) begun.0, begun.1)
-  | inr other ↦ rw other (begun.0, step-begun n step js (rw other at place) begun.1)
+    by : (r : Option Quota) → raise_in step ≡ r → IsAllowed r → Brings r (reserved_in j.steps) → IsBegun (longer step j)
+    by None e may more =
+        let same = raised-after step j.steps None goes e in
+        let segments_same = ap (λ (q : Quota). q.segments) same in
+        let nodes_same = ap (λ (q : Quota). q.nodes) same in
+        let count = counted-after step j.steps None e in
+        let segments = is.segments in let nodes = is.nodes in let raised = is.raised in
+        begun (omega (arith, segments_same, segments)) (omega (arith, nodes_same, nodes)) (omega (arith, segments_same, nodes_same, count, raised))
+    by (Some quota) e may more =
+        let same = raised-after step j.steps (Some quota) goes e in
+        let segments_same = ap (λ (q : Quota). q.segments) same in
+        let nodes_same = ap (λ (q : Quota). q.nodes) same in
+        let count = counted-after step j.steps (Some quota) e in
+        let segments = may.segments_within in let nodes = may.nodes_within in let raised = is.raised in
+        begun (omega (arith, segments_same, segments)) (omega (arith, nodes_same, nodes)) (omega (arith, segments_same, nodes_same, count, raised, more))
+
+pub step-begun : (n : ℕ) (step : Step) (js : Js) → goes_on step ≡ true → IsAllowed (raise_in step) → Brings (raise_in step) (reserved_in (journal_in js n)) → length (journal_in js n) < places_in (with_step n step js) n → AreBegun js → AreBegun (with_step n step js)
+step-begun n step [] goes allowed brings place begun = tt
+step-begun n step (j ∷ js) goes allowed brings place begun = elim (cases_Bool (eqb j.tenant n)) [
+  | inl same ↦ rw same (longer-begun step j goes allowed (rw same at brings) (rw (same, same) at place) begun.0, begun.1)
+  | inr other ↦ rw other (begun.0, step-begun n step js goes allowed (rw other at brings) (rw (other, other) at place) begun.1)
 ]
 
 -- one fewer
@@ -197,12 +279,13 @@ pub push-begun : (j : JournalOf) (js : Js) → IsBegun j → AreBegun js → Are
 push-begun j [] is begun = (is, tt)
 push-begun j (i ∷ js) is begun = (begun.0, push-begun j js is begun.1)
 
--- no journal is longer than its places, of which there are at most 1,049,346
-pub total-within : (js : Js) → AreBegun js → total_length js ≤ length js * 1049346
+-- no journal is longer than its places, of which there are at most 1,118,978
+pub total-within : (js : Js) → AreBegun js → total_length js ≤ length js * 1118978
 total-within [] begun = omega arith
 total-within (j ∷ js) begun =
     let rest = total-within js begun.1 in let own = begun.0 in
-    let within = own.within in let places = own.places in let limit = own.limit in omega (arith, rest, within, places, limit)
+    let within = own.within in let places = own.places in let segments = own.segments in let nodes = own.nodes in let raised = own.raised in
+    omega (arith, rest, within, places, segments, nodes, raised)
 
 -- a journal by its number
 pub record IsAt (n : ℕ) (js : Js) : Type 0 where
@@ -210,14 +293,15 @@ pub record IsAt (n : ℕ) (js : Js) : Type 0 where
   pub own : journal.tenant ≡ n
   pub steps : journal_in js n ≡ journal.steps
   pub places : places_in js n ≡ journal.places
+  pub after : (step : Step) → places_in (with_step n step js) n ≡ places_with (raise_in step) journal
   pub begun : IsBegun journal
 
 pub found-at : (n : ℕ) (js : Js) → has_journal n js ≡ true → AreBegun js → IsAt n js
 found-at n [] has begun = absurd (false≢true has)
 found-at n (j ∷ js) has begun = elim (cases_Bool (eqb j.tenant n)) [
-  | inl same ↦ record { journal = j; own = eqb-true j.tenant n same; steps = rw same refl; places = rw same refl; begun = begun.0 }
+  | inl same ↦ record { journal = j; own = eqb-true j.tenant n same; steps = rw same refl; places = rw same refl; after = λ step. rw (same, same) refl; begun = begun.0 }
   | inr other ↦ (let at = found-at n js (rw other at has) begun.1 in
-      record { journal = at.journal; own = at.own; steps = rw other at.steps; places = rw other at.places; begun = at.begun })
+      record { journal = at.journal; own = at.own; steps = rw other at.steps; places = rw other at.places; after = λ step. rw (other, other) (at.after step); begun = at.begun })
 ]
 
 -- where it stands

@@ -1,6 +1,7 @@
 -- Each taken step of a tenant uses one of what it may do, so a journal stays within its places.
 use Rattle.std.proofs.Common.{◌≡◌, ℕ, ◌+◌, ◌*◌, ◌<◌, ◌≤◌, inl, inr, Bool, false, true, not, ◌||◌, ◌&&◌, eqb, List, [], ◌∷◌, ◌++◌, length, Option, Some, None, Result, Ok, Err, refl, subst, ap, sym, ◌∙◌, arith, length-append}
-use Rattle.std.proofs.lemmas.Bool.{cases_Bool, eqb-true}
+use Rattle.std.proofs.lemmas.Bool.{cases_Bool, eqb-true, or_parts}
+use Rattle.std.proofs.lemmas.Bool.Decides.{nat_tests}
 use Rattle.tenant_quota.specs.Quota.{Quota}
 use Rattle.frame_table.specs.declared.names.FrameId.{FrameId}
 use Rattle.frame_table.specs.Frames.{AllBelow, Frame, frame_at, parent_of, root_of, path_in}
@@ -10,29 +11,40 @@ use Rattle.sched_rules.specs.declared.act.Then.TheVariants.{Grow, Spawn, Go, Wai
 use Rattle.sched_rules.specs.declared.job.Job.{Job}
 use Rattle.sched_rules.specs.declared.job.Job.TheVariants.{Live, Done, Spent as SpentJob, Cancelled as CancelledJob}
 use Rattle.sched_rules.specs.declared.refusal.Refusal.{Refusal}
-use Rattle.sched_rules.specs.declared.refusal.Refusal.TheVariants.{NotSpent, OldTenant, NotReturned, NoJob}
+use Rattle.sched_rules.specs.declared.refusal.Refusal.TheVariants.{NotSpent, OldTenant, NotReturned, NoJob, Lower}
 use Rattle.sched_rules.specs.declared.step.StepOf.{StepOf}
-use Rattle.sched_rules.specs.declared.step.StepOf.TheVariants.{Admit, Submit, Take, Steal, Advance, Answer, Inlet, Finish, Spend, Cancel, Leave}
+use Rattle.sched_rules.specs.declared.step.StepOf.TheVariants.{Admit, AdmitMore, Submit, Take, Steal, Advance, Answer, Inlet, Finish, Spend, Cancel, Leave}
 use Rattle.sched_rules.specs.declared.step.DidOf.TheVariants.{Cancelled, Left}
 use Rattle.sched_rules.specs.Functions.{Functions}
 use Rattle.sched_rules.specs.Trees.{Tree, Tenant, admitted_with, words_in, has_child, is_root, job_at, with_ended}
-use Rattle.sched_rules.specs.Lone.{Outcome, at_frame, unless, lone, lone_step, counted, holding, submit_tests, submitted, take_tests, steal_tests, taken_by, act_of, advance_tests, then_done, advanced, answer_tests, answered, inlet_tests, does_wait, staying, taken_in, inlet_under, finish_tests, finished, is_spendable, spent, cancelled, ended}
+use Rattle.sched_rules.specs.Lone.{Outcome, at_frame, unless, lone, lone_step, is_lower, raised, counted, holding, submit_tests, submitted, take_tests, steal_tests, taken_by, act_of, advance_tests, then_done, advanced, answer_tests, answered, inlet_tests, does_wait, staying, taken_in, inlet_under, finish_tests, finished, is_spendable, spent, cancelled, ended}
 use Rattle.sched_rules.specs.Runs.{state_after, alone_from}
-use Rattle.sched_laws.specs.Ended.{HasEnded}
-use Rattle.sched_laws.specs.Shapes.{IsShaped, AreRootsLive, live_count}
-use Rattle.sched_laws.proofs.Shaped.{LeftShaped, unless-passed, frame-found, step-shaped, admitted-shaped}
-use Rattle.sched_laws.proofs.Answers.{lone-shaped}
-use Rattle.sched_laws.proofs.Parts.{length-with_ended}
-use Rattle.sched_laws.proofs.Consequences.{live-root, root-above}
+use Rattle.jamboree_core.specs.sched_laws.Ended.{HasEnded}
+use Rattle.jamboree_core.specs.sched_laws.Shapes.{IsShaped, AreRootsLive, live_count}
+use Rattle.jamboree_core.proofs.sched_laws_Shaped.{LeftShaped, unless-passed, frame-found, step-shaped, admitted-shaped}
+use Rattle.jamboree_core.proofs.sched_laws_Answers.{lone-shaped}
+use Rattle.jamboree_core.proofs.sched_laws_Parts.{length-with_ended}
+use Rattle.jamboree_core.proofs.sched_laws_Consequences.{live-root, root-above}
 use Rattle.jamboree_core.specs.Journals.{StaysTaken, AreTakenFrom, IsJournalOf}
 use Rattle.hall.specs.Entries.{serial_in}
-use Rattle.hall.specs.Journals.{goes_on}
+use Rattle.hall.specs.Journals.{goes_on, raise_in, reserve_in, newer, reserved_after, one_for, raise_count}
 use Rattle.hall.specs.Uses.{ended_count, uses}
+use Rattle.hall.proofs.Lists.{Brings}
 
--- a tenant, if it stays, has used one more, and reserves what it did; and it does stay where the step goes on
-abbrev pub HasUsed : Bool → Tenant → Option Tenant → Type 0
-HasUsed goes tenant None = goes ≡ false
-HasUsed goes tenant (Some after) = (uses tenant + 1 ≤ uses after) × (after.reserve ≡ tenant.reserve)
+-- one more is used by each step but a raise
+abbrev UsedBy : Option Quota → ℕ → ℕ → Type 0
+UsedBy None before after = before + 1 ≤ after
+UsedBy (Some quota) before after = before ≤ after
+
+-- a tenant, if it stays, has used one more, and reserves what it did; a raise uses nothing, and reserves what it says. And it does
+-- stay where the step goes on
+abbrev pub HasUsed : Bool → Option Quota → Tenant → Option Tenant → Type 0
+HasUsed goes raise tenant None = goes ≡ false
+HasUsed goes raise tenant (Some after) = UsedBy raise (uses tenant) (uses after) × (after.reserve ≡ newer tenant.reserve raise)
+
+used-one : (raise : Option Quota) (before after : ℕ) → UsedBy raise before after → before + 1 ≤ after + one_for raise
+used-one None before after used = omega (arith, used)
+used-one (Some quota) before after used = omega (arith, used)
 
 -- one more job, which lives
 ended-append : (root : ℕ) (jobs : List Job) → ended_count (jobs ++ Live root ∷ []) ≡ ended_count jobs
@@ -71,17 +83,17 @@ one-lives jobs (x ∷ xs) root roots at = elim (cases_Bool (eqb x.serial root)) 
 ]
 
 -- a tenant whose job under a root ended
-job-ended : (root : ℕ) (end : Job) (tenant : Tenant) → HasEnded end → IsShaped tenant → path_in tenant.frames root ≡ root ∷ [] → HasUsed true tenant (Some (ended root end tenant))
+job-ended : (root : ℕ) (end : Job) (tenant : Tenant) → HasEnded end → IsShaped tenant → path_in tenant.frames root ≡ root ∷ [] → HasUsed true None tenant (Some (ended root end tenant))
 job-ended root end tenant has shape at =
     let one = one-lives tenant.jobs tenant.frames root shape.roots at in
     let more = ended-more root end tenant.jobs has in
     let same = length-with_ended root end tenant.jobs in
     (omega (arith, one, more, same), refl)
 
-came-used : {I : Type 0} (goes : Bool) (tenant : Tenant) (effect outcome : Outcome I) → effect ≡ outcome → HasUsed goes tenant effect.0 → HasUsed goes tenant outcome.0
-came-used {I} goes tenant effect outcome is has = let P : Outcome I → Type 0 = λ o. HasUsed goes tenant o.0 in subst P is has
+came-used : {I : Type 0} (goes : Bool) (tenant : Tenant) (effect outcome : Outcome I) → effect ≡ outcome → HasUsed goes None tenant effect.0 → HasUsed goes None tenant outcome.0
+came-used {I} goes tenant effect outcome is has = let P : Outcome I → Type 0 = λ o. HasUsed goes None tenant o.0 in subst P is has
 
-refused-used : {I : Type 0} (goes : Bool) (tenant : Tenant) (refusal : Refusal) (outcome : Outcome I) → ◌≡◌ {A = Result (Outcome I) Refusal} (Err refusal) (Ok outcome) → HasUsed goes tenant outcome.0
+refused-used : {I : Type 0} (goes : Bool) (tenant : Tenant) (refusal : Refusal) (outcome : Outcome I) → ◌≡◌ {A = Result (Outcome I) Refusal} (Err refusal) (Ok outcome) → HasUsed goes None tenant outcome.0
 refused-used goes tenant refusal outcome e = absurd cc
 
 -- a counted step
@@ -89,7 +101,7 @@ ticked : (tenant : Tenant) → uses tenant + 1 ≤ uses (counted tenant)
 ticked tenant = omega arith
 
 then-used : {I A : Type 0} (functions : Functions I A) (tenant t : Tenant) (worker : ℕ) (name : FrameId) (path words : List ℕ) (after : Then) →
-    uses t ≡ uses (counted tenant) → t.reserve ≡ tenant.reserve → HasUsed true tenant (then_done functions t worker name path words after).0
+    uses t ≡ uses (counted tenant) → t.reserve ≡ tenant.reserve → HasUsed true None tenant (then_done functions t worker name path words after).0
 then-used functions tenant t worker name path words (Grow more) u r = (omega (arith, u), r)
 then-used functions tenant t worker name path words (Spawn given size) u r = (omega (arith, u), r)
 then-used functions tenant t worker name path words Go u r = (omega (arith, u), r)
@@ -97,12 +109,12 @@ then-used functions tenant t worker name path words Wait u r = elim (cases_Bool 
 then-used functions tenant t worker name path words Compute u r = (omega (arith, u), r)
 then-used functions tenant t worker name path words Return u r = elim (cases_Bool (has_child t.frames name.serial)) [ inl some ↦ rw some (omega (arith, u), r) | inr none ↦ rw none (omega (arith, u), r) ]
 
-inlet-used : (I : Type 0) (tenant : Tenant) (worker : ℕ) (name : FrameId) (parent : ℕ) (act : InletAct) → HasUsed true tenant (taken_in {I = I} tenant worker name parent act).0
+inlet-used : (I : Type 0) (tenant : Tenant) (worker : ℕ) (name : FrameId) (parent : ℕ) (act : InletAct) → HasUsed true None tenant (taken_in {I = I} tenant worker name parent act).0
 inlet-used I tenant worker name parent act =
     let frames = staying tenant.frames name.serial parent act.abort in
     elim (cases_Bool (does_wait (frame_at frames parent) && (act.abort || act.wake || not (has_child frames parent)))) [ inl woken ↦ rw woken (ticked tenant, refl) | inr sleeps ↦ rw sleeps (ticked tenant, refl) ]
 
-cancel-used : {I : Type 0} (tenant : Tenant) (number : ℕ) (job : Option Job) (outcome : Outcome I) → IsShaped tenant → job_at tenant.jobs number ≡ job → cancelled tenant job ≡ Ok outcome → HasUsed true tenant outcome.0
+cancel-used : {I : Type 0} (tenant : Tenant) (number : ℕ) (job : Option Job) (outcome : Outcome I) → IsShaped tenant → job_at tenant.jobs number ≡ job → cancelled tenant job ≡ Ok outcome → HasUsed true None tenant outcome.0
 cancel-used tenant number None outcome shape at is = refused-used true tenant NoJob outcome is
 cancel-used {I} tenant number (Some (Live root)) outcome shape at is =
     let e : ◌≡◌ {A = Result (Outcome I) Refusal} (Ok (Some (ended root CancelledJob tenant), Cancelled)) (Ok outcome) = is in
@@ -121,8 +133,11 @@ finish-used tenant root words =
     let more = ended-more root (Done words) tenant.jobs tt in let same = length-with_ended root (Done words) tenant.jobs in omega (arith, more, same)
 
 -- each taken step
-pub step-used : {I A : Type 0} (functions : Functions I A) (tenant : Tenant) (step : StepOf A) (outcome : Outcome I) → lone_step functions tenant step ≡ Ok outcome → IsShaped tenant → HasUsed (goes_on step) tenant outcome.0
+pub step-used : {I A : Type 0} (functions : Functions I A) (tenant : Tenant) (step : StepOf A) (outcome : Outcome I) → lone_step functions tenant step ≡ Ok outcome → IsShaped tenant → HasUsed (goes_on step) (raise_in step) tenant outcome.0
 step-used functions tenant (Admit number quota) outcome is shape = refused-used false tenant OldTenant outcome is
+step-used {I} functions tenant (AdmitMore number quota) outcome is shape =
+    let p = unless-passed ((is_lower tenant.reserve quota, Lower) ∷ []) (raised {I = I} tenant quota) outcome is in
+    let P : Outcome I → Type 0 = λ o. HasUsed true (Some quota) tenant o.0 in subst P p.1 (omega arith, refl)
 step-used {I} functions tenant (Submit number words size) outcome is shape =
     let p = unless-passed (submit_tests tenant words size) (submitted {I = I} tenant number words size) outcome is in
     came-used true tenant (submitted tenant number words size) outcome p.1 (let more = submit-used tenant (tenant.serials + 1) in (omega (arith, more), refl))
@@ -143,7 +158,7 @@ step-used functions tenant (Answer worker name answer) outcome is shape =
 step-used {I} functions tenant (Inlet worker name) outcome is shape =
     let f = frame-found tenant.frames name.serial (λ frame. inlet_under functions tenant worker name frame (parent_of frame.path)) outcome is in by f.0 (parent_of f.0.path) f.2
   where
-    by : (f : Frame (List ℕ)) (parent : Option ℕ) → inlet_under functions tenant worker name f parent ≡ Ok outcome → HasUsed true tenant outcome.0
+    by : (f : Frame (List ℕ)) (parent : Option ℕ) → inlet_under functions tenant worker name f parent ≡ Ok outcome → HasUsed true None tenant outcome.0
     by f None e = refused-used true tenant NotReturned outcome e
     by f (Some parent) e =
         let act = functions.inlet (words_in tenant.frames parent) f.value in
@@ -176,6 +191,7 @@ frame-given tenant s step outcome is shape =
 -- a taken step names no serial that wasn't given
 pub serial-given : {I A : Type 0} (functions : Functions I A) (tenant : Tenant) (step : StepOf A) (outcome : Outcome I) → lone_step functions tenant step ≡ Ok outcome → IsShaped tenant → serial_in step ≤ tenant.serials
 serial-given functions tenant (Admit number quota) outcome is shape = omega arith
+serial-given functions tenant (AdmitMore number quota) outcome is shape = omega arith
 serial-given functions tenant (Submit number words size) outcome is shape = omega arith
 serial-given functions tenant (Take worker name) outcome is shape =
     frame-given tenant name.serial (λ frame. unless (take_tests tenant worker frame) (taken_by tenant worker frame)) outcome is shape
@@ -202,43 +218,78 @@ ended-few (Done words ∷ jobs) = (let rest = ended-few jobs in omega (arith, re
 ended-few (SpentJob ∷ jobs) = (let rest = ended-few jobs in omega (arith, rest))
 ended-few (CancelledJob ∷ jobs) = (let rest = ended-few jobs in omega (arith, rest))
 
--- a tenant after so many steps
-record HasGone (before : Tenant) (steps : ℕ) (after : Tenant) : Type 0 where
-  used : uses before + steps ≤ uses after
-  same : after.reserve ≡ before.reserve
+-- a raise that was taken brings a segment or a node
+not-lower : (now quota : Quota) → is_lower now quota ≡ false → now.segments + now.nodes + 1 ≤ quota.segments + quota.nodes
+not-lower now quota is = grind (arith, nat_tests)
+
+pub step-brings : {I A : Type 0} (functions : Functions I A) (tenant : Tenant) (step : StepOf A) (outcome : Outcome I) → lone_step functions tenant step ≡ Ok outcome → Brings (raise_in step) tenant.reserve
+step-brings functions tenant (Admit number quota) outcome is = tt
+step-brings {I} functions tenant (AdmitMore number quota) outcome is =
+    let p = unless-passed ((is_lower tenant.reserve quota, Lower) ∷ []) (raised {I = I} tenant quota) outcome is in not-lower tenant.reserve quota (or_parts (is_lower tenant.reserve quota) false p.0).0
+step-brings functions tenant (Submit number words size) outcome is = tt
+step-brings functions tenant (Take worker name) outcome is = tt
+step-brings functions tenant (Steal worker from name) outcome is = tt
+step-brings functions tenant (Advance worker name) outcome is = tt
+step-brings functions tenant (Answer worker name answer) outcome is = tt
+step-brings functions tenant (Inlet worker name) outcome is = tt
+step-brings functions tenant (Finish worker name) outcome is = tt
+step-brings functions tenant (Spend name) outcome is = tt
+step-brings functions tenant (Cancel number job) outcome is = tt
+step-brings functions tenant (Leave number) outcome is = tt
+
+-- a step that was taken of a tenant that is there reserves what it raises
+taken-reserves : {I A : Type 0} (functions : Functions I A) (tenant : Tenant) (step : StepOf A) (outcome : Outcome I) → lone_step functions tenant step ≡ Ok outcome → reserve_in step ≡ raise_in step
+taken-reserves functions tenant (Admit number quota) outcome is = absurd cc
+taken-reserves functions tenant (AdmitMore number quota) outcome is = refl
+taken-reserves functions tenant (Submit number words size) outcome is = refl
+taken-reserves functions tenant (Take worker name) outcome is = refl
+taken-reserves functions tenant (Steal worker from name) outcome is = refl
+taken-reserves functions tenant (Advance worker name) outcome is = refl
+taken-reserves functions tenant (Answer worker name answer) outcome is = refl
+taken-reserves functions tenant (Inlet worker name) outcome is = refl
+taken-reserves functions tenant (Finish worker name) outcome is = refl
+taken-reserves functions tenant (Spend name) outcome is = refl
+taken-reserves functions tenant (Cancel number job) outcome is = refl
+taken-reserves functions tenant (Leave number) outcome is = refl
+
+-- a tenant after so many steps, of which so many are raises
+record HasGone (before : Tenant) (steps raises : ℕ) (reserve : Quota) (after : Tenant) : Type 0 where
+  used : uses before + steps ≤ uses after + raises
+  same : after.reserve ≡ reserve
   shape : IsShaped after
 
 used-from : {I A : Type 0} (functions : Functions I A) (before tenant : Tenant) (steps : List (StepOf A)) → AreTakenFrom functions (Some before) steps → alone_from functions (Some before) steps ≡ Some tenant → IsShaped before →
-    HasGone before (length steps) tenant
+    HasGone before (length steps) (raise_count steps) (reserved_after before.reserve steps) tenant
 used-from functions before tenant [] taken comes shape =
     let same : before ≡ tenant = cc in
-    let P : Tenant → Type 0 = λ t. HasGone before 0 t in subst P same (record { used = omega arith; same = refl; shape = shape })
+    let P : Tenant → Type 0 = λ t. HasGone before 0 0 before.reserve t in subst P same (record { used = omega arith; same = refl; shape = shape })
 used-from {I} {A} functions before tenant (step ∷ steps) taken comes shape =
     by (λ next on to well. used-from functions next tenant steps on to well) (lone_step functions before step) refl taken.0 taken.1 comes
   where
-    by : ((next : Tenant) → AreTakenFrom functions (Some next) steps → alone_from functions (Some next) steps ≡ Some tenant → IsShaped next → HasGone next (length steps) tenant) →
+    by : ((next : Tenant) → AreTakenFrom functions (Some next) steps → alone_from functions (Some next) steps ≡ Some tenant → IsShaped next → HasGone next (length steps) (raise_count steps) (reserved_after next.reserve steps) tenant) →
         (result : Result (Outcome I) Refusal) → lone_step functions before step ≡ result → StaysTaken result → AreTakenFrom functions (state_after (Some before) result) steps →
-        alone_from functions (state_after (Some before) result) steps ≡ Some tenant → HasGone before (length (step ∷ steps)) tenant
+        alone_from functions (state_after (Some before) result) steps ≡ Some tenant → HasGone before (length (step ∷ steps)) (raise_count (step ∷ steps)) (reserved_after before.reserve (step ∷ steps)) tenant
     by later (Ok (None, did)) is stays on to = absurd stays
     by later (Err refusal) is stays on to = absurd stays
     by later (Ok (Some next, did)) is stays on to =
         let used = step-used functions before step (Some next, did) is shape in
-        let one = used.0 in
+        let one = used-one (raise_in step) (uses before) (uses next) used.0 in
         let rest = later next on to (step-shaped functions before step (Some next, did) is shape) in
         let more = rest.used in
-        record { used = omega (arith, one, more); same = rest.same ∙ used.1; shape = rest.shape }
+        let reserve : next.reserve ≡ newer before.reserve (reserve_in step) = used.1 ∙ ap (newer before.reserve) (sym (taken-reserves functions before step (Some next, did) is)) in
+        record { used = omega (arith, one, more); same = rest.same ∙ ap (λ (q : Quota). reserved_after q steps) reserve; shape = rest.shape }
 
--- what a tenant reserves is what its journal admitted it with
-pub journal-reserves : {I A : Type 0} (functions : Functions I A) (number : ℕ) (quota : Quota) (later : List (StepOf A)) (tenant : Tenant) → IsJournalOf functions (Admit number quota ∷ later) tenant → tenant.reserve ≡ quota
+-- what a tenant reserves is what the newest admission in its journal says
+pub journal-reserves : {I A : Type 0} (functions : Functions I A) (number : ℕ) (quota : Quota) (later : List (StepOf A)) (tenant : Tenant) → IsJournalOf functions (Admit number quota ∷ later) tenant → tenant.reserve ≡ reserved_after quota later
 journal-reserves functions number quota later tenant is = (used-from functions (admitted_with quota) tenant later is.taken.1 is.comes (admitted-shaped quota)).same
 
 -- a journal is no longer than this
 pub journal-short : {I A : Type 0} (functions : Functions I A) (number : ℕ) (quota : Quota) (later : List (StepOf A)) (tenant : Tenant) → IsJournalOf functions (Admit number quota ∷ later) tenant →
-    length later + 1 ≤ 16 * quota.nodes + 513
+    length later + 1 ≤ 16 * (reserved_after quota later).nodes + 513 + raise_count later
 journal-short functions number quota later tenant is =
     let gone = used-from functions (admitted_with quota) tenant later is.taken.1 is.comes (admitted-shaped quota) in
     let used = gone.used in
-    let nodes : tenant.reserve.nodes ≡ quota.nodes = ap (λ (q : Quota). q.nodes) gone.same in
+    let nodes : tenant.reserve.nodes ≡ (reserved_after quota later).nodes = ap (λ (q : Quota). q.nodes) gone.same in
     let ticks = gone.shape.ticks in
     let jobs = gone.shape.few_jobs in
     let few = ended-few tenant.jobs in

@@ -1,14 +1,14 @@
 -- What a journal's entries stand for, in the journal of a tenant.
 use Rattle.std.specs.Prelude.{ℕ, ◌+◌, Bool, true, false, if◌then◌else◌, List, [], ◌∷◌, ◌++◌, map, take, drop}
 use Rattle.sched_rules.specs.declared.step.StepOf.{StepOf}
-use Rattle.sched_rules.specs.declared.step.StepOf.TheVariants.{Admit, Submit, Take, Steal, Advance, Answer, Inlet, Finish, Spend, Cancel, Leave}
+use Rattle.sched_rules.specs.declared.step.StepOf.TheVariants.{Admit, AdmitMore, Submit, Take, Steal, Advance, Answer, Inlet, Finish, Spend, Cancel, Leave}
 use Rattle.frame_table.specs.declared.names.FrameId.{FrameId}
-use Rattle.jamboree_rules.specs.declared.leaf.LeafAnswer.{LeafAnswer}
-use Rattle.jamboree_rules.specs.Places.{root_words, frame_size}
+use Rattle.jamboree_core.specs.jamboree_rules.declared.leaf.LeafAnswer.{LeafAnswer}
+use Rattle.jamboree_core.specs.jamboree_rules.Places.{root_words, frame_size}
 use Rattle.hall.specs.declared.entry.Entry.{Entry}
 use Rattle.hall.specs.declared.entry.Entry.TheVariants.{Taken, Stolen, Advanced, TakenIn, Finished, Spent, Long}
 use Rattle.hall.specs.declared.entry.LongEntry.{LongEntry}
-use Rattle.hall.specs.declared.entry.LongEntry.TheVariants.{Admitted, Asked, Answered, Cancelled}
+use Rattle.hall.specs.declared.entry.LongEntry.TheVariants.{Admitted, Raised, Asked, Answered, Cancelled}
 
 -- the name of a tenant's frame
 abbrev pub named : ℕ → ℕ → FrameId
@@ -27,6 +27,7 @@ is_long Long = true
 -- whether a step that goes on is kept in a long entry
 abbrev pub is_long_step : {A : Type 0} → StepOf A → Bool
 is_long_step (Admit number quota) = true
+is_long_step (AdmitMore number quota) = true
 is_long_step (Submit number words size) = true
 is_long_step (Take worker name) = false
 is_long_step (Steal worker from name) = false
@@ -51,6 +52,7 @@ short_steps number Long = []
 -- the tenant's step that a long entry was made of
 abbrev pub long_step : ℕ → LongEntry → StepOf LeafAnswer
 long_step number (Admitted reserve) = Admit number reserve
+long_step number (Raised reserve) = AdmitMore number reserve
 long_step number (Asked depth own opp) = Submit number (root_words own opp depth) frame_size
 long_step number (Answered worker serial answer) = Answer worker (named number serial) answer
 long_step number (Cancelled job) = Cancel number job
@@ -70,6 +72,7 @@ long_count (entry ∷ entries) = (if is_long entry then 1 else 0) + long_count e
 -- the serial of the frame that a step names, and 0 where it names none
 abbrev pub serial_in : {A : Type 0} → StepOf A → ℕ
 serial_in (Admit number quota) = 0
+serial_in (AdmitMore number quota) = 0
 serial_in (Submit number words size) = 0
 serial_in (Take worker name) = name.serial
 serial_in (Steal worker from name) = name.serial

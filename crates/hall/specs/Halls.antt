@@ -3,21 +3,21 @@ use Rattle.std.specs.Prelude.{◌≡◌, ℕ, ◌+◌, ◌*◌, ◌^◌, ◌≤�
 use Rattle.tenant_quota.specs.Quota.{Quota}
 use Rattle.sched_rules.specs.declared.job.Job.{Job}
 use Rattle.sched_rules.specs.declared.step.StepOf.{StepOf}
-use Rattle.sched_rules.specs.declared.step.StepOf.TheVariants.{Admit, Submit, Take, Steal, Advance, Answer, Inlet, Finish, Spend, Cancel, Leave}
+use Rattle.sched_rules.specs.declared.step.StepOf.TheVariants.{Admit, AdmitMore, Submit, Take, Steal, Advance, Answer, Inlet, Finish, Spend, Cancel, Leave}
 use Rattle.sched_rules.specs.Functions.{Functions}
 use Rattle.sched_rules.specs.Trees.{Tenant}
 use Rattle.sched_rules.specs.Cores.{Shared, tenant_in, shared_by_nobody}
 use Rattle.sched_rules.specs.Headline.{IsKnown}
 use Rattle.sched_rules.specs.Views.{job_of}
-use Rattle.sched_laws.specs.Ended.{HasEnded}
-use Rattle.jamboree_rules.specs.declared.leaf.LeafAnswer.{LeafAnswer}
-use Rattle.jamboree_rules.specs.Procedure.{jamboree}
-use Rattle.jamboree_laws.specs.Replies.{AreSearches}
+use Rattle.jamboree_core.specs.sched_laws.Ended.{HasEnded}
+use Rattle.jamboree_core.specs.jamboree_rules.declared.leaf.LeafAnswer.{LeafAnswer}
+use Rattle.jamboree_core.specs.jamboree_rules.Procedure.{jamboree}
+use Rattle.jamboree_core.specs.jamboree_laws.Replies.{AreSearches}
 use Rattle.jamboree_core.specs.Journals.{IsJournalOf}
 use Rattle.hall.specs.Journals.{JournalOf, journal_in, total_length, journals_after, gone_by, AreRising, AreUpTo, AreBegun}
 
 -- a hall: the grain of its searches, what the tenants share, their journals by rising number, how many steps went with tenants that
--- left, and how many of all steps are kept for no badge that is out
+-- left, and the number that was noted as that of the steps that are kept
 pub record HallOf : Type 0 where
   pub grain : ℕ
   pub shared : Shared
@@ -66,6 +66,7 @@ pub record IsHall (hall : HallOf) (latest count : ℕ) : Type 0 where
 -- whether a step is a Leave of this tenant
 abbrev pub lets_go : {A : Type 0} → ℕ → StepOf A → Bool
 lets_go number (Admit other quota) = false
+lets_go number (AdmitMore other quota) = false
 lets_go number (Submit other words size) = false
 lets_go number (Take worker name) = false
 lets_go number (Steal worker from name) = false

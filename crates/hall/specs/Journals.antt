@@ -1,9 +1,9 @@
 -- The journal of a tenant: its steps that were taken, in order, from its Admit on.
-use Rattle.std.specs.Prelude.{◌≡◌, ℕ, ◌+◌, ◌*◌, ◌<◌, ◌≤◌, Bool, true, false, ◌||◌, ◌==◌, List, [], ◌∷◌, ◌++◌, if◌then◌else◌, length, suc}
+use Rattle.std.specs.Prelude.{◌≡◌, ℕ, ◌+◌, ◌*◌, ◌<◌, ◌≤◌, Bool, true, false, ◌||◌, ◌==◌, List, [], ◌∷◌, ◌++◌, Option, Some, None, if◌then◌else◌, length, suc}
 use Rattle.tenant_quota.specs.Quota.{Quota}
 use Rattle.sched_rules.specs.declared.step.StepOf.{StepOf}
-use Rattle.sched_rules.specs.declared.step.StepOf.TheVariants.{Admit, Submit, Take, Steal, Advance, Answer, Inlet, Finish, Spend, Cancel, Leave}
-use Rattle.jamboree_rules.specs.declared.leaf.LeafAnswer.{LeafAnswer}
+use Rattle.sched_rules.specs.declared.step.StepOf.TheVariants.{Admit, AdmitMore, Submit, Take, Steal, Advance, Answer, Inlet, Finish, Spend, Cancel, Leave}
+use Rattle.jamboree_core.specs.jamboree_rules.declared.leaf.LeafAnswer.{LeafAnswer}
 
 -- a tenant's number, how many steps its journal has places for, and the steps
 pub record JournalOf : Type 0 where
@@ -31,11 +31,60 @@ abbrev pub place_in : ℕ → List JournalOf → ℕ
 place_in number [] = 0
 place_in number (journal ∷ journals) = if journal.tenant == number then 0 else suc (place_in number journals)
 
+-- what a step reserves for its tenant, which an admission does, and one of more
+abbrev pub reserve_in : {A : Type 0} → StepOf A → Option Quota
+reserve_in (Admit number quota) = Some quota
+reserve_in (AdmitMore number quota) = Some quota
+reserve_in _ = None
+
+-- what a step raises its tenant's reservation to
+abbrev pub raise_in : {A : Type 0} → StepOf A → Option Quota
+raise_in (AdmitMore number quota) = Some quota
+raise_in _ = None
+
+-- the newer reservation, if there is one
+abbrev pub newer : Quota → Option Quota → Quota
+newer now None = now
+newer now (Some quota) = quota
+
+-- what is reserved after these steps, where so much was before
+abbrev pub reserved_after : {A : Type 0} → Quota → List (StepOf A) → Quota
+reserved_after now [] = now
+reserved_after now (step ∷ steps) = reserved_after (newer now (reserve_in step)) steps
+
+-- what the tenant of these steps reserves: what the newest admission among them says
+abbrev pub reserved_in : {A : Type 0} → List (StepOf A) → Quota
+reserved_in steps = reserved_after (record { segments = 0; nodes = 0 }) steps
+
+-- 1 for a raise
+abbrev pub one_for : Option Quota → ℕ
+one_for None = 0
+one_for (Some quota) = 1
+
+-- how many of these steps raise what their tenant reserves
+abbrev pub raise_count : {A : Type 0} → List (StepOf A) → ℕ
+raise_count [] = 0
+raise_count (step ∷ steps) = one_for (raise_in step) + raise_count steps
+
+-- the places that are reserved for a tenant: each counted step takes a node's sixteenth; a tenant is admitted once, and submits,
+-- spends and cancels at most 256 jobs each
+abbrev pub places_for : Quota → ℕ
+places_for quota = 16 * quota.nodes + 770
+
+-- the places of a journal after a step: a raise makes those of the new reservation, beside one for each raise
+abbrev pub places_with : Option Quota → JournalOf → ℕ
+places_with None journal = journal.places
+places_with (Some quota) journal = places_for quota + (raise_count journal.steps + 1)
+
+-- the journal with one more step
+abbrev pub longer : StepOf LeafAnswer → JournalOf → JournalOf
+longer step journal = record { tenant = journal.tenant; places = places_with (raise_in step) journal; steps = journal.steps ++ step ∷ [] }
+
 -- the journals, one step added to a tenant's
 abbrev pub with_step : ℕ → StepOf LeafAnswer → List JournalOf → List JournalOf
 with_step number step [] = []
 with_step number step (journal ∷ journals) =
-    if journal.tenant == number then record journal { steps = journal.steps ++ step ∷ [] } ∷ journals else journal ∷ with_step number step journals
+    if journal.tenant == number then longer step journal ∷ journals else journal ∷ with_step number step journals
 
 -- the journals without a tenant's
 abbrev pub without_journal : ℕ → List JournalOf → List JournalOf
@@ -47,11 +96,6 @@ abbrev pub total_length : List JournalOf → ℕ
 total_length [] = 0
 total_length (journal ∷ journals) = length journal.steps + total_length journals
 
--- the places that are reserved for a tenant: each counted step takes a node's sixteenth; a tenant is admitted once, and submits,
--- spends and cancels at most 256 jobs each
-abbrev pub places_for : Quota → ℕ
-places_for quota = 16 * quota.nodes + 770
-
 -- the journal of a tenant that was admitted
 abbrev pub admitted_journal : ℕ → Quota → JournalOf
 admitted_journal number quota = record { tenant = number; places = places_for quota; steps = Admit number quota ∷ [] }
@@ -59,6 +103,7 @@ admitted_journal number quota = record { tenant = number; places = places_for qu
 -- the journals after a taken step: an Admit begins one, a Leave ends one, and any other step is added to its tenant's
 abbrev pub journals_after : StepOf LeafAnswer → List JournalOf → List JournalOf
 journals_after (Admit number quota) journals = journals ++ admitted_journal number quota ∷ []
+journals_after (AdmitMore number quota) journals = with_step number (AdmitMore number quota) journals
 journals_after (Submit number words size) journals = with_step number (Submit number words size) journals
 journals_after (Take worker name) journals = with_step name.tenant (Take worker name) journals
 journals_after (Steal worker from name) journals = with_step name.tenant (Steal worker from name) journals
@@ -73,6 +118,7 @@ journals_after (Leave number) journals = without_journal number journals
 -- how many steps went with their tenant by a taken step: those of its journal, and the Leave itself
 abbrev pub gone_by : StepOf LeafAnswer → List JournalOf → ℕ
 gone_by (Admit number quota) journals = 0
+gone_by (AdmitMore number quota) journals = 0
 gone_by (Submit number words size) journals = 0
 gone_by (Take worker name) journals = 0
 gone_by (Steal worker from name) journals = 0
@@ -84,9 +130,10 @@ gone_by (Spend name) journals = 0
 gone_by (Cancel number job) journals = 0
 gone_by (Leave number) journals = length (journal_in journals number) + 1
 
--- whether a step is neither an admission nor a Leave
+-- whether a step neither admits a tenant nor lets it go
 abbrev pub goes_on : {A : Type 0} → StepOf A → Bool
 goes_on (Admit number quota) = false
+goes_on (AdmitMore number quota) = true
 goes_on (Submit number words size) = true
 goes_on (Take worker name) = true
 goes_on (Steal worker from name) = true
@@ -101,6 +148,7 @@ goes_on (Leave number) = false
 -- whether a step is a worker's: neither an admission, a Submit, a Cancel nor a Leave, which are its tenant's
 abbrev pub is_worker_step : {A : Type 0} → StepOf A → Bool
 is_worker_step (Admit number quota) = false
+is_worker_step (AdmitMore number quota) = false
 is_worker_step (Submit number words size) = false
 is_worker_step (Take worker name) = true
 is_worker_step (Steal worker from name) = true
@@ -127,13 +175,16 @@ abbrev pub AreUpTo : ℕ → List JournalOf → Type 0
 AreUpTo number [] = Unit {0}
 AreUpTo number (journal ∷ journals) = (journal.tenant ≤ number) × AreUpTo number journals
 
--- a journal begins with its tenant's admission, has the places that it reserved, and isn't longer
+-- a journal begins with its tenant's admission, has the places of what is reserved beside one for each raise, and isn't longer; each
+-- raise has brought a segment or a node
 pub record IsBegun (journal : JournalOf) : Type 0 where
   pub quota : Quota
   pub later : List (StepOf LeafAnswer)
   pub begins : journal.steps ≡ Admit journal.tenant quota ∷ later
-  pub places : journal.places ≡ places_for quota
-  pub limit : quota.nodes ≤ 65536
+  pub places : journal.places ≡ places_for (reserved_in journal.steps) + raise_count journal.steps
+  pub segments : (reserved_in journal.steps).segments ≤ 4096
+  pub nodes : (reserved_in journal.steps).nodes ≤ 65536
+  pub raised : raise_count journal.steps ≤ (reserved_in journal.steps).segments + (reserved_in journal.steps).nodes
   pub within : length journal.steps ≤ journal.places
 
 -- each of these journals does

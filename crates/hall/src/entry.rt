@@ -5,13 +5,13 @@
 //! number of a job) stands in a longer entry, in a list of its own; the place of such a step in the
 //! journal holds but the word that it is the next of those (`steps_in` of `specs/Entries.antt`).
 ghost use Rattle.std.specs.Prelude.{◌≡◌, ◌<◌, ◌^◌, ◌∷◌, [], ℕ, true, false};
-ghost use Rattle.jamboree_laws.specs.Replies.{IsSearch, AreRootWords};
-ghost use Rattle.jamboree_rules.specs.Places.{frame_size};
+ghost use Rattle.jamboree_core.specs.jamboree_laws.Replies.{IsSearch, AreRootWords};
+ghost use Rattle.jamboree_core.specs.jamboree_rules.Places.{frame_size};
 ghost use Rattle.sched_rules.specs.Runs.{tenant_of};
 ghost use Rattle.hall.specs.Entries.{is_long, is_long_step, short_steps, long_step, serial_in};
 ghost use Rattle.hall.specs.Journals.{goes_on};
 
-use jamboree::{Jamboree, LeafAnswer};
+use jamboree_core::jamboree::{Jamboree, LeafAnswer};
 use sched_rules::{Step, StepOf, Worker};
 use tenant_quota::Reserve;
 
@@ -32,6 +32,7 @@ pub(crate) enum Entry {
 #[derive(Drop)]
 pub(crate) enum LongEntry {
     Admitted(Reserve),
+    Raised(Reserve),
     Asked(u8, u64, u64),
     Answered(Worker, u32, LeafAnswer),
     Cancelled(u64),
@@ -48,7 +49,10 @@ impl Entry {
     {
         match step {
             StepOf::Admit(_, _) | StepOf::Leave(_) => unreachable!(),
-            StepOf::Submit(_, _, _) | StepOf::Answer(_, _, _) | StepOf::Cancel(_, _) => Entry::Long,
+            StepOf::AdmitMore(_, _)
+            | StepOf::Submit(_, _, _)
+            | StepOf::Answer(_, _, _)
+            | StepOf::Cancel(_, _) => Entry::Long,
             StepOf::Take(worker, name) => Entry::Taken(*worker, name.serial as u32),
             StepOf::Steal(worker, from, name) => {
                 Entry::Stolen(*worker, *from, name.serial as u32)
@@ -88,6 +92,7 @@ impl LongEntry {
         ensures { long_step (tenant_of step.now) result ≡ step.now }
     {
         match step {
+            StepOf::AdmitMore(_, reserve) => LongEntry::Raised(*reserve),
             StepOf::Submit(_, words, _) => asked(words.as_slice()),
             StepOf::Answer(worker, name, answer) => {
                 LongEntry::Answered(*worker, name.serial as u32, *answer)

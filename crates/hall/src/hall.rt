@@ -3,16 +3,17 @@ ghost use Rattle.std.specs.Prelude.{◌≡◌, ◌≢◌, ◌≤◌, ◌<◌, �
 ghost use Rattle.sched_rules.specs.declared.refusal.Refusal.TheVariants.{OutOfMemory};
 ghost use Rattle.sched_rules.specs.Cores.{newest_after, shared_refusal};
 ghost use Rattle.sched_rules.specs.Headline.{IsOneStep, is_admission};
-ghost use Rattle.jamboree_rules.specs.Procedure.{jamboree};
-ghost use Rattle.jamboree_laws.specs.Replies.{IsSearch};
+ghost use Rattle.jamboree_core.specs.jamboree_rules.Procedure.{jamboree};
+ghost use Rattle.jamboree_core.specs.jamboree_laws.Replies.{IsSearch};
 ghost use Rattle.sched_rules.specs.Runs.{tenant_of};
-ghost use Rattle.hall.specs.Journals.{goes_on, admitted_journal};
+ghost use Rattle.tenant_quota.specs.Quota.{IsWithinLimits};
+ghost use Rattle.hall.specs.Journals.{goes_on, raise_in, admitted_journal};
 ghost use Rattle.hall.specs.Halls.{empty_hall, hall_after, count_of, IsExplained, KeepsEndedJobs};
 
-use crate::journal::{Journal, guess_anew, place_of, write};
+use crate::journal::{Journal, guess_anew, place_of, raise, write};
 use guesses::Guesses;
-use jamboree::Jamboree;
-use sched_core::Core;
+use jamboree_core::jamboree::Jamboree;
+use jamboree_core::sched_core::Core;
 use sched_rules::{Config, Did, Refusal, Step, StepOf};
 use std::alloc::{AllocError, Allocator, Global};
 use std::marker::Model;
@@ -70,7 +71,8 @@ impl<A: Allocator> Hall<A> {
     }
 
     /// Takes the step and adds just it to its tenant's journal, or refuses it, and then nothing
-    /// changes. A Leave takes the journal with its tenant. Only an admission takes memory.
+    /// changes. A Leave takes the journal with its tenant. Only an admission, of a tenant or of more for
+    /// it, takes memory.
     ///
     /// A Submit is to ask for a search, with the root words of a position.
     pub fn offer(&mut self, step: &Step<Jamboree>) -> Result<Did<Jamboree>, Refusal>
@@ -108,6 +110,7 @@ impl<A: Allocator> Hall<A> {
         let _ = &self.core;
         match step {
             StepOf::Admit(number, reserve) => self.admit(*number, *reserve),
+            StepOf::AdmitMore(number, reserve) => self.admit_more(*number, *reserve),
             StepOf::Leave(number) => self.leave(*number),
             StepOf::Submit(number, _, _) | StepOf::Cancel(number, _) => self.go_on(*number, step),
             StepOf::Take(_, name)
@@ -160,6 +163,45 @@ impl<A: Allocator> Hall<A> {
         }
     }
 
+    /// Raises what a tenant reserves, or says why not. The core is asked before anything grows.
+    fn admit_more(&mut self, number: u64, reserve: Reserve) -> Result<Did<Jamboree>, Refusal>
+    where
+        A: Clone,
+        ensures one { IsOneStep (jamboree self.old.grain) self.old.shared (StepOf.AdmitMore number reserve) result self.new.shared }
+        ensures taken { OnOk result (self.new ≡ hall_after self.old (StepOf.AdmitMore number reserve) self.new.shared) }
+        ensures refused { OnErr result (self.new ≡ self.old) }
+        ensures count { OnOk result (count_of self.new ≡ count_of self.old + 1) }
+    {
+        match self.core.refusal(&StepOf::AdmitMore(number, reserve)) {
+            Some(why) => Err(why),
+            None => self.raise(number, reserve),
+        }
+    }
+
+    /// Raises what a tenant reserves, where the core would take it. Its journal grows first, and then the
+    /// core.
+    fn raise(&mut self, number: u64, reserve: Reserve) -> Result<Did<Jamboree>, Refusal>
+    where
+        A: Clone,
+        requires { shared_refusal (jamboree self.old.grain) self.old.shared (StepOf.AdmitMore number reserve) ≡ None }
+        ensures one { IsOneStep (jamboree self.old.grain) self.old.shared (StepOf.AdmitMore number reserve) result self.new.shared }
+        ensures taken { OnOk result (self.new ≡ hall_after self.old (StepOf.AdmitMore number reserve) self.new.shared) }
+        ensures refused { OnErr result (self.new ≡ self.old) }
+        ensures count { OnOk result (count_of self.new ≡ count_of self.old + 1) }
+    {
+        let answer = raise(
+            &self.guesses,
+            &mut self.journals,
+            &mut self.core,
+            number,
+            reserve,
+        );
+        if answer.is_ok() {
+            self.count += 1;
+        }
+        answer
+    }
+
     /// Takes a step of a tenant, neither an admission nor a Leave, and writes it into its journal.
     #[inline(always)]
     fn go_on(&mut self, number: u64, step: &Step<Jamboree>) -> Result<Did<Jamboree>, Refusal>
@@ -167,6 +209,7 @@ impl<A: Allocator> Hall<A> {
         A: Clone,
         requires search { IsSearch step.now }
         requires goes_on { goes_on step.now ≡ true }
+        requires raises_not { raise_in step.now ≡ None }
         requires own { tenant_of step.now ≡ number }
         ensures one { IsOneStep (jamboree self.old.grain) self.old.shared step.now result self.new.shared }
         ensures taken { OnOk result (self.new ≡ hall_after self.old step.now self.new.shared) }
@@ -205,7 +248,8 @@ impl<A: Allocator> Hall<A> {
         }
     }
 
-    /// Notes how many steps are kept. The desk does.
+    /// Notes a number as that of the steps that are kept: what it counts is for the caller to say. The
+    /// desk notes the shares of seats that left, and the steps from before it.
     pub fn keep(&mut self, kept: u128)
         ensures { self.new ≡ record self.old { kept = kept } }
     {
@@ -221,7 +265,7 @@ fn room_for<A: Allocator + Clone>(
     reserve: Reserve,
 ) -> Result<Journal<A>, AllocError>
     ensures journal { IfOk result (λ journal. journal ≡ admitted_journal number reserve) }
-    ensures limit { OnOk result (reserve.nodes ≤ 65536) }
+    ensures limits { OnOk result (IsWithinLimits reserve) }
     ensures place { OnOk result (vec_len journals.new < vec_capacity journals.new) }
     ensures same { journals.new.items ≡ journals.old.items }
 {

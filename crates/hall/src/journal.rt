@@ -1,27 +1,35 @@
 //! The journal of one tenant, and where it stands among all.
-ghost use Rattle.std.specs.Prelude.{◌≡◌, ◌++◌, ◌∷◌, ◌<◌, ◌≤◌, ◌^◌, [], true, length, IfOk};
-ghost use Rattle.jamboree_laws.specs.Replies.{IsSearch};
+ghost use Rattle.std.specs.Prelude.{◌≡◌, ◌+◌, ◌++◌, ◌∷◌, ◌<◌, ◌≤◌, ◌^◌, [], true, None, length, IfOk, OnOk, OnErr};
+ghost use Rattle.tenant_quota.specs.Quota.{IsWithinLimits};
+ghost use Rattle.jamboree_core.specs.jamboree_rules.Procedure.{jamboree};
+ghost use Rattle.jamboree_core.specs.jamboree_laws.Replies.{IsSearch};
+ghost use Rattle.sched_rules.specs.Cores.{shared_refusal};
+ghost use Rattle.sched_rules.specs.Headline.{IsOneStep, IsKnown};
 ghost use Rattle.sched_rules.specs.Runs.{tenant_of};
 ghost use Rattle.hall.specs.Entries.{is_long_step, serial_in};
-ghost use Rattle.hall.specs.Journals.{admitted_journal, goes_on, has_journal, journal_in, place_in, places_in, with_step, AreRising};
+ghost use Rattle.hall.specs.Journals.{admitted_journal, goes_on, has_journal, journal_in, longer, place_in, places_for, places_in, raise_count, raise_in, with_step, AreRising};
 
 use crate::entry::{Entry, LongEntry};
 use guesses::Guesses;
-use jamboree::Jamboree;
-use sched_rules::Step;
+use jamboree_core::jamboree::Jamboree;
+use jamboree_core::sched_core::Core;
+use sched_rules::{Did, Refusal, Step, StepOf};
 use std::alloc::{AllocError, Allocator, Global};
 use std::marker::Model;
 use tenant_quota::Reserve;
 
-/// How many places a journal has beside 16 for each node: its tenant is admitted once, and submits,
-/// spends and cancels at most 256 jobs each.
+/// How many places a journal has beside 16 for each node, and one for each raise of what is reserved: one
+/// for its tenant's admission, one for its Leave, and 256 each for the submits, the spends and the cancels
+/// of its jobs. The Leave isn't written, as the journal goes with it, and a job ends but once; so at least
+/// 257 of them stay free.
 const BESIDE_NODES: usize = 770;
 
-/// The steps of one tenant that were taken, in order, in the places that its admission reserved.
+/// The steps of one tenant that were taken, in order, in the places that its admissions reserved.
 #[derive(Drop)]
 pub(crate) struct Journal<A: Allocator = Global> {
     tenant: u64,
     places: usize,
+    raises: usize,
     entries: Vec<Entry, A>,
     longs: Vec<LongEntry, A>,
 }
@@ -30,13 +38,13 @@ pub(crate) struct Journal<A: Allocator = Global> {
 impl<A: Allocator> Model for Journal<A> {
     ghost use Rattle.std.specs.Prelude.{◌≡◌, ◌≤◌, length, vec_capacity};
     ghost use Rattle.hall.specs.Entries.{steps_in, long_count};
-    ghost use Rattle.hall.specs.Journals.{JournalOf};
+    ghost use Rattle.hall.specs.Journals.{JournalOf, raise_count};
 
     ghost Value = { JournalOf };
 
     ghost view = { λ j. record { tenant = j.tenant; places = j.places; steps = steps_in j.tenant j.entries.items j.longs.items } };
 
-    ghost invariant = { λ j. (j.places ≤ vec_capacity j.entries) × (j.places ≤ vec_capacity j.longs) × (long_count j.entries.items ≡ length j.longs.items) };
+    ghost invariant = { λ j. (j.places ≤ vec_capacity j.entries) × (j.places ≤ vec_capacity j.longs) × (long_count j.entries.items ≡ length j.longs.items) × (j.raises ≡ raise_count (steps_in j.tenant j.entries.items j.longs.items)) };
 }
 
 impl<A: Allocator> Journal<A> {
@@ -45,7 +53,7 @@ impl<A: Allocator> Journal<A> {
     where
         A: Clone,
         ensures journal { IfOk result (λ journal. journal ≡ admitted_journal tenant reserve) }
-        ensures limit { reserve.nodes ≤ 65536 }
+        ensures limits { IsWithinLimits reserve }
     {
         let places = 16 * reserve.nodes() as usize + BESIDE_NODES;
         let mut entries = Vec::with_capacity(alloc.clone()?, places)?;
@@ -55,6 +63,7 @@ impl<A: Allocator> Journal<A> {
         Ok(Journal {
             tenant,
             places,
+            raises: 0,
             entries,
             longs,
         })
@@ -74,13 +83,14 @@ impl<A: Allocator> Journal<A> {
         self.entries.len()
     }
 
-    /// Adds a step of its tenant, in a place that is there.
+    /// Adds a step of its tenant that raises nothing, in a place that is there.
     pub(crate) fn write(&mut self, step: &Step<Jamboree>)
         requires own { tenant_of step.now ≡ self.old.tenant }
         requires serial { serial_in step.now < 2 ^ 32 }
         requires place { length self.old.steps < self.old.places }
         requires goes_on { goes_on step.now ≡ true }
         requires search { IsSearch step.now }
+        requires raises_not { raise_in step.now ≡ None }
         ensures { self.new ≡ record self.old { steps = self.old.steps ++ step.now ∷ [] } }
     {
         let entry = Entry::of(step);
@@ -97,11 +107,51 @@ impl<A: Allocator> Journal<A> {
         requires place { length self.old.steps < self.old.places }
         requires goes_on { goes_on step.now ≡ true }
         requires search { IsSearch step.now }
+        requires raises_not { raise_in step.now ≡ None }
         requires long { is_long_step step.now ≡ true }
         ensures { self.new ≡ record self.old { steps = self.old.steps ++ step.now ∷ [] } }
     {
         self.entries.push_reserved(Entry::Long);
         self.longs.push_reserved(LongEntry::of(step));
+    }
+
+    /// Lets the core raise what the tenant reserves, and writes that it did. The places for all that the
+    /// tenant may do then, and for this step, are made first, exactly: nothing has changed where that is
+    /// refused, nor where the core refuses after it.
+    pub(crate) fn raise(
+        &mut self,
+        core: &mut Core<Jamboree, A>,
+        reserve: Reserve,
+    ) -> Result<Did<Jamboree>, Refusal>
+    where
+        A: Clone,
+        requires few { raise_count self.old.steps ≤ 69632 }
+        requires place { length self.old.steps < places_for reserve + (raise_count self.old.steps + 1) }
+        requires taken { shared_refusal (jamboree core.old.procedure.grain) core.old.shared (StepOf.AdmitMore self.old.tenant reserve) ≡ None }
+        ensures one { IsOneStep (jamboree core.old.procedure.grain) core.old.shared (StepOf.AdmitMore self.old.tenant reserve) result core.new.shared }
+        ensures written { OnOk result (self.new ≡ longer (StepOf.AdmitMore self.old.tenant reserve) self.old) }
+        ensures refused { OnErr result (self.new ≡ self.old) }
+        ensures core_refused { OnErr result (core.new.shared ≡ core.old.shared) }
+        ensures procedure { core.new.procedure ≡ core.old.procedure }
+        ensures known { OnOk result (IsKnown core.new.shared) }
+        ensures limits { IsWithinLimits reserve }
+    {
+        let raises = self.raises + 1;
+        let places = 16 * reserve.nodes() as usize + BESIDE_NODES + raises;
+        let entries = self.entries.len();
+        if self.entries.reserve_exact(places - entries).is_err() {
+            return Err(Refusal::OutOfMemory);
+        }
+        let longs = self.longs.len();
+        if self.longs.reserve_exact(places - longs).is_err() {
+            return Err(Refusal::OutOfMemory);
+        }
+        let did = core.step(&StepOf::AdmitMore(self.tenant, reserve))?;
+        self.entries.push_reserved(Entry::Long);
+        self.longs.push_reserved(LongEntry::Raised(reserve));
+        self.places = places;
+        self.raises = raises;
+        Ok(did)
     }
 }
 
@@ -141,7 +191,7 @@ pub(crate) fn guess_anew<A: Allocator>(guesses: &mut Guesses<A>, journals: &[Jou
     }
 }
 
-/// Adds a step to the journal of its tenant, which has one.
+/// Adds a step that raises nothing to the journal of its tenant, which has one.
 pub(crate) fn write<A: Allocator>(
     guesses: &Guesses<A>,
     journals: &mut Vec<Journal<A>, A>,
@@ -155,9 +205,36 @@ pub(crate) fn write<A: Allocator>(
     requires place { length (journal_in journals.old.items tenant) < places_in journals.old.items tenant }
     requires goes_on { goes_on step.now ≡ true }
     requires search { IsSearch step.now }
+    requires raises_not { raise_in step.now ≡ None }
     ensures { journals.new.items ≡ with_step tenant step.now journals.old.items }
 {
     let at = place_of(guesses, journals.as_slice(), tenant);
     let journal = &mut journals[at];
     journal.write(step);
+}
+
+/// Lets the core raise what a tenant reserves, which has a journal, and writes it there.
+pub(crate) fn raise<A: Allocator + Clone>(
+    guesses: &Guesses<A>,
+    journals: &mut Vec<Journal<A>, A>,
+    core: &mut Core<Jamboree, A>,
+    tenant: u64,
+    reserve: Reserve,
+) -> Result<Did<Jamboree>, Refusal>
+    requires rising { AreRising journals.old.items }
+    requires there { has_journal tenant journals.old.items ≡ true }
+    requires few { raise_count (journal_in journals.old.items tenant) ≤ 69632 }
+    requires place { length (journal_in journals.old.items tenant) < places_for reserve + (raise_count (journal_in journals.old.items tenant) + 1) }
+    requires taken { shared_refusal (jamboree core.old.procedure.grain) core.old.shared (StepOf.AdmitMore tenant reserve) ≡ None }
+    ensures one { IsOneStep (jamboree core.old.procedure.grain) core.old.shared (StepOf.AdmitMore tenant reserve) result core.new.shared }
+    ensures written { OnOk result (journals.new.items ≡ with_step tenant (StepOf.AdmitMore tenant reserve) journals.old.items) }
+    ensures refused { OnErr result (journals.new.items ≡ journals.old.items) }
+    ensures core_refused { OnErr result (core.new.shared ≡ core.old.shared) }
+    ensures procedure { core.new.procedure ≡ core.old.procedure }
+    ensures known { OnOk result (IsKnown core.new.shared) }
+    ensures limits { IsWithinLimits reserve }
+{
+    let at = place_of(guesses, journals.as_slice(), tenant);
+    let journal = &mut journals[at];
+    journal.raise(core, reserve)
 }

@@ -25,6 +25,8 @@
 //! ```
 #![tactic(auto)]
 
+pub use jamboree_core::jamboree;
+
 mod entry;
 mod hall;
 mod journal;
@@ -32,9 +34,9 @@ mod reading;
 pub mod rows;
 
 pub use hall::Hall;
-pub use jamboree::{Jamboree, Leaf, LeafAnswer, Reply};
+pub use jamboree_core::jamboree::{Jamboree, Leaf, LeafAnswer, Reply};
+pub use jamboree_core::sched_core::{Config, Core, Did, DidOf, Refusal, Step, StepOf, Worker};
 pub use jamboree_core::{Outcome, submit};
-pub use sched_core::{Config, Core, Did, DidOf, Refusal, Step, StepOf, Worker};
 
 #[cfg(test)]
 mod tests;

@@ -1,16 +1,16 @@
 //! What a hall tells.
 ghost use Rattle.std.specs.Prelude.{◌≡◌, ◌+◌};
 ghost use Rattle.sched_rules.specs.Views.{job_of};
-ghost use Rattle.sched_laws.specs.Fitted.{origins_of};
+ghost use Rattle.jamboree_core.specs.sched_laws.Fitted.{origins_of};
 ghost use Rattle.jamboree_core.specs.Searching.{origin_at};
 ghost use Rattle.jamboree_core.specs.Outcomes.{IsOutcomeIn, AnswersTo};
 ghost use Rattle.hall.specs.Journals.{journal_in};
 ghost use Rattle.hall.specs.Halls.{count_of, IsExplained};
 
 use crate::hall::Hall;
-use jamboree::Jamboree;
+use jamboree_core::jamboree::Jamboree;
+use jamboree_core::sched_core::Core;
 use jamboree_core::{Outcome, outcome_of};
-use sched_core::Core;
 use std::alloc::Allocator;
 
 impl<A: Allocator> Hall<A> {
@@ -46,7 +46,7 @@ impl<A: Allocator> Hall<A> {
         self.gone
     }
 
-    /// How many of all steps are kept: those of seats that left, and those from before the desk.
+    /// The number that was last noted as that of the steps that are kept ([`Hall::keep`]), 0 where none was.
     pub fn kept(&self) -> u128
         ensures { result ≡ self.now.kept }
     {

@@ -2,11 +2,12 @@
 ghost use Rattle.std.specs.Prelude.{◌≡◌, [], ◌∷◌};
 ghost use Rattle.tenant_quota.specs.Quota.{Quota};
 ghost use Rattle.sched_rules.specs.declared.job.Job.TheVariants.{Live, Done, Spent};
-ghost use Rattle.sched_rules.specs.declared.step.StepOf.TheVariants.{Admit, Take, Advance, Spend, Cancel, Leave};
+ghost use Rattle.sched_rules.specs.declared.step.StepOf.TheVariants.{Admit, AdmitMore, Take, Advance, Spend, Cancel, Leave};
+ghost use Rattle.jamboree_core.specs.jamboree_rules.declared.leaf.LeafAnswer.{LeafAnswer};
 ghost use Rattle.hall.specs.declared.entry.Entry.TheVariants.{Taken, Advanced, Spent as SpentEntry, Long};
-ghost use Rattle.hall.specs.declared.entry.LongEntry.TheVariants.{Admitted, Cancelled};
+ghost use Rattle.hall.specs.declared.entry.LongEntry.TheVariants.{Admitted, Raised, Cancelled};
 ghost use Rattle.hall.specs.Entries.{steps_in, long_count};
-ghost use Rattle.hall.specs.Journals.{journals_after, gone_by, total_length, admitted_journal, journal_in};
+ghost use Rattle.hall.specs.Journals.{journals_after, gone_by, total_length, admitted_journal, journal_in, places_in, reserved_in};
 ghost use Rattle.hall.specs.Uses.{uses};
 
 /// Two tenants are admitted, the first takes a step, and leaves.
@@ -27,6 +28,15 @@ pub fn entries_of_a_journal()
         ≡ Admit 7 quota ∷ Take 1 (record { tenant = 7; serial = 3 }) ∷ Cancel 7 5 ∷ Advance 2 (record { tenant = 7; serial = 4 }) ∷ [] }
     ensures count { long_count (Long ∷ Taken 1 3 ∷ Long ∷ Advanced 2 4 ∷ []) ≡ 2 }
     ensures wanting { steps_in 7 (Long ∷ SpentEntry 6 ∷ []) [] ≡ Spend (record { tenant = 7; serial = 6 }) ∷ [] }
+{}
+
+/// A tenant of 8 nodes raises them to 10, and then its segments alone: each raise makes a place of its own
+/// beside those of the nodes.
+pub fn a_raise_makes_places()
+    ensures nodes { places_in (journals_after (AdmitMore 1 (record { segments = 4; nodes = 10 })) (admitted_journal 1 (record { segments = 4; nodes = 8 }) ∷ [])) 1 ≡ 931 }
+    ensures segments { places_in (journals_after (AdmitMore 1 (record { segments = 5; nodes = 10 })) (journals_after (AdmitMore 1 (record { segments = 4; nodes = 10 })) (admitted_journal 1 (record { segments = 4; nodes = 8 }) ∷ []))) 1 ≡ 932 }
+    ensures newest { (first second : Quota) → reserved_in {A = LeafAnswer} (Admit 1 first ∷ AdmitMore 1 second ∷ Cancel 1 3 ∷ []) ≡ second }
+    ensures kept { (quota : Quota) → steps_in 7 (Long ∷ []) (Raised quota ∷ []) ≡ AdmitMore 7 quota ∷ [] }
 {}
 
 /// A tenant with five counted steps and three jobs, of which two have ended: its admission, the five

@@ -81,6 +81,62 @@ fn a_job_is_done(rt: HostRuntime) -> Result<(), Fail> {
     Ok(())
 }
 
+/// The answer to a new tenant's first job, which is being computed.
+fn begun(
+    rt: &impl Abort,
+    hall: &mut Hall,
+    worker: Worker,
+    tenant: u64,
+    position: &Position,
+) -> LeafAnswer {
+    let reserve = Reserve::new(4, 8).expect(rt, "within the limits");
+    let root = FrameId { tenant, serial: 1 };
+    assert!(rt; hall.offer(&StepOf::Admit(tenant, reserve)).is_ok());
+    assert!(rt; hall.offer(&submit(tenant, position, 0)).is_ok());
+    assert!(rt; hall.offer(&StepOf::Steal(worker, 0, root)).is_ok());
+    let Ok(DidOf::Computing(leaf)) = hall.offer(&StepOf::Advance(worker, root)) else {
+        panic!(rt; "not computing")
+    };
+    LeafAnswer::compute(leaf)
+}
+
+/// The number of the refusal of a step; 0 where it was taken.
+fn number_of(answer: Result<Did<Jamboree>, Refusal>) -> u8 {
+    match answer {
+        Ok(_) => 0,
+        Err(refusal) => refusal.number(),
+    }
+}
+
+/// An answer that comes after its tenant has left is refused by 1, one that comes after its job was
+/// cancelled by 2, and neither is counted.
+#[test]
+fn late_answers_are_refused(rt: HostRuntime) -> Result<(), Fail> {
+    let config = Config::new(8, 32).ok_or("within the limits")?;
+    let worker = Worker::new(1).ok_or("within the limits")?;
+    let position = opening()?;
+    let mut hall = Hall::new(rt.alloc(), config, 2)?;
+    let (leaves, cancels) = (
+        FrameId {
+            tenant: 1,
+            serial: 1,
+        },
+        FrameId {
+            tenant: 2,
+            serial: 1,
+        },
+    );
+    let answer = begun(&rt, &mut hall, worker, 1, &position);
+    assert_eq!(rt; hall.offer(&StepOf::Leave(1)), Ok(DidOf::Left));
+    let late = hall.offer(&StepOf::Answer(worker, leaves, answer));
+    assert_eq!(rt; (number_of(late), hall.count()), (1, 5));
+    let answer = begun(&rt, &mut hall, worker, 2, &position);
+    assert_eq!(rt; hall.offer(&StepOf::Cancel(2, 1)), Ok(DidOf::Cancelled));
+    let late = hall.offer(&StepOf::Answer(worker, cancels, answer));
+    assert_eq!(rt; (number_of(late), hall.count()), (2, 10));
+    Ok(())
+}
+
 /// How many bytes are taken before the hall is made, and given back once an admission was refused.
 const BALLAST: usize = 131072;
 
@@ -154,5 +210,184 @@ fn each_growth_of_an_admission_is_refused(rt: HostRuntime) -> Result<(), Fail> {
     }
     assert!(rt; is_done);
     assert!(rt; wanting > 786 * 2);
+    Ok(())
+}
+
+/// The job of tenant 1 is pending.
+fn is_pending<A: Allocator>(rt: &impl Abort, hall: &Hall<A>) {
+    assert_eq!(rt; hall.outcome(1, 1), Some(Outcome::Pending));
+}
+
+/// Raises what tenant 1 reserves, or answers that memory is wanting; and then nothing has changed.
+fn is_raised<A: Allocator + Clone>(rt: &impl Abort, hall: &mut Hall<A>, reserve: Reserve) -> bool {
+    let before = look_at(hall);
+    match hall.offer(&StepOf::AdmitMore(1, reserve)) {
+        Ok(did) => {
+            assert_eq!(rt; did, DidOf::AdmittedMore);
+            true
+        }
+        Err(refusal) => {
+            assert_eq!(rt; refusal, Refusal::OutOfMemory);
+            assert_eq!(rt; look_at(hall), before);
+            is_pending(rt, hall);
+            false
+        }
+    }
+}
+
+/// A hall whose tenant 1 has a job, where there is memory for that.
+fn with_a_job<A: Allocator + Copy>(
+    alloc: A,
+    config: Config,
+    reserve: Reserve,
+    opening: &Position,
+) -> Option<Hall<A>> {
+    let mut hall = Hall::new(alloc, config, 0).ok()?;
+    hall.offer(&StepOf::Admit(1, reserve)).ok()?;
+    hall.offer(&submit(1, opening, 0)).ok()?;
+    Some(hall)
+}
+
+/// Tenant 1 has this left of what was raised once, which isn't raised to the same again; and it leaves.
+fn is_left<A: Allocator + Clone>(rt: &impl Abort, hall: &mut Hall<A>, reserve: Reserve) {
+    let left = hall.core().left(1).expect(rt, "the tenant is there");
+    assert_eq!(rt; (left.segments, left.nodes, left.steps), (1, 2, 48));
+    assert_eq!(rt;
+        hall.offer(&StepOf::AdmitMore(1, reserve)),
+        Err(Refusal::Lower)
+    );
+    assert_eq!(rt; hall.offer(&StepOf::Leave(1)), Ok(DidOf::Left));
+    assert_eq!(rt; (hall.count(), hall.gone()), (4, 4));
+}
+
+/// Whether a raise of what a tenant with a job reserves was refused for want of memory in this heap; then
+/// it is taken once the ballast was given back. None where not even the job is there.
+fn is_raise_wanting<A: Allocator + Copy>(
+    rt: &impl Abort,
+    alloc: A,
+    config: Config,
+    reserve: Reserve,
+    more: Reserve,
+    opening: &Position,
+) -> Option<bool> {
+    let ballast = Vec::<u8, A>::with_capacity(alloc, BALLAST).ok()?;
+    let mut hall = with_a_job(alloc, config, reserve, opening)?;
+    let is_first = is_raised(rt, &mut hall, more);
+    drop(ballast);
+    assert!(rt; is_first || is_raised(rt, &mut hall, more));
+    is_left(rt, &mut hall, more);
+    Some(!is_first)
+}
+
+/// Each growth of a raise is refused in turn: those of the journal's two lists, and of the core's places.
+#[test]
+fn each_growth_of_a_raise_is_refused(rt: HostRuntime) -> Result<(), Fail> {
+    let config = Config::new(8, 32).ok_or("within the limits")?;
+    let reserve = Reserve::new(1, 1).ok_or("within the limits")?;
+    let more = Reserve::new(2, 3).ok_or("within the limits")?;
+    let opening = opening()?;
+    let mut wanting = 0u32;
+    let mut is_done = false;
+    for units in 0..8192usize {
+        let heap = LocalHeap::new(rt.alloc(), BALLAST + units * 32)?;
+        match is_raise_wanting(&rt, &heap, config, reserve, more, &opening) {
+            None => {}
+            Some(true) => wanting = wanting.saturating_add(1),
+            Some(false) => {
+                is_done = true;
+                break;
+            }
+        }
+    }
+    assert!(rt; is_done);
+    assert!(rt; wanting > 819 * 48 / 32);
+    Ok(())
+}
+
+/// How many bytes of the heap a raise of one node takes beyond those that the journal gave back.
+fn bytes_of_a_node(rt: &impl Abort, heap: &LocalHeap) -> Option<usize> {
+    let mut hall = Hall::new(heap, Config::new(8, 4096)?, 0).ok()?;
+    hall.offer(&StepOf::Admit(1, Reserve::new(8, 1000)?)).ok()?;
+    let before = heap.used();
+    assert_eq!(rt;
+        hall.offer(&StepOf::AdmitMore(1, Reserve::new(8, 1001)?)),
+        Ok(DidOf::AdmittedMore)
+    );
+    Some(heap.used().saturating_sub(before))
+}
+
+/// A journal grows by just the places of the nodes that came, and isn't doubled: 16 places of 8 and of 48
+/// bytes for a node, and one of each for the raise.
+#[test]
+fn one_node_more_takes_one_node(rt: HostRuntime) -> Result<(), Fail> {
+    let heap = LocalHeap::new(rt.alloc(), 1 << 23)?;
+    let bytes = bytes_of_a_node(&rt, &heap).ok_or("no memory")?;
+    assert!(rt; bytes >= 17 * 56);
+    assert!(rt; bytes < 4096);
+    Ok(())
+}
+
+/// Tenant 1 offers to reserve so much, and is answered so.
+fn reserves(
+    rt: &impl Abort,
+    hall: &mut Hall,
+    reserve: Reserve,
+    answer: Result<Did<Jamboree>, Refusal>,
+) {
+    assert_eq!(rt; hall.offer(&StepOf::AdmitMore(1, reserve)), answer);
+}
+
+/// Tenant 1 asks for the opening at depth 0, and is answered so.
+fn asks(
+    rt: &impl Abort,
+    hall: &mut Hall,
+    opening: &Position,
+    answer: Result<Did<Jamboree>, Refusal>,
+) {
+    assert_eq!(rt; hall.offer(&submit(1, opening, 0)), answer);
+}
+
+/// Tenant 1 reserves more than it was admitted with, and neither less nor beyond the totals.
+fn reserves_more(rt: &impl Abort, hall: &mut Hall, few: Reserve, more: Reserve, beyond: Reserve) {
+    reserves(rt, hall, more, Ok(DidOf::AdmittedMore));
+    reserves(rt, hall, few, Err(Refusal::Lower));
+    reserves(rt, hall, beyond, Err(Refusal::Full));
+    assert_eq!(rt; hall.count(), 3);
+    is_pending(rt, hall);
+}
+
+/// The job of tenant 1 is done by this worker, and the tenant leaves.
+fn job_is_done(rt: &impl Abort, hall: &mut Hall, worker: Worker, root: FrameId) {
+    compute(rt, hall, worker, root);
+    let Some(Outcome::Done(reply)) = hall.outcome(1, 1) else {
+        panic!(rt; "not done")
+    };
+    assert_eq!(rt; (reply.value(), reply.choice()), (0, None));
+    let left = hall.core().left(1).expect(rt, "the tenant is there");
+    assert_eq!(rt; (left.segments, left.nodes, left.steps), (4, 7, 123));
+    assert_eq!(rt; hall.offer(&StepOf::Leave(1)), Ok(DidOf::Left));
+    assert_eq!(rt; (hall.count(), hall.gone()), (9, 9));
+}
+
+/// A tenant whose job has no node left for its frames reserves more, and the job is done.
+#[test]
+fn more_is_reserved_while_a_job_runs(rt: HostRuntime) -> Result<(), Fail> {
+    let config = Config::new(8, 32).ok_or("within the limits")?;
+    let worker = Worker::new(1).ok_or("within the limits")?;
+    let few = Reserve::new(4, 1).ok_or("within the limits")?;
+    let more = Reserve::new(4, 8).ok_or("within the limits")?;
+    let beyond = Reserve::new(8, 33).ok_or("within the limits")?;
+    let opening = opening()?;
+    let root = FrameId {
+        tenant: 1,
+        serial: 1,
+    };
+    let mut hall = Hall::new(rt.alloc(), config, 2)?;
+    reserves(&rt, &mut hall, more, Err(Refusal::NoTenant));
+    assert_eq!(rt; hall.offer(&StepOf::Admit(1, few)), Ok(DidOf::Admitted));
+    asks(&rt, &mut hall, &opening, Ok(DidOf::Submitted(1, root)));
+    asks(&rt, &mut hall, &opening, Err(Refusal::NoNodes));
+    reserves_more(&rt, &mut hall, few, more, beyond);
+    job_is_done(&rt, &mut hall, worker, root);
     Ok(())
 }

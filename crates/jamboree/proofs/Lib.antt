@@ -5,3 +5,4 @@ pub mod ActLemmas
 pub mod InletLemmas
 pub mod SightLemmas
 pub mod ReplyLemmas
+pub mod PlyLemmas

@@ -8,7 +8,7 @@ use crate::intake::{Finding, Intake};
 use crate::phases::{Phase, Status};
 use crate::plan::{NewChild, Plan};
 use crate::view::{Changes, spawn};
-use leaf_search::INF;
+use jamboree_rules::leaf_search::INF;
 use sched_rules::{Act, InletAct, Stores, Then};
 
 impl NewChild {

@@ -43,6 +43,3 @@ pub use jamboree_rules::{Leaf, LeafAnswer};
 pub use procedure::Jamboree;
 pub use reply::Reply;
 pub use view::root_words;
-
-#[cfg(test)]
-mod tests;

@@ -1,7 +1,8 @@
 //! What a frame does next.
 ghost use Rattle.std.specs.Prelude.{◌≡◌, ◌≢◌, ◌+◌, ◌<◌, ◌≤◌, ◌≤ℤ◌, pos, negsuc, ◌==◌, ℕ, Bool, true, false, Option, Some, None, List, [], ◌∷◌, length};
 ghost use Rattle.othello_board.specs.Words.{cells};
-ghost use Rattle.jamboree_rules.specs.Frames.{Frame, floor, may_be_child};
+ghost use Rattle.othello_moves.specs.Choices.{choices, plies};
+ghost use Rattle.jamboree_rules.specs.Frames.{Frame, choice_at, floor, may_be_child};
 ghost use Rattle.jamboree_rules.specs.Acts.{spawns, opening_on, first_search, first_open, tests, tests_from, act_of};
 ghost use Rattle.jamboree.specs.Numbers.{role_number};
 ghost use Rattle.jamboree.specs.Plans.{act_for, spawn_of};
@@ -13,7 +14,7 @@ use crate::plan::{NewChild, Plan};
 use crate::statuses::{first_open, has_failed};
 use cactus_stack::Words;
 use othello_board::Board;
-use othello_moves::{after, choice, choice_count};
+use othello_moves::{after, choice, choice_count, plies};
 
 /// What a new frame does next, whose board is this: it is computed outside near the leaves and where
 /// the game is over; else its choices are counted.
@@ -38,10 +39,27 @@ pub(crate) fn floor(frame: &View) -> i32
     frame.alpha.max(frame.best)
 }
 
+/// The plies of the choice of this number. A pass is the one choice of its board, so where there are more
+/// the choice isn't looked up.
+#[inline(always)]
+fn plies_of(frame: &View, number: usize) -> u8
+    requires choices { frame.now.count ≡ length (choices (cells frame.now.board)) }
+    requires inside { number < frame.now.count }
+    ensures value { result ≡ plies (choice_at (frame_in frame.now) number) }
+    ensures small { result ≤ 1 }
+{
+    if frame.count > 1 {
+        return 1;
+    }
+    plies(choice(frame.board, number)) as u8
+}
+
 /// A child for the choice of this number, in this role and with this window.
 #[inline(always)]
 fn child(frame: &View, role: Role, number: usize, alpha: i32, beta: i32) -> NewChild
     requires deep { 0 < frame.now.depth }
+    requires choices { frame.now.count ≡ length (choices (cells frame.now.board)) }
+    requires inside { number < frame.now.count }
     requires few { number ≤ 128 }
     requires low { negsuc 999999 ≤ℤ alpha }
     requires high { alpha ≤ℤ pos 1000000 }
@@ -51,7 +69,7 @@ fn child(frame: &View, role: Role, number: usize, alpha: i32, beta: i32) -> NewC
     ensures number { result.number ≡ number }
 {
     NewChild {
-        depth: frame.depth - 1,
+        depth: frame.depth - plies_of(frame, number),
         alpha,
         beta,
         role,
@@ -63,7 +81,9 @@ fn child(frame: &View, role: Role, number: usize, alpha: i32, beta: i32) -> NewC
 /// awaited.
 #[inline(always)]
 fn first_search(frame: &View) -> Plan
-    requires { 0 < frame.now.depth }
+    requires deep { 0 < frame.now.depth }
+    requires choices { frame.now.count ≡ length (choices (cells frame.now.board)) }
+    requires some { 0 < frame.now.count }
     ensures { act_for result ≡ first_search ((frame_in frame.now).spawned == 0) (frame_in frame.now) }
 {
     if frame.spawned != 0 {
@@ -77,6 +97,7 @@ fn first_search(frame: &View) -> Plan
 #[inline(always)]
 fn tests(frame: &View, words: &Words) -> Plan
     requires deep { 0 < frame.now.depth }
+    requires choices { frame.now.count ≡ length (choices (cells frame.now.board)) }
     requires entries { length words.now ≡ 12 + frame.now.count }
     ensures { act_for result ≡ tests_from (frame_with frame.now (statuses_in words.now)) (first_open (statuses_in words.now)) }
 {
@@ -97,6 +118,7 @@ fn tests(frame: &View, words: &Words) -> Plan
 #[inline(always)]
 fn search_again(frame: &View, number: usize) -> Plan
     requires deep { 0 < frame.now.depth }
+    requires choices { frame.now.count ≡ length (choices (cells frame.now.board)) }
     requires inside { number < frame.now.count }
     ensures { (more all : Bool) (statuses : List ℕ) → act_for result ≡ tests true more all (frame_with frame.now statuses) number }
 {
@@ -107,6 +129,7 @@ fn search_again(frame: &View, number: usize) -> Plan
 #[inline(always)]
 fn test(frame: &View, number: usize) -> Plan
     requires deep { 0 < frame.now.depth }
+    requires choices { frame.now.count ≡ length (choices (cells frame.now.board)) }
     requires next { number ≡ (frame_in frame.now).spawned }
     requires inside { number < frame.now.count }
     ensures { (all : Bool) (statuses : List ℕ) (first : ℕ) → act_for result ≡ tests false true all (frame_with frame.now statuses) first }

@@ -20,7 +20,7 @@ use crate::score::{score_of_word, word_of_score};
 use crate::statuses::are_statuses;
 use cactus_stack::Words;
 use jamboree_rules::Leaf;
-use leaf_search::INF;
+use jamboree_rules::leaf_search::INF;
 use othello_board::Board;
 use othello_moves::choice_count;
 use position_text::Position;

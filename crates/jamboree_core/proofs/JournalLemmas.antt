@@ -15,16 +15,16 @@ use Rattle.sched_rules.specs.Runs.{tenant_of, state_after, alone_from}
 use Rattle.sched_rules.specs.Cores.{Shared, tenant_in, shared_with}
 use Rattle.sched_rules.specs.Headline.{is_admission, IsKnown, IsOneStep}
 use Rattle.sched_rules.proofs.Tenants.{tenant_in-with_outcome, tenant_in_other-with_outcome}
-use Rattle.sched_rules.proofs.Isolation.{there, step-taken, shared-after-taken}
-use Rattle.sched_laws.specs.Fitted.{submits, origins_of}
-use Rattle.sched_laws.proofs.Shaped.{LeftShaped}
-use Rattle.sched_laws.proofs.Answers.{lone-shaped}
-use Rattle.sched_laws.proofs.Fits.{LeftFits}
-use Rattle.sched_laws.proofs.FitAnswers.{step-fits, admission}
-use Rattle.jamboree_rules.specs.declared.leaf.Leaf.{Leaf}
-use Rattle.jamboree_rules.specs.declared.leaf.LeafAnswer.{LeafAnswer}
-use Rattle.jamboree_rules.specs.Fits.{AreFitting, IsRoot}
-use Rattle.jamboree_rules.specs.Procedure.{jamboree}
+use Rattle.sched_rules.proofs.Isolation.{there, more-there, step-taken, shared-after-taken}
+use Rattle.sched_core.specs.sched_laws.Fitted.{submits, origins_of}
+use Rattle.sched_core.proofs.sched_laws_Shaped.{LeftShaped}
+use Rattle.sched_core.proofs.sched_laws_Answers.{lone-shaped}
+use Rattle.sched_core.proofs.sched_laws_Fits.{LeftFits}
+use Rattle.sched_core.proofs.sched_laws_FitAnswers.{step-fits, admission}
+use Rattle.jamboree_laws.specs.jamboree_rules.declared.leaf.Leaf.{Leaf}
+use Rattle.jamboree_laws.specs.jamboree_rules.declared.leaf.LeafAnswer.{LeafAnswer}
+use Rattle.jamboree_laws.specs.jamboree_rules.Fits.{AreFitting, IsRoot}
+use Rattle.jamboree_laws.specs.jamboree_rules.Procedure.{jamboree}
 use Rattle.jamboree_laws.specs.Replies.{IsSearch, AreSearches}
 use Rattle.jamboree_laws.proofs.Replying.{search-fits, lawful}
 use Rattle.jamboree_core.specs.Searching.{TenantSearches}
@@ -38,9 +38,11 @@ Came = Result (Outcome Leaf) Refusal
 begun-fits : (grain : ℕ) (step : StepOf LeafAnswer) (outcome : Outcome Leaf) → lone (jamboree grain) None step ≡ Ok outcome → LeftFits AreFitting IsRoot (submits step) outcome.0
 begun-fits grain step outcome is = elim (cases_Bool (is_admission step)) [
   | inr other ↦ absurd (there (jamboree grain) None step outcome other is refl)
-  | inl admits ↦ (let a = admission step admits in
-      let P : StepOf LeafAnswer → Type 0 = λ st. LeftFits AreFitting IsRoot (submits st) outcome.0 in
-      subst P (sym a.2) (begun a.0 a.1 (ap (lone (jamboree grain) None) (sym a.2) ∙ is)))
+  | inl admits ↦ elim (admission step admits) [
+    | inl a ↦ (let P : StepOf LeafAnswer → Type 0 = λ st. LeftFits AreFitting IsRoot (submits st) outcome.0 in
+        subst P (sym a.2) (begun a.0 a.1 (ap (lone (jamboree grain) None) (sym a.2) ∙ is)))
+    | inr m ↦ absurd (more-there (jamboree grain) None m.0 m.1 outcome (ap (lone (jamboree grain) None) (sym m.2) ∙ is) refl)
+  ]
 ]
   where
     begun : (number : ℕ) (quota : Quota) → lone (jamboree grain) None (Admit number quota) ≡ Ok outcome → LeftFits AreFitting IsRoot [] outcome.0

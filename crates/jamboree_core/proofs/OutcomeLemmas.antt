@@ -7,8 +7,8 @@ use Rattle.sched_rules.specs.declared.job.Job.TheVariants.{Live, Done, Spent as 
 use Rattle.sched_rules.specs.Trees.{Tree, Tenant, job_at}
 use Rattle.sched_rules.specs.Cores.{Shared, tenant_in}
 use Rattle.sched_rules.specs.Views.{job_of}
-use Rattle.sched_laws.specs.Fitted.{JobsFit, JobFits}
-use Rattle.jamboree_rules.specs.Fits.{AreFitting, IsRoot}
+use Rattle.sched_core.specs.sched_laws.Fitted.{JobsFit, JobFits}
+use Rattle.jamboree_laws.specs.jamboree_rules.Fits.{AreFitting, IsRoot}
 use Rattle.jamboree_laws.specs.Replies.{HoldsReply, AreReplies}
 use Rattle.jamboree_core.specs.declared.outcomes.Outcome.{Outcome}
 use Rattle.jamboree_core.specs.Searching.{TenantSearches, ServesSearches, origin_at}

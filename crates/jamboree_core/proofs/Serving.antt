@@ -6,21 +6,22 @@ use Rattle.tenant_quota.specs.Quota.{Quota}
 use Rattle.sched_rules.specs.declared.refusal.Refusal.{Refusal}
 use Rattle.sched_rules.specs.declared.step.StepOf.{StepOf}
 use Rattle.sched_rules.specs.declared.step.DidOf.{DidOf}
-use Rattle.sched_rules.specs.declared.step.StepOf.TheVariants.{Admit, Submit, Take, Steal, Advance, Answer, Inlet, Finish, Spend, Cancel, Leave}
+use Rattle.sched_rules.specs.declared.step.StepOf.TheVariants.{Admit, AdmitMore, Submit, Take, Steal, Advance, Answer, Inlet, Finish, Spend, Cancel, Leave}
 use Rattle.sched_rules.specs.Trees.{Tenant}
 use Rattle.sched_rules.specs.Runs.{tenant_of, only}
 use Rattle.sched_rules.specs.Cores.{Shared, shared_by_nobody, tenant_in}
 use Rattle.sched_rules.specs.Headline.{IsKnown, IsHeadline, taken}
 use Rattle.sched_rules.proofs.Tenants.{tenant_in-new}
-use Rattle.sched_laws.specs.Fitted.{CoreFits, RootsFit, submits, origins_of, origins_after}
-use Rattle.sched_laws.proofs.FitAnswers.{nobody-fits}
-use Rattle.jamboree_rules.specs.declared.leaf.Leaf.{Leaf}
-use Rattle.jamboree_rules.specs.declared.leaf.LeafAnswer.{LeafAnswer}
-use Rattle.jamboree_rules.specs.Fits.{AreFitting, IsRoot}
-use Rattle.jamboree_rules.specs.Procedure.{jamboree}
+use Rattle.sched_core.specs.sched_laws.Fitted.{CoreFits, RootsFit, submits, origins_of, origins_after}
+use Rattle.sched_core.proofs.sched_laws_FitAnswers.{nobody-fits}
+use Rattle.jamboree_laws.specs.jamboree_rules.declared.leaf.Leaf.{Leaf}
+use Rattle.jamboree_laws.specs.jamboree_rules.declared.leaf.LeafAnswer.{LeafAnswer}
+use Rattle.jamboree_laws.specs.jamboree_rules.Fits.{AreFitting, IsRoot}
+use Rattle.jamboree_laws.specs.jamboree_rules.Procedure.{jamboree}
 use Rattle.jamboree_laws.specs.Replies.{IsSearch, AreSearches, AreReplies, AreAllSound}
 use Rattle.jamboree_laws.proofs.Replying.{replies-held, all-sound, searches-fit}
 use Rattle.jamboree_core.specs.Searching.{AreAllRootWords, TenantSearches, ServesSearches, CoreSearches, HoldsReplies, submitted_to, IsHeadlineInFull}
+use Rattle.jamboree_core.specs.NewRuns.{IsHeadlineFromNew}
 
 pub nobody-searches : (totals : Quota) → CoreSearches (λ number. []) (shared_by_nobody totals)
 nobody-searches totals = record { fits = nobody-fits AreFitting IsRoot totals; asked = λ number. tt }
@@ -70,6 +71,7 @@ asked-append (x ∷ xs) ys some more = (some.0, asked-append xs ys some.1 more)
 
 step-asked : {A : Type 0} (step : StepOf A) → IsSearch step → AreAllRootWords (submits step)
 step-asked (Admit number quota) is = tt
+step-asked (AdmitMore number quota) is = tt
 step-asked (Submit number words size) is = (is.0, tt)
 step-asked (Take worker name) is = tt
 step-asked (Steal worker from name) is = tt
@@ -125,3 +127,20 @@ headline-in-full grain before steps answered after tenants fitting = record {
 pub both-ok : {T E P Q R : Type 0} (r : Result T E) → OnOk r P → OnOk r Q → (P → Q → R) → OnOk r R
 both-ok (Ok value) p q make = make p q
 both-ok (Err error) p q make = tt
+
+-- of a list of searches, those that were taken are searches
+taken-searches : (steps : List (StepOf LeafAnswer)) (answers : List (Result (DidOf Leaf) Refusal)) → AreSearches steps → AreSearches (taken steps answers)
+taken-searches [] answers are = tt
+taken-searches (step ∷ steps) [] are = tt
+taken-searches (step ∷ steps) (Ok did ∷ answers) are = (are.0, taken-searches steps answers are.1)
+taken-searches (step ∷ steps) (Err refusal ∷ answers) are = taken-searches steps answers are.1
+
+-- the headline from a new core
+pub headline-from-new : (grain : ℕ) (totals : Quota) (before : Shared) (steps : List (StepOf LeafAnswer)) (answered : List (Result (DidOf Leaf) Refusal)) (after : Shared) → before ≡ shared_by_nobody totals → AreSearches steps →
+    IsHeadlineInFull grain before steps answered after → IsHeadlineFromNew grain totals steps answered after
+headline-from-new grain totals before steps answered after new are whole =
+    let full = rw new at whole in
+    record {
+      tenants = full.tenants;
+      replies = (full.replies (λ number. []) (nobody-searches totals) (taken-searches steps answered are)).replies;
+    }

@@ -2,7 +2,7 @@
 use Rattle.std.specs.Prelude.{◌≡◌, ℕ, List, Option, Some, None, slice_index}
 use Rattle.sched_rules.specs.declared.job.Job.{Job}
 use Rattle.sched_rules.specs.declared.job.Job.TheVariants.{Live, Done, Spent as SpentJob, Cancelled as CancelledJob}
-use Rattle.jamboree_rules.specs.Fits.{IsKeptRoot}
+use Rattle.jamboree_laws.specs.jamboree_rules.Fits.{IsKeptRoot}
 use Rattle.jamboree.specs.declared.reply.Reply.{Reply}
 use Rattle.jamboree.specs.Replies.{board_of, depth_of}
 use Rattle.jamboree_core.specs.declared.outcomes.Outcome.{Outcome}

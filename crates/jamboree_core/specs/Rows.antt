@@ -7,7 +7,7 @@ use Rattle.sched_rules.specs.declared.job.Job.TheVariants.{Live}
 use Rattle.sched_rules.specs.declared.step.StepOf.{StepOf}
 use Rattle.sched_rules.specs.declared.step.StepOf.TheVariants.{Admit, Submit}
 use Rattle.sched_rules.specs.Trees.{Tenant}
-use Rattle.jamboree_rules.specs.declared.leaf.LeafAnswer.{LeafAnswer}
+use Rattle.jamboree_laws.specs.jamboree_rules.declared.leaf.LeafAnswer.{LeafAnswer}
 use Rattle.jamboree_laws.specs.Rows.{asked}
 
 -- 4 segments and 8 nodes

@@ -9,6 +9,8 @@
 //! whatever was spawned, stolen, aborted or answered too late. [`outcome_of`] reads what has become
 //! of a job; where it is done, its [`Reply`](jamboree::Reply) is to the board and the depth that the
 //! job's own Submit asked for.
+//! [`run_from_new`] makes the core too: of any list of searches it says the headline and every reply,
+//! and names no invariant (`specs/NewRuns.antt`).
 //!
 //! What is carried from call to call is that a core's jobs are searches (`CoreSearches` of
 //! `specs/Searching.antt`): its frames fit, and job k of a tenant holds what the k-th of the words
@@ -32,6 +34,9 @@
 //! ```
 #![tactic(auto)]
 
+pub use jamboree;
+pub use sched_core;
+
 mod asking;
 pub mod laws;
 mod outcomes;
@@ -40,7 +45,7 @@ mod running;
 
 pub use asking::submit;
 pub use outcomes::{Outcome, outcome_of};
-pub use running::{run_searches, step_search};
+pub use running::{run_from_new, run_searches, step_search};
 
 #[cfg(test)]
 mod tests;

@@ -4,7 +4,7 @@ ghost use Rattle.std.specs.Prelude.{◌≡◌, ℕ, [], ◌∷◌, Some, None};
 ghost use Rattle.sched_rules.specs.declared.job.Job.TheVariants.{Live, Spent as SpentJob};
 ghost use Rattle.sched_rules.specs.declared.step.StepOf.TheVariants.{Admit, Leave};
 ghost use Rattle.sched_rules.specs.Trees.{Tenant, admitted_with};
-ghost use Rattle.jamboree_rules.specs.Procedure.{jamboree};
+ghost use Rattle.jamboree_laws.specs.jamboree_rules.Procedure.{jamboree};
 ghost use Rattle.jamboree_laws.specs.Rows.{asked};
 ghost use Rattle.jamboree_core.specs.declared.outcomes.Outcome.TheVariants.{Pending, Spent};
 ghost use Rattle.jamboree_core.specs.Searching.{TenantSearches, origin_at};

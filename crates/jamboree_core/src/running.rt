@@ -1,17 +1,18 @@
 //! Steps of a core of searches, one by one and in lists.
-ghost use Rattle.std.specs.Prelude.{◌≡◌, ◌≢◌, ◌++◌, ℕ, List, Result, Err, OnErr, OnOk, is_ok, true, false};
+ghost use Rattle.std.specs.Prelude.{◌≡◌, ◌≢◌, ◌++◌, ℕ, List, [], Result, Err, IfErr, IfOk, OnErr, OnOk, is_ok, true, false};
 ghost use Rattle.sched_rules.specs.declared.refusal.Refusal.{Refusal as RefusalOf};
-ghost use Rattle.sched_rules.specs.declared.refusal.Refusal.TheVariants.{OutOfMemory};
+ghost use Rattle.sched_rules.specs.declared.refusal.Refusal.TheVariants.{BadAct, OutOfMemory};
 ghost use Rattle.sched_rules.specs.declared.step.DidOf.{DidOf};
 ghost use Rattle.sched_rules.specs.Headline.{IsOneStep, IsKnown, is_admission};
-ghost use Rattle.sched_laws.specs.Fitted.{origins_after};
-ghost use Rattle.jamboree_rules.specs.declared.leaf.Leaf.{Leaf};
-ghost use Rattle.jamboree_rules.specs.Procedure.{jamboree};
-ghost use Rattle.jamboree_laws.specs.Replies.{IsSearch};
+ghost use Rattle.sched_core.specs.sched_laws.Fitted.{origins_after, submits};
+ghost use Rattle.jamboree_laws.specs.jamboree_rules.declared.leaf.Leaf.{Leaf};
+ghost use Rattle.jamboree_laws.specs.jamboree_rules.Procedure.{jamboree};
+ghost use Rattle.jamboree_laws.specs.Replies.{AreSearches, IsSearch};
+ghost use Rattle.jamboree_core.specs.NewRuns.{IsHeadlineFromNew};
 ghost use Rattle.jamboree_core.specs.Searching.{CoreSearches, IsHeadlineInFull};
 
 use jamboree::Jamboree;
-use sched_core::Core;
+use sched_core::{Config, Core};
 use sched_rules::{Did, Refusal, Step};
 use std::alloc::{AllocError, Allocator};
 
@@ -29,6 +30,9 @@ pub fn step_search<A: Allocator + Clone>(
     ensures known { IsKnown core.new.shared }
     ensures searching { (origins : ℕ → List (List ℕ)) → CoreSearches origins core.old.shared → (is_ok result ≡ true → IsSearch step.now)
         → CoreSearches (origins_after origins step.now result) core.new.shared }
+
+    // Where the core's jobs are searches, BadAct comes of a Submit alone.
+    ensures bad_act { (origins : ℕ → List (List ℕ)) → CoreSearches origins core.old.shared → submits step.now ≡ [] → result ≢ Err BadAct }
 {
     core.step(step)
 }
@@ -46,4 +50,24 @@ pub fn run_searches<A: Allocator + Clone>(
     ensures procedure { core.new.procedure ≡ core.old.procedure }
 {
     core.run(steps, answers)
+}
+
+/// A new core of these totals, and a list of searches on it: each step that submits a job asks for a
+/// search. One answer each is appended. It fails only where a growth was refused, and then no answer is
+/// appended and no core is left.
+pub fn run_from_new<A: Allocator + Clone>(
+    alloc: A,
+    config: Config,
+    procedure: Jamboree,
+    steps: &[Step<Jamboree>],
+    answers: &mut Vec<Result<Did<Jamboree>, Refusal>, A>,
+) -> Result<Core<Jamboree, A>, AllocError>
+    requires { AreSearches steps.now }
+    ensures headline { IfOk result (λ core. (answered : List (Result (DidOf Leaf) RefusalOf)) × (answers.new.items ≡ answers.old.items ++ answered)
+        × IsHeadlineFromNew procedure.grain config steps.now answered core.shared) }
+    ensures untried { IfErr result (λ error. answers.new.items ≡ answers.old.items) }
+{
+    let mut core = Core::new(alloc, config, procedure)?;
+    run_searches(&mut core, steps, answers)?;
+    Ok(core)
 }

@@ -1,10 +1,11 @@
 ghost use Rattle.std.specs.Prelude.{◌≤◌};
+ghost use Rattle.jamboree_laws.specs.Replies.{AreSearches};
 
 use super::*;
 use driver::{Searched, drive};
 use frame_table::FrameId;
 use jamboree::{Jamboree, Leaf, LeafAnswer, Reply};
-use leaf_search::{INF, search_full};
+use jamboree_laws::leaf_search::{INF, search_full};
 use orders::{Crew, Draw};
 use othello_board::Board;
 use othello_moves::{Choice, after, choice, choice_count};
@@ -178,7 +179,9 @@ fn every_reservation(rt: HostRuntime) -> Result<(), Fail> {
 }
 
 /// The seven steps of a search of the opening to depth 2, which worker 3 computes.
-fn seven_steps(reserve: Reserve, worker: Worker, position: &Position) -> [Step<Jamboree>; 7] {
+fn seven_steps(reserve: Reserve, worker: Worker, position: &Position) -> [Step<Jamboree>; 7]
+    ensures { AreSearches result }
+{
     let root = FrameId {
         tenant: 7,
         serial: 1,
@@ -228,6 +231,21 @@ fn a_list_of_steps(rt: HostRuntime) -> Result<(), Fail> {
     let jamboree = Jamboree::new(2).ok_or("the grain")?;
     let mut core = Core::new(rt.alloc(), config, jamboree)?;
     assert_eq!(rt; run_list(rt.alloc(), &mut core)?, 7);
+    assert_eq!(rt; value_and_choice(core.job(7, 1)), Some((999_996, 19)));
+    Ok(())
+}
+
+/// The same from nothing: the core is made by the call.
+#[test]
+fn a_list_of_steps_from_a_new_core(rt: HostRuntime) -> Result<(), Fail> {
+    let config = Config::new(64, 64).ok_or("the totals")?;
+    let jamboree = Jamboree::new(2).ok_or("the grain")?;
+    let reserve = Reserve::new(4, 8).ok_or("a reservation")?;
+    let worker = Worker::new(3).ok_or("a worker")?;
+    let steps = seven_steps(reserve, worker, &opening()?);
+    let mut answers = Vec::new(rt.alloc());
+    let core = run_from_new(rt.alloc(), config, jamboree, &steps, &mut answers)?;
+    assert_eq!(rt; taken(&answers), 7);
     assert_eq!(rt; value_and_choice(core.job(7, 1)), Some((999_996, 19)));
     Ok(())
 }

@@ -7,7 +7,7 @@ use Rattle.sched_rules.specs.declared.job.Job.{Job}
 use Rattle.sched_rules.specs.declared.job.Job.TheVariants.{Live, Done, Spent as SpentJob, Cancelled as CancelledJob}
 use Rattle.sched_rules.specs.declared.refusal.Refusal.{Refusal}
 use Rattle.sched_rules.specs.declared.step.StepOf.{StepOf}
-use Rattle.sched_rules.specs.declared.step.StepOf.TheVariants.{Admit, Submit, Take, Steal, Advance, Answer, Inlet, Finish, Spend, Cancel, Leave}
+use Rattle.sched_rules.specs.declared.step.StepOf.TheVariants.{Admit, AdmitMore, Submit, Take, Steal, Advance, Answer, Inlet, Finish, Spend, Cancel, Leave}
 use Rattle.sched_rules.specs.declared.step.DidOf.{DidOf}
 use Rattle.sched_rules.specs.Trees.{Tree, Tenant, kept_words}
 use Rattle.sched_rules.specs.Laws.{HasReturned, mark_of, EachFits}
@@ -30,6 +30,7 @@ use Rattle.jamboree_laws.specs.Replies.{IsSearch, AreSearches, IsReplyTo, AreRep
 -- the new root of a search fits
 pub search-fits : (step : StepOf LeafAnswer) → IsSearch step → RootFits AreFitting IsRoot step
 search-fits (Admit number quota) is = tt
+search-fits (AdmitMore number quota) is = tt
 search-fits (Submit number words size) is =
     let root = root-fits is.0.own is.0.opp is.0.depth is.0.apart is.0.shallow in
     rw (is.0.are, is.1) root

@@ -1,2 +1,3 @@
+pub use Rattle.jamboree_rules.specs as jamboree_rules
 pub mod Replies
 pub mod Rows

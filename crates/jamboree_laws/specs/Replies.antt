@@ -6,7 +6,7 @@ use Rattle.othello_eval.specs.Minimax.{minimax, best_choice}
 use Rattle.sched_rules.specs.declared.job.Job.{Job}
 use Rattle.sched_rules.specs.declared.job.Job.TheVariants.{Live, Done, Spent as SpentJob, Cancelled as CancelledJob}
 use Rattle.sched_rules.specs.declared.step.StepOf.{StepOf}
-use Rattle.sched_rules.specs.declared.step.StepOf.TheVariants.{Admit, Submit, Take, Steal, Advance, Answer, Inlet, Finish, Spend, Cancel, Leave}
+use Rattle.sched_rules.specs.declared.step.StepOf.TheVariants.{Admit, AdmitMore, Submit, Take, Steal, Advance, Answer, Inlet, Finish, Spend, Cancel, Leave}
 use Rattle.sched_rules.specs.Trees.{Tree}
 use Rattle.jamboree_rules.specs.Frames.{coded}
 use Rattle.jamboree_rules.specs.Places.{root_words, frame_size, frame_of, score_of}
@@ -24,6 +24,7 @@ pub record AreRootWords (words : List ℕ) : Type 0 where
 -- a step, if it submits a job, asks for a search
 abbrev pub IsSearch : {A : Type 0} → StepOf A → Type 0
 IsSearch (Admit number quota) = Unit {0}
+IsSearch (AdmitMore number quota) = Unit {0}
 IsSearch (Submit number words size) = AreRootWords words × (size ≡ frame_size)
 IsSearch (Take worker name) = Unit {0}
 IsSearch (Steal worker from name) = Unit {0}

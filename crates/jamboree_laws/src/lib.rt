@@ -15,5 +15,7 @@
 //! ```
 #![tactic(auto)]
 
+pub use jamboree_rules::leaf_search;
+
 pub mod laws;
 pub mod rows;

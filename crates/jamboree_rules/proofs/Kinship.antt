@@ -1,11 +1,11 @@
 -- The inlets keep that a frame fits.
-use Rattle.std.specs.Prelude.{◌≡◌, ◌≢◌, ℕ, ◌+◌, ◌<◌, ◌≤◌, ◌⊎◌, ℤ, pos, neg_ℤ, ◌<ℤ◌, ◌≤ℤ◌, ◌+ℤ◌, List, [], ◌∷◌, ◌++◌, length, refl, slice_index, slice_set}
+use Rattle.std.specs.Prelude.{◌≡◌, ◌≢◌, ℕ, ◌+◌, ◌-◌, ◌<◌, ◌≤◌, ◌⊎◌, ℤ, pos, neg_ℤ, ◌<ℤ◌, ◌≤ℤ◌, ◌+ℤ◌, List, [], ◌∷◌, ◌++◌, length, refl, slice_index, slice_set}
 use Rattle.std.specs.Int.{int_max}
 use Rattle.std.proofs.Common.{sym, ◌∙◌, ap, subst, arith, inl, inr, ⊎_elim}
 use Rattle.std.proofs.lemmas.Grind.{common_steps}
 use Rattle.std.proofs.lemmas.Bool.{cases_eq}
 use Rattle.std.proofs.lemmas.Int.{ints, clamps, by_lt_z}
-use Rattle.othello_moves.specs.Choices.{after}
+use Rattle.othello_moves.specs.Choices.{after, plies}
 use Rattle.leaf_search.specs.Bounds.{IsBound}
 use Rattle.sched_rules.specs.Laws.{Neither, HasReturned}
 use Rattle.othello_eval.specs.Minimax.{best_choice}
@@ -429,7 +429,7 @@ role-same p c c' g (Again r) = Again (record {
 pub child-same : (p c c' : Frame) → IsSameGoal p c c' → IsChildOf p c → IsChildOf p c'
 child-same p c c' g kin = record {
   inside = rw g.number kin.inside;
-  shallower = g.depth ∙ kin.shallower;
+  shallower = g.depth ∙ kin.shallower ∙ ap (λ (i : ℕ). p.depth - plies (choice_at p i)) (sym g.number);
   known = λ there. g.known there ∙ ap (λ (i : ℕ). after (board p) (choice_at p i)) (sym g.number);
   in_role = role-same p c c' g kin.in_role;
 }

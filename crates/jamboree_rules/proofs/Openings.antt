@@ -3,11 +3,11 @@ use Rattle.std.specs.Prelude.{◌≡◌, ℕ, ◌+◌, ◌-◌, ◌<◌, ℤ, po
 use Rattle.std.proofs.Common.{sym, ◌∙◌, ap, arith, inl, inr, ⊎_elim}
 use Rattle.std.proofs.lemmas.Grind.{common_steps}
 use Rattle.std.proofs.lemmas.Int.{ints, clamps}
-use Rattle.othello_moves.specs.Choices.{choices}
+use Rattle.othello_moves.specs.Choices.{choices, plies}
 use Rattle.othello_board.specs.Words.{cells_of}
 use Rattle.sched_rules.specs.Laws.{Neither, Computes}
 use Rattle.jamboree_rules.proofs.Searching.{set_there, set_beside, set_length}
-use Rattle.jamboree_rules.specs.Frames.{Frame, unscored, floor}
+use Rattle.jamboree_rules.specs.Frames.{Frame, choice_at, unscored, floor}
 use Rattle.jamboree_rules.specs.Fits.{First, Test, Again, IsSearchingFrame, IsDoneFrame, Fits}
 use Rattle.jamboree_rules.proofs.Kinship.{spawned-child}
 
@@ -16,7 +16,7 @@ abbrev pub new_child : Frame → ℕ → ℕ → ℤ → ℤ → Frame
 new_child f role i low high = record {
   own = 0;
   opp = 0;
-  depth = f.depth - 1;
+  depth = f.depth - plies (choice_at f i);
   alpha = low;
   beta = high;
   role = role;

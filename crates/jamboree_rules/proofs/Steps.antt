@@ -8,7 +8,7 @@ use Rattle.std.proofs.lemmas.Int.{ints, clamps}
 use Rattle.std.proofs.lemmas.List.{length-map, length-drop}
 use Rattle.cactus_stack.specs.Nodes.{padded}
 use Rattle.othello_board.specs.Words.{cells_of}
-use Rattle.othello_moves.specs.Choices.{choices}
+use Rattle.othello_moves.specs.Choices.{choices, plies}
 use Rattle.sched_rules.specs.declared.act.Act.{Act}
 use Rattle.sched_rules.specs.declared.act.Then.{Then}
 use Rattle.sched_rules.specs.declared.act.Then.TheVariants.{Grow, Wait, Compute, Return}
@@ -16,7 +16,7 @@ use Rattle.sched_rules.specs.Trees.{stored, is_outside}
 use Rattle.sched_rules.specs.Lone.{is_bad_then, is_bad_act}
 use Rattle.sched_rules.specs.Laws.{NewChildFits, Mark, Neither, HasReturned, grown, children_after, mark_after, has_one}
 use Rattle.leaf_search.specs.Bounds.{IsBound}
-use Rattle.jamboree_rules.specs.Frames.{Frame, code_at, value_at, value, floor, least, greatest}
+use Rattle.jamboree_rules.specs.Frames.{Frame, code_at, value_at, value, floor, least, greatest, choice_at}
 use Rattle.jamboree_rules.specs.Places.{word_of, status_of, frame_of, are_statuses, Change, OwnBits, OppBits, Phase, Best, Chosen, Count, Spawned, Status, pair_of, pairs_of, given_words, frame_size}
 use Rattle.jamboree_rules.specs.Acts.{returns, spawns, opening, first_search, tests}
 use Rattle.jamboree_rules.specs.Fits.{IsSearchingFrame, Fits, AreFitting}
@@ -127,15 +127,15 @@ late-known : (phase : ℕ) → 1 < phase → phase ≢ 0
 late-known phase h = λ (e : phase ≡ 0). absurd (omega arith)
 
 -- the frame in a new child's words
-pub child-frame : (f : Frame) (role i : ℕ) (low high : ℤ) → least ≤ℤ low → least ≤ℤ high → frame_of (padded (given_words (f.depth - 1) low high role i) frame_size) ≡ new_child f role i low high
+pub child-frame : (f : Frame) (role i : ℕ) (low high : ℤ) → least ≤ℤ low → least ≤ℤ high → frame_of (padded (given_words (f.depth - plies (choice_at f i)) low high role i) frame_size) ≡ new_child f role i low high
 child-frame f role i low high l h =
     ap (λ (x : ℤ). record (new_child f role i low high) { alpha = x; beta = Rattle.jamboree_rules.specs.Places.score_of (word_of high) }) (held low l) ∙ ap (λ (x : ℤ). record (new_child f role i low high) { beta = x }) (held high h)
 
 -- a new child has the form, and fits
 pub child-fits : (f : Frame) (role i : ℕ) (low high : ℤ) → IsFrame f → role ≤ 3 → least ≤ℤ low → low <ℤ high → high ≤ℤ greatest → Fits (new_child f role i low high) [] Neither →
-    AreFitting (padded (given_words (f.depth - 1) low high role i) frame_size) [] Neither
+    AreFitting (padded (given_words (f.depth - plies (choice_at f i)) low high role i) frame_size) [] Neither
 child-fits f role i low high form small l window h fits =
-    let is : frame_of (padded (given_words (f.depth - 1) low high role i) frame_size) ≡ new_child f role i low high = child-frame f role i low high l (omega (arith, ints)) in
+    let is : frame_of (padded (given_words (f.depth - plies (choice_at f i)) low high role i) frame_size) ≡ new_child f role i low high = child-frame f role i low high l (omega (arith, ints)) in
     let shallow : f.depth ≤ 12 = form.leaf.shallow in
     let frame : IsFrame (new_child f role i low high) = record {
       leaf = record { disjoint = refl; shallow = omega arith; low = l; window = window; high = h };
@@ -148,7 +148,7 @@ child-fits f role i low high form small l window h fits =
       counts = ⊎_elim (λ (e : 0 ≡ 2). absurd (omega arith)) (λ (e : 0 ≡ 3). absurd (omega arith));
     } in
     record {
-      formed = formed-passes (padded (given_words (f.depth - 1) low high role i) frame_size) (record { places = refl; entries = refl; frame = subst IsFrame (sym is) frame });
+      formed = formed-passes (padded (given_words (f.depth - plies (choice_at f i)) low high role i) frame_size) (record { places = refl; entries = refl; frame = subst IsFrame (sym is) frame });
       frame = subst (λ (g : Frame). Fits g [] Neither) (sym is) fits;
     }
 
@@ -172,7 +172,7 @@ spawn-good own children changes role i low high g form is inside formed small l 
     let f : Frame = frame_of own in
     good-by own children f.own f.opp (record { stores = pairs_of changes; after = spawns f role i low high }) g is
     (good-act changes own f.count (has_one children) (spawns f role i low high) form.places inside refl) formed
-    (children-behind g (new_child f role i low high) children (padded (given_words (f.depth - 1) low high role i) frame_size) Neither (child-frame f role i low high l (omega (arith, ints))) both.0)
+    (children-behind g (new_child f role i low high) children (padded (given_words (f.depth - plies (choice_at f i)) low high role i) frame_size) Neither (child-frame f role i low high l (omega (arith, ints))) both.0)
     (child-fits f role i low high form.frame small l window h both.1) goal own_is opp_is known
 
 -- to do nothing but wait

@@ -4,7 +4,7 @@ use Rattle.std.specs.Prelude.{ℕ, suc, ◌+◌, ◌-◌, ◌==◌, ◌&&◌, �
 use Rattle.std.specs.Int.{int_max}
 use Rattle.othello_board.specs.declared.cells.Cell.{Cell}
 use Rattle.othello_board.specs.Words.{cells_of}
-use Rattle.othello_moves.specs.Choices.{choices, after}
+use Rattle.othello_moves.specs.Choices.{choices, after, plies}
 use Rattle.sched_rules.specs.declared.act.Act.{Act}
 use Rattle.sched_rules.specs.declared.act.InletAct.{InletAct}
 use Rattle.sched_rules.specs.declared.act.Then.{Then}
@@ -16,9 +16,9 @@ use Rattle.jamboree_rules.specs.Places.{frame_of, is_formed, is_placed, Change, 
 abbrev pub returns : Act
 returns = record { stores = []; after = Return }
 
--- to open a child for the choice i, in this role and with this window
+-- to open a child for the choice i, in this role and with this window: a square uses a ply, and a pass none
 abbrev pub spawns : Frame → ℕ → ℕ → ℤ → ℤ → Then
-spawns f role i alpha beta = Spawn (given_words (f.depth - 1) alpha beta role i) frame_size
+spawns f role i alpha beta = Spawn (given_words (f.depth - plies (choice_at f i)) alpha beta role i) frame_size
 
 -- phase 0: the frame knows its board now. It is computed outside, or it has n choices to search
 abbrev pub opening : Bool → ℕ → ℕ → ℕ → Act

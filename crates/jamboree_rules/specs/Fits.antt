@@ -1,6 +1,6 @@
 -- What is kept true of each frame: it fits its children, and they fit it.
 use Rattle.std.specs.Prelude.{◌≡◌, ◌≢◌, ℕ, ◌-◌, ◌<◌, ◌≤◌, ◌⊎◌, ◌==◌, true, ℤ, pos, neg_ℤ, ◌<ℤ◌, ◌≤ℤ◌, ◌+ℤ◌, List, [], ◌∷◌, map, length, slice_index, count_by}
-use Rattle.othello_moves.specs.Choices.{choices, after}
+use Rattle.othello_moves.specs.Choices.{choices, after, plies}
 use Rattle.othello_eval.specs.Minimax.{best_choice}
 use Rattle.leaf_search.specs.Bounds.{IsBound}
 use Rattle.sched_rules.specs.Trees.{kept_words}
@@ -40,10 +40,10 @@ pub data IsInRole (f c : Frame) : Type 0 where
   Test : IsTest f c → IsInRole f c
   Again : IsAgain f c → IsInRole f c
 
--- c is a child of f: one ply shallower, and once it knows its board, that is the board after its choice
+-- c is a child of f: shallower by the plies of its choice, and once it knows its board, that is the board after its choice
 pub record IsChildOf (f c : Frame) : Type 0 where
   pub inside : c.number < length f.statuses
-  pub shallower : c.depth ≡ f.depth - 1
+  pub shallower : c.depth ≡ f.depth - plies (choice_at f c.number)
   pub known : c.phase ≢ 0 → board c ≡ after (board f) (choice_at f c.number)
   pub in_role : IsInRole f c
 

@@ -1,3 +1,4 @@
+pub use Rattle.leaf_search.specs as leaf_search
 pub mod Frames
 pub mod Leaves
 pub mod Places

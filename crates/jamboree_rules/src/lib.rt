@@ -24,6 +24,8 @@
 //! ```
 #![tactic(auto)]
 
+pub use leaf_search;
+
 pub mod laws;
 mod leaf;
 pub mod rows;

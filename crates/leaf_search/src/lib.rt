@@ -31,6 +31,3 @@ mod window;
 pub use scored::Scored;
 pub use tree::{search, search_full};
 pub use window::INF;
-
-#[cfg(test)]
-mod tests;

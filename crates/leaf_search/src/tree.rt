@@ -10,7 +10,7 @@ use super::scored::Scored;
 use super::window::{INF, Window};
 use othello_board::Board;
 use othello_eval::{eval_by_mobility, final_value};
-use othello_moves::{Choices, Mobility, after};
+use othello_moves::{Choices, Mobility, after, plies};
 
 /// Searches a board to a depth of 0 to 12 plies through a window (fail-soft alpha-beta: Fishburn 1983).
 ///
@@ -77,7 +77,8 @@ fn best_of(board: Board, mut left: Choices, depth: u8, window: Window) -> Scored
 {
     let mut best = Scored::entered(-INF);
     while let Some(choice) = left.pop_first() {
-        let child = search_below(after(board, choice), depth - 1, window.of_child(&best));
+        let below = depth - plies(choice) as u8;
+        let child = search_below(after(board, choice), below, window.of_child(&best));
         best.take_in(choice, child);
         if best.score >= window.beta {
             return best;

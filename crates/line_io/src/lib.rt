@@ -34,8 +34,6 @@ mod laws;
 mod output;
 pub mod rows;
 mod talking;
-#[cfg(test)]
-mod tests;
 
 pub use answering::{Answer, answer_lines};
 pub use cutting::{Line, LineCutter};

@@ -19,6 +19,3 @@ mod writing;
 
 pub use reading::{number_of, split_at_space};
 pub use writing::{push_error, push_move, push_number, push_value};
-
-#[cfg(test)]
-mod tests;

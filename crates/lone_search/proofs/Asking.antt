@@ -1,27 +1,28 @@
 -- What was asked stays asked, and a done job answers it.
-use Rattle.std.proofs.Common.{◌≡◌, ℕ, Bool, true, false, ◌&&◌, eqb, List, [], ◌∷◌, ◌++◌, Option, Some, None, Result, refl, ap, ap₂, sym, ◌∙◌, subst, append-nil}
-use Rattle.std.specs.Prelude.{is_ok, if◌then◌else◌, option_and_then}
+use Rattle.std.proofs.Common.{◌≡◌, ℕ, Bool, true, false, ◌&&◌, eqb, List, [], ◌∷◌, ◌++◌, Option, Some, None, Result, Ok, refl, ap, ap₂, sym, ◌∙◌, subst, append-nil}
+use Rattle.std.specs.Prelude.{is_ok, is_some, if◌then◌else◌, option_and_then}
 use Rattle.tenant_quota.specs.Quota.{Quota}
 use Rattle.sched_rules.specs.declared.job.Job.{Job}
 use Rattle.sched_rules.specs.declared.job.Job.TheVariants.{Done}
 use Rattle.sched_rules.specs.declared.refusal.Refusal.{Refusal}
 use Rattle.sched_rules.specs.declared.step.StepOf.{StepOf}
+use Rattle.sched_rules.specs.declared.step.StepOf.TheVariants.{Submit}
 use Rattle.sched_rules.specs.declared.step.DidOf.{DidOf}
 use Rattle.sched_rules.specs.Runs.{tenant_of}
 use Rattle.sched_rules.specs.Trees.{Tree, Tenant, job_at}
 use Rattle.sched_rules.specs.Cores.{Shared, shared_by_nobody, tenant_in}
 use Rattle.sched_rules.specs.Views.{job_of}
-use Rattle.sched_laws.specs.Fitted.{CoreFits, JobsFit, RootFits, submits, origins_after}
-use Rattle.sched_laws.proofs.FitAnswers.{nobody-fits}
-use Rattle.jamboree_rules.specs.Places.{root_words}
-use Rattle.jamboree_rules.specs.Fits.{AreFitting, IsRoot, IsKeptRoot}
+use Rattle.sched_core.specs.sched_laws.Fitted.{CoreFits, JobsFit, RootFits, submits, origins_after}
+use Rattle.sched_core.proofs.sched_laws_FitAnswers.{nobody-fits}
+use Rattle.jamboree_laws.specs.jamboree_rules.Places.{root_words}
+use Rattle.jamboree_laws.specs.jamboree_rules.Fits.{AreFitting, IsRoot, IsKeptRoot}
 use Rattle.othello_board.specs.Words.{cells, cells_of}
 use Rattle.jamboree.specs.declared.reply.Reply.{Reply}
 use Rattle.jamboree.specs.Replies.{board_of}
-use Rattle.jamboree_rules.specs.declared.leaf.LeafAnswer.{LeafAnswer}
+use Rattle.jamboree_laws.specs.jamboree_rules.declared.leaf.LeafAnswer.{LeafAnswer}
 use Rattle.jamboree_laws.specs.Replies.{IsSearch, IsReplyTo}
 use Rattle.jamboree_laws.proofs.Replying.{search-fits, replies-held}
-use Rattle.lone_search.specs.Asked.{HasAsked, Keeps, IsReplyFor}
+use Rattle.lone_search.specs.Asked.{HasAsked, IsReplyFor}
 
 -- a core with no tenant was asked nothing
 pub nothing-asked : (totals : Quota) (shared : Shared) → shared ≡ shared_by_nobody totals → HasAsked [] shared
@@ -41,13 +42,32 @@ StepFits before step answer after =
     → CoreFits AreFitting IsRoot (origins_after origins step answer) after
 
 -- a step that submits nothing keeps what was asked
-pub step-keeps : {I : Type 0} (before after : Shared) (step : StepOf LeafAnswer) (answer : Result (DidOf I) Refusal) → submits step ≡ [] → IsSearch step → StepFits before step answer after → Keeps before after
-step-keeps before after step answer none search fitting asked has =
+pub step-asks : {I : Type 0} (asked : List (List ℕ)) (before after : Shared) (step : StepOf LeafAnswer) (answer : Result (DidOf I) Refusal) → submits step ≡ [] → IsSearch step → StepFits before step answer after → HasAsked asked before → HasAsked asked after
+step-asks asked before after step answer none search fitting has =
     record {
       origins = origins_after has.origins step answer;
       are = none-added (is_ok answer && eqb (tenant_of step) 1) (has.origins 1) (submits step) none ∙ has.are;
       fits = fitting has.origins has.fits (λ ok. search-fits step search);
     }
+
+-- a Submit of tenant 1 that is taken adds its words
+pub submit-asks : {I : Type 0} (words : List ℕ) (size : ℕ) (before after : Shared) (did : DidOf I) → IsSearch {A = LeafAnswer} (Submit 1 words size) → StepFits {A = LeafAnswer} before (Submit 1 words size) (Ok did) after → HasAsked [] before → HasAsked (words ∷ []) after
+submit-asks words size before after did search fitting has =
+    record {
+      origins = origins_after {A = LeafAnswer} has.origins (Submit 1 words size) (Ok did);
+      are = ap (λ (os : List (List ℕ)). os ++ words ∷ []) has.are;
+      fits = fitting has.origins has.fits (λ ok. search-fits (Submit 1 words size) search);
+    }
+
+-- the job is there
+pub job-there : (words : List ℕ) (shared : Shared) (tenant : Tenant) → HasAsked (words ∷ []) shared → tenant_in shared.tenants 1 ≡ Some tenant → is_some (job_of shared 1 1) ≡ true
+job-there words shared tenant has there =
+    let fit : JobsFit AreFitting IsRoot tenant.frames (has.origins 1) tenant.jobs = (has.fits.tenants 1 tenant there).jobs in
+    rw there (by tenant.jobs (rw has.are at fit))
+  where
+    by : (jobs : List Job) → JobsFit AreFitting IsRoot tenant.frames (words ∷ []) jobs → is_some (job_at jobs 1) ≡ true
+    by [] fit = absurd fit
+    by (job ∷ jobs) fit = refl
 
 -- the one job of a tenant, where it is done
 module _ (tree : Tree) (words kept : List ℕ) where

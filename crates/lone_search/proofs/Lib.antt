@@ -1,1 +1,4 @@
+pub mod Staying
 pub mod Asking
+pub mod Working
+pub mod Finding

@@ -1,8 +1,19 @@
 -- What a core of one tenant keeps while its job is worked on.
-use Rattle.std.specs.Prelude.{◌≡◌, ℕ, List, slice_index}
-use Rattle.sched_rules.specs.Cores.{Shared}
-use Rattle.sched_laws.specs.Fitted.{CoreFits}
-use Rattle.jamboree_rules.specs.Fits.{AreFitting, IsRoot}
+use Rattle.std.specs.Prelude.{◌≡◌, ℕ, List, [], ◌∷◌, Some, Result, slice_index}
+use Rattle.tenant_quota.specs.Quota.{Quota}
+use Rattle.sched_rules.specs.declared.refusal.Refusal.{Refusal}
+use Rattle.sched_rules.specs.declared.step.StepOf.{StepOf}
+use Rattle.sched_rules.specs.declared.step.StepOf.TheVariants.{Take, Steal, Advance, Answer, Inlet, Finish, Spend}
+use Rattle.sched_rules.specs.declared.step.DidOf.{DidOf}
+use Rattle.sched_rules.specs.Trees.{Tenant, admitted_with}
+use Rattle.sched_rules.specs.Cores.{Shared, CoreOf, shared_by_nobody, tenant_in}
+use Rattle.sched_rules.specs.Headline.{AreAnswersTo, after_answers}
+use Rattle.sched_core.specs.sched_laws.Fitted.{CoreFits}
+use Rattle.jamboree_laws.specs.jamboree_rules.declared.leaf.Leaf.{Leaf}
+use Rattle.jamboree_laws.specs.jamboree_rules.declared.leaf.LeafAnswer.{LeafAnswer}
+use Rattle.jamboree_laws.specs.jamboree_rules.Fits.{AreFitting, IsRoot}
+use Rattle.jamboree_laws.specs.jamboree_rules.Procedure.{jamboree}
+use Rattle.jamboree.specs.declared.procedure.Jamboree.{Jamboree}
 use Rattle.jamboree.specs.declared.reply.Reply.{Reply}
 use Rattle.jamboree.specs.Replies.{board_of, depth_of}
 
@@ -12,9 +23,51 @@ pub record HasAsked (asked : List (List ℕ)) (shared : Shared) : Type 0 where
   pub are : origins 1 ≡ asked
   pub fits : CoreFits AreFitting IsRoot origins shared
 
--- whatever was asked before is what was asked after
-abbrev pub Keeps : Shared → Shared → Type 0
-Keeps before after = (asked : List (List ℕ)) → HasAsked asked before → HasAsked asked after
+-- a core of these totals, with this grain, came to this by steps that were each rightly answered
+pub record HasRun (grain : ℕ) (totals : Quota) (shared : Shared) : Type 0 where
+  pub steps : List (StepOf LeafAnswer)
+  pub answers : List (Result (DidOf Leaf) Refusal)
+  pub right : AreAnswersTo (jamboree grain) (shared_by_nobody totals) steps answers
+  pub comes : shared ≡ after_answers (jamboree grain) (shared_by_nobody totals) steps answers
+
+-- tenant 1 is there, and reserved this
+pub record HasReserved (quota : Quota) (shared : Shared) : Type 0 where
+  pub tenant : Tenant
+  pub there : tenant_in shared.tenants 1 ≡ Some tenant
+  pub reserve : tenant.reserve ≡ quota
+
+-- a task: its grain, all that its core has, which is all its tenant's, and the words that its jobs were asked with
+pub record Task : Type 0 where
+  pub grain : ℕ
+  pub quota : Quota
+  pub asked : List (List ℕ)
+
+-- a core works on a task
+pub record WorksOn (task : Task) (core : CoreOf Jamboree) : Type 0 where
+  pub grain : core.procedure.grain ≡ task.grain
+  pub run : HasRun task.grain task.quota core.shared
+  pub reserved : HasReserved task.quota core.shared
+  pub asked : HasAsked task.asked core.shared
+
+-- what was worked on before is worked on after
+abbrev pub Keeps : CoreOf Jamboree → CoreOf Jamboree → Type 0
+Keeps before after = (task : Task) → WorksOn task before → WorksOn task after
+
+-- a core of which all is reserved by tenant 1, who has just come
+pub record IsBegun (grain : ℕ) (quota : Quota) (core : CoreOf Jamboree) : Type 0 where
+  pub works : WorksOn (record { grain = grain; quota = quota; asked = [] }) core
+  pub fresh : tenant_in core.shared.tenants 1 ≡ Some (admitted_with quota)
+
+-- the steps of a worker, and Spend
+abbrev pub IsWork : {A : Type 0} → StepOf A → Type 0
+IsWork (Take worker name) = Unit {0}
+IsWork (Steal worker from name) = Unit {0}
+IsWork (Advance worker name) = Unit {0}
+IsWork (Answer worker name answer) = Unit {0}
+IsWork (Inlet worker name) = Unit {0}
+IsWork (Finish worker name) = Unit {0}
+IsWork (Spend name) = Unit {0}
+IsWork _ = ⊥
 
 -- the reply is to the board and the depth of these words
 pub record IsReplyFor (words : List ℕ) (reply : Reply) : Type 0 where

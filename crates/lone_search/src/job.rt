@@ -1,13 +1,20 @@
-//! The one job of a core: how it is asked, and its reply.
-ghost use Rattle.std.specs.Prelude.{◌≡◌, ◌≤◌, [], ◌∷◌, ℕ, List, IfOk, IfSome, if◌then◌else◌};
-ghost use Rattle.jamboree_rules.specs.Places.{root_words};
-ghost use Rattle.lone_search.specs.Asked.{HasAsked, IsReplyFor, Keeps};
+//! The one job of a core: how it is asked, and what it came to.
+ghost use Rattle.std.specs.Prelude.{◌≡◌, ◌≤◌, [], ◌∷◌, ℕ, IfOk};
+ghost use Rattle.tenant_quota.specs.Quota.{Quota, IsWithinLimits};
+ghost use Rattle.othello_board.specs.Words.{cells};
+ghost use Rattle.othello_eval.specs.Minimax.{minimax, best_choice};
+ghost use Rattle.sched_rules.specs.Cores.{shared_by_nobody};
+ghost use Rattle.jamboree_laws.specs.jamboree_rules.Places.{root_words};
+ghost use Rattle.lone_search.specs.Asked.{HasAsked, HasReserved, IsBegun, WorksOn};
+ghost use Rattle.lone_search.specs.Found.{IsFoundIn};
 
+use crate::found::{Searched, Way};
 use jamboree::{Jamboree, Reply, root_words};
+use jamboree_laws::leaf_search::search_full;
 use position_text::Position;
-use sched_core::{Core, GivenWords, Job, Refusal, StepOf};
+use sched_core::{Core, GivenWords, Job, StepOf};
 use std::alloc::{AllocError, Allocator};
-use tenant_quota::Reserve;
+use tenant_quota::{Left, Reserve};
 
 /// The core's only tenant.
 pub(crate) const TENANT: u64 = 1;
@@ -18,42 +25,79 @@ const JOB: u64 = 1;
 /// The words of a root.
 const ROOT_SIZE: usize = 12;
 
-/// The tenant comes, where there is memory for its places.
+/// The tenant comes and reserves all that the core has, where there is memory for its places. At Ok it is there.
 pub(crate) fn admit<A: Allocator + Clone>(
     core: &mut Core<Jamboree, A>,
     reserve: Reserve,
 ) -> Result<(), AllocError>
-    ensures { Keeps core.old.shared core.new.shared }
+    requires { core.old.shared ≡ shared_by_nobody reserve }
+    ensures { IfOk result (λ done. IsBegun core.old.procedure.grain reserve core.new) }
 {
     match core.step(&StepOf::Admit(TENANT, reserve)) {
-        Err(Refusal::OutOfMemory) => Err(AllocError),
-        _ => Ok(()),
+        Ok(_) => Ok(()),
+        // Nothing but memory can be wanting: nobody came before, and the core has what is reserved.
+        Err(_) => Err(AllocError),
     }
 }
 
-/// The job comes; whether it does.
+/// The job comes.
 pub(crate) fn submit<A: Allocator + Clone>(
     core: &mut Core<Jamboree, A>,
     position: &Position,
     depth: u8,
-) -> bool
+)
     requires { depth ≤ 12 }
-    ensures { HasAsked [] core.old.shared
-        → HasAsked (if result then root_words position.now.board.own position.now.board.opp depth ∷ [] else []) core.new.shared }
+    ensures { (grain : ℕ) (quota : Quota) → IsWithinLimits quota → IsBegun grain quota core.old
+        → WorksOn (record { grain = grain; quota = quota; asked = root_words position.now.board.own position.now.board.opp depth ∷ [] }) core.new }
 {
-    match GivenWords::new(&root_words(position, depth)) {
-        Some(words) => core.step(&StepOf::Submit(TENANT, words, ROOT_SIZE)).is_ok(),
-        None => false,
+    let words = GivenWords::new(&root_words(position, depth)).unwrap();
+    let _ = core.step(&StepOf::Submit(TENANT, words, ROOT_SIZE));
+}
+
+/// What the job came to: its reply, if it is done, and else what one serial search finds.
+pub(crate) fn answer_in<A: Allocator>(
+    core: &Core<Jamboree, A>,
+    position: &Position,
+    depth: u8,
+) -> Searched
+    requires shallow { depth ≤ 12 }
+    requires there { (quota : Quota) × HasReserved quota core.now.shared }
+    requires asked { HasAsked (root_words position.now.board.own position.now.board.opp depth ∷ []) core.now.shared }
+    ensures value { result.value ≡ minimax depth (cells position.now.board) }
+    ensures choice { result.choice ≡ best_choice depth (cells position.now.board) }
+    ensures found { IsFoundIn core.now.shared result }
+{
+    let left = core.left(TENANT).unwrap();
+    let job = core.job(TENANT, JOB).unwrap();
+    match job {
+        Job::Done(words) => {
+            let reply = Reply::read(words.as_slice());
+            Searched {
+                value: reply.value(),
+                choice: reply.choice(),
+                way: Way::Done,
+                left,
+            }
+        }
+        Job::Spent => search_serially(position, depth, Way::Spent, left),
+        Job::Live(_) => search_serially(position, depth, Way::Stopped, left),
+        Job::Cancelled => search_serially(position, depth, Way::Stopped, left),
     }
 }
 
-/// The job's reply, if it is done.
-pub(crate) fn reply<A: Allocator>(core: &Core<Jamboree, A>) -> Option<Reply>
-    requires { (words : List ℕ) × HasAsked (words ∷ []) core.now.shared }
-    ensures { (words : List ℕ) → HasAsked (words ∷ []) core.now.shared → IfSome result (IsReplyFor words) }
+/// What one serial search finds, beside how the job stands and what is left.
+fn search_serially(position: &Position, depth: u8, way: Way, left: Left) -> Searched
+    requires { depth ≤ 12 }
+    ensures value { result.value ≡ minimax depth (cells position.now.board) }
+    ensures choice { result.choice ≡ best_choice depth (cells position.now.board) }
+    ensures way { result.way ≡ way }
+    ensures left { result.left ≡ left }
 {
-    match core.job(TENANT, JOB) {
-        Some(Job::Done(words)) => Some(Reply::read(words.as_slice())),
-        _ => None,
+    let found = search_full(position.board, depth);
+    Searched {
+        value: found.score,
+        choice: found.choice,
+        way,
+        left,
     }
 }

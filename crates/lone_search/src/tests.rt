@@ -1,68 +1,71 @@
 ghost use Rattle.std.specs.Prelude.{◌≤◌};
 
-use crate::searching::{empty_core, search_in};
-use crate::{Searched, solve_by_core};
-use leaf_search::search_full;
+use crate::searching::search_within;
+use crate::{Searched, Way, solve_by_core};
+use counted_alloc::Counted;
+use jamboree_laws::leaf_search::search_full;
 use linked_list_allocator::LocalHeap;
 use othello_moves::Choice;
 use position_text::{Position, read};
-use sched_core::Config;
-use std::alloc::{AllocError, Allocator};
+use std::alloc::AllocError;
 use std::test::Fail;
 use tenant_quota::{Left, Reserve};
 
 /// The opening, Black to move.
 const OPENING: &[u8; 66] = b"---------------------------OX------XO--------------------------- X";
 
+/// Five squares are empty, White to move. It takes a corner, and wins by 26 discs.
+const NEAR_THE_END: &[u8; 66] =
+    b"-XO-X-XOXX-XXXOOXXXXOOXXXXXOOXXXXXXXXXXXOXOXOOXO-XXOOOOOOXOOOOOO O";
+
 /// The opening, read.
 fn opening() -> Result<Position, Fail> {
     Ok(read(OPENING).ok().ok_or("no position")?)
-}
-
-/// The same search in a small core, and what its tenant has left.
-fn in_small<A: Allocator + Clone>(
-    alloc: A,
-    reserve: Reserve,
-    position: &Position,
-    depth: u8,
-) -> Result<(Searched, Option<Left>), AllocError>
-    requires { depth ≤ 12 }
-{
-    let config = Config::new(64, 64).unwrap();
-    let mut core = empty_core(alloc, config, 0)?;
-    let found = search_in(&mut core, reserve, position, depth)?;
-    Ok((found, core.left(1)))
 }
 
 /// The opening to depth 1 with grain 0 uses 5 nodes and 32 of the worker's steps.
 #[test]
 fn nodes_and_steps_of_one_job(rt: HostRuntime) -> Result<(), Fail> {
     let reserve = Reserve::new(8, 8).ok_or("no reservation")?;
-    let (found, left) = in_small(rt.alloc(), reserve, &opening()?, 1)?;
-    assert_eq!(rt; found.value, -3);
-    assert_eq!(rt; found.choice, Some(Choice::Square(19)));
+    let found = search_within(rt.alloc(), reserve, &opening()?, 1, 0)?;
+    let left = Left {
+        segments: 8,
+        nodes: 3,
+        steps: 96,
+    };
     assert_eq!(rt;
-        left,
-        Some(Left {
-            segments: 8,
-            nodes: 3,
-            steps: 96,
-        })
+        found,
+        Searched {
+            value: -3,
+            choice: Some(Choice::Square(19)),
+            way: Way::Done,
+            left,
+        }
     );
     Ok(())
 }
 
-/// A job that is spent, as it has too few segments, nodes or steps, is answered all the same.
+/// Every reservation of 1 to 8 segments by 1 to 32 nodes: the job is done or spent, the answer is the same, and all
+/// segments are given back.
 #[test]
-fn spent_jobs_are_answered(rt: HostRuntime) -> Result<(), Fail> {
+fn every_small_reservation_is_answered(rt: HostRuntime) -> Result<(), Fail> {
     let position = opening()?;
-    for (segments, nodes) in [(1, 1), (1, 64), (3, 64), (64, 2), (64, 9)] {
-        let reserve = Reserve::new(segments, nodes).ok_or("no reservation")?;
-        let (found, left) = in_small(rt.alloc(), reserve, &position, 2)?;
-        assert_eq!(rt; found.value, -4);
-        assert_eq!(rt; found.choice, Some(Choice::Square(19)));
-        assert_eq!(rt; left.map(|left| left.segments), Some(segments));
+    let mut done = 0u32;
+    let mut spent = 0u32;
+    for segments in 1..9 {
+        for nodes in 1..33 {
+            let reserve = Reserve::new(segments, nodes).ok_or("no reservation")?;
+            let found = search_within(rt.alloc(), reserve, &position, 2, 0)?;
+            assert_eq!(rt; (found.value, found.choice), (-4, Some(Choice::Square(19))));
+            assert_eq!(rt; found.left.segments, segments);
+            match found.way {
+                Way::Done => done = done.saturating_add(1),
+                Way::Spent => spent = spent.saturating_add(1),
+                Way::Stopped => assert!(rt; false, "{segments} segments and {nodes} nodes"),
+            }
+        }
     }
+    assert!(rt; done > 0 && spent > 0, "{done} done and {spent} spent");
     Ok(())
 }
 
@@ -74,30 +77,107 @@ fn every_grain_finds_the_same(rt: HostRuntime) -> Result<(), Fail> {
         let serial = search_full(position.board, depth);
         for grain in 0..7 {
             let found = solve_by_core(rt.alloc(), &position, depth, grain)?;
-            assert_eq!(rt; found.value, serial.score);
-            assert_eq!(rt; found.choice, serial.choice);
+            assert_eq!(rt; (found.value, found.choice), (serial.score, serial.choice));
         }
     }
     Ok(())
 }
 
+/// To a depth of the grain one worker searches alone: one node and five steps of a core of 4,096 segments and 65,536
+/// nodes. To a depth above it the four moves are nodes of their own.
+#[test]
+fn the_grain_is_the_one_that_is_asked(rt: HostRuntime) -> Result<(), Fail> {
+    let position = opening()?;
+    for grain in 0..7 {
+        let alone = solve_by_core(rt.alloc(), &position, grain, grain)?;
+        assert_eq!(rt; alone.way, Way::Done);
+        let left = Left {
+            segments: 4096,
+            nodes: 65_535,
+            steps: 1_048_571,
+        };
+        assert_eq!(rt; alone.left, left, "grain {grain}");
+        let shared = solve_by_core(rt.alloc(), &position, grain + 1, grain)?;
+        assert_eq!(rt; shared.way, Way::Done);
+        assert!(rt; shared.left.nodes <= 65_531, "grain {grain}");
+    }
+    Ok(())
+}
+
+/// Deep searches are done by their core, which is that of 4,096 segments and 65,536 nodes.
+#[test]
+fn deep_searches_are_done_by_a_core(rt: HostRuntime) -> Result<(), Fail> {
+    let position = read(NEAR_THE_END).ok().ok_or("no position")?;
+    for depth in 7..13 {
+        let found = solve_by_core(rt.alloc(), &position, depth, 0)?;
+        assert_eq!(rt;
+            (found.value, found.choice),
+            (52_000, Some(Choice::Square(0)))
+        );
+        assert_eq!(rt; found.way, Way::Done, "depth {depth}");
+        assert_eq!(rt; found.left.segments, 4096);
+        assert!(rt;
+            found.left.nodes < 65_520 && found.left.nodes > 60_000,
+            "{} nodes",
+            found.left.nodes
+        );
+    }
+    Ok(())
+}
+
 /// In heaps with more and more room each growth of the core and of the admission is refused in turn, and all that was
-/// taken is given back.
+/// taken is given back. What is found is found by the core.
 #[test]
 fn each_growth_is_refused_in_turn(rt: HostRuntime) -> Result<(), Fail> {
     let position = opening()?;
     let reserve = Reserve::new(2, 4).ok_or("no reservation")?;
     let mut refused = 0u32;
-    let mut found = 0u32;
+    let mut done = 0u32;
     for units in 0..256usize {
         let heap = LocalHeap::new(rt.alloc(), units * 512)?;
-        match in_small(&heap, reserve, &position, 0) {
-            Ok(_) => found = found.saturating_add(1),
+        match search_within(&heap, reserve, &position, 0, 0) {
+            Ok(found) => {
+                assert_eq!(rt; found.way, Way::Done);
+                done = done.saturating_add(1);
+            }
             Err(AllocError) => refused = refused.saturating_add(1),
         }
         assert_eq!(rt; heap.used(), 0);
     }
     assert!(rt; refused > 16);
-    assert!(rt; found > 0);
+    assert!(rt; done > 0);
+    Ok(())
+}
+
+/// A search to any depth makes a core: without memory none is found.
+#[test]
+fn no_search_without_a_core(rt: HostRuntime) -> Result<(), Fail> {
+    let heap = LocalHeap::new(rt.alloc(), 0)?;
+    let position = opening()?;
+    for depth in 0..13 {
+        for grain in 0..7 {
+            assert_eq!(rt;
+                solve_by_core(&heap, &position, depth, grain),
+                Err(AllocError)
+            );
+        }
+    }
+    Ok(())
+}
+
+/// What a search takes of its allocator doesn't grow with it: the core takes its memory when it is made.
+#[test]
+fn searches_take_no_memory(rt: HostRuntime) -> Result<(), Fail> {
+    let position = opening()?;
+    let counted = Counted::new(rt.alloc());
+    let _ = solve_by_core(&counted, &position, 0, 0)?;
+    let once = counted.calls();
+    assert!(rt; once > 0);
+    for depth in 1..5u8 {
+        let before = counted.calls();
+        let found = solve_by_core(&counted, &position, depth, 0)?;
+        assert_eq!(rt; found.way, Way::Done);
+        assert_eq!(rt; counted.calls().wrapping_sub(before), once, "depth {depth}");
+    }
     Ok(())
 }

@@ -4,10 +4,7 @@
 //! one that its own steps made ready, or the root, which stands ready in the hall. It advances its frame until the
 //! frame waits or has returned; it computes what the frame asks for, brings the answer, and goes on. A returned child
 //! is taken in by its parent, a returned root ends the job. Where the quota is at its end the job is given up.
-ghost use Rattle.std.specs.Prelude.{◌≡◌, []};
-ghost use Rattle.sched_laws.specs.Fitted.{submits};
-ghost use Rattle.jamboree_laws.specs.Replies.{IsSearch};
-ghost use Rattle.lone_search.specs.Asked.{Keeps};
+ghost use Rattle.lone_search.specs.Asked.{IsWork, Keeps};
 
 use crate::job::TENANT;
 use frame_table::FrameId;
@@ -32,7 +29,7 @@ enum Next {
 /// Works until the job has ended or can't go on, for at most so many turns. Each turn but the last takes one of the
 /// tenant's steps at least.
 pub(crate) fn work<A: Allocator + Clone>(core: &mut Core<Jamboree, A>, turns: u32)
-    ensures { Keeps core.old.shared core.new.shared }
+    ensures { Keeps core.old core.new }
 {
     let Some(worker) = Worker::new(WORKER) else {
         return;
@@ -47,21 +44,20 @@ pub(crate) fn work<A: Allocator + Clone>(core: &mut Core<Jamboree, A>, turns: u3
     }
 }
 
-/// Takes a step that submits no job, if it isn't refused.
+/// Takes a step of the worker's, if it isn't refused.
 fn offer<A: Allocator + Clone>(
     core: &mut Core<Jamboree, A>,
     step: &Step<Jamboree>,
 ) -> Result<Did<Jamboree>, Refusal>
-    requires submits { submits step.now ≡ [] }
-    requires search { IsSearch step.now }
-    ensures { Keeps core.old.shared core.new.shared }
+    requires { IsWork step.now }
+    ensures { Keeps core.old core.new }
 {
     core.step(step)
 }
 
 /// Takes the ready frame of the greatest serial: by Take where it is the worker's own, else by Steal.
 fn pick<A: Allocator + Clone>(core: &mut Core<Jamboree, A>, worker: Worker) -> Next
-    ensures { Keeps core.old.shared core.new.shared }
+    ensures { Keeps core.old core.new }
 {
     let Some((frame, home)) = core.newest_ready(TENANT) else {
         return Next::Stop;
@@ -83,7 +79,7 @@ fn advance<A: Allocator + Clone>(
     worker: Worker,
     frame: FrameId,
 ) -> Next
-    ensures { Keeps core.old.shared core.new.shared }
+    ensures { Keeps core.old core.new }
 {
     match offer(core, &StepOf::Advance(worker, frame)) {
         Ok(did) => go_on(core, worker, frame, did),
@@ -98,7 +94,7 @@ fn go_on<A: Allocator + Clone>(
     frame: FrameId,
     did: Did<Jamboree>,
 ) -> Next
-    ensures { Keeps core.old.shared core.new.shared }
+    ensures { Keeps core.old core.new }
 {
     match did {
         DidOf::Went | DidOf::Grew | DidOf::Spawned(_) => Next::Advance(frame),
@@ -116,7 +112,7 @@ fn compute<A: Allocator + Clone>(
     frame: FrameId,
     leaf: Leaf,
 ) -> Next
-    ensures { Keeps core.old.shared core.new.shared }
+    ensures { Keeps core.old core.new }
 {
     let answer = LeafAnswer::compute(leaf);
     match offer(core, &StepOf::Answer(worker, frame, answer)) {
@@ -132,7 +128,7 @@ fn come_back<A: Allocator + Clone>(
     frame: FrameId,
     is_root: bool,
 ) -> Next
-    ensures { Keeps core.old.shared core.new.shared }
+    ensures { Keeps core.old core.new }
 {
     let step = if is_root {
         StepOf::Finish(worker, frame)
@@ -148,7 +144,7 @@ fn come_back<A: Allocator + Clone>(
 
 /// Gives up the frame's job, if it is spent.
 fn give_up<A: Allocator + Clone>(core: &mut Core<Jamboree, A>, frame: FrameId) -> Next
-    ensures { Keeps core.old.shared core.new.shared }
+    ensures { Keeps core.old core.new }
 {
     let _ = offer(core, &StepOf::Spend(frame));
     Next::Stop

@@ -1,13 +1,16 @@
 -- Minimax values and best choices at a board, from what its choices are worth.
-use Rattle.std.proofs.Common.{◌≡◌, ℕ, zero, suc, ◌-◌, ◌<◌, List, [], ◌∷◌, map, length, None, find, ℤ, neg_ℤ, int_lt, refl, ap, ap₂, ◌∙◌, arith}
+use Rattle.std.proofs.Common.{◌≡◌, ℕ, zero, suc, ◌<◌, false, cond, sym, List, [], ◌∷◌, map, length, None, find, ℤ, neg_ℤ, int_lt, refl, ap, ap₂, ◌∙◌, arith}
 use Rattle.std.proofs.lemmas.Int.{ints}
 use Rattle.std.proofs.lemmas.Bool.{cond_both}
+use Rattle.std.proofs.lemmas.Simd.{map-map}
 use Rattle.othello_board.specs.declared.cells.Cell.{Cell}
+use Rattle.othello_board.specs.Rules.{exchanged, played, is_nil}
 use Rattle.othello_moves.specs.declared.choices.Choice.{Choice}
-use Rattle.othello_moves.specs.Choices.{choices, after}
+use Rattle.othello_moves.specs.declared.choices.Choice.TheVariants.{Square, Pass}
+use Rattle.othello_moves.specs.Choices.{choices, choices_without_move, legal_squares}
 use Rattle.othello_moves.proofs.AllowedLemmas.{length-after}
 use Rattle.othello_eval.specs.Values.{eval, final_value, IsWithin}
-use Rattle.othello_eval.specs.Minimax.{greatest, greatest_or, leaf_value, minimax, choice_value, int_equal, best_choice}
+use Rattle.othello_eval.specs.Minimax.{greatest, greatest_or, leaf_value, over_squares, value_after, minimax, choice_value, int_equal, best_choice}
 use Rattle.othello_eval.proofs.ValueLemmas.{eval_within, final_value_within}
 
 -- ---- by the choices
@@ -20,19 +23,39 @@ pub best_choice-leaf : (board : List Cell) → best_choice 0 board ≡ None
 unfolding best_choice
 best_choice-leaf board = refl
 
--- with one ply at least, a choice is worth what comes after it
-worth-suc : (depth : ℕ) (board : List Cell) (cs : List Choice) → map (λ c. neg_ℤ (minimax depth (after board c))) cs ≡ map (choice_value (suc depth) board) cs
-worth-suc depth board [] = refl
-worth-suc depth board (c ∷ cs) =
-    ap₂ (λ v vs. v ∷ vs) (ap (λ d. neg_ℤ (minimax d (after board c))) (less_one depth)) (worth-suc depth board cs)
-  where
-    less_one : (d : ℕ) → d ≡ suc d - 1
-    less_one d = omega arith
+-- a mover with legal squares chooses among them
+squares_there : (own : List ℕ) (other : List Choice) → is_nil own ≡ false → cond (is_nil own) other (map Square own) ≡ map Square own
+squares_there [] other some = cc
+squares_there (s ∷ own) other some = refl
+
+pub minimax-squares : (depth : ℕ) (board : List Cell) → is_nil (legal_squares board) ≡ false
+    → minimax (suc depth) board ≡ over_squares (minimax depth) board (legal_squares board)
+unfolding minimax
+minimax-squares depth board some =
+    ap (λ cs. greatest_or (final_value board) (map (λ c. neg_ℤ (value_after (minimax depth) board c)) cs)) (squares_there (legal_squares board) (choices_without_move board) some)
+    ∙ ap (greatest_or (final_value board)) (map-map (λ c. neg_ℤ (value_after (minimax depth) board c)) Square (legal_squares board))
+
+-- with one ply at least, a choice is worth what comes after it: a pass, a square, any choice
+one_pass : (depth : ℕ) (board : List Cell) (theirs : List ℕ) → theirs ≡ legal_squares (exchanged board)
+    → map (λ c. neg_ℤ (value_after (minimax depth) board c)) (cond (is_nil theirs) [] (Pass ∷ [])) ≡ map (choice_value (suc depth) board) (cond (is_nil theirs) [] (Pass ∷ []))
+one_pass depth board [] same = refl
+one_pass depth board (s ∷ theirs) same =
+    ap (λ v. neg_ℤ v ∷ []) (sym (minimax-squares depth (exchanged board) (ap is_nil (sym same))) ∙ ap (λ d. minimax d (exchanged board)) (omega arith))
+
+squares_same : (depth : ℕ) (board : List Cell) (own : List ℕ)
+    → map (λ c. neg_ℤ (value_after (minimax depth) board c)) (map Square own) ≡ map (choice_value (suc depth) board) (map Square own)
+squares_same depth board [] = refl
+squares_same depth board (s ∷ own) = ap₂ (λ v more. neg_ℤ v ∷ more) (ap (λ d. minimax d (played board s)) (omega arith)) (squares_same depth board own)
+
+by_squares : (depth : ℕ) (board : List Cell) (own : List ℕ)
+    → map (λ c. neg_ℤ (value_after (minimax depth) board c)) (cond (is_nil own) (choices_without_move board) (map Square own)) ≡ map (choice_value (suc depth) board) (cond (is_nil own) (choices_without_move board) (map Square own))
+by_squares depth board [] = one_pass depth board (legal_squares (exchanged board)) refl
+by_squares depth board (s ∷ own) = squares_same depth board (s ∷ own)
 
 pub minimax-deeper : (depth : ℕ) (board : List Cell) → 0 < depth → minimax depth board ≡ greatest_or (final_value board) (map (choice_value depth board) (choices board))
 unfolding minimax
 minimax-deeper zero board some = absurd (omega arith)
-minimax-deeper (suc depth) board some = ap (greatest_or (final_value board)) (worth-suc depth board (choices board))
+minimax-deeper (suc depth) board some = ap (greatest_or (final_value board)) (by_squares depth board (legal_squares board))
 
 pub best_choice-deeper : (depth : ℕ) (board : List Cell) → 0 < depth → best_choice depth board ≡ find (λ c. int_equal (choice_value depth board c) (minimax depth board)) (choices board)
 unfolding best_choice
@@ -82,11 +105,23 @@ leaf_within : (board : List Cell) (cs : List Choice) → length board ≡ 64 →
 leaf_within board [] e = final_value_within board e
 leaf_within board (c ∷ cs) e = within_more (eval board) (eval_within board)
 
+-- what comes after a choice lies within too
+after_within : (depth : ℕ) → ((b : List Cell) → length b ≡ 64 → IsWithin 128000 (minimax depth b)) → (board : List Cell) (c : Choice) → length board ≡ 64 → IsWithin 128000 (value_after (minimax depth) board c)
+after_within depth within board (Square s) e = within (played board s) (length-after board (Square s) e)
+after_within depth within board Pass e =
+    let other : length (exchanged board) ≡ 64 = length-after board Pass e in
+    greatest_or_within_all (λ s. neg_ℤ (minimax depth (played (exchanged board) s)))
+    (λ s. within_negated 128000 (minimax depth (played (exchanged board) s)) (within (played (exchanged board) s) (length-after (exchanged board) (Square s) other)))
+    (final_value (exchanged board)) (legal_squares (exchanged board)) (final_value_within (exchanged board) other)
+  where
+    greatest_or_within_all : (v : ℕ → ℤ) → ((s : ℕ) → IsWithin 128000 (v s)) → (other : ℤ) (ss : List ℕ) → IsWithin 128000 other → IsWithin 128000 (greatest_or other (map v ss))
+    greatest_or_within_all v each other ss h = greatest_or_within 128000 v each other ss h
+
 -- every minimax value of a board of 64 cells lies within -128,000 and 128,000
 pub minimax_within : (depth : ℕ) (board : List Cell) → length board ≡ 64 → IsWithin 128000 (minimax depth board)
 unfolding minimax
 minimax_within zero board e = leaf_within board (choices board) e
 minimax_within (suc depth) board e =
-    greatest_or_within 128000 (λ c. neg_ℤ (minimax depth (after board c)))
-    (λ c. within_negated 128000 (minimax depth (after board c)) (minimax_within depth (after board c) (length-after board c e)))
+    greatest_or_within 128000 (λ c. neg_ℤ (value_after (minimax depth) board c))
+    (λ c. within_negated 128000 (value_after (minimax depth) board c) (after_within depth (minimax_within depth) board c e))
     (final_value board) (choices board) (final_value_within board e)

@@ -5,7 +5,7 @@ use Rattle.std.proofs.lemmas.Bool.{cond-true, cond-false}
 use Rattle.std.proofs.lemmas.List.Elements.{All-head, All-tail, All-contains_itself}
 use Rattle.othello_board.specs.declared.cells.Cell.{Cell}
 use Rattle.othello_moves.specs.declared.choices.Choice.{Choice}
-use Rattle.othello_moves.specs.Choices.{choices, after}
+use Rattle.othello_moves.specs.Choices.{choices, after, plies}
 use Rattle.othello_eval.specs.Values.{eval, IsWithin}
 use Rattle.othello_eval.specs.Minimax.{minimax, choice_value, best_choice}
 use Rattle.othello_eval.proofs.MinimaxLemmas.{minimax-goes_on, best_choice-leaf}
@@ -21,9 +21,9 @@ negated : (r : ℤ) → IsWithin 128000 r → to_z w32 (of_z w32 (pos 0 -ℤ to_
 negated r h = omega (arith, ints)
 
 -- what the code computes of a choice is what it is worth
-pub child_value : (depth : ℕ) (board child : List Cell) (c : Choice) (r : ℤ) → child ≡ after board c → r ≡ minimax (depth - 1) child → IsWithin 128000 r
+pub child_value : (depth : ℕ) (board child : List Cell) (c : Choice) (r : ℤ) → child ≡ after board c → r ≡ minimax (depth - plies c) child → IsWithin 128000 r
     → to_z w32 (of_z w32 (pos 0 -ℤ to_z w32 (of_z w32 r))) ≡ choice_value depth board c
-child_value depth board child c r e f h = negated r h ∙ ap neg_ℤ (f ∙ ap (minimax (depth - 1)) e)
+child_value depth board child c r e f h = negated r h ∙ ap neg_ℤ (f ∙ ap (minimax (depth - plies c)) e)
 
 pub leaf_value_at : (depth : ℕ) (board : List Cell) (c : Choice) (cs : List Choice) → choices board ≡ c ∷ cs → depth ≡ 0 → eval board ≡ minimax depth board
 leaf_value_at depth board c cs e zero_depth = sym (minimax-goes_on board c cs e) ∙ ap (λ k. minimax k board) (sym zero_depth)

@@ -2,8 +2,10 @@
 use Rattle.std.specs.Prelude.{ℕ, zero, suc, ◌-◌, ℤ, neg_ℤ, Bool, ◌&&◌, List, [], ◌∷◌, map, Option, None, find, int_le}
 use Rattle.std.specs.Int.{int_max}
 use Rattle.othello_board.specs.declared.cells.Cell.{Cell}
+use Rattle.othello_board.specs.Rules.{exchanged, played}
 use Rattle.othello_moves.specs.declared.choices.Choice.{Choice}
-use Rattle.othello_moves.specs.Choices.{choices, after}
+use Rattle.othello_moves.specs.declared.choices.Choice.TheVariants.{Square, Pass}
+use Rattle.othello_moves.specs.Choices.{choices, legal_squares, after, plies}
 use Rattle.othello_eval.specs.Values.{eval, final_value}
 
 -- the greatest of these numbers, of which x is one
@@ -21,15 +23,28 @@ abbrev pub leaf_value : List Cell → List Choice → ℤ
 leaf_value board [] = final_value board
 leaf_value board (c ∷ more) = eval board
 
+-- the greatest of what the moves to these squares are worth to the mover, where `below` is the value of a
+-- board with one ply less
+abbrev pub over_squares : (List Cell → ℤ) → List Cell → List ℕ → ℤ
+over_squares below board squares = greatest_or (final_value board) (map (λ s. neg_ℤ (below (played board s))) squares)
+
+-- the value of the board after a choice, where `below` is the value of a board with one ply less: a square
+-- uses that ply; a pass uses none, and the other side, which has a legal square then, uses it
+abbrev pub value_after : (List Cell → ℤ) → List Cell → Choice → ℤ
+value_after below board (Square s) = below (played board s)
+value_after below board Pass = over_squares below (exchanged board) (legal_squares (exchanged board))
+
 -- the minimax value of a board to a depth: the value of the finished game where there is no choice, else
--- at depth 0 the evaluation, else the greatest of what the choices are worth to the mover
+-- at depth 0 the evaluation, else the greatest of what the choices are worth to the mover (`choice_value`:
+-- `values_by_choices` of the laws)
 unfoldable pub minimax : ℕ → List Cell → ℤ
 minimax zero board = leaf_value board (choices board)
-minimax (suc depth) board = greatest_or (final_value board) (map (λ c. neg_ℤ (minimax depth (after board c))) (choices board))
+minimax (suc depth) board = greatest_or (final_value board) (map (λ c. neg_ℤ (value_after (minimax depth) board c)) (choices board))
 
--- what a choice is worth to the mover, at a board that is looked at to a depth of 1 or more: a choice uses a ply
+-- what a choice is worth to the mover, at a board that is looked at to a depth of 1 or more: the negated
+-- minimax value of the board after it, to the depth that is left, as a square uses a ply and a pass none
 abbrev pub choice_value : ℕ → List Cell → Choice → ℤ
-choice_value depth board c = neg_ℤ (minimax (depth - 1) (after board c))
+choice_value depth board c = neg_ℤ (minimax (depth - plies c) (after board c))
 
 -- whether two numbers are the same
 abbrev pub int_equal : ℤ → ℤ → Bool

@@ -6,7 +6,7 @@ ghost use Rattle.othello_eval.specs.Minimax.{minimax, best_choice};
 
 use super::values::{eval, final_value};
 use othello_board::Board;
-use othello_moves::{Choice, Choices, after};
+use othello_moves::{Choice, Choices, after, plies};
 
 /// A value of a board to some depth, and the first choice that attains it.
 #[derive(Clone, Copy, Debug, PartialEq, Eq)]
@@ -18,6 +18,7 @@ pub struct Valued {
 }
 
 /// The minimax value of a board to a depth, 0 to 12, and the best choice.
+#[tactic(auto, using(othello_moves::proofs::DescentLemmas::goes_down))]
 pub fn plain(board: Board, depth: u8) -> Valued
     requires { depth ≤ 12 }
     ensures value { result.value ≡ minimax depth (cells board) }
@@ -37,10 +38,12 @@ pub fn plain(board: Board, depth: u8) -> Valued
             choice: None,
         };
     }
-    let mut value = -plain(after(board, first), depth - 1).value;
+    let below = depth - plies(first) as u8;
+    let mut value = -plain(after(board, first), below).value;
     let mut best = first;
     while let Some(next) = left.pop_first() {
-        let other = -plain(after(board, next), depth - 1).value;
+        let below = depth - plies(next) as u8;
+        let other = -plain(after(board, next), below).value;
         if other > value {
             value = other;
             best = next;

@@ -39,10 +39,11 @@ pub fn game_ends_with_empty_squares()
     ensures choice { best_choice 1 two_discs ≡ Some (Square 2) }
 {}
 
-/// The other side passes: one ply deep the weights of a1 and b1 and the one move decide, -100 - 20 - 4;
-/// two plies deep the end of the game does.
-pub fn pass_takes_one_ply()
-    ensures shallow { minimax 1 two_discs_from_there ≡ negsuc 123 }
+/// The other side passes, which uses no ply: at depth 0 the weights of a1 and b1 and the one move
+/// decide, -100 - 20 - 4; one ply deep the move after the pass ends the game.
+pub fn pass_takes_no_ply()
+    ensures leaf { minimax 0 two_discs_from_there ≡ negsuc 123 }
+    ensures shallow { minimax 1 two_discs_from_there ≡ negsuc 5999 }
     ensures shallow_choice { best_choice 1 two_discs_from_there ≡ Some Pass }
     ensures deep { minimax 2 two_discs_from_there ≡ negsuc 5999 }
     ensures deep_choice { best_choice 2 two_discs_from_there ≡ Some Pass }

@@ -4,3 +4,4 @@ pub mod OrderLemmas
 pub mod SequenceLemmas
 pub mod AllowedLemmas
 pub mod LeadLemmas
+pub mod DescentLemmas

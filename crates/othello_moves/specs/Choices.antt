@@ -37,3 +37,8 @@ after board Pass = exchanged board
 abbrev pub IsAllowed : List Cell → Choice → Type 0
 IsAllowed board (Square s) = (s < 64) × IsTrue (is_legal board s)
 IsAllowed board Pass = Unit {0}
+
+-- the plies that a choice uses: a square uses one, and a pass none
+abbrev pub plies : Choice → ℕ
+plies (Square s) = 1
+plies Pass = 0

@@ -1,14 +1,21 @@
 //! What holds of the choices of every board: each contract is a law.
-ghost use Rattle.std.specs.Prelude.{◌≡◌, ◌≤◌, All, List, length};
+ghost use Rattle.std.specs.Prelude.{◌≡◌, ◌≤◌, false, All, Contains, List, length};
 ghost use Rattle.othello_board.specs.declared.cells.Cell.{Cell};
 ghost use Rattle.othello_board.specs.declared.boards.Board.{Board};
 ghost use Rattle.othello_board.specs.Words.{cells};
+ghost use Rattle.othello_board.specs.Rules.{is_nil};
 ghost use Rattle.othello_moves.specs.declared.choices.Choice.{Choice};
-ghost use Rattle.othello_moves.specs.Choices.{choices, after, IsAllowed};
+ghost use Rattle.othello_moves.specs.declared.choices.Choice.TheVariants.{Pass};
+ghost use Rattle.othello_moves.specs.Choices.{choices, legal_squares, after, IsAllowed};
 
 /// A choice that is a square lies on the board and is legal.
 pub fn choices_are_legal()
     ensures { (board : List Cell) → All (IsAllowed board) (choices board) }
+{}
+
+/// After a pass the player to move has a legal square, so no two passes come one after the other.
+pub fn a_pass_is_followed_by_a_square()
+    ensures { (board : List Cell) → Contains (choices board) Pass → is_nil (legal_squares (after board Pass)) ≡ false }
 {}
 
 /// There are at most 64 choices.

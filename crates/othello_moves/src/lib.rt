@@ -5,7 +5,8 @@
 //! square but the opponent has one; nothing where the game is over. The code finds them in one word,
 //! in which the bits of exactly the legal squares are set ([`moves`]), for both players at once where both are
 //! asked for ([`Mobility`]). [`Choices`] stands for the
-//! choices that are left of such a list, and takes them from two words in order.
+//! choices that are left of such a list, and takes them from two words in order. Of the depth to look
+//! ahead a square uses one ply, and a pass none ([`plies`]).
 //!
 //! ```text
 //! // the opening, with Black to move: d3, c4, f5, e6
@@ -25,7 +26,7 @@ mod mobility;
 pub mod rows;
 mod sequence;
 
-pub use choices::Choice;
+pub use choices::{Choice, plies};
 pub use game::{after, choice, choice_count, over};
 pub use legal::{move_count, moves};
 pub use mobility::Mobility;

@@ -1,5 +1,5 @@
 -- What the program does.
-use Rattle.std.specs.Prelude.{◌≡◌, ◌≤◌, ℕ, List, Bool, true, false, [], ◌∷◌, ◌++◌, Some, Result, Ok, Err, codes, decimal}
+use Rattle.std.specs.Prelude.{◌≡◌, ◌≤◌, ℕ, List, Bool, true, false, [], ◌∷◌, ◌++◌, Option, Some, None, Result, Ok, Err, codes, decimal}
 use Rattle.std.specs.Net.Text.{socket_text}
 use Rattle.std.specs.declared.net.SocketAddr.{SocketAddr}
 use Rattle.clap.specs.Words.{Text, fault_of}
@@ -12,11 +12,20 @@ use Rattle.command_line.specs.declared.options.Options.TheVariants.{Serve, Solve
 use Rattle.command_line.specs.declared.faults.WordsFault.{WordsFault}
 use Rattle.command_line.specs.CommandLine.{options_asked, program}
 use Rattle.command_line.specs.Faults.{IsRefusal, status_of}
+use Rattle.othello_server.specs.declared.asked.Asked.{Asked}
 
 -- the words are read as what they ask for, and refused only for a fault that they have or for want of memory
 abbrev pub IsReadOf : List Text → Result Options WordsFault → Type 0
 IsReadOf words (Ok options) = (options_asked words ≡ Some options) × (fault_of program words ≡ [])
 IsReadOf words (Err fault) = IsRefusal words fault
+
+-- what a server runs with: each amount as the options say it; nothing where they ask for no server
+abbrev pub IsAskedBy : Options → Option Asked → Type 0
+IsAskedBy (Solve grain visited) None = Unit {0}
+IsAskedBy (Solve grain visited) (Some asked) = ⊥
+IsAskedBy (Serve sessions port workers segments nodes grain) None = ⊥
+IsAskedBy (Serve sessions port workers segments nodes grain) (Some asked) =
+    (asked.sessions ≡ sessions) × (asked.port ≡ port) × (asked.workers ≡ workers) × (asked.config.segments ≡ segments) × (asked.config.nodes ≡ nodes) × (asked.grain ≡ grain)
 
 -- 0 where the input has ended, and 1 where it or the output failed
 abbrev pub status_of_run : Result (Unit {0}) LineFault → ℕ

@@ -15,6 +15,7 @@
 //! ```
 #![tactic(auto)]
 
+mod asked;
 mod running;
 mod serving;
 

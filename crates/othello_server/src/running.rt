@@ -6,11 +6,10 @@ ghost use Rattle.command_line.specs.declared.faults.WordsFault.{WordsFault};
 ghost use Rattle.command_line.specs.Faults.{status_of};
 ghost use Rattle.othello_server.specs.Running.{IsAnsweredRun, IsFollowed, IsReadOf, status_of_run};
 
-use crate::serving::{Asked, serve_as_asked};
+use crate::asked::Asked;
+use crate::serving::serve_as_asked;
 use command_line::{Options, WordsFault};
-use desk::{Config, PARTS};
 use line_io::{FromReader, FromWriter, LineFault, Sink, Source, write_text};
-use sched_rules::Worker;
 use solve_engine::{solve, solve_visited};
 use std::alloc::Global;
 use std::convert::AsStr;
@@ -21,6 +20,7 @@ use std::net::{Net, TcpListener, TcpStream};
 use std::sync::Wait;
 use std::sync::ledger::Blank;
 use std::thread::Threads;
+use tcp_server::desk::PARTS;
 
 /// The exit status where all went well.
 pub(crate) const DONE: u8 = 0;
@@ -75,23 +75,8 @@ where
         Ok(Options::Solve { grain, visited }) => {
             answer(alloc, grain, visited, source, sink, errors)
         }
-        Ok(
-            Options::Serve {
-                sessions,
-                port,
-                workers,
-                segments,
-                nodes,
-                grain,
-            },
-        ) => {
-            let asked = Asked {
-                sessions,
-                port,
-                workers: Worker::new(workers).unwrap(),
-                config: Config::new(segments, nodes).unwrap(),
-                grain,
-            };
+        Ok(options) => {
+            let asked = Asked::of(options).unwrap();
             let blank = Blank::new(PARTS);
             serve_as_asked::<Brand, R, K, E>(rt, alloc, blank, asked, sink, errors)
         }

@@ -3,36 +3,53 @@ ghost use Rattle.std.specs.Prelude.{◌≡◌, ◌≤◌, true, Ok};
 ghost use Rattle.line_io.specs.Writes.{IsWritten};
 ghost use Rattle.othello_server.specs.Running.{IsServed, ended_text, listening_text};
 
+use crate::asked::Asked;
 use crate::running::{DONE, FAILED, say};
-use desk::{Config, Desk, Hall, Hands, PARTS};
+use command_line::Options;
 use line_io::{Sink, write_text};
 use sched_rules::Worker;
 use std::alloc::Global;
 use std::fmt::Display;
+use std::io;
 use std::net::{Ipv4Addr, Net, SocketAddr, TcpListener, TcpStream};
 use std::sync::Wait;
 use std::sync::ledger::Blank;
 use std::thread::Threads;
-use steal_pool::Open;
+use tcp_server::desk::{Config, Desk, Hall, Hands, PARTS};
 use tcp_server::serve;
+use tcp_server::steal_pool::Open;
 
 /// What is said where a line could not be written.
 const UNWRITTEN: &str = "the output could not be written";
 
-/// What a server is asked to be.
-#[derive(Clone, Copy)]
-pub struct Asked {
-    /// How many sessions it serves.
-    pub sessions: u16,
-    /// Its port; at 0 the system chooses one.
-    pub port: u16,
-    /// How many workers it has.
-    pub workers: Worker,
-    /// The segments and nodes of all tenants together.
-    pub config: Config,
-    /// The depth that one worker searches alone.
-    pub grain: u8,
-    ghost limit: { grain ≤ 6 },
+impl Asked {
+    ghost use Rattle.command_line.specs.CommandLine.{IsWithinLimits};
+    ghost use Rattle.othello_server.specs.Running.{IsAskedBy};
+
+    /// What a server is asked to be by these options: each amount as it was read. `None` exactly where they ask for
+    /// no server.
+    pub fn of(options: Options) -> Option<Asked>
+        requires { IsWithinLimits options }
+        ensures { IsAskedBy options result }
+    {
+        match options {
+            Options::Solve { .. } => None,
+            Options::Serve {
+                sessions,
+                port,
+                workers,
+                segments,
+                nodes,
+                grain,
+            } => Some(Asked {
+                sessions,
+                port,
+                workers: Worker::new(workers).unwrap(),
+                config: Config::new(segments, nodes).unwrap(),
+                grain,
+            }),
+        }
+    }
 }
 
 /// Serves so many sessions, and gives the exit status. The output gets `listening 127.0.0.1:port` before the first
@@ -56,7 +73,7 @@ where
 {
     let listener = match TcpListener::bind(rt, (Ipv4Addr::LOCALHOST, asked.port)) {
         Ok(listener) => listener,
-        Err(error) => return failed(errors, error),
+        Err(error) => return no_port(alloc, errors, asked.port, error),
     };
     let Ok(hall) = Hall::new(alloc, asked.config, asked.grain) else {
         return failed(errors, "no memory for the segments");
@@ -82,6 +99,16 @@ where
         DONE
     } else {
         failed(errors, UNWRITTEN)
+    }
+}
+
+/// Says that a port can't be listened at, and why.
+fn no_port<E: Sink>(alloc: Global, errors: &mut E, port: u16, error: io::Error) -> u8
+    ensures { result ≡ 1 }
+{
+    match format!(in alloc; "port {port}: {error}") {
+        Ok(why) => failed(errors, why),
+        Err(_) => failed(errors, error),
     }
 }
 

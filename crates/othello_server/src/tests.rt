@@ -2,9 +2,12 @@
 use crate::running::{Input, Output, run};
 use command_line::{Options, WordsFault};
 use line_io::{FromWriter, ReadFailed, Sink, Source, WriteFailed};
-use std::io::Write;
+use std::io::{self, Read, Write};
 use std::net::{Net, TcpListener, TcpStream};
+use std::sync::Arc;
+use std::sync::atomic::{AtomicBool, Ordering};
 use std::test::Fail;
+use std::thread::{self, JoinHandle, Threads};
 
 /// The opening two plies deep.
 const LINE: &[u8] = b"2 ---------------------------OX------XO--------------------------- X\n";
@@ -170,55 +173,127 @@ fn streams_that_fail(rt: HostRuntime) -> Result<(), Fail> {
     Ok(())
 }
 
-/// An output that keeps what it is told. Once it is told where a server listens it says `BYE` to it.
-#[derive(Drop)]
-struct Visitor<'a, R> {
-    rt: &'a R,
-    told: Vec<u8>,
-    stream: Option<TcpStream>,
+/// A line, and its answer.
+type Row = (&'static str, &'static str);
+
+/// A session at a server of 8 segments and 1 node, at grain 0, up to its last line.
+const SPENT: [Row; 7] = [
+    ("HELLO 9 1\n", "ERR 14\n"),
+    ("HELLO 8 2\n", "ERR 14\n"),
+    ("HELLO 8 1\n", "WELCOME 8 1\n"),
+    (
+        "ASK 3 ---------------------------OX------XO--------------------------- X\n",
+        "JOB 1\n",
+    ),
+    ("WAIT 1\n", "SPENT 1\n"),
+    ("QUOTA\n", "QUOTA 8 0 14\n"),
+    ("LIVE\n", "LIVE 0 0\n"),
+];
+
+/// Asks for what one node suffices for at grain 2, and not at grain 0.
+const SHALLOW: &str = "ASK 2 ---------------------------OX------XO--------------------------- X\n";
+
+/// The last line of a session.
+const LAST: Row = ("BYE\n", "BYE\n");
+
+/// Sends a line, and tells whether this is its answer.
+fn is_answered(mut stream: &TcpStream, row: Row) -> io::Result<bool> {
+    stream.write_all(row.0.as_bytes())?;
+    let mut held = [0; 64];
+    let Some(told) = held.get_mut(..row.1.len()) else {
+        return Ok(false);
+    };
+    stream.read_exact(told)?;
+    Ok(&*told == row.1.as_bytes())
 }
 
-impl<R: Net<Stream = TcpStream>> Visitor<'_, R> {
-    /// Opens a session at the address of this line, and ends it.
+/// Whether two sessions, one after the other, are answered as they should be, and nobody says that the server has
+/// ended before their last line.
+fn are_answered(one: &TcpStream, two: &TcpStream, is_over: &AtomicBool) -> io::Result<bool> {
+    for row in &SPENT {
+        if !is_answered(one, *row)? {
+            return Ok(false);
+        }
+    }
+    let told = is_answered(two, ("HELLO 1 1\n", "ERR 14\n"))?
+        && is_answered(one, LAST)?
+        && is_answered(two, ("HELLO 8 1\n", "WELCOME 8 1\n"))?
+        && is_answered(two, (SHALLOW, "JOB 1\n"))?
+        && is_answered(two, ("WAIT 1\n", "SPENT 1\n"))?
+        && !is_over.load(Ordering::SeqCst);
+    Ok(told && is_answered(two, LAST)?)
+}
+
+/// An output that keeps what it is told. Once it is told where a server listens it sends a client there, who finds
+/// out whether two sessions are answered as they should be.
+#[derive(Drop)]
+struct Visitor<'a, R: Threads> {
+    rt: &'a R,
+    told: Vec<u8>,
+    is_over: Arc<AtomicBool>,
+    client: Option<JoinHandle<bool>>,
+}
+
+impl<R: Net<Stream = TcpStream> + Threads> Visitor<'_, R> {
+    /// Sends a client to the address of this line.
     fn visit(&mut self, line: &[u8]) -> Option<()> {
         let line = str::from_utf8(line).ok()?;
         let address = line.strip_prefix("listening ")?.trim_end();
-        let stream = TcpStream::connect(self.rt, address).ok()?;
-        (&stream).write_all(b"BYE\n").ok()?;
-        self.stream = Some(stream);
+        let one = TcpStream::connect(self.rt, address).ok()?;
+        let two = TcpStream::connect(self.rt, address).ok()?;
+        let is_over = Arc::try_clone(&self.is_over).ok()?;
+        let client = thread::spawn(
+            self.rt,
+            move || are_answered(&one, &two, &is_over).unwrap_or(false),
+        );
+        self.client = Some(client.ok()?);
         Some(())
     }
 }
 
-impl<R: Net<Stream = TcpStream>> Sink for Visitor<'_, R> {
+impl<R: Net<Stream = TcpStream> + Threads> Sink for Visitor<'_, R> {
     ghost takes = { λ _ _ _. Unit {0} };
 
     fn put(&mut self, bytes: &[u8]) -> Result<usize, WriteFailed> {
         if self.told.extend_from_slice(bytes).is_err() {
             return Err(WriteFailed);
         }
-        let _ = self.visit(bytes);
+        if self.visit(bytes).is_none() {
+            self.is_over.store(true, Ordering::SeqCst);
+        }
         Ok(bytes.len())
     }
 }
 
-impl<R: Net<Stream = TcpStream>> Output for Visitor<'_, R> {
+impl<R: Net<Stream = TcpStream> + Threads> Output for Visitor<'_, R> {
     fn is_closed(&self) -> bool {
         false
     }
 }
 
 #[test]
-fn a_server_says_where_it_listens_and_when_it_has_ended(rt: HostRuntime) -> Result<(), Fail> {
+fn a_server_says_where_it_listens_and_serves_as_asked(rt: HostRuntime) -> Result<(), Fail> {
     let alloc = rt.alloc();
     let mut source = Given::new(b"");
     let mut errors = FromWriter::new(Vec::new(alloc));
     let mut sink = Visitor {
         rt: &rt,
         told: Vec::new(alloc),
-        stream: None,
+        is_over: Arc::new(alloc, AtomicBool::new(false))?,
+        client: None,
     };
-    let words = ["othello", "serve", "--sessions", "1", "--workers", "1"];
+    let words = [
+        "othello",
+        "serve",
+        "--sessions",
+        "2",
+        "--grain",
+        "0",
+        "--segments",
+        "8",
+        "--nodes",
+        "1",
+    ];
     let found = run(
         &rt,
         alloc,
@@ -227,9 +302,14 @@ fn a_server_says_where_it_listens_and_when_it_has_ended(rt: HostRuntime) -> Resu
         &mut sink,
         &mut errors,
     );
+    let Visitor { told, client, .. } = sink;
+    let Some(client) = client else {
+        panic!(rt; "no client came");
+    };
+    assert!(rt; client.join(&rt), "its sessions");
     assert_eq!(rt; found, 0);
-    assert!(rt; sink.told.as_slice().starts_with(b"listening 127.0.0.1:"));
-    assert!(rt; sink.told.as_slice().ends_with(b"\nended 1\n"));
+    assert!(rt; told.as_slice().starts_with(b"listening 127.0.0.1:"));
+    assert!(rt; told.as_slice().ends_with(b"\nended 2\n"));
     assert!(rt; errors.writer.is_empty());
     Ok(())
 }
@@ -260,7 +340,8 @@ fn a_port_that_is_taken_is_told(rt: HostRuntime) -> Result<(), Fail> {
     );
     assert_eq!(rt; found, 1);
     assert!(rt; sink.writer.is_empty());
-    assert!(rt; errors.writer.as_slice().starts_with(b"othello: "));
+    let told = format!(in alloc; "othello: port {port}: ")?;
+    assert!(rt; errors.writer.as_slice().starts_with(told.as_bytes()));
     Ok(())
 }
 

@@ -1,3 +1,4 @@
+pub use Rattle.jamboree_rules.specs as jamboree_rules
 pub mod Tasks
 pub mod Turns
 pub mod Rows

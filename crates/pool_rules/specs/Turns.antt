@@ -7,7 +7,7 @@ use Rattle.sched_rules.specs.declared.refusal.Refusal.TheVariants.{NoSegments, N
 use Rattle.sched_rules.specs.declared.step.StepOf.{StepOf}
 use Rattle.sched_rules.specs.declared.step.StepOf.TheVariants.{Take, Steal, Advance, Answer, Inlet, Finish as FinishRoot, Spend}
 use Rattle.sched_rules.specs.declared.step.DidOf.{DidOf}
-use Rattle.sched_rules.specs.declared.step.DidOf.TheVariants.{Admitted, Submitted, Took, Went, Grew, Spawned, Waited, Computing as IsComputing, Returned, Answered, TakenIn, Finished, Spent, Cancelled, Left}
+use Rattle.sched_rules.specs.declared.step.DidOf.TheVariants.{Admitted, AdmittedMore, Submitted, Took, Went, Grew, Spawned, Waited, Computing as IsComputing, Returned, Answered, TakenIn, Finished, Spent, Cancelled, Left}
 use Rattle.jamboree_rules.specs.declared.leaf.Leaf.{Leaf}
 use Rattle.jamboree_rules.specs.declared.leaf.LeafAnswer.{LeafAnswer}
 use Rattle.pool_rules.specs.declared.task.Task.{Task}
@@ -47,6 +47,7 @@ offered worker (Short deed) = Some (Spend (frame_of deed))
 -- and with the frame taken in, its job finished or spent, the worker is without one
 abbrev pub held_after : FrameId → DidOf Leaf → Holding
 held_after frame Admitted = Nothing
+held_after frame AdmittedMore = Nothing
 held_after frame (Submitted job root) = Nothing
 held_after frame Took = Next (Run frame)
 held_after frame Went = Next (Run frame)
@@ -66,6 +67,7 @@ held_after frame Left = Nothing
 -- the frame that became ready by what a step did: a child that was opened, a parent that was woken
 abbrev pub readied : DidOf Leaf → Option FrameId
 readied Admitted = None
+readied AdmittedMore = None
 readied (Submitted job root) = None
 readied Took = None
 readied Went = None

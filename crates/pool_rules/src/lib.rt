@@ -23,6 +23,8 @@
 //! ```
 #![tactic(auto)]
 
+pub use jamboree_rules::leaf_search;
+
 mod count;
 pub mod laws;
 mod list;

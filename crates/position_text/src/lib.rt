@@ -29,6 +29,3 @@ pub use laws::{one_position, read_again, readings_of_texts, written_spells};
 pub use positions::{Position, Side};
 pub use reading::read;
 pub use writing::write;
-
-#[cfg(test)]
-mod tests;

@@ -1,5 +1,5 @@
 -- What is seen of a core whose frames all fit.
-use Rattle.std.proofs.Common.{◌≡◌, ℕ, Bool, true, List, [], ◌∷◌, Some, Result, refl}
+use Rattle.std.proofs.Common.{◌≡◌, ℕ, Bool, true, List, [], ◌∷◌, Some, Result, refl, arith}
 use Rattle.std.specs.Prelude.{is_ok}
 use Rattle.tenant_quota.specs.Quota.{Quota}
 use Rattle.frame_table.specs.declared.names.FrameId.{FrameId}
@@ -73,7 +73,7 @@ parent-fits fits rooted shared name above tenant frame seen core is =
 pub nobody-kept : (fits : Fitting) (rooted : Rooting) (totals : Quota) → IsKeptFitting fits rooted true (shared_by_nobody totals)
 nobody-kept fits rooted totals =
     record {
-      kept = record { shaped = tt; known = tt };
+      kept = record { shaped = tt; known = tt; within = record { segments = omega arith; nodes = omega arith } };
       fit = λ so. ((λ number. []), record { tenants = λ number tenant is. absurd cc; unused = λ number above. refl });
     }
 

@@ -1,17 +1,16 @@
 -- What one step does, from how it is judged; and a list of steps.
 use Rattle.std.proofs.Common.{◌≡◌, ℕ, inl, inr, true, List, [], ◌∷◌, ◌++◌, Some, None, Result, Ok, Err, refl, sym, ◌∙◌, append_assoc, append-nil, length, take, ◌≤◌, arith}
+use Rattle.std.proofs.lemmas.Bool.{true≢false}
 use Rattle.std.proofs.lemmas.Grind.{common_steps}
 use Rattle.sched_rules.specs.declared.refusal.Refusal.{Refusal}
 use Rattle.sched_rules.specs.declared.refusal.Refusal.TheVariants.{OutOfMemory}
 use Rattle.sched_rules.specs.declared.step.StepOf.{StepOf}
-use Rattle.sched_rules.specs.declared.step.StepOf.TheVariants.{Admit}
 use Rattle.sched_rules.specs.declared.step.DidOf.{DidOf}
-use Rattle.tenant_quota.specs.Quota.{Quota}
 use Rattle.sched_rules.specs.Functions.{Functions}
 use Rattle.sched_rules.specs.Lone.{Outcome}
 use Rattle.sched_rules.specs.Runs.{answer_of}
 use Rattle.sched_rules.specs.Cores.{Shared, judged, shared_after, shared_refusal}
-use Rattle.sched_rules.specs.Headline.{IsAnswerTo, IsOneStep, after_answer, after_answers, AreAnswersTo, IsHeadline, IsKnown}
+use Rattle.sched_rules.specs.Headline.{is_admission, IsAnswerTo, IsOneStep, after_answer, after_answers, AreAnswersTo, IsHeadline, IsKnown}
 use Rattle.sched_rules.proofs.Isolation.{right-answer, step-taken, shared-after-taken, headline}
 use Rattle.sched_rules.specs.Laws.{Fitting, Rooting}
 use Rattle.sched_rules.specs.Runs.{only}
@@ -21,6 +20,7 @@ use Rattle.sched_laws.specs.Fitted.{CoreFits, RootFits, RootsFit, origins_of, or
 use Rattle.sched_laws.proofs.Levels.{IsLawful}
 use Rattle.sched_laws.proofs.FitAnswers.{answer-keeps, run-fits}
 use Rattle.sched_laws.proofs.Answers.{shaped-answer}
+use Rattle.sched_laws.proofs.Sums.{reserved-answer}
 use Rattle.sched_core.specs.Keeping.{IsKept}
 use Rattle.sched_core.specs.Judging.{IsJudged, IsAdmitted}
 
@@ -39,17 +39,17 @@ one-step functions before step answer after is =
     }
 
 -- an admission for which memory is wanting
-wanting : {I A : Type 0} (functions : Functions I A) (before : Shared) (number : ℕ) (quota : Quota) → shared_refusal functions before (Admit number quota) ≡ None →
-    IsAnswerTo functions before (Admit number quota) (Err OutOfMemory)
-wanting functions before number quota none =
-    (λ is. record { refused = λ refusal some. absurd (let wrong : Some refusal ≡ None = sym some ∙ none in cc); else_taken = λ same. inr refl }, λ is_not. absurd cc)
+wanting : {I A : Type 0} (functions : Functions I A) (before : Shared) (step : StepOf A) → is_admission step ≡ true → shared_refusal functions before step ≡ None →
+    IsAnswerTo functions before step (Err OutOfMemory)
+wanting functions before step admits none =
+    (λ is. record { refused = λ refusal some. absurd (let wrong : Some refusal ≡ None = sym some ∙ none in cc); else_taken = λ same. inr refl }, λ is_not. absurd (true≢false (sym admits ∙ is_not)))
 
-pub one-admission : {I A : Type 0} (functions : Functions I A) (before : Shared) (number : ℕ) (quota : Quota) (answer : Result (DidOf I) Refusal) (after : Shared) →
-    IsAdmitted functions before (Admit number quota) answer after → IsOneStep functions before (Admit number quota) answer after
-one-admission functions before number quota answer after (inl is) = one-step functions before (Admit number quota) answer after is
-one-admission functions before number quota answer after (inr is) =
+pub one-admission : {I A : Type 0} (functions : Functions I A) (before : Shared) (step : StepOf A) (answer : Result (DidOf I) Refusal) (after : Shared) → is_admission step ≡ true →
+    IsAdmitted functions before step answer after → IsOneStep functions before step answer after
+one-admission functions before step answer after admits (inl is) = one-step functions before step answer after is
+one-admission functions before step answer after admits (inr is) =
     let out = is.1 in let stays = is.2 in
-    record { answered = rw out (wanting functions before number quota is.0); left = rw out stays }
+    record { answered = rw out (wanting functions before step admits is.0); left = rw out stays }
 
 -- what follows from one step
 pub refused-stays : {I A : Type 0} (functions : Functions I A) (before : Shared) (step : StepOf A) (refusal : Refusal) (after : Shared) → IsOneStep functions before step (Err refusal) after → after ≡ before
@@ -64,7 +64,11 @@ known-still functions before step (Err refusal) after known is = rw is.left know
 -- a core keeps what it keeps
 pub kept-still : {I A : Type 0} (functions : Functions I A) (before : Shared) (step : StepOf A) (answer : Result (DidOf I) Refusal) (after : Shared) → IsKept before → IsOneStep functions before step answer after → IsKept after
 kept-still functions before step answer after kept is =
-    record { shaped = rw is.left (shaped-answer functions before step answer kept.shaped); known = known-still functions before step answer after kept.known is }
+    record {
+      shaped = rw is.left (shaped-answer functions before step answer kept.shaped);
+      known = known-still functions before step answer after kept.known is;
+      within = rw is.left (reserved-answer functions before step answer kept.within);
+    }
 
 -- a list of steps, of which some were answered
 pub record IsRunning {I A : Type 0} (functions : Functions I A) (before : Shared) (steps : List (StepOf A)) (earlier items : List (Result (DidOf I) Refusal)) (now : Shared) : Type 0 where

@@ -1,15 +1,20 @@
 -- What a core keeps true.
-use Rattle.std.specs.Prelude.{◌≡◌, ℕ, Bool, true, List}
+use Rattle.std.specs.Prelude.{◌≡◌, ℕ, ◌+◌, ◌*◌, Bool, true, List, Option, Some, None}
+use Rattle.tenant_quota.specs.declared.account.Left.{Left}
+use Rattle.frame_table.specs.declared.names.FrameId.{FrameId}
+use Rattle.sched_rules.specs.Trees.{Tenant, charged_for}
 use Rattle.sched_rules.specs.Laws.{Fitting, Rooting}
 use Rattle.sched_rules.specs.Cores.{Shared}
 use Rattle.sched_rules.specs.Headline.{IsKnown}
 use Rattle.sched_laws.specs.Fitted.{CoreFits}
-use Rattle.sched_laws.specs.Shapes.{AreShaped}
+use Rattle.sched_laws.specs.Newest.{IsNewestReady}
+use Rattle.sched_laws.specs.Shapes.{AreShaped, IsReservedWithin}
 
--- each tenant has its shape, and a number that was taken
+-- each tenant has its shape, and a number that was taken; and what all of them reserved is within the totals
 pub record IsKept (shared : Shared) : Type 0 where
   pub shaped : AreShaped shared.tenants
   pub known : IsKnown shared
+  pub within : IsReservedWithin shared
 
 -- every frame fits, and each job holds what it was asked, whatever that was
 abbrev pub IsFitting : Fitting → Rooting → Shared → Type 0
@@ -19,3 +24,18 @@ IsFitting fits rooted shared = (origins : ℕ → List (List ℕ)) × CoreFits f
 pub record IsKeptFitting (fits : Fitting) (rooted : Rooting) (fitting : Bool) (shared : Shared) : Type 0 where
   pub kept : IsKept shared
   pub fit : fitting ≡ true → IsFitting fits rooted shared
+
+-- what is left of a tenant that is there, and what it used, are what it reserved: nothing is cut off
+pub record IsRest (tenant : Tenant) (left : Left) : Type 0 where
+  pub segments : left.segments + charged_for tenant.frames ≡ tenant.reserve.segments
+  pub nodes : left.nodes + tenant.serials ≡ tenant.reserve.nodes
+  pub steps : left.steps + tenant.steps ≡ 16 * tenant.reserve.nodes
+
+abbrev pub IsRestOf : Option Tenant → Left → Type 0
+IsRestOf None left = ⊥
+IsRestOf (Some tenant) left = IsRest tenant left
+
+-- this name is that of a ready frame of a tenant that is there, with its home, and no ready frame of it has a greater serial
+abbrev pub IsNewestReadyOf : Option Tenant → ℕ → FrameId → ℕ → Type 0
+IsNewestReadyOf None number name home = ⊥
+IsNewestReadyOf (Some tenant) number name home = IsNewestReady number tenant.frames name home

@@ -16,6 +16,7 @@ pub(crate) fn stays_fitting<P: Procedure>(procedure: &P, fitting: bool, step: &S
             fitting && procedure.is_fitting_root(words.as_slice(), *size)
         }
         StepOf::Admit(_, _)
+        | StepOf::AdmitMore(_, _)
         | StepOf::Take(_, _)
         | StepOf::Steal(_, _, _)
         | StepOf::Advance(_, _)

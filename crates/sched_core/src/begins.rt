@@ -1,9 +1,9 @@
-//! Admit and Submit: a tenant comes, and a job of it.
+//! Admit, AdmitMore and Submit: a tenant comes, reserves more, and has a job.
 ghost use Rattle.std.specs.Prelude.{◌≡◌};
 ghost use Rattle.sched_rules.specs.Cores.{shared_refusal};
 ghost use Rattle.sched_rules.specs.Headline.{IsKnown};
 ghost use Rattle.sched_rules.specs.Lone.{refusal_in};
-ghost use Rattle.sched_rules.specs.declared.step.StepOf.TheVariants.{Admit as AdmitStep, Submit as SubmitStep};
+ghost use Rattle.sched_rules.specs.declared.step.StepOf.TheVariants.{Admit as AdmitStep, AdmitMore as AdmitMoreStep, Submit as SubmitStep};
 ghost use Rattle.sched_laws.specs.Shapes.{AreShaped};
 ghost use Rattle.sched_core.specs.Judging.{IsJudged, IsAdmitted};
 
@@ -35,6 +35,22 @@ impl<P: Procedure, A: Allocator> Engine<P, A> {
         ])
     }
 
+    /// Whether a tenant may reserve this in the place of what it has reserved.
+    pub(crate) fn may_admit_more(&self, number: u64, reserve: Reserve) -> Result<(), Refusal>
+        ensures refusal { refusal_in result ≡ shared_refusal (P.functions self.now.procedure) self.now.store (AdmitMoreStep number reserve) }
+    {
+        let Some(now) = self.store.reserve_of(number) else {
+            return Err(Refusal::NoTenant);
+        };
+        if !reserve.is_above(&now) {
+            return Err(Refusal::Lower);
+        }
+        if self.store.is_beyond(now, reserve) {
+            return Err(Refusal::Full);
+        }
+        Ok(())
+    }
+
     /// Whether a tenant may have a new job, whose root has this size and begins with these words.
     pub(crate) fn may_submit(&self, number: u64, words: &[u64], size: usize) -> Result<(), Refusal>
         ensures refusal { refusal_in result ≡ shared_refusal (P.functions self.now.procedure) self.now.store (SubmitStep number words.now size) }
@@ -55,7 +71,7 @@ impl<P: Procedure, A: Allocator> Engine<P, A> {
         ])
     }
 
-    /// A tenant comes; only this takes memory.
+    /// A tenant comes. This takes memory.
     pub(crate) fn admit(&mut self, number: u64, reserve: Reserve) -> Result<Did<P>, Refusal>
     where
         A: Clone,
@@ -65,6 +81,20 @@ impl<P: Procedure, A: Allocator> Engine<P, A> {
         self.may_admit(number, reserve)?;
         match self.store.admit(number, reserve) {
             Ok(()) => Ok(DidOf::Admitted),
+            Err(_) => Err(Refusal::OutOfMemory),
+        }
+    }
+
+    /// A tenant reserves more. This takes memory, and nothing else than this and `admit` does.
+    pub(crate) fn admit_more(&mut self, number: u64, reserve: Reserve) -> Result<Did<P>, Refusal>
+    where
+        A: Clone,
+        ensures admitted { IsAdmitted (P.functions self.old.procedure) self.old.store (AdmitMoreStep number reserve) result self.new.store }
+        ensures procedure { self.new.procedure ≡ self.old.procedure }
+    {
+        self.may_admit_more(number, reserve)?;
+        match self.store.raise(number, reserve) {
+            Ok(()) => Ok(DidOf::AdmittedMore),
             Err(_) => Err(Refusal::OutOfMemory),
         }
     }

@@ -4,7 +4,7 @@
 //! the other, by [`Core::step`] or a list of them by [`Core::run`]; each is taken, and then [`Did`]
 //! says what it did, or refused by a [`Refusal`], and then nothing changes. [`Core::refusal`] tells
 //! beforehand. A core waits for nobody, holds no pointer into what it keeps, and takes memory only
-//! where it admits a tenant.
+//! where it admits a tenant, or more for one that is there.
 //!
 //! A core stands for a `CoreOf` (`Rattle.sched_rules.specs.Cores`): its procedure, and what its
 //! tenants share: the totals, the greatest number of a tenant so far, and the tenants by rising
@@ -18,8 +18,8 @@
 //! its effect as one equation. `engine` has the procedure beside that store. Each kind of step has two
 //! functions there: one decides, by the tests of the definitions in their order, and `refusal` asks
 //! it; the other decides by the same tests and does the change, which can't be refused any more
-//! (`moves`: Take and Steal; `acts` and `performing`: Advance, Answer and Inlet; `begins`: Admit and
-//! Submit; `ends`: Finish, Spend, Cancel and Leave). What a step makes of the procedure's answer it
+//! (`moves`: Take and Steal; `acts` and `performing`: Advance, Answer and Inlet; `begins`: Admit,
+//! AdmitMore and Submit; `ends`: Finish, Spend, Cancel and Leave). What a step makes of the procedure's answer it
 //! does where that answer stands: an act is large, and handing it back would copy it. The invariant
 //! (`specs/Keeping.antt`) is that each tenant has its shape, which every step keeps: a tree by rising
 //! serial, no frame under one that computes or has returned, live jobs and roots one to one, nothing

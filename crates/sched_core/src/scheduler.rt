@@ -1,14 +1,15 @@
 //! The core.
-ghost use Rattle.std.specs.Prelude.{◌≡◌, ◌≢◌, ◌↔◌, ◌++◌, ℕ, List, Result, Err, IfOk, IfSome, IsNone, OnErr, OnOk, is_ok, option_copied, true, false};
+ghost use Rattle.std.specs.Prelude.{◌≡◌, ◌≢◌, ◌↔◌, ◌+◌, ◌++◌, ℕ, List, Result, Err, IfOk, IfSome, IsNone, OnErr, OnOk, is_ok, option_copied, true, false};
 ghost use Rattle.sched_rules.specs.declared.refusal.Refusal.{Refusal as RefusalOf};
 ghost use Rattle.sched_rules.specs.declared.refusal.Refusal.TheVariants.{OutOfMemory};
 ghost use Rattle.sched_rules.specs.declared.step.DidOf.{DidOf};
-ghost use Rattle.sched_rules.specs.Cores.{shared_by_nobody, shared_refusal};
+ghost use Rattle.sched_rules.specs.Cores.{shared_by_nobody, shared_refusal, tenant_in, charged_in};
 ghost use Rattle.sched_rules.specs.Headline.{IsOneStep, IsHeadline, IsKnown, is_admission, taken};
 ghost use Rattle.sched_rules.specs.Runs.{only};
 ghost use Rattle.sched_laws.specs.Fitted.{CoreFits, RootFits, RootsFit, origins_of, origins_after};
 ghost use Rattle.sched_rules.specs.Views.{left_of, job_of, frame_of, words_of_frame, live_of, newest_ready_in, ready_count, free_in};
 ghost use Rattle.sched_store.specs.Reads.{IsReadyIn};
+ghost use Rattle.sched_core.specs.Keeping.{IsKept, IsRestOf, IsNewestReadyOf};
 
 use crate::asking::stays_fitting;
 use crate::engine::Engine;
@@ -57,8 +58,8 @@ impl<P: Procedure, A: Allocator> Core<P, A> {
         })
     }
 
-    /// One step: what it did, or why it is refused, and then nothing changes. Only an admission
-    /// takes memory.
+    /// One step: what it did, or why it is refused, and then nothing changes. Only an admission,
+    /// of a tenant or of more for it, takes memory.
     pub fn step(&mut self, step: &Step<P>) -> Result<Did<P>, Refusal>
     where
         A: Clone,
@@ -68,6 +69,8 @@ impl<P: Procedure, A: Allocator> Core<P, A> {
         ensures memory { is_admission step.now ≡ false → result ≢ Err OutOfMemory }
         ensures known_before { IsKnown self.old.shared }
         ensures known { IsKnown self.new.shared }
+        ensures kept_before { IsKept self.old.shared }
+        ensures kept { IsKept self.new.shared }
 
         // Where the new root of a taken Submit fits, so does every frame, and each job holds what it was asked.
         ensures fitting { (origins : ℕ → List (List ℕ)) → CoreFits (P.fits self.old.procedure) (P.rooted self.old.procedure) origins self.old.shared
@@ -114,9 +117,10 @@ impl<P: Procedure, A: Allocator> Core<P, A> {
         Ok(())
     }
 
-    /// What a tenant has left; `None` where it isn't there.
+    /// What a tenant has left; `None` where it isn't there. With what it uses that is what it reserved.
     pub fn left(&self, tenant: u64) -> Option<Left>
-        ensures { result ≡ left_of self.now.shared tenant }
+        ensures is { result ≡ left_of self.now.shared tenant }
+        ensures whole { IfSome result (λ left. IsRestOf (tenant_in self.now.shared.tenants tenant) left) }
     {
         self.engine.store.left(tenant)
     }
@@ -151,7 +155,8 @@ impl<P: Procedure, A: Allocator> Core<P, A> {
 
     /// A tenant's ready frame of the greatest serial, with its home.
     pub fn newest_ready(&self, tenant: u64) -> Option<(FrameId, u8)>
-        ensures { result ≡ newest_ready_in self.now.shared tenant }
+        ensures is { result ≡ newest_ready_in self.now.shared tenant }
+        ensures newest { IfSome result (λ ready. IsNewestReadyOf (tenant_in self.now.shared.tenants tenant) tenant ready.0 ready.1) }
     {
         self.engine.store.newest_ready(tenant)
     }
@@ -164,9 +169,10 @@ impl<P: Procedure, A: Allocator> Core<P, A> {
         self.engine.store.any_ready()
     }
 
-    /// How many segments are free.
+    /// How many segments are free. With those that all frames are charged for they are the total.
     pub fn free_segments(&self) -> usize
-        ensures { result ≡ free_in self.now.shared }
+        ensures is { result ≡ free_in self.now.shared }
+        ensures whole { result + charged_in self.now.shared.tenants ≡ self.now.shared.totals.segments }
     {
         self.engine.store.free_segments()
     }

@@ -22,6 +22,7 @@ impl<P: Procedure, A: Allocator> Engine<P, A> {
     {
         match step {
             StepOf::Admit(number, reserve) => self.admit(*number, *reserve),
+            StepOf::AdmitMore(number, reserve) => self.admit_more(*number, *reserve),
             StepOf::Submit(number, words, size) => self.submit(*number, words.as_slice(), *size),
             StepOf::Take(worker, name) => self.take(*worker, *name),
             StepOf::Steal(worker, from, name) => self.steal(*worker, *from, *name),
@@ -41,6 +42,7 @@ impl<P: Procedure, A: Allocator> Engine<P, A> {
     {
         match step {
             StepOf::Admit(number, reserve) => self.may_admit(*number, *reserve).err(),
+            StepOf::AdmitMore(number, reserve) => self.may_admit_more(*number, *reserve).err(),
             StepOf::Submit(number, words, size) => {
                 self.may_submit(*number, words.as_slice(), *size).err()
             }

@@ -1,17 +1,18 @@
 -- Whatever a step is answered, each tenant has its shape after it.
 use Rattle.std.proofs.Common.{◌≡◌, ℕ, Bool, true, false, eqb, List, [], ◌∷◌, Option, Some, None, Result, Ok, Err, refl, subst, inl, inr}
 use Rattle.std.proofs.lemmas.Bool.{cases_Bool}
+use Rattle.tenant_quota.specs.Quota.{Quota}
 use Rattle.sched_rules.specs.declared.refusal.Refusal.{Refusal}
-use Rattle.sched_rules.specs.declared.refusal.Refusal.TheVariants.{Busy, NoTenant}
+use Rattle.sched_rules.specs.declared.refusal.Refusal.TheVariants.{Busy, Full, NoTenant}
 use Rattle.sched_rules.specs.declared.step.StepOf.{StepOf}
-use Rattle.sched_rules.specs.declared.step.StepOf.TheVariants.{Admit, Submit, Take, Steal, Advance, Answer, Inlet, Finish, Spend, Cancel, Leave}
+use Rattle.sched_rules.specs.declared.step.StepOf.TheVariants.{Admit, AdmitMore, Submit, Take, Steal, Advance, Answer, Inlet, Finish, Spend, Cancel, Leave}
 use Rattle.sched_rules.specs.declared.step.DidOf.{DidOf}
 use Rattle.sched_rules.specs.declared.step.DidOf.TheVariants.{Admitted}
 use Rattle.sched_rules.specs.Functions.{Functions}
 use Rattle.sched_rules.specs.Trees.{Tenant, admitted_with}
 use Rattle.sched_rules.specs.Lone.{Outcome, lone}
 use Rattle.sched_rules.specs.Runs.{tenant_of}
-use Rattle.sched_rules.specs.Cores.{Shared, tenant_in, with_tenant, without_tenant, with_outcome, meets_busy, admit_tests, unless_busy, step_among, judged, shared_after}
+use Rattle.sched_rules.specs.Cores.{Shared, tenant_in, with_tenant, without_tenant, with_outcome, meets_busy, admit_tests, unless_busy, unless_beyond, is_beyond, reserved_by, reservations_in, step_among, judged, shared_after}
 use Rattle.sched_rules.specs.Headline.{after_answer, after_answers}
 use Rattle.sched_laws.specs.Shapes.{IsShaped, AreShaped}
 use Rattle.sched_laws.proofs.Shaped.{LeftShaped, unless-passed, step-shaped, admitted-shaped, came}
@@ -48,6 +49,7 @@ lone-shaped {I} functions None (Admit number quota) outcome is s =
     let both : ◌≡◌ {A = Result (Outcome I) Refusal} (Ok (Some (admitted_with quota), Admitted)) (Ok outcome) = is in
     let e : ◌≡◌ {A = Outcome I} (Some (admitted_with quota), Admitted) outcome = cc in
     came (Some (admitted_with quota), Admitted) outcome e (admitted-shaped quota)
+lone-shaped functions None (AdmitMore number quota) outcome is s = refused NoTenant outcome is
 lone-shaped functions None (Submit number words size) outcome is s = refused NoTenant outcome is
 lone-shaped functions None (Take worker name) outcome is s = refused NoTenant outcome is
 lone-shaped functions None (Steal worker from name) outcome is s = refused NoTenant outcome is
@@ -65,6 +67,19 @@ not-busy busy (Err refusal) outcome is = is
 not-busy false (Ok own) outcome is = is
 not-busy {I} true (Ok own) outcome is = (let e : ◌≡◌ {A = Result (Outcome I) Refusal} (Err Busy) (Ok outcome) = is in absurd cc)
 
+-- so is an admission of more, where the totals allow it
+pub not-beyond : {I : Type 0} (beyond : Bool) (alone : Result (Outcome I) Refusal) (outcome : Outcome I) → unless_beyond beyond alone ≡ Ok outcome → (beyond ≡ false) × (alone ≡ Ok outcome)
+not-beyond {I} beyond (Err refusal) outcome is = (let e : ◌≡◌ {A = Result (Outcome I) Refusal} (Err refusal) (Ok outcome) = is in absurd cc)
+not-beyond false (Ok own) outcome is = (refl, is)
+not-beyond {I} true (Ok own) outcome is = (let e : ◌≡◌ {A = Result (Outcome I) Refusal} (Err Full) (Ok outcome) = is in absurd cc)
+
+-- what was taken of an admission of more
+pub more-taken : {I A : Type 0} (functions : Functions I A) (before : Shared) (number : ℕ) (quota : Quota) (outcome : Outcome I) → judged {A = A} functions before (AdmitMore number quota) ≡ Ok outcome →
+    (is_beyond (reservations_in before) (reserved_by (tenant_in before.tenants number)) quota ≡ false) × (lone {A = A} functions (tenant_in before.tenants number) (AdmitMore number quota) ≡ Ok outcome)
+more-taken {A = A} functions before number quota outcome is =
+    let own = tenant_in before.tenants number in
+    not-beyond (is_beyond (reservations_in before) (reserved_by own) quota) (lone {A = A} functions own (AdmitMore number quota)) outcome is
+
 pub own-shaped : (n : ℕ) (es : Entries) → AreShaped es → LeftShaped (tenant_in es n)
 own-shaped n es all = by (tenant_in es n) refl
   where
@@ -81,6 +96,8 @@ pub judged-shaped : {I A : Type 0} (functions : Functions I A) (before : Shared)
 judged-shaped {I} functions before (Admit number quota) outcome is all =
     let effect : Outcome I = (Some (admitted_with quota), Admitted) in
     let p = unless-passed (admit_tests before number quota) effect outcome is in came effect outcome p.1 (admitted-shaped quota)
+judged-shaped {A = A} functions before (AdmitMore number quota) outcome is all =
+    lone-shaped {A = A} functions (tenant_in before.tenants number) (AdmitMore number quota) outcome (more-taken {A = A} functions before number quota outcome is).1 (own-shaped number before.tenants all)
 judged-shaped functions before (Submit number words size) outcome is all = among-shaped functions before (Submit number words size) outcome is all
 judged-shaped functions before (Take worker name) outcome is all = among-shaped functions before (Take worker name) outcome is all
 judged-shaped functions before (Steal worker from name) outcome is all = among-shaped functions before (Steal worker from name) outcome is all

@@ -9,13 +9,13 @@ use Rattle.sched_rules.specs.declared.act.Then.TheVariants.{Grow, Spawn, Go, Wai
 use Rattle.sched_rules.specs.declared.job.Job.{Job}
 use Rattle.sched_rules.specs.declared.job.Job.TheVariants.{Live, Done, Spent as SpentJob, Cancelled as CancelledJob}
 use Rattle.sched_rules.specs.declared.refusal.Refusal.{Refusal}
-use Rattle.sched_rules.specs.declared.refusal.Refusal.TheVariants.{NotSpent, OldTenant, NotReturned, NoJob}
+use Rattle.sched_rules.specs.declared.refusal.Refusal.TheVariants.{NotSpent, OldTenant, NotReturned, NoJob, Lower}
 use Rattle.sched_rules.specs.declared.step.StepOf.{StepOf}
-use Rattle.sched_rules.specs.declared.step.StepOf.TheVariants.{Admit, Submit, Take, Steal, Advance, Answer, Inlet, Finish, Spend, Cancel, Leave}
+use Rattle.sched_rules.specs.declared.step.StepOf.TheVariants.{Admit, AdmitMore, Submit, Take, Steal, Advance, Answer, Inlet, Finish, Spend, Cancel, Leave}
 use Rattle.sched_rules.specs.declared.step.DidOf.TheVariants.{Cancelled, Left}
 use Rattle.sched_rules.specs.Functions.{Functions}
 use Rattle.sched_rules.specs.Trees.{Tenant, words_in, has_child, job_at, is_live_at, with_ended}
-use Rattle.sched_rules.specs.Lone.{Outcome, unless, lone_step, counted, holding, submit_tests, submitted, take_tests, steal_tests, taken_by, act_of, advance_tests, then_done, advanced, answer_tests, answered, inlet_tests, does_wait, staying, taken_in, inlet_under, finish_tests, finished, is_spendable, spent, cancelled, ended}
+use Rattle.sched_rules.specs.Lone.{Outcome, unless, lone_step, is_lower, raised, counted, holding, submit_tests, submitted, take_tests, steal_tests, taken_by, act_of, advance_tests, then_done, advanced, answer_tests, answered, inlet_tests, does_wait, staying, taken_in, inlet_under, finish_tests, finished, is_spendable, spent, cancelled, ended}
 use Rattle.sched_laws.specs.Ended.{HasEnded, KeepsEnded}
 use Rattle.sched_laws.proofs.Shaped.{unless-passed, frame-found}
 
@@ -73,6 +73,9 @@ cancel-ended tenant (Some CancelledJob) outcome is = refused-ended tenant.jobs N
 
 pub step-ended : {I A : Type 0} (functions : Functions I A) (tenant : Tenant) (step : StepOf A) (outcome : Outcome I) → lone_step functions tenant step ≡ Ok outcome → KeepsEnded tenant.jobs outcome.0
 step-ended functions tenant (Admit number quota) outcome is = refused-ended tenant.jobs OldTenant outcome is
+step-ended {I} functions tenant (AdmitMore number quota) outcome is =
+    let p = unless-passed ((is_lower tenant.reserve quota, Lower) ∷ []) (raised {I = I} tenant quota) outcome is in
+    came-ended tenant.jobs (raised tenant quota) outcome p.1 (λ k job has at. at)
 step-ended {I} functions tenant (Submit number words size) outcome is =
     let p = unless-passed (submit_tests tenant words size) (submitted {I = I} tenant number words size) outcome is in
     came-ended tenant.jobs (submitted tenant number words size) outcome p.1 (λ k job has at. at-append tenant.jobs _ k job at)

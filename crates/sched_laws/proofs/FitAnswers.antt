@@ -1,31 +1,31 @@
 -- Every answer leaves a core fitting, and so does every list of them.
-use Rattle.std.proofs.Common.{◌≡◌, ◌≢◌, ℕ, ◌<◌, ◌≤◌, inl, inr, Bool, true, false, not, ◌||◌, eqb, List, [], ◌∷◌, ◌++◌, Option, Some, None, Result, Ok, Err, refl, ap, sym, ◌∙◌, subst, arith, append_assoc, append-nil}
+use Rattle.std.proofs.Common.{◌≡◌, ◌≢◌, ℕ, ◌<◌, ◌≤◌, ◌⊎◌, inl, inr, Bool, true, false, not, ◌||◌, eqb, List, [], ◌∷◌, ◌++◌, Option, Some, None, Result, Ok, Err, refl, ap, sym, ◌∙◌, subst, arith, append_assoc, append-nil}
 use Rattle.std.specs.Prelude.{is_ok}
 use Rattle.std.proofs.lemmas.Bool.{cases_Bool, cases_eq, false≢true, eq-eqb, ne_eqb, or_parts}
 use Rattle.tenant_quota.specs.Quota.{Quota}
 use Rattle.frame_table.specs.Frames.{frame_at, parent_of, root_of}
 use Rattle.sched_rules.specs.declared.job.Job.TheVariants.{Spent as SpentJob}
 use Rattle.sched_rules.specs.declared.refusal.Refusal.{Refusal}
-use Rattle.sched_rules.specs.declared.refusal.Refusal.TheVariants.{NotReturned, NotSpent, OldTenant}
+use Rattle.sched_rules.specs.declared.refusal.Refusal.TheVariants.{NotReturned, NotSpent, OldTenant, Lower}
 use Rattle.sched_rules.specs.declared.step.StepOf.{StepOf}
-use Rattle.sched_rules.specs.declared.step.StepOf.TheVariants.{Admit, Submit, Take, Steal, Advance, Answer, Inlet, Finish, Spend, Cancel, Leave}
+use Rattle.sched_rules.specs.declared.step.StepOf.TheVariants.{Admit, AdmitMore, Submit, Take, Steal, Advance, Answer, Inlet, Finish, Spend, Cancel, Leave}
 use Rattle.sched_rules.specs.declared.step.DidOf.{DidOf}
 use Rattle.sched_rules.specs.declared.step.DidOf.TheVariants.{Admitted, Left}
 use Rattle.sched_rules.specs.Functions.{Functions}
 use Rattle.sched_rules.specs.Trees.{Tenant, admitted_with, words_in}
 use Rattle.sched_rules.specs.Laws.{Fitting, Rooting}
-use Rattle.sched_rules.specs.Lone.{Outcome, unless, lone, lone_step, submit_tests, submitted, take_tests, steal_tests, taken_by, act_of, advance_tests, advanced, answer_tests, answered, inlet_tests, taken_in, inlet_under, finish_tests, finished, is_spendable, spent}
+use Rattle.sched_rules.specs.Lone.{Outcome, unless, lone, lone_step, is_lower, raised, submit_tests, submitted, take_tests, steal_tests, taken_by, act_of, advance_tests, advanced, answer_tests, answered, inlet_tests, taken_in, inlet_under, finish_tests, finished, is_spendable, spent}
 use Rattle.frame_table.specs.Frames.{is_ready}
 use Rattle.sched_rules.specs.Runs.{tenant_of, only}
 use Rattle.sched_rules.specs.Cores.{Shared, shared_by_nobody, tenant_in, with_outcome, meets_busy, admit_tests, judged, newest_after, shared_with}
 use Rattle.sched_rules.specs.Headline.{is_admission, IsAnswerTo, AreAnswersTo, after_answer, after_answers, taken, IsKnown}
 use Rattle.sched_rules.proofs.Tenants.{tenant_in-with_outcome, tenant_in_other-with_outcome, known-number}
-use Rattle.sched_rules.proofs.Isolation.{step-taken, there, above, newest-stays, judged-step, shared-after-taken}
+use Rattle.sched_rules.proofs.Isolation.{step-taken, there, more-there, above, newest-stays, judged-step, shared-after-taken}
 use Rattle.sched_laws.specs.Shapes.{IsShaped, AreShaped}
 use Rattle.sched_laws.specs.Fitted.{TenantFits, CoreFits, submits, origins_of, RootFits, RootsFit, origins_after, StaysFitting}
 use Rattle.sched_laws.proofs.Shaped.{unless-passed, frame-found}
 use Rattle.sched_laws.proofs.Consequences.{root-above}
-use Rattle.sched_laws.proofs.Answers.{shaped-in, not-busy, shaped-answer}
+use Rattle.sched_laws.proofs.Answers.{shaped-in, not-busy, more-taken, shaped-answer}
 use Rattle.sched_laws.proofs.Holds.{Lists, F}
 use Rattle.sched_laws.proofs.Levels.{IsLawful}
 use Rattle.sched_laws.proofs.Fits.{LeftFits}
@@ -51,6 +51,9 @@ own-fits : {I A : Type 0} (functions : Functions I A) (fits : Fitting) (rooted :
     submits step ≡ [] → lone_step functions tenant step ≡ Ok outcome → LeftFits fits rooted origins outcome.0
 own-fits functions fits rooted origins tenant (Admit number quota) outcome lawful shape fitting none is = refused-fits fits rooted origins OldTenant outcome is
 own-fits functions fits rooted origins tenant (Submit number words size) outcome lawful shape fitting none is = absurd cc
+own-fits {I} functions fits rooted origins tenant (AdmitMore number quota) outcome lawful shape fitting none is =
+    let p = unless-passed ((is_lower tenant.reserve quota, Lower) ∷ []) (raised {I = I} tenant quota) outcome is in
+    fits-came fits rooted origins (raised tenant quota) outcome p.1 (record { frames = fitting.frames; jobs = fitting.jobs })
 own-fits {I} functions fits rooted origins tenant (Take worker name) outcome lawful shape fitting none is =
     let f = frame-found tenant.frames name.serial (λ frame. unless (take_tests tenant worker frame) (taken_by tenant worker frame)) outcome is in
     let p = unless-passed (take_tests tenant worker f.0) (taken_by {I = I} tenant worker f.0) outcome f.2 in
@@ -104,6 +107,7 @@ step-fits {I} functions fits rooted origins tenant (Submit number words size) ou
     let p = unless-passed (submit_tests tenant words size) (submitted {I = I} tenant number words size) outcome is in
     fits-came fits rooted (origins ++ words ∷ []) (submitted tenant number words size) outcome p.1 (submit-fits fits rooted origins tenant words size shape fitting root.0 root.1)
 step-fits functions fits rooted origins tenant (Admit number quota) outcome lawful shape fitting root is = others-fit functions fits rooted origins tenant (Admit number quota) outcome lawful shape fitting refl is
+step-fits functions fits rooted origins tenant (AdmitMore number quota) outcome lawful shape fitting root is = others-fit functions fits rooted origins tenant (AdmitMore number quota) outcome lawful shape fitting refl is
 step-fits functions fits rooted origins tenant (Take worker name) outcome lawful shape fitting root is = others-fit functions fits rooted origins tenant (Take worker name) outcome lawful shape fitting refl is
 step-fits functions fits rooted origins tenant (Steal worker from name) outcome lawful shape fitting root is = others-fit functions fits rooted origins tenant (Steal worker from name) outcome lawful shape fitting refl is
 step-fits functions fits rooted origins tenant (Advance worker name) outcome lawful shape fitting root is = others-fit functions fits rooted origins tenant (Advance worker name) outcome lawful shape fitting refl is
@@ -114,13 +118,13 @@ step-fits functions fits rooted origins tenant (Spend name) outcome lawful shape
 step-fits functions fits rooted origins tenant (Cancel number job) outcome lawful shape fitting root is = others-fit functions fits rooted origins tenant (Cancel number job) outcome lawful shape fitting refl is
 step-fits functions fits rooted origins tenant (Leave number) outcome lawful shape fitting root is = others-fit functions fits rooted origins tenant (Leave number) outcome lawful shape fitting refl is
 
--- among several tenants: a step that is no admission
+-- among several tenants: a step of a tenant that is there
 among-fits : {I A : Type 0} (functions : Functions I A) (fits : Fitting) (rooted : Rooting) (origins : ℕ → Lists) (before : Shared) (step : StepOf A) (outcome : Outcome I) → IsLawful functions fits rooted → AreShaped before.tenants → CoreFits fits rooted origins before →
-    RootFits fits rooted step → is_admission step ≡ false → lone functions (tenant_in before.tenants (tenant_of step)) step ≡ Ok outcome → LeftFits fits rooted (origins (tenant_of step) ++ submits step) outcome.0
-among-fits functions fits rooted origins before step outcome lawful shaped core root no_admission is = by (tenant_in before.tenants (tenant_of step)) refl
+    RootFits fits rooted step → tenant_in before.tenants (tenant_of step) ≢ None → lone functions (tenant_in before.tenants (tenant_of step)) step ≡ Ok outcome → LeftFits fits rooted (origins (tenant_of step) ++ submits step) outcome.0
+among-fits functions fits rooted origins before step outcome lawful shaped core root there is = by (tenant_in before.tenants (tenant_of step)) refl
   where
     by : (own : Option Tenant) → tenant_in before.tenants (tenant_of step) ≡ own → LeftFits fits rooted (origins (tenant_of step) ++ submits step) outcome.0
-    by None e = absurd (there functions None step outcome no_admission (ap (λ o. lone functions o step) (sym e) ∙ is) refl)
+    by None e = absurd (there e)
     by (Some tenant) e =
         step-fits functions fits rooted (origins (tenant_of step)) tenant step outcome lawful (shaped-in (tenant_of step) before.tenants tenant shaped e) (core.tenants (tenant_of step) tenant e) root
         (ap (λ o. lone functions o step) (sym e) ∙ is)
@@ -137,12 +141,20 @@ pub taken-alone : {I A : Type 0} (functions : Functions I A) (before : Shared) (
 taken-alone functions before step outcome no_admission is =
     not-busy (meets_busy step before.tenants) (lone functions (tenant_in before.tenants (tenant_of step)) step) outcome (sym (judged-step functions before step no_admission) ∙ is)
 
--- an admission is one
+-- so is an admission of more, of a tenant that is there
+pub taken-more-there : {I A : Type 0} (functions : Functions I A) (before : Shared) (number : ℕ) (quota : Quota) (outcome : Outcome I) → judged {A = A} functions before (AdmitMore number quota) ≡ Ok outcome → tenant_in before.tenants number ≢ None
+taken-more-there {A = A} functions before number quota outcome is = more-there {A = A} functions (tenant_in before.tenants number) number quota outcome (more-taken {A = A} functions before number quota outcome is).1
+
+-- an admission is of a new tenant, or of more for one that is there
 abbrev pub IsAdmit : {A : Type 0} → StepOf A → Type 0
 IsAdmit step = (number : ℕ) × (quota : Quota) × (step ≡ Admit number quota)
 
-pub admission : {A : Type 0} (step : StepOf A) → is_admission step ≡ true → IsAdmit step
-admission (Admit number quota) is = (number, quota, refl)
+abbrev pub IsAdmitMore : {A : Type 0} → StepOf A → Type 0
+IsAdmitMore step = (number : ℕ) × (quota : Quota) × (step ≡ AdmitMore number quota)
+
+pub admission : {A : Type 0} (step : StepOf A) → is_admission step ≡ true → IsAdmit step ⊎ IsAdmitMore step
+admission (Admit number quota) is = inl (number, quota, refl)
+admission (AdmitMore number quota) is = inr (number, quota, refl)
 admission (Submit number words size) is = absurd (false≢true is)
 admission (Take worker name) is = absurd (false≢true is)
 admission (Steal worker from name) is = absurd (false≢true is)
@@ -163,13 +175,22 @@ admit-left functions fits rooted origins before number quota outcome core is =
     let P : Lists → Type 0 = λ os. LeftFits fits rooted os (Some (admitted_with quota)) in
     fits-came fits rooted (origins number ++ []) (Some (admitted_with quota), Admitted) outcome p.1 (subst P (sym none) (record { frames = tt; jobs = tt }))
 
+more-left : {I A : Type 0} (functions : Functions I A) (fits : Fitting) (rooted : Rooting) (origins : ℕ → Lists) (before : Shared) (number : ℕ) (quota : Quota) (outcome : Outcome I) → IsLawful functions fits rooted → AreShaped before.tenants → CoreFits fits rooted origins before →
+    judged {A = A} functions before (AdmitMore number quota) ≡ Ok outcome → LeftFits fits rooted (origins number ++ []) outcome.0
+more-left {A = A} functions fits rooted origins before number quota outcome lawful shaped core is =
+    among-fits {A = A} functions fits rooted origins before (AdmitMore number quota) outcome lawful shaped core tt (taken-more-there {A = A} functions before number quota outcome is) (more-taken {A = A} functions before number quota outcome is).1
+
 taken-left : {I A : Type 0} (functions : Functions I A) (fits : Fitting) (rooted : Rooting) (origins : ℕ → Lists) (before : Shared) (step : StepOf A) (outcome : Outcome I) → IsLawful functions fits rooted → AreShaped before.tenants → CoreFits fits rooted origins before →
     RootFits fits rooted step → judged functions before step ≡ Ok outcome → LeftFits fits rooted (origins (tenant_of step) ++ submits step) outcome.0
 taken-left {A = A} functions fits rooted origins before step outcome lawful shaped core root is = elim (cases_Bool (is_admission step)) [
-  | inr no_admission ↦ among-fits functions fits rooted origins before step outcome lawful shaped core root no_admission (taken-alone functions before step outcome no_admission is)
-  | inl admits ↦ (let a = admission step admits in
-      let P : StepOf A → Type 0 = λ st. LeftFits fits rooted (origins (tenant_of st) ++ submits st) outcome.0 in
-      subst P (sym a.2) (admit-left functions fits rooted origins before a.0 a.1 outcome core (ap (judged functions before) (sym a.2) ∙ is)))
+  | inr no_admission ↦ (let alone = taken-alone functions before step outcome no_admission is in
+      among-fits functions fits rooted origins before step outcome lawful shaped core root (there functions _ step outcome no_admission alone) alone)
+  | inl admits ↦ elim (admission step admits) [
+    | inl a ↦ (let P : StepOf A → Type 0 = λ st. LeftFits fits rooted (origins (tenant_of st) ++ submits st) outcome.0 in
+        subst P (sym a.2) (admit-left functions fits rooted origins before a.0 a.1 outcome core (ap (judged functions before) (sym a.2) ∙ is)))
+    | inr m ↦ (let P : StepOf A → Type 0 = λ st. LeftFits fits rooted (origins (tenant_of st) ++ submits st) outcome.0 in
+        subst P (sym m.2) (more-left functions fits rooted origins before m.0 m.1 outcome lawful shaped core (ap (judged functions before) (sym m.2) ∙ is)))
+  ]
 ]
 
 -- the greatest number after a taken step: the step's tenant has one that is no greater, and it is no less than before
@@ -177,10 +198,14 @@ numbers-after : {I A : Type 0} (functions : Functions I A) (before : Shared) (st
 numbers-after {A = A} functions before step outcome known is = elim (cases_Bool (is_admission step)) [
   | inr no_admission ↦ (let le = known-number before.newest (tenant_of step) before.tenants known (there functions _ step outcome no_admission (taken-alone functions before step outcome no_admission is)) in
       let same = newest-stays before.newest step no_admission in (omega (arith, le, same), omega (arith, same)))
-  | inl admits ↦ (let a = admission step admits in
-      let p = admitted-above functions before a.0 a.1 outcome (ap (judged functions before) (sym a.2) ∙ is) in
-      let own : tenant_of step ≡ a.0 = ap tenant_of a.2 in
-      let newest : newest_after before.newest step ≡ a.0 = ap (newest_after before.newest) a.2 in (omega (arith, own, newest), omega (arith, newest, p.0)))
+  | inl admits ↦ elim (admission step admits) [
+    | inl a ↦ (let p = admitted-above functions before a.0 a.1 outcome (ap (judged functions before) (sym a.2) ∙ is) in
+        let own : tenant_of step ≡ a.0 = ap tenant_of a.2 in
+        let newest : newest_after before.newest step ≡ a.0 = ap (newest_after before.newest) a.2 in (omega (arith, own, newest), omega (arith, newest, p.0)))
+    | inr m ↦ (let le = known-number before.newest m.0 before.tenants known (taken-more-there {A = A} functions before m.0 m.1 outcome (ap (judged functions before) (sym m.2) ∙ is)) in
+        let own : tenant_of step ≡ m.0 = ap tenant_of m.2 in
+        let newest : newest_after before.newest step ≡ before.newest = ap (newest_after before.newest) m.2 in (omega (arith, own, newest, le), omega (arith, newest)))
+  ]
 ]
 
 -- a core after a taken step

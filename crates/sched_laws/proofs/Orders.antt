@@ -8,7 +8,7 @@ use Rattle.sched_rules.specs.declared.refusal.Refusal.{Refusal}
 use Rattle.sched_rules.specs.declared.act.Then.{Then}
 use Rattle.sched_rules.specs.declared.act.Then.TheVariants.{Grow, Spawn, Go, Wait, Compute, Return}
 use Rattle.sched_rules.specs.declared.step.StepOf.{StepOf}
-use Rattle.sched_rules.specs.declared.step.StepOf.TheVariants.{Admit, Submit, Take, Steal, Advance, Answer, Inlet, Finish, Spend, Cancel, Leave}
+use Rattle.sched_rules.specs.declared.step.StepOf.TheVariants.{Admit, AdmitMore, Submit, Take, Steal, Advance, Answer, Inlet, Finish, Spend, Cancel, Leave}
 use Rattle.sched_rules.specs.declared.step.DidOf.{DidOf}
 use Rattle.sched_rules.specs.declared.step.DidOf.TheVariants.{Submitted}
 use Rattle.sched_rules.specs.Functions.{Functions}
@@ -69,6 +69,7 @@ always-lawful functions = record {
 root-always : {A : Type 0} (step : StepOf A) → RootFits AlwaysFits AlwaysRooted step
 unfolding AlwaysFits AlwaysRooted
 root-always (Admit number quota) = tt
+root-always (AdmitMore number quota) = tt
 root-always (Submit number words size) = (tt, tt)
 root-always (Take worker name) = tt
 root-always (Steal worker from name) = tt

@@ -17,14 +17,14 @@ use Rattle.sched_rules.specs.declared.act.Then.TheVariants.{Grow, Spawn, Go, Wai
 use Rattle.sched_rules.specs.declared.job.Job.{Job}
 use Rattle.sched_rules.specs.declared.job.Job.TheVariants.{Live, Done, Spent as SpentJob, Cancelled as CancelledJob}
 use Rattle.sched_rules.specs.declared.refusal.Refusal.{Refusal}
-use Rattle.sched_rules.specs.declared.refusal.Refusal.TheVariants.{Mismatch, NotReturned, NoSegments, NoNodes, NoJobsLeft, BadAct, NotSpent, NoJob, OldTenant}
+use Rattle.sched_rules.specs.declared.refusal.Refusal.TheVariants.{Mismatch, NotReturned, NoSegments, NoNodes, NoJobsLeft, BadAct, NotSpent, NoJob, OldTenant, Lower}
 use Rattle.sched_rules.specs.declared.step.StepOf.{StepOf}
-use Rattle.sched_rules.specs.declared.step.StepOf.TheVariants.{Admit, Submit, Take, Steal, Advance, Answer, Inlet, Finish, Spend, Cancel, Leave}
+use Rattle.sched_rules.specs.declared.step.StepOf.TheVariants.{Admit, AdmitMore, Submit, Take, Steal, Advance, Answer, Inlet, Finish, Spend, Cancel, Leave}
 use Rattle.sched_rules.specs.declared.step.DidOf.TheVariants.{Cancelled, Left}
 use Rattle.sched_rules.specs.Functions.{Functions}
 use Rattle.sched_rules.specs.Trees.{Tree, Tenant, admitted_with, words_of, words_in, charged_for, left, is_root, stored, is_outside, has_child, job_at, kept_words}
 use Rattle.sched_rules.specs.Laws.{Neither, mark_of}
-use Rattle.sched_rules.specs.Lone.{Outcome, unless, applies, lone_step, no_step, not_free, counted, in_state, holding, ended, is_frame_size, submit_tests, submitted, take_tests, steal_tests, taken_by, is_run_by, is_computed_by, is_returned, act_of, is_bad_then, is_bad_act, is_spawn, segments_for, act_tests, advance_tests, then_done, advanced, answer_tests, answered, inlet_tests, does_wait, staying, taken_in, inlet_under, finish_tests, finished, is_spendable, spent, cancelled, at_frame}
+use Rattle.sched_rules.specs.Lone.{Outcome, unless, applies, lone_step, no_step, not_free, is_lower, raised, counted, in_state, holding, ended, is_frame_size, submit_tests, submitted, take_tests, steal_tests, taken_by, is_run_by, is_computed_by, is_returned, act_of, is_bad_then, is_bad_act, is_spawn, segments_for, act_tests, advance_tests, then_done, advanced, answer_tests, answered, inlet_tests, does_wait, staying, taken_in, inlet_under, finish_tests, finished, is_spendable, spent, cancelled, at_frame}
 use Rattle.sched_laws.specs.Shapes.{IsShaped}
 use Rattle.sched_laws.proofs.Words.{length-stored, frame_at-with_words, charged-with_words}
 use Rattle.sched_laws.proofs.Parts.{childless-at, no-child, has_child-with_words, words-at}
@@ -274,6 +274,30 @@ cancel-shaped {I} tenant (Some (Done words)) outcome is s = (let e : ◌≡◌ {
 cancel-shaped {I} tenant (Some SpentJob) outcome is s = (let e : ◌≡◌ {A = Result (Outcome I) Refusal} (Err NoJob) (Ok outcome) = is in absurd cc)
 cancel-shaped {I} tenant (Some CancelledJob) outcome is s = (let e : ◌≡◌ {A = Result (Outcome I) Refusal} (Err NoJob) (Ok outcome) = is in absurd cc)
 
+-- AdmitMore: what is used stays within the greater reservation
+raised-shaped : (I : Type 0) (tenant : Tenant) (quota : Quota) → is_lower tenant.reserve quota ≡ false → IsShaped tenant → LeftShaped (raised {I = I} tenant quota).0
+raised-shaped I tenant quota enough s =
+    let now = tenant.reserve in
+    let p = or_parts (ltb quota.segments now.segments || ltb quota.nodes now.nodes) (eqb quota.segments now.segments && eqb quota.nodes now.nodes) enough in
+    let q = or_parts (ltb quota.segments now.segments) (ltb quota.nodes now.nodes) p.0 in
+    let segments = ltb-false quota.segments now.segments q.0 in
+    let nodes = ltb-false quota.nodes now.nodes q.1 in
+    let c = s.charged in
+    let o = s.opened in
+    let t = s.ticks in
+    record {
+      tree = s.tree;
+      given = s.given;
+      childless = s.childless;
+      roots = s.roots;
+      live = s.live;
+      few_jobs = s.few_jobs;
+      words = s.words;
+      charged = omega (arith, c, segments);
+      opened = omega (arith, o, nodes);
+      ticks = omega (arith, t, nodes);
+    }
+
 -- an effect that came out
 pub came : {I : Type 0} (effect outcome : Outcome I) → effect ≡ outcome → LeftShaped effect.0 → LeftShaped outcome.0
 came {I} effect outcome is s = let P : Outcome I → Type 0 = λ o. LeftShaped o.0 in subst P is s
@@ -281,6 +305,9 @@ came {I} effect outcome is s = let P : Outcome I → Type 0 = λ o. LeftShaped o
 -- every step of a tenant that has the core to itself
 pub step-shaped : {I A : Type 0} (functions : Functions I A) (tenant : Tenant) (step : StepOf A) (outcome : Outcome I) → lone_step functions tenant step ≡ Ok outcome → IsShaped tenant → LeftShaped outcome.0
 step-shaped {I} functions tenant (Admit number quota) outcome is s = (let e : ◌≡◌ {A = Result (Outcome I) Refusal} (Err OldTenant) (Ok outcome) = is in absurd cc)
+step-shaped {I} functions tenant (AdmitMore number quota) outcome is s =
+    let p = unless-passed ((is_lower tenant.reserve quota, Lower) ∷ []) (raised {I = I} tenant quota) outcome is in
+    came (raised tenant quota) outcome p.1 (raised-shaped I tenant quota (or_parts (is_lower tenant.reserve quota) false p.0).0 s)
 step-shaped {I} functions tenant (Submit number words size) outcome is s =
     let p = unless-passed (submit_tests tenant words size) (submitted {I = I} tenant number words size) outcome is in
     came (submitted tenant number words size) outcome p.1 (submit-shaped I tenant number words size p.0 s)

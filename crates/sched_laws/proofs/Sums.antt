@@ -1,7 +1,7 @@
 -- What all tenants have reserved and are charged, under each answer.
-use Rattle.std.proofs.Common.{◌≡◌, ℕ, ◌+◌, ◌*◌, ◌≤◌, inl, inr, Bool, false, not, ◌||◌, ◌&&◌, eqb, ltb, leb, List, [], ◌∷◌, Option, Some, None, Result, Ok, Err, length, refl, ap, sym, ◌∙◌, subst, arith}
+use Rattle.std.proofs.Common.{◌≡◌, ◌↔◌, ℕ, ◌+◌, ◌*◌, ◌≤◌, inl, inr, Bool, false, not, ◌||◌, ◌&&◌, eqb, ltb, leb, List, [], ◌∷◌, Option, Some, None, Result, Ok, Err, length, refl, ap, sym, ◌∙◌, subst, arith}
 use Rattle.std.proofs.lemmas.List.Sums.{sum_by-cons}
-use Rattle.std.proofs.lemmas.Bool.{cases_Bool, ltb-false, or_parts}
+use Rattle.std.proofs.lemmas.Bool.{cases_Bool, ltb-false, le-ltb, or_parts}
 use Rattle.tenant_quota.specs.Quota.{Quota}
 use Rattle.tenant_quota.specs.Accounts.{reserved_segments, reserved_nodes}
 use Rattle.tenant_quota.specs.declared.account.Account.{Account}
@@ -13,22 +13,23 @@ use Rattle.sched_rules.specs.declared.act.Then.TheVariants.{Grow, Spawn, Go, Wai
 use Rattle.sched_rules.specs.declared.job.Job.{Job}
 use Rattle.sched_rules.specs.declared.job.Job.TheVariants.{Live, Done, Spent as SpentJob, Cancelled as CancelledJob}
 use Rattle.sched_rules.specs.declared.refusal.Refusal.{Refusal}
-use Rattle.sched_rules.specs.declared.refusal.Refusal.TheVariants.{NotSpent, OldTenant, NotReturned, NoJob}
+use Rattle.sched_rules.specs.declared.refusal.Refusal.TheVariants.{NotSpent, OldTenant, NotReturned, NoJob, NoTenant, Lower}
 use Rattle.sched_rules.specs.declared.step.StepOf.{StepOf}
-use Rattle.sched_rules.specs.declared.step.StepOf.TheVariants.{Admit, Submit, Take, Steal, Advance, Answer, Inlet, Finish, Spend, Cancel, Leave}
+use Rattle.sched_rules.specs.declared.step.StepOf.TheVariants.{Admit, AdmitMore, Submit, Take, Steal, Advance, Answer, Inlet, Finish, Spend, Cancel, Leave}
 use Rattle.sched_rules.specs.declared.step.DidOf.{DidOf}
 use Rattle.sched_rules.specs.declared.step.DidOf.TheVariants.{Admitted, Cancelled, Left}
 use Rattle.sched_rules.specs.Functions.{Functions}
 use Rattle.sched_rules.specs.Trees.{Tenant, admitted_with, account_in, charged_for, words_in, left, has_child, job_at}
-use Rattle.sched_rules.specs.Lone.{Outcome, unless, lone, lone_step, counted, holding, submit_tests, submitted, take_tests, steal_tests, taken_by, act_of, advance_tests, then_done, advanced, answer_tests, answered, inlet_tests, does_wait, staying, taken_in, inlet_under, finish_tests, finished, is_spendable, spent, cancelled, ended}
+use Rattle.sched_rules.specs.Lone.{Outcome, unless, lone, lone_step, is_lower, raised, counted, holding, submit_tests, submitted, take_tests, steal_tests, taken_by, act_of, advance_tests, then_done, advanced, answer_tests, answered, inlet_tests, does_wait, staying, taken_in, inlet_under, finish_tests, finished, is_spendable, spent, cancelled, ended}
 use Rattle.sched_rules.specs.Runs.{tenant_of}
 use Rattle.sched_rules.specs.Views.{free_in}
-use Rattle.sched_rules.specs.Cores.{Shared, tenant_in, with_tenant, without_tenant, with_outcome, accounts_in, reservations_in, is_full, admit_tests, judged, shared_after, charged_in}
+use Rattle.sched_rules.specs.Cores.{Shared, tenant_in, with_tenant, without_tenant, with_outcome, accounts_in, reservations_in, is_full, reserved_by, is_beyond, admit_tests, judged, shared_after, charged_in}
 use Rattle.sched_rules.specs.Headline.{is_admission, after_answer, after_answers}
 use Rattle.sched_rules.proofs.Isolation.{there}
 use Rattle.sched_laws.specs.Shapes.{IsShaped, AreShaped, IsReservedWithin, IsCovered}
 use Rattle.sched_laws.proofs.Shaped.{unless-passed, frame-found}
 use Rattle.sched_laws.proofs.FitAnswers.{taken-alone, admission}
+use Rattle.sched_laws.proofs.Answers.{more-taken}
 
 abbrev Entries : Type 0
 Entries = List (ℕ × Tenant)
@@ -50,11 +51,11 @@ charged-total : (es : Entries) → charged_in es ≡ total (λ t. charged_for t.
 charged-total [] = refl
 charged-total (e ∷ es) = ap (λ (n : ℕ). charged_for e.1.frames + n) (charged-total es)
 
-total-same : (m : Tenant → ℕ) (n : ℕ) (old t : Tenant) (es : Entries) → tenant_in es n ≡ Some old → m t ≡ m old → total m (with_tenant n t es) ≡ total m es
-total-same m n old t [] at same = absurd cc
-total-same m n old t (e ∷ es) at same = elim (cases_Bool (eqb e.0 n)) [
-  | inl is ↦ (let both : Some e.1 ≡ Some old = rw is at at in let own : e.1 ≡ old = cc in rw is (ap (λ (k : ℕ). k + total m es) (same ∙ ap m (sym own))))
-  | inr other ↦ rw other (ap (λ (k : ℕ). m e.1 + k) (total-same m n old t es (rw other at at) same))
+total-changed : (m : Tenant → ℕ) (n : ℕ) (old t : Tenant) (es : Entries) → tenant_in es n ≡ Some old → total m (with_tenant n t es) + m old ≡ total m es + m t
+total-changed m n old t [] at = absurd cc
+total-changed m n old t (e ∷ es) at = elim (cases_Bool (eqb e.0 n)) [
+  | inl is ↦ (let both : Some e.1 ≡ Some old = rw is at at in let own : e.1 ≡ old = cc in let same = ap m own in rw is (omega (arith, same)))
+  | inr other ↦ (let rest = total-changed m n old t es (rw other at at) in rw other (omega (arith, rest)))
 ]
 
 total-more : (m : Tenant → ℕ) (n : ℕ) (t : Tenant) (es : Entries) → total m (with_tenant n t es) ≤ total m es + m t
@@ -105,25 +106,27 @@ cancel-reserve tenant (Some (Done words)) outcome is = refused-reserve tenant.re
 cancel-reserve tenant (Some SpentJob) outcome is = refused-reserve tenant.reserve NoJob outcome is
 cancel-reserve tenant (Some CancelledJob) outcome is = refused-reserve tenant.reserve NoJob outcome is
 
-pub step-reserve : {I A : Type 0} (functions : Functions I A) (tenant : Tenant) (step : StepOf A) (outcome : Outcome I) → lone_step functions tenant step ≡ Ok outcome → KeepsReserve tenant.reserve outcome.0
-step-reserve functions tenant (Admit number quota) outcome is = refused-reserve tenant.reserve OldTenant outcome is
-step-reserve {I} functions tenant (Submit number words size) outcome is =
+-- every step but an admission of more
+pub step-reserve : {I A : Type 0} (functions : Functions I A) (tenant : Tenant) (step : StepOf A) (outcome : Outcome I) → is_admission step ≡ false → lone_step functions tenant step ≡ Ok outcome → KeepsReserve tenant.reserve outcome.0
+step-reserve functions tenant (Admit number quota) outcome no_admission is = refused-reserve tenant.reserve OldTenant outcome is
+step-reserve functions tenant (AdmitMore number quota) outcome no_admission is = absurd cc
+step-reserve {I} functions tenant (Submit number words size) outcome no_admission is =
     let p = unless-passed (submit_tests tenant words size) (submitted {I = I} tenant number words size) outcome is in came-reserve tenant.reserve (submitted tenant number words size) outcome p.1 refl
-step-reserve {I} functions tenant (Take worker name) outcome is =
+step-reserve {I} functions tenant (Take worker name) outcome no_admission is =
     let f = frame-found tenant.frames name.serial (λ frame. unless (take_tests tenant worker frame) (taken_by tenant worker frame)) outcome is in
     let p = unless-passed (take_tests tenant worker f.0) (taken_by {I = I} tenant worker f.0) outcome f.2 in came-reserve tenant.reserve (taken_by tenant worker f.0) outcome p.1 refl
-step-reserve {I} functions tenant (Steal worker from name) outcome is =
+step-reserve {I} functions tenant (Steal worker from name) outcome no_admission is =
     let f = frame-found tenant.frames name.serial (λ frame. unless (steal_tests tenant worker from frame) (taken_by tenant worker frame)) outcome is in
     let p = unless-passed (steal_tests tenant worker from f.0) (taken_by {I = I} tenant worker f.0) outcome f.2 in came-reserve tenant.reserve (taken_by tenant worker f.0) outcome p.1 refl
-step-reserve functions tenant (Advance worker name) outcome is =
+step-reserve functions tenant (Advance worker name) outcome no_admission is =
     let f = frame-found tenant.frames name.serial (λ frame. unless (advance_tests tenant worker frame (act_of functions tenant frame)) (advanced functions tenant worker name frame (act_of functions tenant frame))) outcome is in
     let act = act_of functions tenant f.0 in
     let p = unless-passed (advance_tests tenant worker f.0 act) (advanced functions tenant worker name f.0 act) outcome f.2 in
     came-reserve tenant.reserve (advanced functions tenant worker name f.0 act) outcome p.1 (then-reserve functions (counted (holding f.0.serial _ tenant)) worker name f.0.path _ act.after)
-step-reserve functions tenant (Answer worker name answer) outcome is =
+step-reserve functions tenant (Answer worker name answer) outcome no_admission is =
     let f = frame-found tenant.frames name.serial (λ frame. unless (answer_tests functions tenant worker frame answer) (answered functions tenant worker frame answer)) outcome is in
     let p = unless-passed (answer_tests functions tenant worker f.0 answer) (answered functions tenant worker f.0 answer) outcome f.2 in came-reserve tenant.reserve (answered functions tenant worker f.0 answer) outcome p.1 refl
-step-reserve {I} functions tenant (Inlet worker name) outcome is =
+step-reserve {I} functions tenant (Inlet worker name) outcome no_admission is =
     let f = frame-found tenant.frames name.serial (λ frame. inlet_under functions tenant worker name frame (parent_of frame.path)) outcome is in by f.0 (parent_of f.0.path) f.2
   where
     by : (f : Frame (List ℕ)) (parent : Option ℕ) → inlet_under functions tenant worker name f parent ≡ Ok outcome → KeepsReserve tenant.reserve outcome.0
@@ -131,20 +134,20 @@ step-reserve {I} functions tenant (Inlet worker name) outcome is =
     by f (Some parent) e =
         let act = functions.inlet (words_in tenant.frames parent) f.value in
         let p = unless-passed (inlet_tests tenant worker f parent act) (taken_in {I = I} tenant worker name parent act) outcome e in came-reserve tenant.reserve (taken_in tenant worker name parent act) outcome p.1 (inlet-reserve I tenant worker name parent act)
-step-reserve {I} functions tenant (Finish worker name) outcome is =
+step-reserve {I} functions tenant (Finish worker name) outcome no_admission is =
     let f = frame-found tenant.frames name.serial (λ frame. unless (finish_tests tenant worker frame) (finished tenant frame)) outcome is in
     let p = unless-passed (finish_tests tenant worker f.0) (finished {I = I} tenant f.0) outcome f.2 in came-reserve tenant.reserve (finished tenant f.0) outcome p.1 refl
-step-reserve {I} functions tenant (Spend name) outcome is =
+step-reserve {I} functions tenant (Spend name) outcome no_admission is =
     let f = frame-found tenant.frames name.serial (λ frame. unless ((not (is_spendable functions tenant frame), NotSpent) ∷ []) (spent tenant frame)) outcome is in
     let p = unless-passed ((not (is_spendable functions tenant f.0), NotSpent) ∷ []) (spent {I = I} tenant f.0) outcome f.2 in came-reserve tenant.reserve (spent tenant f.0) outcome p.1 refl
-step-reserve functions tenant (Cancel number job) outcome is = cancel-reserve tenant (job_at tenant.jobs job) outcome is
-step-reserve {I} functions tenant (Leave number) outcome is =
+step-reserve functions tenant (Cancel number job) outcome no_admission is = cancel-reserve tenant (job_at tenant.jobs job) outcome is
+step-reserve {I} functions tenant (Leave number) outcome no_admission is =
     let e : ◌≡◌ {A = Result (Outcome I) Refusal} (Ok (None, Left)) (Ok outcome) = is in let own : ◌≡◌ {A = Outcome I} (None, Left) outcome = cc in came-reserve tenant.reserve (None, Left) outcome own tt
 
 -- a number that goes by what is reserved, after a tenant came to this
 outcome-total : (m : Quota → ℕ) (n : ℕ) (old : Tenant) (o : Option Tenant) (es : Entries) → tenant_in es n ≡ Some old → KeepsReserve old.reserve o → total (λ t. m t.reserve) (with_outcome n o es) ≤ total (λ t. m t.reserve) es
 outcome-total m n old None es at keeps = total-less (λ t. m t.reserve) n es
-outcome-total m n old (Some t) es at keeps = let same = total-same (λ u. m u.reserve) n old t es at (ap m keeps) in omega (arith, same)
+outcome-total m n old (Some t) es at keeps = let changed = total-changed (λ u. m u.reserve) n old t es at in let same = ap m keeps in omega (arith, changed, same)
 
 -- a taken step keeps the reservations within the totals
 room : (m : Quota → ℕ) (number : ℕ) (quota : Quota) (es : Entries) (most : ℕ) → total (λ t. m t.reserve) es + m quota ≤ most → total (λ t. m t.reserve) (with_tenant number (admitted_with quota) es) ≤ most
@@ -170,6 +173,81 @@ admit-within {I} functions before number quota outcome is within =
     second : (a b : Bool) → (a || (b || false)) ≡ false → b ≡ false
     second a b e = (or_parts b false (or_parts a (b || false) e).1).0
 
+-- the totals with a further reservation in the place of the tenant's own
+further : (m : Quota → ℕ) (number : ℕ) (old : Tenant) (quota : Quota) (es : Entries) → tenant_in es number ≡ Some old →
+    total (λ t. m t.reserve) (with_tenant number (record old { reserve = quota }) es) + m old.reserve ≡ total (λ t. m t.reserve) es + m quota
+further m number old quota es at = total-changed (λ t. m t.reserve) number old (record old { reserve = quota }) es at
+
+-- a total allows it, as is_beyond tests it
+allowed : (most own all asked : ℕ) → ltb (most + own) (all + asked) ≡ false → all + asked ≤ most + own
+allowed most own all asked is = ltb-false (most + own) (all + asked) is
+
+pub further-within : (before : Shared) (number : ℕ) (quota : Quota) (old : Tenant) → tenant_in before.tenants number ≡ Some old → is_beyond (reservations_in before) old.reserve quota ≡ false →
+    (total (λ t. t.reserve.segments) (with_tenant number (record old { reserve = quota }) before.tenants) ≤ before.totals.segments) × (total (λ t. t.reserve.nodes) (with_tenant number (record old { reserve = quota }) before.tenants) ≤ before.totals.nodes)
+further-within before number quota old at enough =
+    let book = reservations_in before in
+    let own = old.reserve in
+    let p = or_parts (ltb (book.segments + own.segments) (reserved_segments book.accounts + quota.segments)) (ltb (book.nodes + own.nodes) (reserved_nodes book.accounts + quota.nodes)) enough in
+    let segments = allowed book.segments own.segments (reserved_segments book.accounts) quota.segments p.0 in
+    let nodes = allowed book.nodes own.nodes (reserved_nodes book.accounts) quota.nodes p.1 in
+    let all_segments = segments-total before.tenants in
+    let all_nodes = nodes-total before.tenants in
+    let a = further (λ q. q.segments) number old quota before.tenants at in
+    let b = further (λ q. q.nodes) number old quota before.tenants at in
+    (omega (arith, segments, all_segments, a), omega (arith, nodes, all_nodes, b))
+
+-- and it does only there
+no-further : (most own all asked now : ℕ) → now + own ≡ all + asked → now ≤ most → ltb (most + own) (all + asked) ≡ false
+no-further most own all asked now is le = le-ltb (most + own) (all + asked) (omega (arith, is, le))
+
+pub beyond-exactly : (before : Shared) (number : ℕ) (old : Tenant) (quota : Quota) → tenant_in before.tenants number ≡ Some old →
+    (is_beyond (reservations_in before) old.reserve quota ≡ false) ↔ IsReservedWithin (record before { tenants = with_tenant number (record old { reserve = quota }) before.tenants })
+beyond-exactly before number old quota at = (forth, back)
+  where
+    after : Entries
+    after = with_tenant number (record old { reserve = quota }) before.tenants
+
+    forth : is_beyond (reservations_in before) old.reserve quota ≡ false → IsReservedWithin (record before { tenants = after })
+    forth enough =
+        let both = further-within before number quota old at enough in
+        let e = segments-total after in
+        let f = nodes-total after in
+        record { segments = omega (arith, both.0, e); nodes = omega (arith, both.1, f) }
+
+    back : IsReservedWithin (record before { tenants = after }) → is_beyond (reservations_in before) old.reserve quota ≡ false
+    back within =
+        let book = reservations_in before in
+        let s = within.segments in
+        let n = within.nodes in
+        let a = further (λ q. q.segments) number old quota before.tenants at in
+        let b = further (λ q. q.nodes) number old quota before.tenants at in
+        let all_segments = segments-total before.tenants in
+        let all_nodes = nodes-total before.tenants in
+        let e = segments-total after in
+        let f = nodes-total after in
+        rw (
+          no-further book.segments old.reserve.segments (reserved_segments book.accounts) quota.segments (total (λ t. t.reserve.segments) after) (omega (arith, a, all_segments)) (omega (arith, s, e)),
+          no-further book.nodes old.reserve.nodes (reserved_nodes book.accounts) quota.nodes (total (λ t. t.reserve.nodes) after) (omega (arith, b, all_nodes)) (omega (arith, n, f)),
+        ) refl
+
+more-within : {I A : Type 0} (functions : Functions I A) (before : Shared) (number : ℕ) (quota : Quota) (outcome : Outcome I) → judged {A = A} functions before (AdmitMore number quota) ≡ Ok outcome → IsReservedWithin before →
+    (total (λ t. t.reserve.segments) (with_outcome number outcome.0 before.tenants) ≤ before.totals.segments) × (total (λ t. t.reserve.nodes) (with_outcome number outcome.0 before.tenants) ≤ before.totals.nodes)
+more-within {I} {A} functions before number quota outcome is within = by (tenant_in before.tenants number) refl
+  where
+    found : (is_beyond (reservations_in before) (reserved_by (tenant_in before.tenants number)) quota ≡ false) × (lone {A = A} functions (tenant_in before.tenants number) (AdmitMore number quota) ≡ Ok outcome)
+    found = more-taken {A = A} functions before number quota outcome is
+
+    alone : (own : Option Tenant) → tenant_in before.tenants number ≡ own → lone {A = A} functions own (AdmitMore number quota) ≡ Ok outcome
+    alone own at = ap (λ o. lone {A = A} functions o (AdmitMore number quota)) (sym at) ∙ found.1
+
+    by : (own : Option Tenant) → tenant_in before.tenants number ≡ own → (total (λ t. t.reserve.segments) (with_outcome number outcome.0 before.tenants) ≤ before.totals.segments) × (total (λ t. t.reserve.nodes) (with_outcome number outcome.0 before.tenants) ≤ before.totals.nodes)
+    by None at = (let e : ◌≡◌ {A = Result (Outcome I) Refusal} (Err NoTenant) (Ok outcome) = alone None at in absurd cc)
+    by (Some old) at =
+        let p = unless-passed ((is_lower old.reserve quota, Lower) ∷ []) (raised {I = I} old quota) outcome (alone (Some old) at) in
+        let P : Outcome I → Type 0 = λ o. (total (λ t. t.reserve.segments) (with_outcome number o.0 before.tenants) ≤ before.totals.segments) × (total (λ t. t.reserve.nodes) (with_outcome number o.0 before.tenants) ≤ before.totals.nodes) in
+        let enough = ap (λ o. is_beyond (reservations_in before) (reserved_by o) quota) (sym at) ∙ found.0 in
+        subst P p.1 (further-within before number quota old at enough)
+
 step-within : {I A : Type 0} (functions : Functions I A) (before : Shared) (step : StepOf A) (outcome : Outcome I) → is_admission step ≡ false → judged functions before step ≡ Ok outcome → IsReservedWithin before →
     (total (λ t. t.reserve.segments) (with_outcome (tenant_of step) outcome.0 before.tenants) ≤ before.totals.segments) × (total (λ t. t.reserve.nodes) (with_outcome (tenant_of step) outcome.0 before.tenants) ≤ before.totals.nodes)
 step-within functions before step outcome no_admission is within = by (tenant_in before.tenants (tenant_of step)) refl
@@ -180,7 +258,7 @@ step-within functions before step outcome no_admission is within = by (tenant_in
     by : (own : Option Tenant) → tenant_in before.tenants (tenant_of step) ≡ own → (total (λ t. t.reserve.segments) (with_outcome (tenant_of step) outcome.0 before.tenants) ≤ before.totals.segments) × (total (λ t. t.reserve.nodes) (with_outcome (tenant_of step) outcome.0 before.tenants) ≤ before.totals.nodes)
     by None at = absurd (there functions None step outcome no_admission (ap (λ o. lone functions o step) (sym at) ∙ alone) refl)
     by (Some tenant) at =
-        let keeps = step-reserve functions tenant step outcome (ap (λ o. lone functions o step) (sym at) ∙ alone) in
+        let keeps = step-reserve functions tenant step outcome no_admission (ap (λ o. lone functions o step) (sym at) ∙ alone) in
         let a = outcome-total (λ q. q.segments) (tenant_of step) tenant outcome.0 before.tenants at keeps in
         let b = outcome-total (λ q. q.nodes) (tenant_of step) tenant outcome.0 before.tenants at keeps in
         let c = within.segments in let d = within.nodes in
@@ -192,9 +270,11 @@ after-within functions before step (Err refusal) is within = within
 after-within {I} {A} functions before step (Ok outcome) is within =
     let both = elim (cases_Bool (is_admission step)) as (λ _. (total (λ t. t.reserve.segments) (with_outcome (tenant_of step) outcome.0 before.tenants) ≤ before.totals.segments) × (total (λ t. t.reserve.nodes) (with_outcome (tenant_of step) outcome.0 before.tenants) ≤ before.totals.nodes)) [
       | inr no_admission ↦ step-within functions before step outcome no_admission is within
-      | inl admits ↦ (let a = admission step admits in
-          let P : StepOf A → Type 0 = λ st. (total (λ t. t.reserve.segments) (with_outcome (tenant_of st) outcome.0 before.tenants) ≤ before.totals.segments) × (total (λ t. t.reserve.nodes) (with_outcome (tenant_of st) outcome.0 before.tenants) ≤ before.totals.nodes) in
-          subst P (sym a.2) (admit-within functions before a.0 a.1 outcome (ap (judged functions before) (sym a.2) ∙ is) within))
+      | inl admits ↦ (let P : StepOf A → Type 0 = λ st. (total (λ t. t.reserve.segments) (with_outcome (tenant_of st) outcome.0 before.tenants) ≤ before.totals.segments) × (total (λ t. t.reserve.nodes) (with_outcome (tenant_of st) outcome.0 before.tenants) ≤ before.totals.nodes) in
+          elim (admission step admits) as (λ _. P step) [
+            | inl a ↦ subst P (sym a.2) (admit-within functions before a.0 a.1 outcome (ap (judged functions before) (sym a.2) ∙ is) within)
+            | inr m ↦ subst P (sym m.2) (more-within functions before m.0 m.1 outcome (ap (judged functions before) (sym m.2) ∙ is) within)
+          ])
     ] in
     let e = segments-total (with_outcome (tenant_of step) outcome.0 before.tenants) in
     let f = nodes-total (with_outcome (tenant_of step) outcome.0 before.tenants) in

@@ -5,7 +5,7 @@ use Rattle.sched_rules.specs.declared.job.Job.{Job}
 use Rattle.sched_rules.specs.declared.job.Job.TheVariants.{Live, Done, Spent as SpentJob, Cancelled as CancelledJob}
 use Rattle.sched_rules.specs.declared.refusal.Refusal.{Refusal}
 use Rattle.sched_rules.specs.declared.step.StepOf.{StepOf}
-use Rattle.sched_rules.specs.declared.step.StepOf.TheVariants.{Admit, Submit, Take, Steal, Advance, Answer, Inlet, Finish, Spend, Cancel, Leave}
+use Rattle.sched_rules.specs.declared.step.StepOf.TheVariants.{Admit, AdmitMore, Submit, Take, Steal, Advance, Answer, Inlet, Finish, Spend, Cancel, Leave}
 use Rattle.sched_rules.specs.declared.step.DidOf.{DidOf}
 use Rattle.sched_rules.specs.Functions.{Functions}
 use Rattle.sched_rules.specs.Trees.{Tree, Tenant, kept_words, words_in}
@@ -42,6 +42,7 @@ pub record CoreFits (fits : Fitting) (rooted : Rooting) (origins : ℕ → List 
 -- the words that a step submits a job with, if it submits one
 abbrev pub submits : {A : Type 0} → StepOf A → List (List ℕ)
 submits (Admit number quota) = []
+submits (AdmitMore number quota) = []
 submits (Submit number words size) = words ∷ []
 submits (Take worker name) = []
 submits (Steal worker from name) = []
@@ -61,6 +62,7 @@ origins_of (step ∷ steps) = submits step ++ origins_of steps
 -- the new root of a step, if it submits one, fits and belongs to the words of the step
 abbrev pub RootFits : {A : Type 0} → Fitting → Rooting → StepOf A → Type 0
 RootFits fits rooted (Admit number quota) = Unit {0}
+RootFits fits rooted (AdmitMore number quota) = Unit {0}
 RootFits fits rooted (Submit number words size) = fits (padded words size) [] Neither × rooted words (padded words size)
 RootFits fits rooted (Take worker name) = Unit {0}
 RootFits fits rooted (Steal worker from name) = Unit {0}

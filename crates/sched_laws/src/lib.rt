@@ -19,7 +19,7 @@
 //!
 //! ```text
 //! // the core's contract: core.new.shared ≡ after_answer functions core.old.shared step answer
-//! core.step(alloc, &step)?;
+//! core.step(&step)?;
 //! // so each tenant that had its shape has it still
 //! every_tenant_keeps_its_shape::<P>();
 //! ```

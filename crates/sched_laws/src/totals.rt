@@ -1,11 +1,11 @@
 //! That nothing is cut off where what is left is worked out by subtraction.
-ghost use Rattle.std.specs.Prelude.{◌≡◌, ℕ, ◌+◌, ◌*◌, List, Result};
+ghost use Rattle.std.specs.Prelude.{◌≡◌, ◌↔◌, ℕ, ◌+◌, ◌*◌, false, List, Some, Result};
 ghost use Rattle.tenant_quota.specs.Quota.{Quota};
 ghost use Rattle.sched_rules.specs.declared.refusal.Refusal.{Refusal};
 ghost use Rattle.sched_rules.specs.declared.step.StepOf.{StepOf};
 ghost use Rattle.sched_rules.specs.declared.step.DidOf.{DidOf};
 ghost use Rattle.sched_rules.specs.Trees.{Tenant, left, charged_for};
-ghost use Rattle.sched_rules.specs.Cores.{Shared, charged_in, shared_by_nobody};
+ghost use Rattle.sched_rules.specs.Cores.{Shared, tenant_in, with_tenant, charged_in, reservations_in, is_beyond, shared_by_nobody};
 ghost use Rattle.sched_rules.specs.Headline.{after_answer, after_answers};
 ghost use Rattle.sched_rules.specs.Views.{free_in};
 ghost use Rattle.sched_laws.specs.Shapes.{IsShaped, AreShaped, IsReservedWithin, IsCovered};
@@ -19,6 +19,13 @@ pub fn reservations_stay_within_the_totals<P: Procedure>()
     ensures run { (procedure : P) (before : Shared) (steps : List (StepOf P.Answer)) (answers : List (Result (DidOf P.Input) Refusal)) →
         IsReservedWithin before → IsReservedWithin (after_answers (P.functions procedure) before steps answers) }
     ensures nobody { (totals : Quota) → IsReservedWithin (shared_by_nobody totals) }
+{}
+
+/// A further reservation is refused for the totals exactly where all reservations, with it in the place
+/// of the tenant's own, would pass one of them.
+pub fn more_is_beyond_exactly_where_a_total_is_passed()
+    ensures { (before : Shared) (number : ℕ) (tenant : Tenant) (quota : Quota) → tenant_in before.tenants number ≡ Some tenant →
+        (is_beyond (reservations_in before) tenant.reserve quota ≡ false ↔ IsReservedWithin (record before { tenants = with_tenant number (record tenant { reserve = quota }) before.tenants })) }
 {}
 
 /// What is left and what is used make up what is reserved; what is free and what is charged, the total.

@@ -5,20 +5,20 @@ use Rattle.std.proofs.lemmas.Bool.Decides.{nat_tests}
 use Rattle.sched_rules.specs.declared.refusal.Refusal.{Refusal}
 use Rattle.sched_rules.specs.declared.refusal.Refusal.TheVariants.{Busy, Full, OldTenant, OutOfMemory}
 use Rattle.sched_rules.specs.declared.step.StepOf.{StepOf}
-use Rattle.sched_rules.specs.declared.step.StepOf.TheVariants.{Admit, Submit, Take, Steal, Advance, Answer, Inlet, Finish, Spend, Cancel, Leave}
+use Rattle.sched_rules.specs.declared.step.StepOf.TheVariants.{Admit, AdmitMore, Submit, Take, Steal, Advance, Answer, Inlet, Finish, Spend, Cancel, Leave}
 use Rattle.sched_rules.specs.declared.step.DidOf.{DidOf}
 use Rattle.sched_rules.specs.declared.step.DidOf.TheVariants.{Admitted}
 use Rattle.sched_rules.specs.declared.refusal.Refusal.TheVariants.{NotSpent}
 use Rattle.frame_table.specs.declared.names.FrameId.{FrameId}
 use Rattle.frame_table.specs.Frames.{Frame, frame_at}
-use Rattle.std.specs.Prelude.{not}
+use Rattle.std.specs.Prelude.{not, ◌&&◌}
 use Rattle.sched_rules.specs.Functions.{Functions}
 use Rattle.sched_rules.specs.Trees.{Tenant, admitted_with}
-use Rattle.sched_rules.specs.Lone.{Outcome, lone, lone_refusal, refusal_in, unless, is_spendable, IsSpendable}
+use Rattle.sched_rules.specs.Lone.{Outcome, lone, lone_refusal, refusal_in, unless, is_lower, is_spendable, IsSpendable}
 use Rattle.sched_rules.specs.Runs.{tenant_of, only, state_after, answer_of, alone_from, answers_from}
-use Rattle.tenant_quota.specs.Quota.{Quota}
-use Rattle.tenant_quota.specs.Reservations.{Reservations, IsFull}
-use Rattle.sched_rules.specs.Cores.{Shared, tenant_in, meets_busy, unless_busy, judged, step_among, newest_after, shared_with, is_full, reservations_in}
+use Rattle.tenant_quota.specs.Quota.{Quota, IsNotAbove}
+use Rattle.tenant_quota.specs.Reservations.{Reservations, IsFull, IsBeyond}
+use Rattle.sched_rules.specs.Cores.{Shared, tenant_in, meets_busy, unless_busy, judged, step_among, newest_after, shared_with, is_full, is_beyond, unless_beyond, reserved_by, reservations_in}
 use Rattle.sched_rules.specs.Headline.{IsAnswerTo, IsAnswerToAdmit, IsAnswerToStep, after_answer, after_answers, AreAnswersTo, taken, told, IsUndisturbed, IsHeadline, IsKnown, is_admission}
 use Rattle.sched_rules.proofs.Tenants.{tenant_in-with_outcome, tenant_in_other-with_outcome, taken-with_outcome, taken-above, tenant_in-new, known-number}
 
@@ -53,6 +53,7 @@ found false (Ok outcome) did own_state busy_worker else_taken = (outcome, refl, 
 pub there : {I A : Type 0} (functions : Functions I A) (own : Option Tenant) (step : StepOf A) (outcome : Outcome I) → is_admission step ≡ false → lone functions own step ≡ Ok outcome → own ≢ None
 there functions (Some tenant) step outcome no_admission taken = λ e. cc
 there functions None (Admit number quota) outcome no_admission taken = absurd cc
+there functions None (AdmitMore number quota) outcome no_admission taken = absurd cc
 there functions None (Submit number words size) outcome no_admission taken = absurd cc
 there functions None (Take worker name) outcome no_admission taken = absurd cc
 there functions None (Steal worker from name) outcome no_admission taken = absurd cc
@@ -67,6 +68,7 @@ there functions None (Leave number) outcome no_admission taken = absurd cc
 -- a step that is no admission leaves the greatest number as it was
 pub newest-stays : {A : Type 0} (newest : ℕ) (step : StepOf A) → is_admission step ≡ false → newest_after newest step ≡ newest
 newest-stays newest (Admit number quota) no_admission = absurd cc
+newest-stays newest (AdmitMore number quota) no_admission = absurd cc
 newest-stays newest (Submit number words size) no_admission = refl
 newest-stays newest (Take worker name) no_admission = refl
 newest-stays newest (Steal worker from name) no_admission = refl
@@ -81,6 +83,7 @@ newest-stays newest (Leave number) no_admission = refl
 -- and is judged by its own tenant's state and the busy workers
 pub judged-step : {I A : Type 0} (functions : Functions I A) (before : Shared) (step : StepOf A) → is_admission step ≡ false → judged functions before step ≡ step_among functions before step
 judged-step functions before (Admit number quota) no_admission = absurd cc
+judged-step functions before (AdmitMore number quota) no_admission = absurd cc
 judged-step functions before (Submit number words size) no_admission = refl
 judged-step functions before (Take worker name) no_admission = refl
 judged-step functions before (Steal worker from name) no_admission = refl
@@ -125,9 +128,37 @@ pub above : (number newest : ℕ) → ((number == 0) || nat_le number newest || 
 above number newest is_new = grind (arith, nat_tests)
 
 -- what it did
-admitted-did : {I : Type 0} (did : DidOf I) → (◌≡◌ {A = Result (DidOf I) Refusal} (Ok did) (Ok Admitted)) ⊎ (◌≡◌ {A = Result (DidOf I) Refusal} (Ok did) (Err OutOfMemory)) → Admitted ≡ did
-admitted-did did (inl e) = did-Ok did Admitted e
-admitted-did did (inr e) = absurd cc
+admitted-did : {I : Type 0} (did : DidOf I) (judged : Result (Outcome I) Refusal) (outcome : Outcome I) → judged ≡ Ok outcome →
+    (◌≡◌ {A = Result (DidOf I) Refusal} (Ok did) (answer_of judged)) ⊎ (◌≡◌ {A = Result (DidOf I) Refusal} (Ok did) (Err OutOfMemory)) → outcome.1 ≡ did
+admitted-did did judged outcome is (inl e) = did-Ok did outcome.1 (rw is at e)
+admitted-did did judged outcome is (inr e) = absurd cc
+
+-- an admission of more that was taken, over what it comes to alone and whether the totals allow it
+more-found : {I : Type 0} (beyond : Bool) (alone : Result (Outcome I) Refusal) (did : DidOf I) →
+    ((refusal : Refusal) → refusal_in (unless_beyond beyond alone) ≡ Some refusal → ◌≡◌ {A = Result (DidOf I) Refusal} (Ok did) (Err refusal)) →
+    (refusal_in (unless_beyond beyond alone) ≡ None → (◌≡◌ {A = Result (DidOf I) Refusal} (Ok did) (answer_of (unless_beyond beyond alone))) ⊎ (◌≡◌ {A = Result (DidOf I) Refusal} (Ok did) (Err OutOfMemory))) →
+    (outcome : Outcome I) × (unless_beyond beyond alone ≡ Ok outcome) × (alone ≡ Ok outcome) × (outcome.1 ≡ did)
+more-found {I = I} beyond (Err refusal) did refused else_taken = let e : ◌≡◌ {A = Result (DidOf I) Refusal} (Ok did) (Err refusal) = refused refusal refl in absurd cc
+more-found {I = I} true (Ok outcome) did refused else_taken = let e : ◌≡◌ {A = Result (DidOf I) Refusal} (Ok did) (Err Full) = refused Full refl in absurd cc
+more-found false (Ok outcome) did refused else_taken = (outcome, refl, refl, admitted-did did (Ok outcome) outcome refl (else_taken refl))
+
+-- it is of a tenant that is there
+pub more-there : {I A : Type 0} (functions : Functions I A) (own : Option Tenant) (number : ℕ) (quota : Quota) (outcome : Outcome I) → lone {A = A} functions own (AdmitMore number quota) ≡ Ok outcome → own ≢ None
+more-there functions None number quota outcome taken = absurd cc
+more-there functions (Some tenant) number quota outcome taken = λ e. cc
+
+admitted-more : {I A : Type 0} (functions : Functions I A) (before : Shared) (number : ℕ) (quota : Quota) (did : DidOf I) → IsKnown before →
+    IsAnswerToAdmit functions before (AdmitMore number quota) (Ok did) → IsTaken functions before (AdmitMore number quota) did
+admitted-more {A = A} functions before number quota did known right =
+    let own = tenant_in before.tenants number in
+    let f = more-found (is_beyond (reservations_in before) (reserved_by own) quota) (lone {A = A} functions own (AdmitMore number quota)) did right.refused right.else_taken in
+    record {
+      outcome = f.0;
+      among = f.1;
+      own = f.2;
+      same = f.3;
+      known = taken-with_outcome before.newest number f.0.0 before.tenants (known-number before.newest number before.tenants known (more-there {A = A} functions own number quota f.0 f.2)) known;
+    }
 
 -- an admission that was taken
 admitted : {I A : Type 0} (functions : Functions I A) (before : Shared) (number : ℕ) (quota : Quota) (did : DidOf I) → IsKnown before →
@@ -144,7 +175,7 @@ admitted {I = I} functions before number quota did known right =
       outcome = effect;
       among = taken;
       own = rw nothing refl;
-      same = admitted-did did (right.else_taken (rw taken refl));
+      same = admitted-did did (judged functions before (Admit number quota)) effect taken (right.else_taken (rw taken refl));
       known = taken-with_outcome number number (Some (admitted_with quota)) before.tenants (omega arith) (taken-above before.newest number before.tenants (omega arith) known);
     }
 
@@ -152,6 +183,7 @@ admitted {I = I} functions before number quota did known right =
 pub step-taken : {I A : Type 0} (functions : Functions I A) (before : Shared) (step : StepOf A) (did : DidOf I) → IsKnown before →
     IsAnswerTo functions before step (Ok did) → IsTaken functions before step did
 step-taken functions before (Admit number quota) did known right = admitted functions before number quota did known (right.0 refl)
+step-taken functions before (AdmitMore number quota) did known right = admitted-more functions before number quota did known (right.0 refl)
 step-taken functions before (Submit number words size) did known right = step-found functions before (Submit number words size) did refl known (right.1 refl)
 step-taken functions before (Take worker name) did known right = step-found functions before (Take worker name) did refl known (right.1 refl)
 step-taken functions before (Steal worker from name) did known right = step-found functions before (Steal worker from name) did refl known (right.1 refl)
@@ -250,17 +282,12 @@ admission-refused : {I : Type 0} (judged : Result (Outcome I) Refusal) (refusal 
 admission-refused (Ok outcome) refusal e = absurd cc
 admission-refused (Err other) refusal e = cc
 
-admission-taken : {I : Type 0} (old full : Bool) (tenant : Option Tenant) →
-    refusal_in (unless {X = Outcome I} ((old, OldTenant) ∷ (full, Full) ∷ []) (tenant, Admitted)) ≡ None →
-    answer_of (unless {X = Outcome I} ((old, OldTenant) ∷ (full, Full) ∷ []) (tenant, Admitted)) ≡ Ok Admitted
-admission-taken false false tenant none = refl
-admission-taken true full tenant none = absurd cc
-admission-taken false true tenant none = absurd cc
-
 -- what is judged is a right answer
 pub right-answer : {I A : Type 0} (functions : Functions I A) (before : Shared) (step : StepOf A) → IsAnswerTo functions before step (answer_of (judged functions before step))
 right-answer functions before (Admit number quota) =
-    (λ is. record { refused = λ refusal e. admission-refused _ refusal e; else_taken = λ none. inl (admission-taken _ _ _ none) }, λ is_not. absurd cc)
+    (λ is. record { refused = λ refusal e. admission-refused _ refusal e; else_taken = λ none. inl refl }, λ is_not. absurd cc)
+right-answer functions before (AdmitMore number quota) =
+    (λ is. record { refused = λ refusal e. admission-refused _ refusal e; else_taken = λ none. inl refl }, λ is_not. absurd cc)
 right-answer functions before (Submit number words size) = (λ is. absurd cc, λ is_not. answer-step functions before (Submit number words size) refl)
 right-answer functions before (Take worker name) = (λ is. absurd cc, λ is_not. answer-step functions before (Take worker name) refl)
 right-answer functions before (Steal worker from name) = (λ is. absurd cc, λ is_not. answer-step functions before (Steal worker from name) refl)
@@ -283,6 +310,27 @@ full-back tenants segments wanted nodes asked is = grind (arith, nat_tests)
 
 pub is-full : (book : Reservations) (quota : Quota) → IsTrue (is_full book quota) ↔ IsFull book quota
 is-full book quota = (full-forth _ _ _ _ _, full-back _ _ _ _ _)
+
+-- the tests of an admission of more are the book's
+lower-forth : (segments nodes now_segments now_nodes : ℕ) → IsTrue (nat_lt segments now_segments || nat_lt nodes now_nodes || ((segments == now_segments) && (nodes == now_nodes))) →
+    (segments < now_segments) ⊎ ((nodes < now_nodes) ⊎ ((segments ≡ now_segments) × (nodes ≡ now_nodes)))
+lower-forth segments nodes now_segments now_nodes is = grind (arith, nat_tests)
+
+lower-back : (segments nodes now_segments now_nodes : ℕ) → (segments < now_segments) ⊎ ((nodes < now_nodes) ⊎ ((segments ≡ now_segments) × (nodes ≡ now_nodes))) →
+    IsTrue (nat_lt segments now_segments || nat_lt nodes now_nodes || ((segments == now_segments) && (nodes == now_nodes)))
+lower-back segments nodes now_segments now_nodes is = grind (arith, nat_tests)
+
+pub is-lower : (now quota : Quota) → IsTrue (is_lower now quota) ↔ IsNotAbove now quota
+is-lower now quota = (lower-forth _ _ _ _, lower-back _ _ _ _)
+
+beyond-forth : (segments wanted nodes asked : ℕ) → IsTrue (nat_lt segments wanted || nat_lt nodes asked) → (segments < wanted) ⊎ (nodes < asked)
+beyond-forth segments wanted nodes asked is = grind (arith, nat_tests)
+
+beyond-back : (segments wanted nodes asked : ℕ) → (segments < wanted) ⊎ (nodes < asked) → IsTrue (nat_lt segments wanted || nat_lt nodes asked)
+beyond-back segments wanted nodes asked is = grind (arith, nat_tests)
+
+pub is-beyond : (book : Reservations) (now quota : Quota) → IsTrue (is_beyond book now quota) ↔ IsBeyond book now quota
+is-beyond book now quota = (beyond-forth _ _ _ _, beyond-back _ _ _ _)
 
 -- the one test of a Spend
 spent-where : {X : Type 0} (spendable : Bool) (effect : X) → (refusal_in (unless ((not spendable, NotSpent) ∷ []) effect) ≡ None) ↔ IsTrue spendable

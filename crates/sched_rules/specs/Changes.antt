@@ -1,5 +1,6 @@
 -- One tenant of a core changed, and all others as they were.
 use Rattle.std.specs.Prelude.{ℕ, ◌==◌, List, [], ◌∷◌, ◌++◌, if◌then◌else◌}
+use Rattle.tenant_quota.specs.Quota.{Quota}
 use Rattle.frame_table.specs.Frames.{aborted, frames_without}
 use Rattle.sched_rules.specs.declared.job.Job.{Job}
 use Rattle.sched_rules.specs.Trees.{Tenant, with_ended}
@@ -13,6 +14,10 @@ with_change number change (entry ∷ entries) = if entry.0 == number then (entry
 -- the core, the tenant of this number changed so
 abbrev pub on_tenant : ℕ → (Tenant → Tenant) → Shared → Shared
 on_tenant number change shared = record shared { tenants = with_change number change shared.tenants }
+
+-- the tenant with another reservation
+abbrev pub with_reserve : Quota → Tenant → Tenant
+with_reserve quota tenant = record tenant { reserve = quota }
 
 -- the tenant without one frame
 abbrev pub without_frame : ℕ → Tenant → Tenant

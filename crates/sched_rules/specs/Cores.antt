@@ -7,7 +7,7 @@ use Rattle.tenant_quota.specs.declared.account.Account.{Account}
 use Rattle.sched_rules.specs.declared.refusal.Refusal.{Refusal}
 use Rattle.sched_rules.specs.declared.refusal.Refusal.TheVariants.{Busy, Full, OldTenant}
 use Rattle.sched_rules.specs.declared.step.StepOf.{StepOf}
-use Rattle.sched_rules.specs.declared.step.StepOf.TheVariants.{Admit, Submit, Take, Steal, Advance, Answer, Inlet, Finish, Spend, Cancel, Leave}
+use Rattle.sched_rules.specs.declared.step.StepOf.TheVariants.{Admit, AdmitMore, Submit, Take, Steal, Advance, Answer, Inlet, Finish, Spend, Cancel, Leave}
 use Rattle.sched_rules.specs.declared.step.DidOf.TheVariants.{Admitted}
 use Rattle.sched_rules.specs.Functions.{Functions}
 use Rattle.sched_rules.specs.Trees.{Tenant, admitted_with, account_in, charged_for, is_busy_in}
@@ -62,6 +62,7 @@ IsBusyElsewhere worker number entries = IsTrue (is_busy_elsewhere worker number 
 -- the steps that ask for a free worker: Take, Steal, Inlet and Finish; whether theirs is busy elsewhere
 abbrev pub meets_busy : {A : Type 0} → StepOf A → List (ℕ × Tenant) → Bool
 meets_busy (Admit number quota) entries = false
+meets_busy (AdmitMore number quota) entries = false
 meets_busy (Submit number words size) entries = false
 meets_busy (Take worker name) entries = is_busy_elsewhere worker name.tenant entries
 meets_busy (Steal worker from name) entries = is_busy_elsewhere worker name.tenant entries
@@ -96,6 +97,22 @@ admit_tests shared number quota =
     ∷ (is_full (reservations_in shared) quota, Full)
     ∷ []
 
+-- what a tenant that is there reserves, which frees as much for a further reservation of its own
+abbrev pub reserved_by : Option Tenant → Quota
+reserved_by None = record { segments = 0; nodes = 0 }
+reserved_by (Some tenant) = tenant.reserve
+
+-- AdmitMore: whether a total doesn't allow the reservation in the place of the tenant's own
+abbrev pub is_beyond : Reservations → Quota → Quota → Bool
+is_beyond book own quota =
+    nat_lt (book.segments + own.segments) (reserved_segments book.accounts + quota.segments)
+    || nat_lt (book.nodes + own.nodes) (reserved_nodes book.accounts + quota.nodes)
+
+-- what its own tenant's state makes of a step, unless the totals don't allow it
+abbrev pub unless_beyond : {I : Type 0} → Bool → Result (Outcome I) Refusal → Result (Outcome I) Refusal
+unless_beyond beyond (Err refusal) = Err refusal
+unless_beyond beyond (Ok outcome) = if beyond then Err Full else Ok outcome
+
 -- what its own tenant's state makes of a step, unless its worker is busy elsewhere
 abbrev pub unless_busy : {I : Type 0} → Bool → Result (Outcome I) Refusal → Result (Outcome I) Refusal
 unless_busy busy (Err refusal) = Err refusal
@@ -109,6 +126,9 @@ step_among functions shared step =
 -- one step among several tenants, where memory isn't wanting: what its tenant comes to with what it did, or one refusal
 abbrev pub judged : {I A : Type 0} → Functions I A → Shared → StepOf A → Result (Outcome I) Refusal
 judged functions shared (Admit number quota) = unless (admit_tests shared number quota) (Some (admitted_with quota), Admitted)
+judged functions shared (AdmitMore number quota) =
+    unless_beyond (is_beyond (reservations_in shared) (reserved_by (tenant_in shared.tenants number)) quota)
+    (lone functions (tenant_in shared.tenants number) (AdmitMore number quota))
 judged functions shared (Submit number words size) = step_among functions shared (Submit number words size)
 judged functions shared (Take worker name) = step_among functions shared (Take worker name)
 judged functions shared (Steal worker from name) = step_among functions shared (Steal worker from name)
@@ -123,6 +143,7 @@ judged functions shared (Leave number) = step_among functions shared (Leave numb
 -- the greatest number of a tenant so far, after a taken step
 abbrev pub newest_after : {A : Type 0} → ℕ → StepOf A → ℕ
 newest_after newest (Admit number quota) = number
+newest_after newest (AdmitMore number quota) = newest
 newest_after newest (Submit number words size) = newest
 newest_after newest (Take worker name) = newest
 newest_after newest (Steal worker from name) = newest

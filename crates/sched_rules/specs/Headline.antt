@@ -4,9 +4,8 @@ use Rattle.std.specs.Prelude.{◌≡◌, ℕ, ◌≤◌, ◌⊎◌, Bool, true, 
 use Rattle.sched_rules.specs.declared.refusal.Refusal.{Refusal}
 use Rattle.sched_rules.specs.declared.refusal.Refusal.TheVariants.{Busy, OutOfMemory}
 use Rattle.sched_rules.specs.declared.step.StepOf.{StepOf}
-use Rattle.sched_rules.specs.declared.step.StepOf.TheVariants.{Admit, Submit, Take, Steal, Advance, Answer, Inlet, Finish, Spend, Cancel, Leave}
+use Rattle.sched_rules.specs.declared.step.StepOf.TheVariants.{Admit, AdmitMore, Submit, Take, Steal, Advance, Answer, Inlet, Finish, Spend, Cancel, Leave}
 use Rattle.sched_rules.specs.declared.step.DidOf.{DidOf}
-use Rattle.sched_rules.specs.declared.step.DidOf.TheVariants.{Admitted}
 use Rattle.sched_rules.specs.Functions.{Functions}
 use Rattle.sched_rules.specs.Trees.{Tenant}
 use Rattle.sched_rules.specs.Lone.{lone, lone_refusal}
@@ -35,14 +34,16 @@ pub record IsAnswerToStep {I A : Type 0} (functions : Functions I A) (before : S
   pub busy_worker : IsRefusedForBusyWorker functions before step answer
   pub else_taken : IsElseTaken functions before step answer
 
--- an admission stands apart: it is refused by OldTenant, else by Full, where these apply, and else it is taken, or memory is wanting
+-- an admission stands apart: it is refused by OldTenant, else by Full, where these apply (one of more by NoTenant, Lower, Full), and
+-- else it is taken, or memory is wanting
 pub record IsAnswerToAdmit {I A : Type 0} (functions : Functions I A) (before : Shared) (step : StepOf A) (answer : Result (DidOf I) Refusal) : Type 0 where
   pub refused : (refusal : Refusal) → shared_refusal functions before step ≡ Some refusal → answer ≡ Err refusal
-  pub else_taken : shared_refusal functions before step ≡ None → (answer ≡ Ok Admitted) ⊎ (answer ≡ Err OutOfMemory)
+  pub else_taken : shared_refusal functions before step ≡ None → (answer ≡ answer_of (judged functions before step)) ⊎ (answer ≡ Err OutOfMemory)
 
--- whether a step is an admission
+-- whether a step is an admission: of a new tenant, or of more for one that is there
 abbrev pub is_admission : {A : Type 0} → StepOf A → Bool
 is_admission (Admit number quota) = true
+is_admission (AdmitMore number quota) = true
 is_admission (Submit number words size) = false
 is_admission (Take worker name) = false
 is_admission (Steal worker from name) = false

@@ -1,6 +1,7 @@
 -- One step of one tenant that has the core to itself: the refusals in their order, and else what the step does.
 -- (Cilk 5.4 Reference Manual: spawn, sync, inlet, abort, work stealing.)
 use Rattle.std.specs.Prelude.{ℕ, ◌+◌, Bool, true, false, not, ◌||◌, ◌&&◌, ◌==◌, nat_lt, nat_le, List, [], ◌∷◌, ◌++◌, Option, Some, None, Result, Ok, Err, if◌then◌else◌, length, replicate, IsTrue}
+use Rattle.tenant_quota.specs.Quota.{Quota}
 use Rattle.cactus_stack.specs.Nodes.{charge, growth_charge, padded}
 use Rattle.frame_table.specs.declared.names.State.{State}
 use Rattle.frame_table.specs.declared.names.State.TheVariants.{Ready, Running, Computing, Waiting, Returned}
@@ -14,11 +15,11 @@ use Rattle.sched_rules.specs.declared.act.Then.TheVariants.{Grow, Spawn, Go, Wai
 use Rattle.sched_rules.specs.declared.job.Job.{Job}
 use Rattle.sched_rules.specs.declared.job.Job.TheVariants.{Live, Done, Spent as SpentJob, Cancelled as CancelledJob}
 use Rattle.sched_rules.specs.declared.refusal.Refusal.{Refusal}
-use Rattle.sched_rules.specs.declared.refusal.Refusal.TheVariants.{NoTenant, NoFrame, NotReady, NotHere, Busy, NotRunning, NotComputing, Mismatch, NotReturned, NoSegments, NoNodes, NoSteps, NoJobsLeft, BadAct, NotSpent, NoJob, OldTenant}
+use Rattle.sched_rules.specs.declared.refusal.Refusal.TheVariants.{NoTenant, NoFrame, NotReady, NotHere, Busy, NotRunning, NotComputing, Mismatch, NotReturned, NoSegments, NoNodes, NoSteps, NoJobsLeft, BadAct, NotSpent, NoJob, OldTenant, Lower}
 use Rattle.sched_rules.specs.declared.step.StepOf.{StepOf}
-use Rattle.sched_rules.specs.declared.step.StepOf.TheVariants.{Admit, Submit, Take, Steal, Advance, Answer, Inlet, Finish, Spend, Cancel, Leave}
+use Rattle.sched_rules.specs.declared.step.StepOf.TheVariants.{Admit, AdmitMore, Submit, Take, Steal, Advance, Answer, Inlet, Finish, Spend, Cancel, Leave}
 use Rattle.sched_rules.specs.declared.step.DidOf.{DidOf}
-use Rattle.sched_rules.specs.declared.step.DidOf.TheVariants.{Admitted, Submitted, Took, Went, Grew, Spawned, Waited, Computing as IsComputing, Returned as HasReturned, Answered, TakenIn, Finished, Spent, Cancelled, Left}
+use Rattle.sched_rules.specs.declared.step.DidOf.TheVariants.{Admitted, AdmittedMore, Submitted, Took, Went, Grew, Spawned, Waited, Computing as IsComputing, Returned as HasReturned, Answered, TakenIn, Finished, Spent, Cancelled, Left}
 use Rattle.sched_rules.specs.Functions.{Functions}
 use Rattle.sched_rules.specs.Trees.{Tree, Tenant, admitted_with, words_in, sight, left, with_words, stored, is_outside, has_child, is_busy_in, is_root, without_job, job_at, job_under, with_ended, kept_words}
 
@@ -68,6 +69,15 @@ ended root job tenant = record tenant { jobs = with_ended root job tenant.jobs; 
 -- whether a frame of this size can be opened with these words: the size is 1 to 128, and no more words than the size
 abbrev pub is_frame_size : List ℕ → ℕ → Bool
 is_frame_size words size = nat_le 1 size && nat_le size 128 && nat_le (length words) size
+
+-- whether a further reservation is below this one, or not above it
+abbrev pub is_lower : Quota → Quota → Bool
+is_lower now quota =
+    nat_lt quota.segments now.segments || nat_lt quota.nodes now.nodes || ((quota.segments == now.segments) && (quota.nodes == now.nodes))
+
+-- AdmitMore: what is reserved is this from now on
+abbrev pub raised : {I : Type 0} → Tenant → Quota → Outcome I
+raised tenant quota = (Some (record tenant { reserve = quota }), AdmittedMore)
 
 -- Submit: what is no frame, the 257th job, no node, too few segments
 abbrev pub submit_tests : Tenant → List ℕ → ℕ → List (Bool × Refusal)
@@ -332,6 +342,7 @@ at_frame (Some frame) step = step frame
 -- a step of a tenant that is there
 abbrev pub lone_step : {I A : Type 0} → Functions I A → Tenant → StepOf A → Result (Outcome I) Refusal
 lone_step functions tenant (Admit number quota) = Err OldTenant
+lone_step functions tenant (AdmitMore number quota) = unless ((is_lower tenant.reserve quota, Lower) ∷ []) (raised tenant quota)
 lone_step functions tenant (Submit number words size) = unless (submit_tests tenant words size) (submitted tenant number words size)
 lone_step functions tenant (Take worker name) =
     at_frame (frame_at tenant.frames name.serial) (λ frame. unless (take_tests tenant worker frame) (taken_by tenant worker frame))
@@ -355,6 +366,7 @@ lone_step functions tenant (Leave number) = Ok (None, Left)
 -- a step from nothing: an admission is taken, and nothing else
 abbrev pub first_step : {I A : Type 0} → StepOf A → Result (Outcome I) Refusal
 first_step (Admit number quota) = Ok (Some (admitted_with quota), Admitted)
+first_step (AdmitMore number quota) = Err NoTenant
 first_step (Submit number words size) = Err NoTenant
 first_step (Take worker name) = Err NoTenant
 first_step (Steal worker from name) = Err NoTenant

@@ -2,7 +2,7 @@
 use Rattle.std.specs.Prelude.{ℕ, ◌==◌, List, [], ◌∷◌, Option, None, Result, Ok, Err, filter}
 use Rattle.sched_rules.specs.declared.refusal.Refusal.{Refusal}
 use Rattle.sched_rules.specs.declared.step.StepOf.{StepOf}
-use Rattle.sched_rules.specs.declared.step.StepOf.TheVariants.{Admit, Submit, Take, Steal, Advance, Answer, Inlet, Finish, Spend, Cancel, Leave}
+use Rattle.sched_rules.specs.declared.step.StepOf.TheVariants.{Admit, AdmitMore, Submit, Take, Steal, Advance, Answer, Inlet, Finish, Spend, Cancel, Leave}
 use Rattle.sched_rules.specs.declared.step.DidOf.{DidOf}
 use Rattle.sched_rules.specs.Functions.{Functions}
 use Rattle.sched_rules.specs.Trees.{Tenant}
@@ -11,6 +11,7 @@ use Rattle.sched_rules.specs.Lone.{Outcome, lone}
 -- whose step it is
 abbrev pub tenant_of : {A : Type 0} → StepOf A → ℕ
 tenant_of (Admit number quota) = number
+tenant_of (AdmitMore number quota) = number
 tenant_of (Submit number words size) = number
 tenant_of (Take worker name) = name.tenant
 tenant_of (Steal worker from name) = name.tenant

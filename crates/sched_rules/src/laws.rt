@@ -3,16 +3,16 @@ ghost use Rattle.std.specs.Prelude.{◌≡◌, ◌↔◌, ℕ, List, Some, None,
 ghost use Rattle.sched_rules.specs.declared.refusal.Refusal.{Refusal};
 ghost use Rattle.sched_rules.specs.declared.step.StepOf.{StepOf};
 ghost use Rattle.sched_rules.specs.declared.step.DidOf.{DidOf};
-ghost use Rattle.sched_rules.specs.Cores.{Shared, judged, is_full};
+ghost use Rattle.sched_rules.specs.Cores.{Shared, judged, is_full, is_beyond};
 ghost use Rattle.sched_rules.specs.Runs.{answer_of};
-ghost use Rattle.tenant_quota.specs.Quota.{Quota};
-ghost use Rattle.tenant_quota.specs.Reservations.{Reservations, IsFull};
+ghost use Rattle.tenant_quota.specs.Quota.{Quota, IsNotAbove};
+ghost use Rattle.tenant_quota.specs.Reservations.{Reservations, IsFull, IsBeyond};
 ghost use Rattle.sched_rules.specs.Headline.{AreAnswersTo, IsHeadline, IsAnswerTo, IsKnown, after_answers};
 ghost use Rattle.frame_table.specs.declared.names.FrameId.{FrameId};
 ghost use Rattle.frame_table.specs.Frames.{Frame, frame_at};
 ghost use Rattle.sched_rules.specs.declared.step.StepOf.TheVariants.{Spend};
 ghost use Rattle.sched_rules.specs.Trees.{Tenant};
-ghost use Rattle.sched_rules.specs.Lone.{IsSpendable, lone_refusal};
+ghost use Rattle.sched_rules.specs.Lone.{IsSpendable, is_lower, lone_refusal};
 
 use crate::procedure::Procedure;
 
@@ -32,6 +32,12 @@ pub fn each_step_has_a_right_answer<P: Procedure>()
 /// The test of an admission is that of the book of reservations.
 pub fn fullness_is_the_book_s()
     ensures { (book : Reservations) (quota : Quota) → IsTrue (is_full book quota) ↔ IsFull book quota }
+{}
+
+/// The tests of an admission of more are those of the book of reservations.
+pub fn more_is_tested_as_by_the_book()
+    ensures lower { (now quota : Quota) → IsTrue (is_lower now quota) ↔ IsNotAbove now quota }
+    ensures beyond { (book : Reservations) (now quota : Quota) → IsTrue (is_beyond book now quota) ↔ IsBeyond book now quota }
 {}
 
 /// A tenant's job is given up exactly where the frame that is named is spendable.

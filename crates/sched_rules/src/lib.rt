@@ -44,6 +44,3 @@ pub use procedure::Procedure;
 pub use refusal::Refusal;
 pub use step::{Did, DidOf, Step, StepOf};
 pub use worker::Worker;
-
-#[cfg(test)]
-mod tests;

@@ -58,16 +58,19 @@ pub enum Refusal {
     /// 18: the tenant's number is 0, over 2^62, or not above every number so far.
     #[error("the tenant's number was taken before")]
     OldTenant,
-    /// 19: a growth was refused. It comes of an admission alone.
+    /// 19: a growth was refused. It comes of the two admissions alone.
     #[error("out of memory")]
     OutOfMemory,
+    /// 20: a further reservation is below what is reserved now, or not above it.
+    #[error("no more is reserved than before")]
+    Lower,
 }
 
 impl Refusal {
     ghost use Rattle.std.specs.Prelude.{◌≡◌};
     ghost use Rattle.sched_rules.specs.Refusals.{number_of};
 
-    /// The number of the refusal, 1 to 19.
+    /// The number of the refusal, 1 to 20.
     pub fn number(&self) -> u8
         ensures { result ≡ number_of self.now }
     {
@@ -91,6 +94,7 @@ impl Refusal {
             Refusal::NoJob => 17,
             Refusal::OldTenant => 18,
             Refusal::OutOfMemory => 19,
+            Refusal::Lower => 20,
         }
     }
 }

@@ -10,6 +10,8 @@ use tenant_quota::Reserve;
 pub enum StepOf<A> {
     /// The tenant is there from now on, with this reservation.
     Admit(u64, Reserve),
+    /// The tenant's reservation becomes this, which is more than it was.
+    AdmitMore(u64, Reserve),
     /// A new job of the tenant, whose root has this size and begins with these words.
     Submit(u64, GivenWords, usize),
     /// The worker runs a ready frame of its own.
@@ -37,6 +39,8 @@ pub enum StepOf<A> {
 pub enum DidOf<I> {
     /// The tenant is there.
     Admitted,
+    /// The tenant has reserved more.
+    AdmittedMore,
     /// The job of this number, with this root.
     Submitted(u64, FrameId),
     /// The worker runs the frame.

@@ -120,7 +120,7 @@ same-frames parts trees ledger book number quota stored is other =
       | inr differs ↦ is.kept.frames other differs
     ]
 
-same-belongs : (nodes : Nodes) (trees after : List (TableTree ℕ)) → ((other : ℕ) → frames_of after other ≡ frames_of trees other) → AreFramesNodes nodes trees → AreFramesNodes nodes after
+pub same-belongs : (nodes : Nodes) (trees after : List (TableTree ℕ)) → ((other : ℕ) → frames_of after other ≡ frames_of trees other) → AreFramesNodes nodes trees → AreFramesNodes nodes after
 same-belongs nodes trees after same belong = record {
   nodes_of_frames = λ owner serial frame at. subst (λ (xs : List (Frame ℕ)). IsFrameNode nodes xs frame) (sym (same owner)) (belong.nodes_of_frames owner serial frame (sym (found owner serial) ∙ at));
   once = λ owner serial other_owner other_serial node these those. belong.once owner serial other_owner other_serial node (sym (ap node_of (found owner serial)) ∙ these) (sym (ap node_of (found other_owner other_serial)) ∙ those);

@@ -20,6 +20,7 @@ pub mod Aborting
 pub mod Leaves
 pub mod Leaving
 pub mod Admitting
+pub mod Raising
 pub mod Founding
 pub mod Seeing
 pub mod Counting

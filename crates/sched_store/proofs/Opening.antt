@@ -20,7 +20,7 @@ use Rattle.sched_store.specs.Stored.{IsStored, IsFrameNode, AreFramesNodes, AreS
 use Rattle.sched_store.proofs.Nodes.{charge-set}
 use Rattle.sched_store.proofs.Words.{worded-same}
 use Rattle.sched_store.proofs.States.{charged-cons}
-use Rattle.sched_store.proofs.Steps.{TenantStep, step-stored, step-shared}
+use Rattle.sched_store.proofs.Steps.{TenantStep, other-tenants, step-stored, step-shared}
 
 -- what is opened: the tenant's next serial, under a parent, with these words
 pub record Opens (old : Parts) (nodes : Nodes) (trees : List (TableTree ℕ)) (book : Reservations) (number : ℕ) (parent : Option ℕ) (above : Option ℕ) (words : List ℕ) (size home node : ℕ) (account : Account) : Type 0 where
@@ -247,7 +247,8 @@ open-step old nodes trees book number parent above words size home node account 
       there = opens.there;
       sound = opens.sound;
       book = opens.changes.whole;
-      trees = opens.kept;
+      trees = other-tenants opens.kept;
+      count = opens.kept.count;
       tree = rw opens.frames (tree-new_frame frames (account.opened + 1) parent home node (stored.forest number) account_is.serials opens.parent_there);
       frames_nodes = opened-nodes old nodes trees book number parent above words size home node account stored opens;
       sized = subst P (sym opens.nodes_is) (opened-sized old.nodes node entry stored.sized opens.unused (rw len opens.some) (rw len opens.most));

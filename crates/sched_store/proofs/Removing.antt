@@ -15,7 +15,7 @@ use Rattle.sched_store.specs.Parts.{Parts, worded, tenant_from, shared_of}
 use Rattle.sched_store.specs.Stored.{IsStored, IsAccountFor}
 use Rattle.sched_store.proofs.Cut.{IsCut, closing, cut-belongs, cut-sized, cut-places, cut-words, cut-trees}
 use Rattle.sched_store.proofs.Closing.{cut-frees}
-use Rattle.sched_store.proofs.Steps.{TenantStep, step-stored, step-shared}
+use Rattle.sched_store.proofs.Steps.{TenantStep, other-tenants, step-stored, step-shared}
 
 pub length-without : (nodes : Nodes) (numbers : List ℕ) → length (without nodes numbers) ≡ length nodes
 length-without nodes [] = refl
@@ -86,7 +86,8 @@ removal-step parts trees book number freed keep stored is = record {
   there = is.there;
   sound = is.sound;
   book = is.credited.whole;
-  trees = is.table;
+  trees = other-tenants is.table;
+  count = is.table.count;
   tree = is.cut.tree_after;
   frames_nodes = cut-belongs parts.nodes parts.trees trees number keep stored.frames_nodes is.cut;
   sized = cut-sized parts.nodes (closing parts.trees number keep) stored.sized;

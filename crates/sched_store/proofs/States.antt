@@ -22,7 +22,7 @@ use Rattle.sched_store.specs.Parts.{Parts, worded, shared_of}
 use Rattle.sched_store.specs.Reads.{is_held, may_hold}
 use Rattle.sched_store.specs.Stored.{IsStored, AreFramesNodes, ArePlaces, frame_in, node_of, node_above}
 use Rattle.sched_store.proofs.Holders.{frame-account, holds-no-other}
-use Rattle.sched_store.proofs.Steps.{TenantStep, changed-same, step-stored, step-shared}
+use Rattle.sched_store.proofs.Steps.{TenantStep, other-tenants, changed-same, step-stored, step-shared}
 
 -- frames under the same numbers and serials, with the same nodes and paths
 
@@ -120,7 +120,8 @@ state-step old trees places name state frame account stored sets there own worke
       there = own;
       sound = stored.book;
       book = ap (λ (entries : List (ℕ × Account)). at_entries entries) (sym (changed-same name.tenant old.book.accounts));
-      trees = sets.kept;
+      trees = other-tenants sets.kept;
+      count = sets.kept.count;
       tree = rw sets.frames (tree-with_state name.serial state (frames_of old.trees name.tenant) (stored.forest name.tenant));
       frames_nodes = like-nodes old.nodes old.trees trees stored.frames_nodes (state-like old.trees trees name state frame sets there);
       sized = stored.sized;

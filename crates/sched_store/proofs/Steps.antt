@@ -6,7 +6,7 @@ use Rattle.tenant_quota.specs.Accounts.{account_of, with_changed, charged_segmen
 use Rattle.tenant_quota.specs.Reservations.{Reservations, changed, IsSound}
 use Rattle.tenant_quota.specs.declared.account.Account.{Account}
 use Rattle.frame_table.specs.Frames.{IsTree}
-use Rattle.frame_table.specs.Tables.{frames_of, KeepsOthers}
+use Rattle.frame_table.specs.Tables.{Tree as TableTree, frames_of, tenant_count, KeepsOthers, KeepsOtherTenants}
 use Rattle.sched_rules.specs.Trees.{Tenant}
 use Rattle.sched_rules.specs.Cores.{Shared}
 use Rattle.sched_rules.specs.Changes.{with_change, on_tenant}
@@ -67,12 +67,17 @@ changed-same n (entry ∷ entries) =
       | inr other ↦ rw other (ap (λ (rest : Entries). entry ∷ rest) (changed-same n entries))
     ]
 
--- one tenant's account, frames, words or jobs change, and no other tenant's
+-- a table that keeps all places
+pub other-tenants : {old new : List (TableTree ℕ)} {number : ℕ} → KeepsOthers old new number → KeepsOtherTenants old new number
+other-tenants kept = record { frames = kept.frames; places = λ other differs. kept.places other }
+
+-- one tenant's account, frames, places, words or jobs change, and no other tenant's
 pub record TenantStep (old new : Parts) (number : ℕ) (f : Account → Account) (account : Account) : Type 0 where
   pub there : account_of number old.book.accounts ≡ Some account
   pub sound : IsSound new.book
   pub book : new.book ≡ changed old.book number f
-  pub trees : KeepsOthers old.trees new.trees number
+  pub trees : KeepsOtherTenants old.trees new.trees number
+  pub count : tenant_count new.trees ≡ tenant_count old.trees
   pub tree : IsTree (frames_of new.trees number)
   pub frames_nodes : AreFramesNodes new.nodes new.trees
   pub sized : AreSized new.nodes
@@ -94,13 +99,13 @@ other-after : (old new : Parts) (number : ℕ) (f : Account → Account) (accoun
 other-after old new number f account step other differs =
     ap (λ (book : Reservations). account_of other book.accounts) step.book ∙ account-changed_other other number f old.book.accounts differs
 
-keeps-account : (old new : Parts) (number : ℕ) (other : ℕ) (account : Account) → KeepsOthers old.trees new.trees number → other ≢ number → worded new.nodes (frames_of old.trees other) ≡ worded old.nodes (frames_of old.trees other) →
+keeps-account : (old new : Parts) (number : ℕ) (other : ℕ) (account : Account) → KeepsOtherTenants old.trees new.trees number → other ≢ number → worded new.nodes (frames_of old.trees other) ≡ worded old.nodes (frames_of old.trees other) →
     IsAccountFor old.nodes old.trees other account → IsAccountFor new.nodes new.trees other account
 keeps-account old new number other account kept differs words is =
     let frames = kept.frames other differs in
     record {
       charged = rw (frames, words) is.charged;
-      places = kept.places other ∙ is.places;
+      places = kept.places other differs ∙ is.places;
       serials = rw frames is.serials;
     }
 
@@ -119,7 +124,7 @@ step-stored old new number f account stored step =
       ];
       nobody = λ other none. elim (cases_eq other number) [
         | inl same ↦ absurd (let now : account_of number new.book.accounts ≡ None = rw (← same) none in cc (account-after old new number f account step, now))
-        | inr differs ↦ step.trees.places other ∙ stored.nobody other (sym (other-after old new number f account step other differs) ∙ none)
+        | inr differs ↦ step.trees.places other differs ∙ stored.nobody other (sym (other-after old new number f account step other differs) ∙ none)
       ];
       nothing = λ other none. elim (cases_eq other number) [
         | inl same ↦ absurd (let now : account_of number new.book.accounts ≡ None = rw (← same) none in cc (account-after old new number f account step, now))
@@ -129,7 +134,7 @@ step-stored old new number f account stored step =
         | inl same ↦ rw same step.tree
         | inr differs ↦ rw (step.trees.frames other differs) (stored.forest other)
       ];
-      tenants = step.trees.count ∙ stored.tenants ∙ sym (ap (λ (book : Reservations). length book.accounts) step.book ∙ length-changed number f old.book.accounts);
+      tenants = step.count ∙ stored.tenants ∙ sym (ap (λ (book : Reservations). length book.accounts) step.book ∙ length-changed number f old.book.accounts);
       charges = step.charges;
       segments = step.segments ∙ stored.segments ∙ sym (ap (λ (book : Reservations). book.segments) step.book);
       ledgers = step.ledgers ∙ stored.ledgers ∙ sym (ap (λ (book : Reservations). numbers_in book.accounts) step.book ∙ numbers-changed number f old.book.accounts);

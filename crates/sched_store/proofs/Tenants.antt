@@ -49,7 +49,8 @@ ticked-step old book number account stored there sound changes sum =
       there = there;
       sound = sound;
       book = changes.whole;
-      trees = record { frames = λ other differs. refl; places = λ other. refl; count = refl };
+      trees = record { frames = λ other differs. refl; places = λ other differs. refl };
+      count = refl;
       tree = stored.forest number;
       frames_nodes = stored.frames_nodes;
       sized = stored.sized;
@@ -116,7 +117,8 @@ jobs-step old number account change stored there =
       there = there;
       sound = stored.book;
       book = ap (λ (entries : List (ℕ × Account)). at_entries entries) (sym (changed-same number old.book.accounts));
-      trees = record { frames = λ other differs. refl; places = λ other. refl; count = refl };
+      trees = record { frames = λ other differs. refl; places = λ other differs. refl };
+      count = refl;
       tree = stored.forest number;
       frames_nodes = stored.frames_nodes;
       sized = stored.sized;

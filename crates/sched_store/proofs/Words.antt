@@ -106,7 +106,8 @@ words-step old nodes book name frame words f account stored there is some most c
       there = charges.there;
       sound = charges.sound;
       book = charges.changes;
-      trees = record { frames = λ other differs. refl; places = λ other. refl; count = refl };
+      trees = record { frames = λ other differs. refl; places = λ other differs. refl };
+      count = refl;
       tree = stored.forest name.tenant;
       frames_nodes = words-frames-nodes old nodes frame.value words stored here is;
       sized = subst P (sym is) (words-sized old.nodes frame.value words stored.sized here some most);

@@ -1,11 +1,13 @@
 -- What a store tells of its core, beside the views of a core.
-use Rattle.std.specs.Prelude.{ℕ, ◌+◌, ◌≤◌, Bool, true, false, not, ◌||◌, List, [], ◌∷◌, Option, Some, None, IsSomeAnd}
+use Rattle.std.specs.Prelude.{◌≡◌, ℕ, ◌+◌, ◌≤◌, Bool, true, false, not, ◌||◌, List, [], ◌∷◌, Option, Some, None, IsSomeAnd}
+use Rattle.tenant_quota.specs.Quota.{Quota}
 use Rattle.frame_table.specs.declared.names.FrameId.{FrameId}
 use Rattle.frame_table.specs.declared.names.State.{State}
 use Rattle.frame_table.specs.declared.names.State.TheVariants.{Ready, Running, Computing, Waiting, Returned}
 use Rattle.frame_table.specs.Frames.{Frame, IsReadyAt}
 use Rattle.sched_rules.specs.declared.job.Job.{Job}
 use Rattle.sched_rules.specs.Trees.{Tree, Tenant, words_of, sight, is_held_by, is_busy_in}
+use Rattle.sched_rules.specs.Lone.{is_lower}
 use Rattle.sched_rules.specs.Cores.{Shared, tenant_in}
 use Rattle.sched_rules.specs.Views.{left_of, named}
 
@@ -70,6 +72,11 @@ is_held (Running worker) = true
 is_held (Computing worker) = true
 is_held Waiting = false
 is_held Returned = false
+
+-- the tenant is there, and this is above what it reserves
+abbrev pub IsAboveOwn : Option Tenant → Quota → Type 0
+IsAboveOwn None quota = ⊥
+IsAboveOwn (Some tenant) quota = is_lower tenant.reserve quota ≡ false
 
 -- the tenant is there, and has so many segments and so many nodes left
 abbrev pub HasLeft : Shared → ℕ → ℕ → ℕ → Type 0

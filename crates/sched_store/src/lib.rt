@@ -16,7 +16,7 @@
 //! wherever a segment is left. A worker that holds a frame has that frame's name at its place: whether
 //! a worker is busy is one look at its place.
 //!
-//! Only [`Store::new`] and [`Store::admit`] take memory.
+//! Only [`Store::new`], [`Store::admit`] and [`Store::raise`] take memory.
 //!
 //! ```text
 //! let mut store = Store::new(alloc, config)?;

@@ -7,7 +7,7 @@ use Rattle.frame_table.specs.declared.names.State.{State}
 use Rattle.frame_table.specs.Frames.{Frame}
 use Rattle.sched_toys.specs.declared.fan.FanAnswer.{FanAnswer}
 use Rattle.sched_rules.specs.declared.step.StepOf.{StepOf}
-use Rattle.sched_rules.specs.declared.step.StepOf.TheVariants.{Admit, Submit, Take, Steal, Advance, Answer, Inlet, Leave}
+use Rattle.sched_rules.specs.declared.step.StepOf.TheVariants.{Admit, AdmitMore, Submit, Take, Steal, Advance, Answer, Inlet, Leave}
 use Rattle.sched_rules.specs.declared.step.DidOf.{DidOf}
 use Rattle.sched_rules.specs.declared.step.DidOf.TheVariants.{Admitted, Left as IsGone}
 use Rattle.sched_rules.specs.declared.refusal.Refusal.{Refusal}
@@ -99,6 +99,14 @@ narrow_returns =
 -- a core of 32 segments and 32 nodes before the last inlet of Fan's row
 abbrev pub before_inlet : Shared
 before_inlet = shared_run fan (shared_by_nobody (quota 32 32)) fan_steps_before_inlet
+
+-- a core of 16 segments and 32 nodes with two tenants, the first of which has used all its segments
+abbrev pub used_up : Shared
+used_up = shared_run fan (shared_by_nobody (quota 16 32)) (Admit 1 (quota 5 8) ∷ Admit 2 (quota 3 8) ∷ fan_opens ++ fan_opens_five)
+
+-- and then reserves more
+abbrev pub with_more : ℕ → ℕ → Shared
+with_more segments nodes = shared_run fan used_up (AdmitMore 1 (quota segments nodes) ∷ [])
 
 -- steps of two tenants, one of which is refused
 abbrev pub some_steps : List (StepOf FanAnswer)

@@ -8,7 +8,7 @@ use Rattle.sched_rules.specs.declared.act.InletAct.{InletAct}
 use Rattle.sched_rules.specs.declared.act.Then.{Then}
 use Rattle.sched_rules.specs.declared.act.Then.TheVariants.{Go}
 use Rattle.sched_rules.specs.declared.job.Job.{Job}
-use Rattle.sched_rules.specs.declared.job.Job.TheVariants.{Live, Cancelled}
+use Rattle.sched_rules.specs.declared.job.Job.TheVariants.{Live, Spent, Cancelled}
 use Rattle.sched_rules.specs.declared.refusal.Refusal.{Refusal}
 use Rattle.sched_rules.specs.declared.step.StepOf.{StepOf}
 use Rattle.sched_rules.specs.Functions.{Functions}
@@ -132,3 +132,8 @@ housed steps jobs frames = record { reserve = quota 16 16; serials = 9; steps = 
 -- both jobs live
 abbrev pub two_jobs : List Job
 two_jobs = Live 1 ∷ Live 3 ∷ []
+
+-- a tenant of this reservation that has taken 256 steps, with a job that is spent and one that lives
+abbrev pub resting : ℕ → ℕ → Tenant
+resting segments nodes =
+    record { reserve = quota segments nodes; serials = 9; steps = 256; jobs = Spent ∷ Live 3 ∷ []; frames = frame 3 (3 ∷ []) (Ready 1) (5 ∷ []) ∷ [] }

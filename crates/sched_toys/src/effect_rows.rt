@@ -3,11 +3,11 @@ ghost use Rattle.std.specs.Prelude.{◌≡◌, ◌+◌, [], ◌∷◌, ◌++◌,
 ghost use Rattle.frame_table.specs.declared.names.State.TheVariants.{Ready, Running, Computing, Waiting, Returned};
 ghost use Rattle.sched_rules.specs.declared.act.Then.TheVariants.{Grow, Spawn, Go, Wait, Compute, Return};
 ghost use Rattle.sched_rules.specs.declared.job.Job.TheVariants.{Live, Done, Spent as SpentJob, Cancelled as CancelledJob};
-ghost use Rattle.sched_rules.specs.declared.step.StepOf.TheVariants.{Submit, Take, Steal, Advance, Answer, Inlet, Finish, Spend, Cancel, Leave};
-ghost use Rattle.sched_rules.specs.declared.step.DidOf.TheVariants.{Submitted, Took, Went, Grew, Spawned, Waited, Computing as IsComputing, Returned as HasReturned, Answered, TakenIn, Finished, Spent, Cancelled, Left};
-ghost use Rattle.sched_rules.specs.Trees.{sight};
-ghost use Rattle.sched_toys.specs.FanRows.{one, quota, frame};
-ghost use Rattle.sched_toys.specs.SmallStates.{idle, acting, always, act, inlet, taking_in, fresh, tenant_with, root, child, outcome, bare, family, housed, two_jobs};
+ghost use Rattle.sched_rules.specs.declared.step.StepOf.TheVariants.{AdmitMore, Submit, Take, Steal, Advance, Answer, Inlet, Finish, Spend, Cancel, Leave};
+ghost use Rattle.sched_rules.specs.declared.step.DidOf.TheVariants.{AdmittedMore, Submitted, Took, Went, Grew, Spawned, Waited, Computing as IsComputing, Returned as HasReturned, Answered, TakenIn, Finished, Spent, Cancelled, Left};
+ghost use Rattle.sched_rules.specs.Trees.{left, sight};
+ghost use Rattle.sched_toys.specs.FanRows.{one, quota, some_left, frame};
+ghost use Rattle.sched_toys.specs.SmallStates.{idle, acting, always, act, inlet, taking_in, fresh, tenant_with, root, child, outcome, bare, family, housed, two_jobs, resting};
 
 /// A frame sees its own words, its parent's and so on to the root's, and no sibling's.
 pub fn what_a_frame_sees()
@@ -80,6 +80,14 @@ pub fn aborting()
               ∷ bare 6 (1 ∷ 2 ∷ 5 ∷ 6 ∷ []) (Ready 2) ∷ bare 7 (1 ∷ 2 ∷ 5 ∷ 6 ∷ 7 ∷ []) Waiting ∷ bare 8 (1 ∷ 8 ∷ []) (Ready 0) ∷ bare 9 (3 ∷ 9 ∷ []) (Ready 0) ∷ [])),
           TakenIn None 0,
         ) }
+{}
+
+/// More that is reserved is there to be used from then on; nothing else of the tenant changes, and a job
+/// that was spent stays so.
+pub fn reserving_more()
+    ensures raised { outcome idle (resting 16 16) (AdmitMore 1 (quota 17 18)) ≡ Ok (Some (resting 17 18), AdmittedMore) }
+    ensures left_before { left (resting 16 16) ≡ some_left 15 7 0 }
+    ensures left_after { left (resting 17 18) ≡ some_left 16 9 32 }
 {}
 
 /// A job that ends takes all its frames with it, and no frame of another job.

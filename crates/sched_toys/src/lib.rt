@@ -28,6 +28,3 @@ mod view;
 pub use chain::Chain;
 pub use fan::{Fan, FanAnswer};
 pub use spin::Spin;
-
-#[cfg(test)]
-mod tests;

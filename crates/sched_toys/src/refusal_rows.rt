@@ -3,8 +3,8 @@ ghost use Rattle.std.specs.Prelude.{◌≡◌, ◌+◌, ◌^◌, [], ◌∷◌, 
 ghost use Rattle.frame_table.specs.declared.names.State.TheVariants.{Ready, Running, Computing, Waiting, Returned};
 ghost use Rattle.sched_rules.specs.declared.act.Then.TheVariants.{Grow, Spawn, Go, Wait, Compute, Return};
 ghost use Rattle.sched_rules.specs.declared.job.Job.TheVariants.{Live, Done, Spent as SpentJob, Cancelled as CancelledJob};
-ghost use Rattle.sched_rules.specs.declared.refusal.Refusal.TheVariants.{NoTenant, NoFrame, NotReady, NotHere, Busy, NotRunning, NotComputing, Mismatch, NotReturned, NoSegments, NoNodes, NoSteps, NoJobsLeft, Full, BadAct, NotSpent, NoJob, OldTenant};
-ghost use Rattle.sched_rules.specs.declared.step.StepOf.TheVariants.{Admit, Submit, Take, Steal, Advance, Answer, Inlet, Finish, Spend, Cancel, Leave};
+ghost use Rattle.sched_rules.specs.declared.refusal.Refusal.TheVariants.{NoTenant, NoFrame, NotReady, NotHere, Busy, NotRunning, NotComputing, Mismatch, NotReturned, NoSegments, NoNodes, NoSteps, NoJobsLeft, Full, BadAct, NotSpent, NoJob, OldTenant, Lower};
+ghost use Rattle.sched_rules.specs.declared.step.StepOf.TheVariants.{Admit, AdmitMore, Submit, Take, Steal, Advance, Answer, Inlet, Finish, Spend, Cancel, Leave};
 ghost use Rattle.sched_rules.specs.Lone.{lone_refusal};
 ghost use Rattle.sched_rules.specs.Cores.{shared_refusal};
 ghost use Rattle.sched_toys.specs.FanRows.{one, two, quota, frame};
@@ -13,6 +13,7 @@ ghost use Rattle.sched_toys.specs.SmallStates.{idle, acting, storing_outside, fr
 /// From nothing an admission is taken, and all else is refused by NoTenant; one that is there isn't admitted again.
 pub fn no_tenant()
     ensures admit { lone_refusal idle None (Admit 1 (quota 1 1)) ≡ None }
+    ensures admit_more { lone_refusal idle None (AdmitMore 1 (quota 1 1)) ≡ Some NoTenant }
     ensures submit { lone_refusal idle None (Submit 1 [] 0) ≡ Some NoTenant }
     ensures take { lone_refusal idle None (Take 1 (one 1)) ≡ Some NoTenant }
     ensures steal { lone_refusal idle None (Steal 1 0 (one 1)) ≡ Some NoTenant }
@@ -201,6 +202,27 @@ pub fn admit_refusals()
     ensures both_beside { among ((7, fresh []) ∷ []) (Admit 8 (quota 4 28)) ≡ None }
     ensures places { shared_refusal idle (roomy (crowd 64)) (Admit 8 (quota 1 1)) ≡ Some Full }
     ensures last_place { shared_refusal idle (roomy (crowd 63)) (Admit 8 (quota 1 1)) ≡ None }
+{}
+
+/// An admission of more: NoTenant, Lower, then Full. What the tenant itself reserves isn't counted twice,
+/// and as many tenants as there may be are no hindrance. These tenants reserve 4 segments and 4 nodes.
+pub fn admit_more_refusals()
+    ensures nobody { among [] (AdmitMore 7 (quota 9 1)) ≡ Some NoTenant }
+    ensures fewer_segments { refusal idle (fresh []) (AdmitMore 1 (quota 3 9)) ≡ Some Lower }
+    ensures fewer_nodes { refusal idle (fresh []) (AdmitMore 1 (quota 9 3)) ≡ Some Lower }
+    ensures as_much { refusal idle (fresh []) (AdmitMore 1 (quota 4 4)) ≡ Some Lower }
+    ensures one_segment { refusal idle (fresh []) (AdmitMore 1 (quota 5 4)) ≡ None }
+    ensures one_node { refusal idle (fresh []) (AdmitMore 1 (quota 4 5)) ≡ None }
+    ensures without_steps { refusal idle (tired []) (AdmitMore 1 (quota 5 5)) ≡ None }
+    ensures lower_before_full { among ((7, fresh []) ∷ []) (AdmitMore 7 (quota 9 3)) ≡ Some Lower }
+    ensures segments { among ((7, fresh []) ∷ []) (AdmitMore 7 (quota 9 4)) ≡ Some Full }
+    ensures nodes { among ((7, fresh []) ∷ []) (AdmitMore 7 (quota 4 33)) ≡ Some Full }
+    ensures all { among ((7, fresh []) ∷ []) (AdmitMore 7 (quota 8 32)) ≡ None }
+    ensures segments_beside { among (beside []) (AdmitMore 1 (quota 5 4)) ≡ Some Full }
+    ensures nodes_beside { among (beside []) (AdmitMore 1 (quota 4 29)) ≡ Some Full }
+    ensures all_beside { among (beside []) (AdmitMore 1 (quota 4 28)) ≡ None }
+    ensures places { shared_refusal idle (roomy (crowd 64)) (AdmitMore 7 (quota 65 65)) ≡ None }
+    ensures beyond { shared_refusal idle (roomy (crowd 64)) (AdmitMore 7 (quota 66 65)) ≡ Some Full }
 {}
 
 /// A worker that is busy elsewhere: only what its own tenant would take is refused by Busy, and only where a free worker is asked for.

@@ -2,8 +2,8 @@
 ghost use Rattle.std.specs.Prelude.{◌≡◌, [], ◌∷◌, ◌++◌, Some, None, Ok, Err, true, false, option_map, replicate};
 ghost use Rattle.frame_table.specs.declared.names.State.TheVariants.{Ready, Running, Computing, Waiting, Returned};
 ghost use Rattle.sched_rules.specs.declared.job.Job.TheVariants.{Live, Done, Spent as SpentJob};
-ghost use Rattle.sched_rules.specs.declared.refusal.Refusal.TheVariants.{NoFrame, NoSegments, NoNodes, NotSpent, Full};
-ghost use Rattle.sched_rules.specs.declared.step.StepOf.TheVariants.{Admit, Take, Advance, Answer, Spend, Leave};
+ghost use Rattle.sched_rules.specs.declared.refusal.Refusal.TheVariants.{NoFrame, NoSegments, NoNodes, NotSpent, Full, Lower};
+ghost use Rattle.sched_rules.specs.declared.step.StepOf.TheVariants.{Admit, AdmitMore, Take, Advance, Answer, Spend, Leave};
 ghost use Rattle.sched_rules.specs.declared.step.DidOf.TheVariants.{Admitted, Submitted, Took, Spawned, Waited, Computing as IsComputing, Returned as HasReturned, Answered, TakenIn, Left};
 ghost use Rattle.sched_rules.specs.Trees.{left};
 ghost use Rattle.sched_rules.specs.Lone.{lone_refusal};
@@ -12,7 +12,7 @@ ghost use Rattle.sched_rules.specs.Cores.{shared_by_nobody, shared_run, shared_r
 ghost use Rattle.sched_rules.specs.Headline.{taken, told};
 ghost use Rattle.sched_rules.specs.Views.{left_of, job_of, frame_of, words_of_frame, live_of, newest_ready_in, ready_count, free_in};
 ghost use Rattle.sched_toys.specs.Toys.{fan, chain};
-ghost use Rattle.sched_toys.specs.FanRows.{one, two, quota, some_left, frame, answer, one_with, fan_opens, fan_opens_five, fan_steps, fan_steps_before_inlet, steps_between, mixed_steps, narrow_opens, narrow_returns, before_inlet, some_steps, some_answers};
+ghost use Rattle.sched_toys.specs.FanRows.{one, two, quota, some_left, frame, answer, one_with, fan_opens, fan_opens_five, fan_steps, fan_steps_before_inlet, steps_between, mixed_steps, narrow_opens, narrow_returns, before_inlet, used_up, with_more, some_steps, some_answers};
 ghost use Rattle.sched_toys.specs.ChainRows.{chain_begins, chain_ends};
 
 /// One job of Fan: the inlet of frame 2 removes frames 3, 4 and 5 too, wakes the root for worker 2,
@@ -86,6 +86,20 @@ pub fn fan_in_a_full_core()
     ensures none_left { option_map left (alone fan (one_with 5 8 ++ fan_opens ++ fan_opens_five)) ≡ Some (some_left 0 3 119) }
     ensures the_same { tenant_in (shared_run fan (shared_by_nobody (quota 8 32)) (Admit 1 (quota 5 8) ∷ Admit 2 (quota 3 8) ∷ Admit 3 (quota 1 1) ∷ fan_opens ++ fan_opens_five)).tenants 1
         ≡ alone fan (one_with 5 8 ++ fan_opens ++ fan_opens_five) }
+{}
+
+/// A tenant that has used up its segments reserves more while its job runs, and has that much more left.
+/// Less or no more than it reserves is refused by Lower, also beyond the totals, and more than they allow
+/// by Full.
+pub fn fan_reserves_more()
+    ensures before { left_of used_up 1 ≡ Some (some_left 0 3 119) }
+    ensures after { left_of (with_more 7 10) 1 ≡ Some (some_left 2 5 151) }
+    ensures another { left_of (with_more 7 10) 2 ≡ Some (some_left 3 8 128) }
+    ensures fewer { shared_refusal fan (with_more 7 10) (AdmitMore 1 (quota 6 10)) ≡ Some Lower }
+    ensures lower_before_full { shared_refusal fan (with_more 7 10) (AdmitMore 1 (quota 17 9)) ≡ Some Lower }
+    ensures beyond { shared_refusal fan (with_more 7 10) (AdmitMore 1 (quota 14 10)) ≡ Some Full }
+    ensures as_much_as_there_is { shared_refusal fan (with_more 7 10) (AdmitMore 1 (quota 13 10)) ≡ None }
+    ensures the_same { tenant_in (with_more 7 10).tenants 1 ≡ alone fan (one_with 5 8 ++ fan_opens ++ fan_opens_five ++ AdmitMore 1 (quota 7 10) ∷ []) }
 {}
 
 /// With three segments the third child is refused; after an inlet has aborted frame 3 the root can open one.

@@ -35,8 +35,6 @@ mod cells;
 pub mod laws;
 mod region;
 mod slot;
-#[cfg(test)]
-mod tests;
 mod view;
 
 pub use region::Region;

@@ -5,7 +5,7 @@ use Rattle.othello_eval.specs.Minimax.{minimax, best_choice}
 use Rattle.session.specs.declared.outcome.Finding.{Finding}
 use Rattle.session.specs.declared.outcome.Outcome.{Outcome}
 use Rattle.session.specs.declared.outcome.Outcome.TheVariants.{Pending, Done, Spent, Cancelled}
-use Rattle.session.specs.Calls.{Call, Hello, Ask, Get, Wait, Cancel, AskQuota, AskLive, Leave, Reply, Welcome, Job, Told, Ended, Rest, Alive, Gone, Refused}
+use Rattle.session.specs.Calls.{Call, Hello, Reserve, Ask, Get, Wait, Cancel, AskQuota, AskLive, Leave, Reply, Welcome, Reserved, Job, Told, Ended, Rest, Alive, Gone, Refused}
 
 -- a board, and the depth to which its value was asked for
 pub record Asked : Type 0 where
@@ -15,6 +15,7 @@ pub record Asked : Type 0 where
 -- the asks, and this call too where it is one
 abbrev pub with_ask : List Asked → Call → List Asked
 with_ask asks (Hello quota) = asks
+with_ask asks (Reserve quota) = asks
 with_ask asks (Ask depth board side) = asks ++ record { board = board; depth = depth } ∷ []
 with_ask asks (Get job) = asks
 with_ask asks (Wait job) = asks
@@ -27,6 +28,7 @@ with_ask asks Leave = asks
 -- that has left
 abbrev pub asks_after : List Asked → Call → Reply → List Asked
 asks_after asks call (Welcome quota) = []
+asks_after asks call (Reserved quota) = asks
 asks_after asks call (Job number) = with_ask asks call
 asks_after asks call (Told job outcome) = asks
 asks_after asks call (Ended job) = asks
@@ -57,6 +59,7 @@ ShowsFound asks job Cancelled = Unit {0}
 -- what a reply to a call says of the asks before it: a new job has the next number, a done one its finding
 abbrev pub SaysTrue : List Asked → Reply → Type 0
 SaysTrue asks (Welcome quota) = Unit {0}
+SaysTrue asks (Reserved quota) = Unit {0}
 SaysTrue asks (Job number) = number ≡ length asks + 1
 SaysTrue asks (Told job outcome) = ShowsFound asks job outcome
 SaysTrue asks (Ended job) = Unit {0}
@@ -76,9 +79,10 @@ RefusedBy numbers (Refused number) = Contains numbers number
 RefusedBy numbers _ = Unit {0}
 
 -- when a call is refused, and by which numbers: ASK by 13 where 256 jobs were asked, GET and WAIT by 17 exactly where nothing was asked
--- under their number, CANCEL by 17 there too. No call but HELLO is refused by 19
+-- under their number, CANCEL by 17 there too. No call but HELLO and RESERVE is refused by 19
 abbrev pub IsRefusedWhere : List Asked → Call → Reply → Type 0
 IsRefusedWhere asks (Hello quota) reply = RefusedBy (14 ∷ 18 ∷ 19 ∷ []) reply
+IsRefusedWhere asks (Reserve quota) reply = RefusedBy (1 ∷ 20 ∷ 14 ∷ 19 ∷ []) reply
 IsRefusedWhere asks (Ask depth board side) reply = RefusedBy (1 ∷ 13 ∷ 11 ∷ 10 ∷ []) reply × (length asks ≡ 256 → reply ≡ Refused 13)
 IsRefusedWhere asks (Get job) reply = IsToldOf job (asked_at asks job) reply
 IsRefusedWhere asks (Wait job) reply = IsToldOf job (asked_at asks job) reply

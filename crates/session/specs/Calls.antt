@@ -12,6 +12,7 @@ use Rattle.session.specs.declared.outcome.Live.{Live}
 -- a call of the office
 pub data Call : Type 0 where
   Hello : (quota : Quota) → Call
+  Reserve : (quota : Quota) → Call
   Ask : (depth : ℕ) (board : List Cell) (side : Side) → Call
   Get : (job : ℕ) → Call
   Wait : (job : ℕ) → Call
@@ -20,10 +21,11 @@ pub data Call : Type 0 where
   AskLive : Call
   Leave : Call
 
--- a reply of the office: what was reserved, the number of a new job, how a job stands, that a job is cancelled, what is left,
+-- a reply of the office: what was reserved for a new tenant, and for one that is there, the number of a new job, how a job stands, that a job is cancelled, what is left,
 -- what is alive, that the tenant is gone, or the number of a refusal
 pub data Reply : Type 0 where
   Welcome : (quota : Quota) → Reply
+  Reserved : (quota : Quota) → Reply
   Job : (number : ℕ) → Reply
   Told : (job : ℕ) (outcome : Outcome) → Reply
   Ended : (job : ℕ) → Reply

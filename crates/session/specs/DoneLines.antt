@@ -1,33 +1,46 @@
 -- What the DONE lines of a session are worth, said of its lines and of their answers alone.
-use Rattle.std.specs.Prelude.{◌≡◌, ℕ, List, [], ◌∷◌, ◌⊎◌, true, false, Result}
+use Rattle.std.specs.Prelude.{◌≡◌, ℕ, ◌+◌, List, [], ◌∷◌, length, true, false, if◌then◌else◌, nat_eq, codes, Some, Result}
+use Rattle.std.specs.List.{starts_with}
 use Rattle.line_io.specs.Lines.{LineText}
 use Rattle.othello_eval.specs.Minimax.{minimax, best_choice}
-use Rattle.position_text.specs.declared.positions.Side.{Side}
 use Rattle.line_io.specs.Streams.{ReadAnswer, WriteAnswer}
 use Rattle.session.specs.declared.faults.End.{End}
 use Rattle.session.specs.declared.faults.SessionFault.{SessionFault}
 use Rattle.session.specs.declared.outcome.Finding.{Finding}
 use Rattle.session.specs.declared.outcome.Outcome.{Outcome}
 use Rattle.session.specs.declared.outcome.Outcome.TheVariants.{Pending, Done, Spent, Cancelled}
-use Rattle.session.specs.Asks.{Asked, KeepsAsks, AllTrue}
-use Rattle.session.specs.Calls.{Ask, Reply, Welcome, Job, Told, Ended, Rest, Alive, Gone, Refused}
-use Rattle.session.specs.Requests.{Makes, request}
-use Rattle.session.specs.Turns.{Turn, Faulted, Made, Closed, turns, reply_text, turn_text}
+use Rattle.session.specs.Asks.{Asked, asked_at, with_ask, KeepsAsks, AllTrue}
+use Rattle.session.specs.Calls.{Reply, Welcome, Reserved, Job, Told, Ended, Rest, Alive, Gone, Refused}
+use Rattle.session.specs.Requests.{Request, Fault, Makes, Ends, request}
+use Rattle.session.specs.Turns.{Turn, Faulted, Made, Closed, turns, turn_text}
 use Rattle.session.specs.Sessions.{Session, calls_for}
 
--- a line asks for this board and depth, and its answer is JOB and this number
-abbrev pub AsksAs : LineText × List ℕ → ℕ → Asked → Type 0
-AsksAs said job asked = (said.1 ≡ reply_text (Job job)) × (side : Side) × (request true said.0 ≡ Makes (Ask asked.depth asked.board side))
+-- the asks so far, and what this request asks for, where it is one
+abbrev pub with_request : List Asked → Request → List Asked
+with_request asks (Fault number) = asks
+with_request asks (Makes call) = with_ask asks call
+with_request asks Ends = asks
 
--- one of these lines does
-abbrev pub IsAskedAs : List (LineText × List ℕ) → ℕ → Asked → Type 0
-IsAskedAs [] job asked = ⊥
-IsAskedAs (said ∷ before) job asked = AsksAs said job asked ⊎ IsAskedAs before job asked
+-- the asks so far, after one more line and its answer: a tenant's begin at WELCOME and end at BYE, and an ASK line that is answered by JOB is
+-- the next of them
+abbrev pub asks_then : List Asked → LineText × List ℕ → List Asked
+asks_then asks said =
+    if starts_with nat_eq said.1 (codes "JOB ") then with_request asks (request true said.0)
+    else (if starts_with nat_eq said.1 (codes "WELCOME ") then []
+    else (if starts_with nat_eq said.1 (codes "BYE") then []
+    else asks))
 
--- a value and a move are the minimax value and the best choice of what an earlier line asked for, which was answered by JOB and this number
+-- what the ASK lines among these asked for that were answered by JOB, in order: the k-th of them as job k. The last of the lines comes
+-- foremost, each with its answer
+abbrev pub asks_of_lines : List (LineText × List ℕ) → List Asked
+asks_of_lines [] = []
+asks_of_lines (said ∷ before) = asks_then (asks_of_lines before) said
+
+-- a value and a move are the minimax value and the best choice of what was asked for by the ASK line of this number, of those that were answered
+-- by JOB
 pub record IsTrueDone (before : List (LineText × List ℕ)) (job : ℕ) (finding : Finding) : Type 0 where
   pub asked : Asked
-  pub as_job : IsAskedAs before job asked
+  pub is : asked_at (asks_of_lines before) job ≡ Some asked
   pub value : finding.value ≡ minimax asked.depth asked.board
   pub choice : finding.choice ≡ best_choice asked.depth asked.board
 
@@ -38,9 +51,11 @@ OutcomeHolds before job (Done finding) = IsTrueDone before job finding
 OutcomeHolds before job Spent = Unit {0}
 OutcomeHolds before job Cancelled = Unit {0}
 
+-- and where a line is answered by JOB, the number is that of the next ask
 abbrev pub ReplyHolds : List (LineText × List ℕ) → Reply → Type 0
 ReplyHolds before (Welcome quota) = Unit {0}
-ReplyHolds before (Job number) = Unit {0}
+ReplyHolds before (Reserved quota) = Unit {0}
+ReplyHolds before (Job number) = number ≡ length (asks_of_lines before) + 1
 ReplyHolds before (Told job outcome) = OutcomeHolds before job outcome
 ReplyHolds before (Ended job) = Unit {0}
 ReplyHolds before (Rest left) = Unit {0}
@@ -53,14 +68,14 @@ TurnHolds before (Faulted number) = Unit {0}
 TurnHolds before (Made call reply) = ReplyHolds before reply
 TurnHolds before Closed = Unit {0}
 
--- what came of these lines, one after another: each DONE bears the minimax value and the best choice of what the line before it asked for
--- that was answered by JOB and its number. The lines before these come first, the last of them foremost, each with its answer
+-- what came of these lines, one after another: the k-th ASK that is answered by JOB is answered by JOB k, and each DONE k bears the minimax
+-- value and the best choice of what that line asked for. The lines before these come first, the last of them foremost, each with its answer
 abbrev pub EachDoneIsTrue : List (LineText × List ℕ) → List LineText → List Turn → Type 0
 EachDoneIsTrue before [] turned = Unit {0}
 EachDoneIsTrue before (line ∷ lines) [] = Unit {0}
 EachDoneIsTrue before (line ∷ lines) (turn ∷ turned) = TurnHolds before turn × EachDoneIsTrue ((line, turn_text turn) ∷ before) lines turned
 
--- a session in which each DONE line is true
+-- a session in which each JOB and each DONE line is true (`dones`), said of its lines and answers alone
 pub record TrueSession {S K : Type 0} (gives : S → ReadAnswer → S → Type 0) (takes : K → WriteAnswer → K → Type 0) (source : S) (sink : K) (source' : S) (sink' : K) (r : Result End SessionFault) : Type 0 where
   pub asks : List Asked
   pub session : Session gives takes KeepsAsks source sink [] source' sink' asks r

@@ -8,6 +8,7 @@ use Rattle.line_words.specs.Words.{split_at_space, number_of}
 -- a command with its arguments: each number is none where its word is no number, and a position's text is not yet read
 pub data Form : Type 0 where
   HelloOf : (segments nodes : Option ℕ) → Form
+  ReserveOf : (segments nodes : Option ℕ) → Form
   AskOf : (depth : Option ℕ) (text : List ℕ) → Form
   GetOf : (job : Option ℕ) → Form
   WaitOf : (job : Option ℕ) → Form
@@ -32,12 +33,13 @@ form_of_one word argument =
     else (if bytes_eq word (codes "CANCEL") then Some (CancelOf (number_of argument))
     else None))
 
--- a line of three words or more: a position is all that follows the second space, and HELLO has just two arguments
+-- a line of three words or more: a position is all that follows the second space, and HELLO and RESERVE have just two arguments
 abbrev pub form_of_two : List ℕ → List ℕ → List ℕ → Option Form
 form_of_two word first second =
     if bytes_eq word (codes "ASK") then Some (AskOf (number_of first) second)
     else (if bytes_eq word (codes "HELLO") && is_none (split_at_space second) then Some (HelloOf (number_of first) (number_of second))
-    else None)
+    else (if bytes_eq word (codes "RESERVE") && is_none (split_at_space second) then Some (ReserveOf (number_of first) (number_of second))
+    else None))
 
 -- by what follows the first space
 abbrev pub form_after : List ℕ → List ℕ → Option (List ℕ × List ℕ) → Option Form

@@ -1,13 +1,14 @@
 -- What a line asks for, or its first fault: 22 where it is too long, 21 where its word is unknown or has another number of
--- arguments, 28 before HELLO, 29 for HELLO again, 23 where a number is none or HELLO's are outside the limits, 27 where the
+-- arguments, 28 before HELLO, 29 for HELLO again, 23 where a number is none or those of HELLO and RESERVE are outside the limits, 27 where the
 -- depth is over 12, then 24 for the length of a position's text, 25 for a cell and 26 for the side.
 use Rattle.std.specs.Prelude.{ℕ, List, length, map, Bool, true, false, Option, Some, None, ◌==◌, ◌&&◌, nat_le, if◌then◌else◌}
 use Rattle.line_io.specs.Lines.{LineText, Whole, TooLong}
 use Rattle.position_text.specs.declared.positions.Side.{Side}
 use Rattle.position_text.specs.declared.marks.Mark.{Mark}
 use Rattle.position_text.specs.Readings.{marks_of, mover_of, seen_by}
-use Rattle.session.specs.Calls.{Call, Hello, Ask, Get, Wait, Cancel, AskQuota, AskLive}
-use Rattle.session.specs.Forms.{Form, HelloOf, AskOf, GetOf, WaitOf, CancelOf, QuotaForm, LiveForm, ByeForm, form_of}
+use Rattle.tenant_quota.specs.Quota.{Quota}
+use Rattle.session.specs.Calls.{Call, Hello, Reserve, Ask, Get, Wait, Cancel, AskQuota, AskLive}
+use Rattle.session.specs.Forms.{Form, HelloOf, ReserveOf, AskOf, GetOf, WaitOf, CancelOf, QuotaForm, LiveForm, ByeForm, form_of}
 
 -- a fault by its number, a call of the office, or the end of the session
 pub data Request : Type 0 where
@@ -38,12 +39,16 @@ ask_request (Some depth) text = if nat_le depth 12 then position_request depth t
 abbrev pub is_within : ℕ → ℕ → Bool
 is_within segments nodes = nat_le 1 segments && nat_le segments 4096 && nat_le 1 nodes && nat_le nodes 65536
 
+-- what is reserved, where both amounts are numbers within the limits
+abbrev pub quota_of : Option ℕ → Option ℕ → Option Quota
+quota_of None nodes = None
+quota_of (Some segments) None = None
+quota_of (Some segments) (Some nodes) = if is_within segments nodes then Some (record { segments = segments; nodes = nodes }) else None
+
 -- 23 where an amount is no number, or one is outside the limits
-abbrev pub hello_request : Option ℕ → Option ℕ → Request
-hello_request None nodes = Fault 23
-hello_request (Some segments) None = Fault 23
-hello_request (Some segments) (Some nodes) =
-    if is_within segments nodes then Makes (Hello (record { segments = segments; nodes = nodes })) else Fault 23
+abbrev pub quota_request : (Quota → Call) → Option Quota → Request
+quota_request call None = Fault 23
+quota_request call (Some quota) = Makes (call quota)
 
 -- 23 where a job is no number
 abbrev pub job_request : (ℕ → Call) → Option ℕ → Request
@@ -53,6 +58,7 @@ job_request call (Some job) = Makes (call job)
 -- what a command asks for, where a tenant is there
 abbrev pub seated_request : Form → Request
 seated_request (HelloOf segments nodes) = Fault 29
+seated_request (ReserveOf segments nodes) = quota_request Reserve (quota_of segments nodes)
 seated_request (AskOf depth text) = ask_request depth text
 seated_request (GetOf job) = job_request Get job
 seated_request (WaitOf job) = job_request Wait job
@@ -63,7 +69,8 @@ seated_request ByeForm = Ends
 
 -- where no tenant is there: all but HELLO and BYE are 28
 abbrev pub early_request : Form → Request
-early_request (HelloOf segments nodes) = hello_request segments nodes
+early_request (HelloOf segments nodes) = quota_request Hello (quota_of segments nodes)
+early_request (ReserveOf segments nodes) = Fault 28
 early_request (AskOf depth text) = Fault 28
 early_request (GetOf job) = Fault 28
 early_request (WaitOf job) = Fault 28

@@ -5,7 +5,7 @@ use Rattle.line_io.specs.Lines.{LineText}
 use Rattle.line_words.specs.Texts.{value_text, error_text}
 use Rattle.session.specs.declared.outcome.Outcome.{Outcome}
 use Rattle.session.specs.declared.outcome.Outcome.TheVariants.{Pending, Done, Spent, Cancelled}
-use Rattle.session.specs.Calls.{Call, Leave, Reply, Welcome, Job, Told, Ended, Rest, Alive, Gone, Refused}
+use Rattle.session.specs.Calls.{Call, Leave, Reply, Welcome, Reserved, Job, Told, Ended, Rest, Alive, Gone, Refused}
 use Rattle.session.specs.Requests.{Request, Fault, Makes, Ends, request}
 
 -- what came of a line: a fault, a call with its reply, or the end of the session
@@ -26,6 +26,7 @@ later_replies (r ∷ rs) = rs
 -- whether a tenant is there after a reply: it comes by a taken HELLO alone
 abbrev pub seated_after : Bool → Reply → Bool
 seated_after seated (Welcome quota) = true
+seated_after seated (Reserved quota) = seated
 seated_after seated (Job number) = seated
 seated_after seated (Told job outcome) = seated
 seated_after seated (Ended job) = seated
@@ -75,6 +76,7 @@ outcome_text job Cancelled = codes "CANCELLED " ++ decimal job
 -- a reply
 abbrev pub reply_text : Reply → List ℕ
 reply_text (Welcome quota) = codes "WELCOME " ++ pair_text quota.segments quota.nodes
+reply_text (Reserved quota) = codes "RESERVED " ++ pair_text quota.segments quota.nodes
 reply_text (Job number) = codes "JOB " ++ decimal number
 reply_text (Told job outcome) = outcome_text job outcome
 reply_text (Ended job) = codes "CANCELLED " ++ decimal job

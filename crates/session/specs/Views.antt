@@ -1,16 +1,17 @@
 -- What contracts see of the types of the code.
 use Rattle.othello_board.specs.Words.{cells}
 use Rattle.session.specs.declared.forms.Form.{Form as Formed}
-use Rattle.session.specs.declared.forms.Form.TheVariants.{Hello as hello, Ask as ask, Get as get, Wait as wait, Cancel as cancel, Quota as quota, Live as live, Bye as bye}
+use Rattle.session.specs.declared.forms.Form.TheVariants.{Hello as hello, Reserve as reserve, Ask as ask, Get as get, Wait as wait, Cancel as cancel, Quota as quota, Live as live, Bye as bye}
 use Rattle.session.specs.declared.requests.Request.{Request as Requested}
-use Rattle.session.specs.declared.requests.Request.TheVariants.{Fault as fault, Hello as to_hello, Ask as to_ask, Get as to_get, Wait as to_wait, Cancel as to_cancel, Quota as to_quota, Live as to_live, Bye as to_bye}
-use Rattle.session.specs.Calls.{Hello, Ask, Get, Wait, Cancel, AskQuota, AskLive}
-use Rattle.session.specs.Forms.{Form, HelloOf, AskOf, GetOf, WaitOf, CancelOf, QuotaForm, LiveForm, ByeForm}
+use Rattle.session.specs.declared.requests.Request.TheVariants.{Fault as fault, Hello as to_hello, Reserve as to_reserve, Ask as to_ask, Get as to_get, Wait as to_wait, Cancel as to_cancel, Quota as to_quota, Live as to_live, Bye as to_bye}
+use Rattle.session.specs.Calls.{Hello, Reserve, Ask, Get, Wait, Cancel, AskQuota, AskLive}
+use Rattle.session.specs.Forms.{Form, HelloOf, ReserveOf, AskOf, GetOf, WaitOf, CancelOf, QuotaForm, LiveForm, ByeForm}
 use Rattle.session.specs.Requests.{Request, Fault, Makes, Ends}
 
 -- a command as data
 abbrev pub form_seen : Formed → Form
 form_seen (hello segments nodes) = HelloOf segments nodes
+form_seen (reserve segments nodes) = ReserveOf segments nodes
 form_seen (ask depth text) = AskOf depth text.now
 form_seen (get job) = GetOf job
 form_seen (wait job) = WaitOf job
@@ -22,7 +23,8 @@ form_seen bye = ByeForm
 -- a request as data
 abbrev pub request_seen : Requested → Request
 request_seen (fault number) = Fault number
-request_seen (to_hello reserve) = Makes (Hello reserve)
+request_seen (to_hello amounts) = Makes (Hello amounts)
+request_seen (to_reserve amounts) = Makes (Reserve amounts)
 request_seen (to_ask question) = Makes (Ask question.depth (cells question.position.board) question.position.side)
 request_seen (to_get job) = Makes (Get job)
 request_seen (to_wait job) = Makes (Wait job)

@@ -10,6 +10,8 @@ use line_words::{number_of, split_at_space};
 pub(crate) enum Form<'a> {
     /// Segments and nodes to reserve.
     Hello(Option<u32>, Option<u32>),
+    /// Segments and nodes to reserve for the tenant that is there.
+    Reserve(Option<u32>, Option<u32>),
     /// A depth, and a position's text.
     Ask(Option<u32>, &'a [u8]),
     /// A job.
@@ -64,6 +66,8 @@ fn form_of_two<'a>(word: &[u8], first: &[u8], second: &'a [u8]) -> Option<Form<'
         Some(Form::Ask(number_of(first), second))
     } else if word == b"HELLO".as_slice() && split_at_space(second).is_none() {
         Some(Form::Hello(number_of(first), number_of(second)))
+    } else if word == b"RESERVE".as_slice() && split_at_space(second).is_none() {
+        Some(Form::Reserve(number_of(first), number_of(second)))
     } else {
         None
     }

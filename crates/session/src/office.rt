@@ -1,7 +1,7 @@
 //! What a session asks of.
 ghost use Rattle.std.specs.Prelude.{◌≡◌, ◌≤◌, Bool, true};
 ghost use Rattle.othello_board.specs.Words.{cells};
-ghost use Rattle.session.specs.Calls.{Call, Hello, Ask, Get, Wait, Cancel, AskQuota, AskLive, Leave, Reply, Welcome, Job, Told, Ended, Rest, Alive, Gone, reply_of};
+ghost use Rattle.session.specs.Calls.{Call, Hello, Reserve as to_reserve, Ask, Get, Wait, Cancel, AskQuota, AskLive, Leave, Reply, Welcome, Reserved, Job, Told, Ended, Rest, Alive, Gone, reply_of};
 
 use crate::outcome::{Live, Outcome};
 use position_text::Position;
@@ -19,6 +19,10 @@ pub trait Office {
     /// Reserves segments and nodes for a new tenant.
     fn hello(&mut self, reserve: Reserve) -> Result<(), Refusal>
         ensures { does self.old (Hello reserve) (reply_of (λ _. Welcome reserve) result) self.new };
+
+    /// Reserves segments and nodes for the tenant that is there, which has all of its jobs as before.
+    fn reserve(&mut self, reserve: Reserve) -> Result<(), Refusal>
+        ensures { does self.old (to_reserve reserve) (reply_of (λ _. Reserved reserve) result) self.new };
 
     /// Asks for the value of a position to a depth in plies, and gives the number of the job.
     fn ask(&mut self, position: &Position, depth: u8) -> Result<u64, Refusal>

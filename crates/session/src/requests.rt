@@ -2,7 +2,7 @@
 ghost use Rattle.std.specs.Prelude.{◌≡◌, ◌≤◌};
 ghost use Rattle.line_io.specs.Views.{text_of};
 ghost use Rattle.session.specs.Calls.{Call, Get, Wait, Cancel};
-ghost use Rattle.session.specs.Requests.{request, seated_request, early_request, hello_request, ask_request, position_request};
+ghost use Rattle.session.specs.Requests.{request, seated_request, early_request, quota_of, ask_request, position_request};
 ghost use Rattle.session.specs.Views.{form_seen, request_seen};
 
 use crate::forms::{Form, form_of};
@@ -42,6 +42,8 @@ pub(crate) enum Request {
     Fault(u8),
     /// A new tenant.
     Hello(Reserve),
+    /// Another reservation for the tenant that is there.
+    Reserve(Reserve),
     /// The value of a position to a depth.
     Ask(Question),
     /// How a job stands.
@@ -59,16 +61,13 @@ pub(crate) enum Request {
 }
 
 /// A reservation, where both amounts are numbers within the limits.
-fn hello_request(segments: Option<u32>, nodes: Option<u32>) -> Request
-    ensures { request_seen result ≡ hello_request segments nodes }
+fn quota_of(segments: Option<u32>, nodes: Option<u32>) -> Option<Reserve>
+    ensures { result ≡ quota_of segments nodes }
 {
     let (Some(segments), Some(nodes)) = (segments, nodes) else {
-        return Request::Fault(NO_NUMBER);
+        return None;
     };
-    match Reserve::new(segments, nodes) {
-        Some(reserve) => Request::Hello(reserve),
-        None => Request::Fault(NO_NUMBER),
-    }
+    Reserve::new(segments, nodes)
 }
 
 /// A position to a depth of at most 12 plies.
@@ -101,6 +100,10 @@ fn seated_request(form: Form<'_>) -> Request
 {
     match form {
         Form::Hello(_, _) => Request::Fault(HELLO_AGAIN),
+        Form::Reserve(segments, nodes) => match quota_of(segments, nodes) {
+            Some(reserve) => Request::Reserve(reserve),
+            None => Request::Fault(NO_NUMBER),
+        },
         Form::Ask(depth, text) => ask_request(depth, text),
         Form::Get(Some(job)) => Request::Get(u64::from(job)),
         Form::Wait(Some(job)) => Request::Wait(u64::from(job)),
@@ -117,7 +120,10 @@ fn early_request(form: Form<'_>) -> Request
     ensures { request_seen result ≡ early_request (form_seen form.entry) }
 {
     match form {
-        Form::Hello(segments, nodes) => hello_request(segments, nodes),
+        Form::Hello(segments, nodes) => match quota_of(segments, nodes) {
+            Some(reserve) => Request::Hello(reserve),
+            None => Request::Fault(NO_NUMBER),
+        },
         Form::Bye => Request::Bye,
         _ => Request::Fault(NO_HELLO),
     }

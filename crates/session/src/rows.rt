@@ -4,14 +4,16 @@ ghost use Rattle.std.specs.Prelude.{◌≡◌, [], ◌∷◌, ◌++◌, replicat
 ghost use Rattle.line_io.specs.Lines.{Whole, TooLong};
 ghost use Rattle.position_text.specs.declared.positions.Side.TheVariants.{Black};
 ghost use Rattle.session.specs.declared.outcome.Outcome.TheVariants.{Done, Spent};
-ghost use Rattle.session.specs.Calls.{Hello, Ask, Get, Wait, Cancel, AskQuota, AskLive, Leave, Welcome, Job, Told, Rest, Alive, Gone, Refused};
+ghost use Rattle.session.specs.Calls.{Hello, Reserve, Ask, Get, Wait, Cancel, AskQuota, AskLive, Leave, Welcome, Reserved, Job, Told, Rest, Alive, Gone, Refused};
 ghost use Rattle.session.specs.Requests.{Fault, Makes, Ends, request};
 ghost use Rattle.session.specs.Sessions.{calls, out};
+ghost use Rattle.session.specs.DoneLines.{asks_of_lines};
 ghost use Rattle.session.specs.Rows.{opening_board};
 
 /// Each command, where a tenant is there, and HELLO where none is. Numbers may begin with zeros.
 pub fn commands_are_read()
     ensures hello { request false (Whole (codes "HELLO 4 8")) ≡ Makes (Hello (record { segments = 4; nodes = 8 })) }
+    ensures reserve { request true (Whole (codes "RESERVE 8 8")) ≡ Makes (Reserve (record { segments = 8; nodes = 8 })) }
     ensures ask { request true (Whole (codes "ASK 0 ---------------------------OX------XO--------------------------- X")) ≡ Makes (Ask 0 opening_board Black) }
     ensures get { request true (Whole (codes "GET 01")) ≡ Makes (Get 1) }
     ensures zero { request true (Whole (codes "GET 0")) ≡ Makes (Get 0) }
@@ -31,6 +33,7 @@ pub fn foreign_lines_are_faults()
     ensures no_argument { request true (Whole (codes "GET")) ≡ Fault 21 }
     ensures one_more { request true (Whole (codes "GET 1 ")) ≡ Fault 21 }
     ensures no_position { request true (Whole (codes "ASK 0")) ≡ Fault 21 }
+    ensures one_amount { request true (Whole (codes "RESERVE 8")) ≡ Fault 21 }
     ensures three_amounts { request false (Whole (codes "HELLO 1 2 3")) ≡ Fault 21 }
     ensures longest { request true (Whole (replicate 128 65)) ≡ Fault 21 }
 {}
@@ -38,6 +41,8 @@ pub fn foreign_lines_are_faults()
 /// The first fault of each line: the tenant before the numbers, a depth before its position.
 pub fn faults_come_in_order()
     ensures before_hello { request false (Whole (codes "GET 1")) ≡ Fault 28 }
+    ensures reserve_before_hello { request false (Whole (codes "RESERVE x 1")) ≡ Fault 28 }
+    ensures many_to_reserve { request true (Whole (codes "RESERVE 4097 1")) ≡ Fault 23 }
     ensures before_numbers { request false (Whole (codes "WAIT x")) ≡ Fault 28 }
     ensures again { request true (Whole (codes "HELLO x 1")) ≡ Fault 29 }
     ensures no_number { request true (Whole (codes "WAIT x")) ≡ Fault 23 }
@@ -94,4 +99,24 @@ pub fn a_last_line_without_an_end()
         ≡ (Hello (record { segments = 4; nodes = 8 }), Welcome (record { segments = 4; nodes = 8 })) ∷ (Leave, Gone) ∷ [] }
     ensures out { out (codes "HELLO 4 8" ++ 10 ∷ codes "ASK 0 ") (Welcome (record { segments = 4; nodes = 8 }) ∷ [])
         ≡ codes "WELCOME 4 8" ++ 10 ∷ codes "ERR 24" ++ 10 ∷ [] }
+{}
+
+/// Of three ASK lines the second was refused, so the third asked for job 2. A tenant begins at WELCOME and ends at BYE.
+/// The last line stands foremost.
+pub fn asks_are_counted()
+    ensures asked { asks_of_lines
+        ((Whole (codes "ASK 1 ---------------------------OX------XO--------------------------- X"), codes "JOB 2") ∷ (Whole (codes "WAIT 1"), codes "DONE 1 0 -") ∷ (Whole (codes "ASK 2 ---------------------------OX------XO--------------------------- X"), codes "ERR 11")
+        ∷ (Whole (codes "ASK 0 ---------------------------OX------XO--------------------------- X"), codes "JOB 1") ∷ (Whole (codes "HELLO 4 8"), codes "WELCOME 4 8") ∷ [])
+        ≡ record { board = opening_board; depth = 0 } ∷ record { board = opening_board; depth = 1 } ∷ [] }
+    ensures left { asks_of_lines ((Whole (codes "BYE"), codes "BYE") ∷ (Whole (codes "ASK 0 ---------------------------OX------XO--------------------------- X"), codes "JOB 1") ∷ []) ≡ [] }
+{}
+
+/// A tenant reserves more, and then would have less. Its asks stay.
+pub fn more_is_reserved()
+    ensures calls { calls (codes "HELLO 8 1" ++ 10 ∷ codes "RESERVE 8 8" ++ 10 ∷ codes "RESERVE 4 8" ++ 10 ∷ [])
+        (Welcome (record { segments = 8; nodes = 1 }) ∷ Reserved (record { segments = 8; nodes = 8 }) ∷ Refused 20 ∷ [])
+        ≡ (Hello (record { segments = 8; nodes = 1 }), Welcome (record { segments = 8; nodes = 1 })) ∷ (Reserve (record { segments = 8; nodes = 8 }), Reserved (record { segments = 8; nodes = 8 })) ∷ (Reserve (record { segments = 4; nodes = 8 }), Refused 20) ∷ (Leave, Gone) ∷ [] }
+    ensures out { out (codes "HELLO 8 1" ++ 10 ∷ codes "RESERVE 8 8" ++ 10 ∷ codes "RESERVE 4 8" ++ 10 ∷ [])
+        (Welcome (record { segments = 8; nodes = 1 }) ∷ Reserved (record { segments = 8; nodes = 8 }) ∷ Refused 20 ∷ [])
+        ≡ codes "WELCOME 8 1" ++ 10 ∷ codes "RESERVED 8 8" ++ 10 ∷ codes "ERR 20" ++ 10 ∷ [] }
 {}

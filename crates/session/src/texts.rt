@@ -1,7 +1,7 @@
 //! The texts of replies, each without LF.
 ghost use Rattle.std.specs.Prelude.{◌≡◌, ◌+◌, ◌≤◌, ◌++◌, length, codes, decimal};
 ghost use Rattle.line_words.specs.Texts.{error_text, value_text};
-ghost use Rattle.session.specs.Calls.{Welcome, Job, Told, Ended, Rest, Alive, reply_of};
+ghost use Rattle.session.specs.Calls.{Welcome, Reserved, Job, Told, Ended, Rest, Alive, reply_of};
 ghost use Rattle.session.specs.Turns.{reply_text, outcome_text, pair_text};
 
 use crate::outcome::{Finding, Live, Outcome};
@@ -93,6 +93,21 @@ pub(crate) fn welcome_text(reserve: Reserve, reply: Result<(), Refusal>) -> Text
     match reply {
         Ok(()) => pair_text(
             b"WELCOME ",
+            u64::from(reserve.segments()),
+            u64::from(reserve.nodes()),
+        ),
+        Err(refusal) => fault_text(refusal.number()),
+    }
+}
+
+/// The reply to RESERVE.
+pub(crate) fn reserved_text(reserve: Reserve, reply: Result<(), Refusal>) -> Text
+    ensures text { result.items ≡ reply_text (reply_of (λ _. Reserved reserve) reply) }
+    ensures short { length result.items ≤ 72 }
+{
+    match reply {
+        Ok(()) => pair_text(
+            b"RESERVED ",
             u64::from(reserve.segments()),
             u64::from(reserve.nodes()),
         ),

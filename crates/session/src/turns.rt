@@ -9,8 +9,8 @@ ghost use Rattle.session.specs.Views.{request_seen};
 use crate::office::Office;
 use crate::requests::{Request, read_request};
 use crate::texts::{
-    Text, bye_text, ended_text, fault_text, job_text, live_text, quota_text, told_text,
-    welcome_text,
+    Text, bye_text, ended_text, fault_text, job_text, live_text, quota_text, reserved_text,
+    told_text, welcome_text,
 };
 use line_io::Line;
 use tenant_quota::Reserve;
@@ -46,6 +46,7 @@ fn answer_request<O: Office>(office: &mut O, seated: &mut bool, request: Request
     match request {
         Request::Fault(number) => fault_text(number),
         Request::Hello(reserve) => take_hello(office, seated, reserve),
+        Request::Reserve(reserve) => reserved_text(reserve, office.reserve(reserve)),
         Request::Ask(question) => job_text(office.ask(&question.position, question.depth)),
         Request::Get(job) => told_text(job, office.get(job)),
         Request::Wait(job) => told_text(job, office.wait(job)),

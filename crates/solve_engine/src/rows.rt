@@ -11,7 +11,7 @@ pub fn opening_at_depth_2()
 /// A fault and an answer, each with LF (10). A CR (13) before an LF is dropped, and the last line needs no LF.
 pub fn a_fault_and_an_answer()
     ensures { solve_out (codes "opening" ++ 13 ∷ 10 ∷ codes "1 XO-------------------------------------------------------------- O")
-        ≡ codes "ERR 21" ++ 10 ∷ codes "-124 pass" ++ 10 ∷ [] }
+        ≡ codes "ERR 21" ++ 10 ∷ codes "-6000 pass" ++ 10 ∷ [] }
 {}
 
 /// Each line's first fault: the depth before the position, its length before a cell, the cells before the side.
@@ -31,5 +31,5 @@ pub fn faults_come_in_order()
 pub fn refused_growths()
     ensures none { (bytes : List ℕ) → solve_out_unless [] bytes ≡ solve_out bytes }
     ensures some { solve_out_unless (true ∷ true ∷ []) (codes "opening" ++ 10 ∷ codes "1 XO-------------------------------------------------------------- O" ++ 10 ∷ codes "1 XO-------------------------------------------------------------- O")
-        ≡ codes "ERR 21" ++ 10 ∷ codes "ERR 19" ++ 10 ∷ codes "-124 pass" ++ 10 ∷ [] }
+        ≡ codes "ERR 21" ++ 10 ∷ codes "ERR 19" ++ 10 ∷ codes "-6000 pass" ++ 10 ∷ [] }
 {}

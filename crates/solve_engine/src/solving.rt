@@ -6,11 +6,11 @@ ghost use Rattle.solve_engine.specs.Solving.{solve_out_unless, IsSolvedLine, IsV
 
 use crate::answers::{Text, error_text, value_text, visited_text};
 use crate::requests::read_request;
-use leaf_search::search_full;
 use line_io::{
     Answer, FromReader, FromWriter, Line, LineFault, Sink, Source, answer_lines,
     known_runs_are_exact,
 };
+use lone_search::leaf_search::search_full;
 use lone_search::solve_by_core;
 use std::alloc::{AllocError, Allocator};
 use std::io::{Read, Write};

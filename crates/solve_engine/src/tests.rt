@@ -6,7 +6,7 @@ use linked_list_allocator::LocalHeap;
 use std::test::Fail;
 
 /// Lines, and the answers that they get.
-const ROWS: [(&[u8], &[u8]); 7] = [
+const ROWS: [(&[u8], &[u8]); 8] = [
     // the opening at depth 0, 1 and 2
     (
         b"0 ---------------------------OX------XO--------------------------- X
@@ -15,13 +15,14 @@ const ROWS: [(&[u8], &[u8]); 7] = [
 ",
         b"0 -\n-3 d3\n-4 d3\n",
     ),
-    // X to move ends the game with empty squares; O passes, and loses all at the next ply
+    // X to move ends the game with empty squares; O passes, which uses no ply, and loses all
     (
         b"1 XO-------------------------------------------------------------- X
+0 XO-------------------------------------------------------------- O
 1 XO-------------------------------------------------------------- O
 2 XO-------------------------------------------------------------- O
 ",
-        b"6000 c1\n-124 pass\n-6000 pass\n",
+        b"6000 c1\n-124 -\n-6000 pass\n-6000 pass\n",
     ),
     // finished games
     (
@@ -29,6 +30,13 @@ const ROWS: [(&[u8], &[u8]); 7] = [
 5 ---------------------------------------------------------------- X
 ",
         b"-128000 -\n0 -\n",
+    ),
+    // five squares are empty: the greatest depths look beyond the end of the game
+    (
+        b"11 -XO-X-XOXX-XXXOOXXXXOOXXXXXOOXXXXXXXXXXXOXOXOOXO-XXOOOOOOXOOOOOO O
+12 -XO-X-XOXX-XXXOOXXXXOOXXXXXOOXXXXXXXXXXXOXOXOOXO-XXOOOOOOXOOOOOO O
+",
+        b"52000 a1\n52000 a1\n",
     ),
     // a corner is worth more; no LF ends the line
     (
@@ -90,7 +98,7 @@ fn visited_counts_the_positions_entered(rt: HostRuntime) -> Result<(), Fail> {
     solve_visited(&mut source, &mut sink)?;
     assert_eq!(rt;
         sink.writer.as_slice(),
-        b"-4 d3 15\n-124 pass 2\n".as_slice()
+        b"-4 d3 15\n-6000 pass 3\n".as_slice()
     );
     Ok(())
 }

@@ -2,13 +2,13 @@
 use Rattle.std.proofs.Common.{◌≡◌, ℕ, true, false, ◌==◌, if◌then◌else◌, Some, IfSome, sym, subst, refl}
 use Rattle.sched_rules.specs.declared.step.StepOf.{StepOf}
 use Rattle.sched_rules.specs.declared.step.StepOf.TheVariants.{Take, Steal}
-use Rattle.jamboree_rules.specs.declared.leaf.LeafAnswer.{LeafAnswer}
-use Rattle.pool_rules.specs.declared.turn.Deed.{Deed}
-use Rattle.pool_rules.specs.declared.turn.Deed.TheVariants.{Get, Run, Bring, TakeIn, Finish}
-use Rattle.pool_rules.specs.declared.turn.Holding.{Holding}
-use Rattle.pool_rules.specs.declared.turn.Holding.TheVariants.{Nothing, Next, Computing, Short}
-use Rattle.pool_rules.specs.Turns.{step_of, offered}
-use Rattle.hall.specs.Journals.{is_worker_step}
+use Rattle.task_deques.specs.jamboree_rules.declared.leaf.LeafAnswer.{LeafAnswer}
+use Rattle.task_deques.specs.pool_rules.declared.turn.Deed.{Deed}
+use Rattle.task_deques.specs.pool_rules.declared.turn.Deed.TheVariants.{Get, Run, Bring, TakeIn, Finish}
+use Rattle.task_deques.specs.pool_rules.declared.turn.Holding.{Holding}
+use Rattle.task_deques.specs.pool_rules.declared.turn.Holding.TheVariants.{Nothing, Next, Computing, Short}
+use Rattle.task_deques.specs.pool_rules.Turns.{step_of, offered}
+use Rattle.desk.specs.hall.Journals.{is_worker_step}
 
 -- for each deed
 worker-step_of : (worker : ℕ) (deed : Deed) → is_worker_step (step_of worker deed) ≡ true

@@ -1,25 +1,40 @@
--- What one act of a worker comes to: its turn is the table's, and its badge counts the steps that were taken.
-use Rattle.std.specs.Prelude.{◌≡◌, ℕ, ◌+◌, Result, Ok, Err}
+-- What one act of a worker comes to: its turn is the table's, its badge counts the steps that were taken, and the turn's task is pushed.
+use Rattle.std.specs.Prelude.{◌≡◌, ◌⊎◌, ℕ, ◌+◌, Option, Some, None, Result, Ok, Err}
 use Rattle.frame_table.specs.declared.names.FrameId.{FrameId}
 use Rattle.sched_rules.specs.declared.refusal.Refusal.{Refusal}
 use Rattle.sched_rules.specs.declared.step.DidOf.{DidOf}
-use Rattle.jamboree_rules.specs.declared.leaf.Leaf.{Leaf}
-use Rattle.jamboree_rules.specs.declared.leaf.LeafAnswer.{LeafAnswer}
-use Rattle.jamboree_rules.specs.Leaves.{leaf_of_answer}
-use Rattle.pool_rules.specs.declared.turn.Deed.TheVariants.{Bring}
-use Rattle.pool_rules.specs.declared.turn.Holding.{Holding}
-use Rattle.pool_rules.specs.declared.turn.Holding.TheVariants.{Next}
-use Rattle.pool_rules.specs.Turns.{turn_after}
+use Rattle.task_deques.specs.jamboree_rules.declared.leaf.Leaf.{Leaf}
+use Rattle.task_deques.specs.jamboree_rules.declared.leaf.LeafAnswer.{LeafAnswer}
+use Rattle.task_deques.specs.jamboree_rules.Leaves.{leaf_of_answer}
+use Rattle.task_deques.specs.Seats.{with_pushed}
+use Rattle.task_deques.specs.Deals.{WorkerSeats}
+use Rattle.task_deques.specs.pool_rules.declared.task.Task.{Task}
+use Rattle.task_deques.specs.pool_rules.declared.turn.Deed.TheVariants.{Bring}
+use Rattle.task_deques.specs.pool_rules.declared.turn.Holding.{Holding}
+use Rattle.task_deques.specs.pool_rules.declared.turn.Holding.TheVariants.{Next}
+use Rattle.task_deques.specs.pool_rules.Turns.{turn_after}
 
 -- a badge's share after an answer: one more where the step was taken
 abbrev pub share_after : ℕ → Result (DidOf Leaf) Refusal → ℕ
 share_after share (Ok did) = share + 1
 share_after share (Err refusal) = share
 
--- after some answer of the hall, the worker holds what the table says, and the share is that after the answer
-abbrev pub IsTurn : ℕ → Holding → Holding → ℕ → ℕ → Type 0
-IsTurn worker held holds before after =
-    (answer : Result (DidOf Leaf) Refusal) × (holds ≡ (turn_after worker held answer).holding) × (after ≡ share_after before answer)
+-- a worker's seats once it pushed a task: its own has it at the end, or it was handed back and nothing has changed
+abbrev pub IsPushed : Task → WorkerSeats → WorkerSeats → Type 0
+IsPushed task before after = (after ≡ record before { own = with_pushed task before.own }) ⊎ (after ≡ before)
+
+-- so it is with the task that a turn made, if it made one; else nothing is pushed
+abbrev pub IsPushedOf : Option Task → WorkerSeats → WorkerSeats → Type 0
+IsPushedOf None before after = after ≡ before
+IsPushedOf (Some task) before after = IsPushed task before after
+
+-- after some answer of the hall, the worker holds what the table says, the share is that after the answer, and just the task that
+-- the table says is pushed
+pub record IsTurn (worker : ℕ) (held next : Holding) (before after : ℕ) (seats pushed : WorkerSeats) : Type 0 where
+  pub answer : Result (DidOf Leaf) Refusal
+  pub holds : next ≡ (turn_after worker held answer).holding
+  pub share : after ≡ share_after before answer
+  pub task : IsPushedOf (turn_after worker held answer).task seats pushed
 
 -- the worker brings an answer that was computed from just this leaf
 abbrev pub BringsAnswerTo : FrameId → Leaf → Holding → Type 0

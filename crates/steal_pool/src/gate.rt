@@ -1,6 +1,6 @@
 //! Who looks on while workers work.
-use pool_rules::Task;
 use sched_rules::Worker;
+use task_deques::pool_rules::Task;
 
 /// Looks on while workers work. Its calls are made outside all locks, so one that waits holds up one
 /// worker alone.

@@ -8,13 +8,15 @@
 //! outside all locks. A frame that becomes ready by its step is pushed on the worker's deque; where
 //! there is no room it stays ready in the hall, where it is found again.
 //!
-//! What is proved of a worker is that each of its turns is the table's (`specs/Works.antt`), that it
-//! offers workers' steps alone, that it brings an answer that was computed from just the leaf it was
-//! given, that its badge counts the steps that were taken, and that its ends of the deques come back at
-//! the same deques. Of a pool it is that what was pushed is what was taken and what is left, on each
-//! deque and of all together, and that the badge it ends with is that of all its workers, so that
-//! [`desk::Desk::into_hall`] can tell whether every step in the hall is one that somebody took. No
-//! order between threads is promised, nor that a job ends, nor that no task is left where none is found.
+//! What is proved of a worker is that each of its turns is the table's, that no task but that of its
+//! turn is pushed (`specs/Works.antt`), that it offers workers' steps alone, that it brings an answer that
+//! was computed from just the leaf it was given, that its badge counts the steps that were taken, and
+//! that its ends of the deques come back at the same deques. Of a pool it is that there is a deque for
+//! each worker, that what was pushed is what was taken and what is left, on each deque and of all
+//! together, and that these are the sums it ends with. That the badge it ends with is that of all its
+//! workers, so that [`desk::Desk::into_hall`] can tell whether every step in the hall is one that
+//! somebody took, is tested. No order between threads is promised, nor that a job ends, nor that no task
+//! is left where none is found.
 //!
 //! ```text
 //! // four workers, beside whoever speaks at the desk, until it is closed
@@ -22,6 +24,8 @@
 //! end.pushed == end.taken + end.left
 //! ```
 #![tactic(auto)]
+
+pub use desk;
 
 mod gate;
 mod pool;
@@ -31,7 +35,7 @@ mod worker;
 
 pub use gate::{Gate, Open};
 pub use pool::{PoolEnd, PoolFault, run_pool};
-pub use pool_rules::Task;
+pub use task_deques::pool_rules::Task;
 pub use tasks::{Shared, Tasks};
 pub use worker::run_worker;
 

@@ -1,9 +1,10 @@
 //! What a pool is asked, and what it ends with.
-ghost use Rattle.std.specs.Prelude.{◌≡◌, ◌+◌};
+ghost use Rattle.std.specs.Prelude.{◌≡◌, ◌+◌, length, sum_by, All};
+ghost use Rattle.task_deques.specs.Deals.{returned, whole_deques, IsAccounted};
 
 use crate::gate::Gate;
 use crate::tasks::Shared;
-use crate::threads::{Site, Stock, run_all};
+use crate::threads::{Site, Stock, Worked, run_all};
 use desk::{Badge, Desk, Hands};
 use sched_rules::Worker;
 use std::alloc::Global;
@@ -52,6 +53,15 @@ pub struct PoolEnd<L: Hands> {
     ghost sums: { pushed ≡ taken + left },
 }
 
+/// A pool that didn't run.
+#[derive(Clone, Copy, Debug, PartialEq, Eq)]
+pub(crate) struct NotRun {
+    /// Why.
+    pub(crate) fault: PoolFault,
+    /// How many workers' threads were started and have ended.
+    pub(crate) ended: usize,
+}
+
 /// How many tasks each worker's deque has room for. A task beyond them is handed back: its frame stays
 /// ready in the hall.
 const ROOM: usize = 1_024;
@@ -67,11 +77,10 @@ pub fn run_pool<L: Hands + Send + Sync, G: Gate + Sync, R: Threads + Wait + Sync
 ) -> Result<PoolEnd<L>, PoolFault>
     requires { L.all ≡ L.parts }
 {
-    let usual = Sizes {
-        room: ROOM,
-        stack: None,
-    };
-    run_pool_of(rt, alloc, desk, workers, gate, usual)
+    match run_pool_of(rt, alloc, desk, workers, gate, USUAL) {
+        Ok(end) => Ok(end),
+        Err(not_run) => Err(not_run.fault),
+    }
 }
 
 /// How much a pool takes at its start.
@@ -79,9 +88,21 @@ pub fn run_pool<L: Hands + Send + Sync, G: Gate + Sync, R: Threads + Wait + Sync
 pub(crate) struct Sizes {
     /// How many tasks there is room for in each deque.
     pub(crate) room: usize,
-    /// The size of a thread's stack in bytes, or else the usual one.
-    pub(crate) stack: Option<usize>,
+    /// For how many more ends than those of the workers there is room when they come back.
+    pub(crate) more_ends: usize,
+    /// For how many more threads than the workers' there is room.
+    pub(crate) more_threads: usize,
+    /// From which worker on the stacks have another size than the usual one, and which, in bytes.
+    pub(crate) stack: Option<(u8, usize)>,
 }
+
+/// What a pool takes: room for 1,024 tasks, and for all else no more than it needs.
+pub(crate) const USUAL: Sizes = Sizes {
+    room: ROOM,
+    more_ends: 0,
+    more_threads: 0,
+    stack: None,
+};
 
 /// The same with sizes of the caller's.
 pub(crate) fn run_pool_of<L: Hands + Send + Sync, G: Gate + Sync, R: Threads + Wait + Sync>(
@@ -91,15 +112,18 @@ pub(crate) fn run_pool_of<L: Hands + Send + Sync, G: Gate + Sync, R: Threads + W
     workers: Worker,
     gate: &G,
     sizes: Sizes,
-) -> Result<PoolEnd<L>, PoolFault>
+) -> Result<PoolEnd<L>, NotRun>
     requires { L.all ≡ L.parts }
 {
-    let Ok(stock) = Stock::made(alloc, workers, sizes.room) else {
+    let Ok(stock) = Stock::made(alloc, workers, sizes) else {
         desk.close(rt);
-        return Err(PoolFault::OutOfMemory);
+        return Err(NotRun {
+            fault: PoolFault::OutOfMemory,
+            ended: 0,
+        });
     };
     let shared = Shared::new();
-    let end = thread::scope(
+    let worked = thread::scope(
         thread::scope_env(),
         rt,
         |scope|
@@ -116,11 +140,23 @@ pub(crate) fn run_pool_of<L: Hands + Send + Sync, G: Gate + Sync, R: Threads + W
             run_all(&site, stock)
         },
     )?;
-    let sums = end.back.sums();
-    Ok(PoolEnd {
-        badge: end.badge,
+    Ok(end_of(worked))
+}
+
+/// What a pool ends with whose workers left this: their badge, and the sums of their deques, on each of
+/// which what was pushed is what was taken and what is left, each task as often.
+fn end_of<L: Hands>(worked: Worked<L>) -> PoolEnd<L>
+    ensures badge { result.badge ≡ worked.badge }
+    ensures pushed { result.pushed ≡ sum_by (λ deque. length deque.tally.pushed) (whole_deques (returned worked.back)) }
+    ensures taken { result.taken ≡ sum_by (λ deque. length deque.tally.taken) (whole_deques (returned worked.back)) }
+    ensures each_once { All IsAccounted (whole_deques (returned worked.back)) }
+{
+    let Worked { badge, back } = worked;
+    let sums = back.sums();
+    PoolEnd {
+        badge,
         pushed: sums.pushed,
         taken: sums.taken,
         left: sums.left,
-    })
+    }
 }

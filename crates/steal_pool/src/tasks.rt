@@ -1,11 +1,12 @@
 //! The tasks of a worker, and what all workers of a pool share.
-ghost use Rattle.std.specs.Prelude.{◌≡◌};
-ghost use Rattle.task_deques.specs.Deals.{posts};
+ghost use Rattle.std.specs.Prelude.{◌≡◌, IfNone, IfSome};
+ghost use Rattle.task_deques.specs.Deals.{posts, worker_seats, IsTaken};
+ghost use Rattle.steal_pool.specs.Works.{IsPushed};
 
-use pool_rules::{Computations, Task};
 use sched_rules::Worker;
 use std::sync::{Mutex, Wait};
 use task_deques::Ends;
+use task_deques::pool_rules::{Computations, Task};
 
 /// What the workers of a pool share beside their deques: the count of computations, under a lock of
 /// its own.
@@ -43,14 +44,20 @@ impl Tasks<'_> {
     /// Pushes a task on the worker's own deque. One that is handed back is dropped: its frame stays
     /// ready in the hall.
     pub(crate) fn push(&mut self, task: Task)
-        ensures { posts self.new.ends ≡ posts self.old.ends }
+        ensures pushed { IsPushed task (worker_seats self.old.ends) (worker_seats self.new.ends) }
+        ensures posts { posts self.new.ends ≡ posts self.old.ends }
     {
-        let _ = self.ends.push(task);
+        match self.ends.push(task) {
+            Ok(()) => {}
+            Err(_handed_back) => {}
+        }
     }
 
     /// The worker's own newest task, else the oldest of the next worker's that has one.
     pub(crate) fn take(&mut self, worker: Worker) -> Option<Task>
-        ensures { posts self.new.ends ≡ posts self.old.ends }
+        ensures taken { IfSome result (λ task. IsTaken task (worker_seats self.old.ends) (worker_seats self.new.ends)) }
+        ensures unchanged { IfNone result (worker_seats self.new.ends ≡ worker_seats self.old.ends) }
+        ensures posts { posts self.new.ends ≡ posts self.old.ends }
     {
         self.ends.take(worker)
     }

@@ -2,13 +2,14 @@
 //! pool beside the scenario, closes the desk and counts.
 ghost use Rattle.std.specs.Prelude.{◌≡◌};
 
+mod announced;
 mod faults;
 mod games;
 mod overlaps;
 mod rows;
 mod seats;
 
-use crate::pool::{Sizes, run_pool_of};
+use crate::pool::{Sizes, USUAL, run_pool_of};
 use crate::{Gate, PoolEnd, PoolFault, run_pool};
 use desk::{Desk, Hall, Hands, PARTS};
 use sched_rules::{Config, Worker};
@@ -116,7 +117,10 @@ fn run<L: Hands + Send + Sync, G: Gate + Sync, R: Threads + Wait + Sync>(
         return Err(PoolFault::NoThread);
     };
     match room {
-        Some(room) => run_pool_of(rt, alloc, desk, workers, gate, Sizes { room, stack: None }),
+        Some(room) => {
+            let sizes = Sizes { room, ..USUAL };
+            run_pool_of(rt, alloc, desk, workers, gate, sizes).map_err(|not_run| not_run.fault)
+        }
         None => run_pool(rt, alloc, desk, workers, gate),
     }
 }

@@ -4,11 +4,11 @@
 //! [`SameEnds`]: the ends that it brings back are at the deques at which those were that it got. Once all
 //! threads are joined, all seats of all deques are there, and what was pushed on each is what was taken
 //! from it and what is left.
-ghost use Rattle.std.specs.Prelude.{◌≡◌, ◌≤◌, [], map, vec_len, vec_capacity, IfOk, OnOk};
+ghost use Rattle.std.specs.Prelude.{◌≡◌, ◌≤◌, [], length, map, vec_len, vec_capacity, IfOk, OnOk};
 ghost use Rattle.task_deques.specs.Deals.{posts, posts_of, returned, returned_room, IsWhole};
 
 use crate::gate::Gate;
-use crate::pool::PoolFault;
+use crate::pool::{NotRun, PoolFault, Sizes};
 use crate::tasks::{Shared, Tasks};
 use crate::worker::run_worker;
 use core::thread::Stack;
@@ -41,18 +41,20 @@ pub(crate) struct Stock<L: Hands> {
     ghost whole: { IsWhole (map posts dealt.items) },
     ghost few: { vec_len dealt ≤ 32 },
     ghost none_back: { returned back ≡ [] },
-    ghost room: { returned_room back ≡ vec_len dealt },
+    ghost room: { vec_len dealt ≤ returned_room back },
     ghost no_handle: { vec_len handles ≡ 0 },
     ghost handle_room: { vec_len dealt ≤ vec_capacity handles },
 }
 
 impl<L: Hands> Stock<L> {
-    /// For as many workers as the number of the last, with room for so many tasks in each deque. It
-    /// fails only where memory is refused.
-    pub(crate) fn made(alloc: Global, last: Worker, room: usize) -> Result<Stock<L>, AllocError> {
-        let dealt = deal(alloc, last, room)?;
-        let back = Returned::with_room(alloc, last)?;
-        let handles = Vec::with_capacity(alloc, dealt.len())?;
+    /// For as many workers as the number of the last. It fails only where memory is refused.
+    pub(crate) fn made(alloc: Global, last: Worker, sizes: Sizes) -> Result<Stock<L>, AllocError>
+        ensures { IfOk result (λ stock. vec_len stock.dealt ≡ last) }
+    {
+        let dealt = deal(alloc, last, sizes.room)?;
+        let many = dealt.len();
+        let back = Returned::with_room(alloc, many.saturating_add(sizes.more_ends))?;
+        let handles = Vec::with_capacity(alloc, many.saturating_add(sizes.more_threads))?;
         Ok(Stock {
             dealt,
             back,
@@ -69,8 +71,8 @@ pub(crate) struct Site<'s, E, L: Hands, G, R> {
     pub(crate) desk: &'s Desk<L>,
     pub(crate) shared: &'s Shared,
     pub(crate) gate: &'s G,
-    /// The size of a thread's stack in bytes, or else the usual one.
-    pub(crate) stack: Option<usize>,
+    /// From which worker on the stacks have another size than the usual one, and which, in bytes.
+    pub(crate) stack: Option<(u8, usize)>,
 }
 
 /// What workers leave: their badges, joined, and the ends of all deques.
@@ -82,12 +84,13 @@ pub(crate) struct Worked<L: Hands> {
 }
 
 /// Starts all workers and waits for them. Where one can't be had it closes the desk, waits for those
-/// that it started, and answers why.
+/// that it started, and answers why, and how many these were.
 pub(crate) fn run_all<'s, E, L: Hands + Send + Sync, G: Gate + Sync, R: Threads + Wait + Sync>(
     site: &Site<'s, E, L, G, R>,
     stock: Stock<L>,
-) -> Result<Worked<L>, PoolFault>
+) -> Result<Worked<L>, NotRun>
     requires { L.all ≡ L.parts }
+    ensures { IfOk result (λ worked. length (returned worked.back) ≡ vec_len stock.dealt) }
 {
     let Stock {
         dealt,
@@ -101,10 +104,14 @@ pub(crate) fn run_all<'s, E, L: Hands + Send + Sync, G: Gate + Sync, R: Threads 
         site.desk.close(site.rt);
     }
     let badge = join_all(site.rt, handles, &mut back);
+    let ended = back.count();
     match (started, badge) {
         (Ok(()), Some(badge)) => Ok(Worked { badge, back }),
-        (Ok(()), None) => Err(PoolFault::NoThread),
-        (Err(fault), _) => Err(fault),
+        (Ok(()), None) => Err(NotRun {
+            fault: PoolFault::NoThread,
+            ended,
+        }),
+        (Err(fault), _) => Err(NotRun { fault, ended }),
     }
 }
 
@@ -152,8 +159,8 @@ fn start<'s, E, L: Hands + Send + Sync, G: Gate + Sync, R: Wait + Sync>(
         return Err(PoolFault::NoThread);
     };
     let thread = match stack {
-        Some(size) => Stack::new().stack_size(size),
-        None => Stack::new(),
+        Some((from, size)) if from <= worker.number() => Stack::new().stack_size(size),
+        _ => Stack::new(),
     };
     let promise = SameEnds(Snapshot::of(&ends));
     match thread.spawn_scoped_with(

@@ -6,18 +6,18 @@
 //! without a frame again. It sleeps only at the desk, and it ends once it finds no task and the desk is
 //! closed: what is left then in the deques of others is theirs. It holds no lock while it computes.
 ghost use Rattle.std.specs.Prelude.{◌≡◌, Some};
-ghost use Rattle.pool_rules.specs.Turns.{offered};
-ghost use Rattle.task_deques.specs.Deals.{posts};
+ghost use Rattle.task_deques.specs.pool_rules.Turns.{offered};
+ghost use Rattle.task_deques.specs.Deals.{posts, worker_seats};
 ghost use Rattle.steal_pool.specs.Works.{IsTurn, BringsAnswerTo};
 
 use crate::gate::Gate;
 use crate::tasks::Tasks;
+use desk::jamboree::{Jamboree, Leaf, LeafAnswer};
 use desk::{Badge, Desk, Hands};
 use frame_table::FrameId;
-use jamboree::{Jamboree, Leaf, LeafAnswer};
-use pool_rules::{Deed, Holding, Task};
 use sched_rules::{Step, Worker};
 use std::sync::Wait;
+use task_deques::pool_rules::{Deed, Holding, Task};
 
 /// Works until the desk is closed and no task is found. Every step goes through [`Desk::offer`], so its
 /// badge's share is the number of steps that it took. Its tasks come back with ends of the same deques.
@@ -76,25 +76,20 @@ fn work_off<L: Hands, G: Gate, R: Wait>(
         holding = match holding.step(worker) {
             Some(step) => offered(rt, desk, worker, badge, tasks, holding, &step),
             None => match holding {
-                Holding::Computing(frame, leaf) => computed(rt, worker, tasks, gate, frame, leaf),
+                Holding::Computing(frame, leaf) => {
+                    computed(worker, tasks.begin(rt), gate, frame, leaf)
+                }
                 _ => break,
             },
         };
     }
 }
 
-/// Computes a leaf outside all locks: the answer is to be brought.
-fn computed<G: Gate, R: Wait>(
-    rt: &R,
-    worker: Worker,
-    tasks: &Tasks<'_>,
-    gate: &G,
-    frame: FrameId,
-    leaf: Leaf,
-) -> Holding
+/// Computes a leaf, as the computation of this number: the answer is to be brought. It is handed neither
+/// a means to wait nor anything that has a lock, so it can't take one.
+fn computed<G: Gate>(worker: Worker, number: u64, gate: &G, frame: FrameId, leaf: Leaf) -> Holding
     ensures { BringsAnswerTo frame leaf result }
 {
-    let number = tasks.begin(rt);
     gate.inside(worker, number);
     Holding::Next(Deed::Bring(frame, LeafAnswer::compute(leaf)))
 }
@@ -111,7 +106,7 @@ fn offered<L: Hands, R: Wait>(
     step: &Step<Jamboree>,
 ) -> Holding
     requires { Some step.now ≡ offered worker holding }
-    ensures turn { IsTurn worker holding result badge.old badge.new }
+    ensures turn { IsTurn worker holding result badge.old badge.new (worker_seats tasks.old.ends) (worker_seats tasks.new.ends) }
     ensures ends { posts tasks.new.ends ≡ posts tasks.old.ends }
 {
     let answer = desk.offer(rt, badge, step);

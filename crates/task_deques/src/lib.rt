@@ -26,6 +26,9 @@
 //! ```
 #![tactic(auto)]
 
+pub use pool_rules;
+pub use pool_rules::leaf_search;
+
 mod dealing;
 mod ends;
 mod joining;

@@ -6,7 +6,6 @@ use crate::joining::{added, joined};
 use crate::owner::Owner;
 use crate::sums::Sums;
 use crate::thief::Thief;
-use sched_rules::Worker;
 use std::alloc::{AllocError, Global};
 
 /// Ends that came back.
@@ -22,16 +21,21 @@ pub struct Returned {
 impl Returned {
     ghost use Rattle.task_deques.specs.Deals.{worker_seats, posts_of, returned, returned_room, whole_deques, IsWhole, IsAccounted};
 
-    /// None, and room for those of as many workers as the number of the last. It fails only where
-    /// memory is refused.
-    pub fn with_room(alloc: Global, last: Worker) -> Result<Returned, AllocError>
+    /// None, and room for those of so many workers. It fails only where memory is refused.
+    pub fn with_room(alloc: Global, room: usize) -> Result<Returned, AllocError>
         ensures none { IfOk result (λ back. returned back ≡ []) }
-        ensures room { IfOk result (λ back. returned_room back ≡ last) }
+        ensures room { IfOk result (λ back. returned_room back ≡ room) }
     {
-        let room = usize::from(last.number());
         let owners = Vec::with_capacity(alloc, room)?;
         let rows = Vec::with_capacity(alloc, room)?;
         Ok(Returned { owners, rows, room })
+    }
+
+    /// Of how many workers the ends came back.
+    pub fn count(&self) -> usize
+        ensures { result ≡ length (returned self.now) }
+    {
+        self.owners.len()
     }
 
     /// Puts a worker's ends after those that are there.

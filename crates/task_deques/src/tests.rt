@@ -54,7 +54,7 @@ fn sums(alloc: Global, last: Worker, all: Vec<Ends>) -> Result<Sums, AllocError>
     requires whole { IsWhole (map posts all.items) }
     requires count { vec_len all ≡ last }
 {
-    let mut back = Returned::with_room(alloc, last)?;
+    let mut back = Returned::with_room(alloc, usize::from(last.number()))?;
     for ends in all {
         back.put(ends);
     }
@@ -77,6 +77,32 @@ fn stolen(alloc: Global) -> Result<Option<u64>, AllocError> {
 #[test]
 fn a_task_is_stolen(rt: HostRuntime) -> Result<(), Fail> {
     assert_eq!(rt; stolen(rt.alloc())?, Some(1));
+    Ok(())
+}
+
+/// What worker 2 takes where worker 1 pushed the task 1 and worker 3 the task 3.
+fn between_two(alloc: Global) -> Result<Option<[u64; 3]>, AllocError> {
+    let (Some(one), Some(two), Some(three)) = (Worker::new(1), Worker::new(2), Worker::new(3))
+    else {
+        return Ok(None);
+    };
+    let mut all = deal(alloc, three, 8)?;
+    if !pushes(&mut all, one, 1) || !pushes(&mut all, three, 3) {
+        return Ok(None);
+    }
+    let taken = [
+        takes(&mut all, two),
+        takes(&mut all, two),
+        takes(&mut all, two),
+    ];
+    Ok(Some(taken))
+}
+
+/// A worker tries the deques in the order of their numbers after its own, and then from the first on:
+/// worker 2 steals worker 3's task before worker 1's.
+#[test]
+fn the_next_worker_is_tried_first(rt: HostRuntime) -> Result<(), Fail> {
+    assert_eq!(rt; between_two(rt.alloc())?, Some([3, 1, 0]));
     Ok(())
 }
 
@@ -182,10 +208,11 @@ fn as_the_list(rt: HostRuntime) -> Result<(), Fail> {
     Ok(())
 }
 
-/// Room that can't be had is refused.
+/// Room that can't be had is refused, for tasks and for ends that come back.
 #[test]
 fn no_room(rt: HostRuntime) -> Result<(), Fail> {
     let last = Worker::new(2).ok_or("a worker")?;
     assert!(rt; deal(rt.alloc(), last, usize::MAX).is_err());
+    assert!(rt; Returned::with_room(rt.alloc(), usize::MAX).is_err());
     Ok(())
 }

@@ -4,9 +4,9 @@
 //! thread of its own, in which `desk_office` answers its lines; the pool of `steal_pool` works beside them. When all
 //! sessions have ended it closes the desk, joins all, and gives what the pool ended with.
 //!
-//! A connection that is lost is a session that ended: its tenant leaves. A connection for which no thread can be had
-//! is closed, and counts too. The listener is closed with the last connection that is taken, so that who comes later
-//! is refused at once and can try another server.
+//! A connection that is lost is a session that ended: its tenant leaves. A connection for which no thread or no
+//! descriptor can be had is closed, and counts too. The listener is closed with the last connection that is taken, so
+//! that who comes later is refused at once and can try another server.
 //!
 //! What a session answers is the contract of `desk_office::serve_desk`, whatever the threads do: a socket is a source
 //! and a sink of bytes. Here is only who runs where. Nothing is proved of when a thread runs.
@@ -17,6 +17,10 @@
 //! ```
 #![tactic(auto)]
 
+pub use steal_pool;
+pub use steal_pool::desk;
+
+mod door;
 mod faults;
 mod server;
 

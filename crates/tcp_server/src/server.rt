@@ -1,18 +1,19 @@
 //! The threads of a server: the pool in one, and one for each connection.
 ghost use Rattle.std.specs.Prelude.{◌≡◌};
 
+use crate::door::Door;
 use crate::faults::ServeFault;
-use desk::{Desk, Hands};
 use desk_office::serve_desk;
 use line_io::{FromReader, FromWriter};
 use sched_rules::Worker;
 use std::alloc::Global;
-use std::io::{self, ErrorKind};
+use std::io;
 use std::net::{Net, TcpListener, TcpStream};
 use std::sync::Wait;
 use std::sync::atomic::{AtomicBool, Ordering};
-use std::thread::{self, Scope, Threads};
-use steal_pool::{Gate, PoolEnd, run_pool};
+use std::thread::{self, Builder, Scope, Threads};
+use steal_pool::desk::{Desk, Hands};
+use steal_pool::{Gate, PoolEnd, PoolFault, run_pool};
 
 /// Takes so many connections and serves each in a thread of its own, with the workers beside them; then closes the
 /// desk and joins all.
@@ -31,9 +32,57 @@ pub fn serve<L: Hands + Send + Sync, G: Gate + Sync, R: Net + Threads + Wait + S
 ) -> Result<PoolEnd<L>, ServeFault>
     requires { L.all ≡ L.parts }
 {
+    let asked = Sessions {
+        count: sessions,
+        stack: None,
+    };
+    let mut end = Err(PoolFault::NoThread);
+    serve_beside(
+        rt,
+        desk,
+        listener,
+        asked,
+        ||
+            requires { L.all ≡ L.parts }
+        {
+            end = run_pool(rt, alloc, desk, workers, gate);
+            end.is_ok()
+        },
+    )?;
+    Ok(end?)
+}
+
+/// The sessions of a server.
+#[derive(Clone, Copy, Debug)]
+pub(crate) struct Sessions {
+    /// How many there are.
+    pub(crate) count: u16,
+    /// The size of a session's stack in bytes, or else the usual one.
+    pub(crate) stack: Option<usize>,
+}
+
+/// The same beside any pool, which runs until the desk is closed and tells whether it could begin. Where it couldn't it
+/// has closed the desk, and no more connections are taken.
+pub(crate) fn serve_beside<
+    L: Hands + Send + Sync,
+    R: Net + Threads + Wait + Sync,
+    P: FnOnce() -> bool,
+>(
+    rt: &R,
+    desk: &Desk<L>,
+    listener: TcpListener,
+    sessions: Sessions,
+    pool: P,
+) -> Result<(), ServeFault>
+    requires all { L.all ≡ L.parts }
+    requires pool { P.pre pool }
+{
     let address = match listener.local_addr() {
         Ok(address) => address,
-        Err(error) => return Err(ServeFault::Listener(error)),
+        Err(error) => {
+            desk.close(rt);
+            return Err(ServeFault::Listener(error));
+        }
     };
     let given_up = AtomicBool::new(false);
     let stop = &given_up;
@@ -41,7 +90,8 @@ pub fn serve<L: Hands + Send + Sync, G: Gate + Sync, R: Net + Threads + Wait + S
         thread::scope_env(),
         rt,
         |scope|
-            requires { L.all ≡ L.parts }
+            requires all { L.all ≡ L.parts }
+            requires pool { P.pre pool }
         {
             let started = scope.spawn(
                 move || -> io::Result<()>
@@ -49,18 +99,16 @@ pub fn serve<L: Hands + Send + Sync, G: Gate + Sync, R: Net + Threads + Wait + S
                 { serve_and_close(rt, desk, listener, sessions, stop) },
             );
             let Ok(taking) = started else {
+                desk.close(rt);
                 return Err(ServeFault::NoThread);
             };
-            let end = run_pool(rt, alloc, desk, workers, gate);
-            if end.is_err() {
+            if !pool() {
                 // No connection is taken any more: one of its own wakes the listener.
                 stop.store(true, Ordering::SeqCst);
                 let _ = rt.connect(address);
             }
-            let taken = taking.join(rt);
-            let end = end?;
-            match taken {
-                Ok(()) => Ok(end),
+            match taking.join(rt) {
+                Ok(()) => Ok(()),
                 Err(error) => Err(ServeFault::Listener(error)),
             }
         },
@@ -72,7 +120,7 @@ fn serve_and_close<L: Hands + Send + Sync, R: Threads + Wait + Sync>(
     rt: &R,
     desk: &Desk<L>,
     listener: TcpListener,
-    sessions: u16,
+    sessions: Sessions,
     stop: &AtomicBool,
 ) -> io::Result<()>
     requires { L.all ≡ L.parts }
@@ -89,46 +137,38 @@ fn serve_and_close<L: Hands + Send + Sync, R: Threads + Wait + Sync>(
 }
 
 /// Takes so many connections, each with a thread of its own, and closes the listener. A connection for which no
-/// thread can be had comes back, and is closed where it is dropped.
+/// thread can be had is dropped, and so closed, and counts as one of them.
 fn take_all<'s, E, L: Hands + Send + Sync, R: Wait + Sync>(
     scope: &'s Scope<'s, E>,
     rt: &'s R,
     desk: &'s Desk<L>,
     listener: TcpListener,
-    sessions: u16,
+    sessions: Sessions,
     stop: &AtomicBool,
 ) -> io::Result<()>
     requires { L.all ≡ L.parts }
 {
-    for _ in 0..sessions {
-        let stream = next_connection(rt, &listener)?;
+    let mut door = Door::new(listener);
+    for _ in 0..sessions.count {
+        let taken = door.next(rt)?;
         if stop.load(Ordering::SeqCst) {
             break;
         }
-        let _ = scope.spawn(
+        let Some(stream) = taken else {
+            continue;
+        };
+        let thread = match sessions.stack {
+            Some(size) => Builder::new().stack_size(size),
+            None => Builder::new(),
+        };
+        let _ = thread.spawn_scoped(
+            scope,
             move ||
                 requires { L.all ≡ L.parts }
             { converse(rt, desk, &stream) },
         );
     }
     Ok(())
-}
-
-/// The next connection. One that was lost before it could be taken is passed over.
-fn next_connection<R: Wait>(rt: &R, listener: &TcpListener) -> io::Result<TcpStream> {
-    for _ in rt.forever() {
-        match listener.accept() {
-            Ok((stream, _)) => return Ok(stream),
-            Err(error) if is_passing(error.kind()) => {}
-            Err(error) => return Err(error),
-        }
-    }
-    unreachable!()
-}
-
-/// Whether the listener goes on after this error.
-fn is_passing(kind: ErrorKind) -> bool {
-    kind == ErrorKind::ConnectionAborted || kind == ErrorKind::Interrupted
 }
 
 /// One session. Each line is answered at once. However it ends, its tenant has left.

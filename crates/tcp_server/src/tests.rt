@@ -2,8 +2,12 @@
 //! the server does.
 ghost use Rattle.std.specs.Prelude.{◌≡◌};
 
+mod reserving;
+
+use crate::door::Door;
+use crate::server::{Sessions, serve_beside};
 use crate::{ServeFault, serve};
-use desk::{Desk, Hall, Hands, PARTS};
+use reserving::MORE;
 use sched_rules::{Config, Worker};
 use std::alloc::Global;
 use std::io::{self, Read, Write};
@@ -13,6 +17,7 @@ use std::sync::Wait;
 use std::sync::ledger::Blank;
 use std::test::Fail;
 use std::thread::{self, Threads};
+use steal_pool::desk::{Desk, Hall, Hands, PARTS};
 use steal_pool::{Open, PoolEnd};
 
 /// A line, and its answer.
@@ -43,6 +48,51 @@ const SPENT: [Row; 6] = [
     ("BYE\n", "BYE\n"),
 ];
 
+/// Lines that are no command as they stand, up to BYE with CR.
+const FOREIGN: [(&[u8], &str); 20] = [
+    (b"WAIT x\n", "ERR 28\n"),
+    (b"HELLO 4097 1\n", "ERR 23\n"),
+    (b"HELLO 4 8\n", "WELCOME 4 8\n"),
+    (b"\n", "ERR 21\n"),
+    (b"get 1\n", "ERR 21\n"),
+    (b"GET\n", "ERR 21\n"),
+    (b"GET 1 \n", "ERR 21\n"),
+    (
+        b"AAAAAAAAAAAAAAAAAAAAAAAAAAAAAAAAAAAAAAAAAAAAAAAAAAAAAAAAAAAAAAAAAAAAAAAAAAAAAAAAAAAAAAAAAAAAAAAAAAAAAAAAAAAAAAAAAAAAAAAAAAAAAAAA\r\n",
+        "ERR 21\n",
+    ),
+    (
+        b"AAAAAAAAAAAAAAAAAAAAAAAAAAAAAAAAAAAAAAAAAAAAAAAAAAAAAAAAAAAAAAAAAAAAAAAAAAAAAAAAAAAAAAAAAAAAAAAAAAAAAAAAAAAAAAAAAAAAAAAAAAAAAAAAA\n",
+        "ERR 22\n",
+    ),
+    (b"GET 123456789\n", "ERR 23\n"),
+    (b"WAIT x\n", "ERR 23\n"),
+    (b"GET 0\n", "ERR 17\n"),
+    (
+        b"ASK 0  ---------------------------OX------XO--------------------------- X\n",
+        "ERR 24\n",
+    ),
+    (
+        b"ASK 0 ---\xff-----------------------OX------XO--------------------------- X\n",
+        "ERR 25\n",
+    ),
+    (
+        b"ASK 0 ---------------------------OX------XO--------------------------- Q\n",
+        "ERR 26\n",
+    ),
+    (
+        b"ASK 13 ---------------------------OX------XO--------------------------- X\n",
+        "ERR 27\n",
+    ),
+    (b"HELLO 1 1\n", "ERR 29\n"),
+    (
+        b"ASK 0 ---------------------------OX------XO--------------------------- X\n",
+        "JOB 1\n",
+    ),
+    (b"WAIT 1\n", "DONE 1 0 -\n"),
+    (b"BYE\r\n", "BYE\n"),
+];
+
 /// Lines that reserve all there is, and wait for a job that takes a while.
 const LONG_WAIT: &str =
     "HELLO 4096 65536\nASK 7 ---------------------------OX------XO--------------------------- X\nWAIT 1\n";
@@ -61,8 +111,8 @@ const JOBS: [(&str, &str, &str); 4] = [
     ),
     (
         "ASK 1 XO-------------------------------------------------------------- O\n",
-        "DONE 1 -124 pass\n",
-        "DONE 2 -124 pass\n",
+        "DONE 1 -6000 pass\n",
+        "DONE 2 -6000 pass\n",
     ),
     (
         "ASK 1 -OXO------------------------------------------------------------ X\n",
@@ -89,6 +139,10 @@ enum Visit {
     Lost,
     /// Each connection has two jobs of its own.
     Many,
+    /// Most lines are foreign.
+    Foreign,
+    /// A tenant reserves more.
+    More,
 }
 
 /// Sends a line, and tells whether this is its answer.
@@ -107,14 +161,19 @@ fn is_told(mut stream: &TcpStream, text: &str) -> io::Result<bool> {
     Ok(&*told == text.as_bytes())
 }
 
-/// Whether each line is answered as it should be, and the connection is closed then.
-fn are_answered(mut stream: &TcpStream, rows: &[Row]) -> io::Result<bool> {
+/// Whether each line is answered as it should be.
+fn are_told(stream: &TcpStream, rows: &[Row]) -> io::Result<bool> {
     for row in rows {
         if !is_answered(stream, *row)? {
             return Ok(false);
         }
     }
-    Ok(stream.read(&mut [0; 1])? == 0)
+    Ok(true)
+}
+
+/// Whether each line is answered as it should be, and the connection is closed then.
+fn are_answered(mut stream: &TcpStream, rows: &[Row]) -> io::Result<bool> {
+    Ok(are_told(stream, rows)? && stream.read(&mut [0; 1])? == 0)
 }
 
 /// Whether two sessions at once are answered as each is alone.
@@ -138,6 +197,17 @@ fn are_bytes_answered(mut stream: &TcpStream) -> io::Result<bool> {
         }
     }
     Ok(true)
+}
+
+/// Whether each foreign line gets its fault, and the session goes on.
+fn are_faults_told(mut stream: &TcpStream) -> io::Result<bool> {
+    for (line, answer) in &FOREIGN {
+        stream.write_all(line)?;
+        if !is_told(stream, answer)? {
+            return Ok(false);
+        }
+    }
+    Ok(stream.read(&mut [0; 1])? == 0)
 }
 
 /// Whether all that there is can be reserved, within so many turns.
@@ -197,6 +267,8 @@ fn are_served(visit: Visit, mut streams: Vec<TcpStream>) -> io::Result<bool> {
         (Visit::Spent, [stream]) => are_answered(stream, &SPENT),
         (Visit::Both, [one, two]) => are_both_answered(one, two),
         (Visit::Bytes, [stream]) => are_bytes_answered(stream),
+        (Visit::Foreign, [stream]) => are_faults_told(stream),
+        (Visit::More, [stream]) => are_told(stream, &MORE),
         (Visit::Many, many) => are_told_of_their_own(many),
         _ => match (streams.pop(), streams.pop()) {
             (Some(lost), Some(kept)) => is_given_back(lost, &kept),
@@ -292,6 +364,19 @@ fn a_byte_at_a_time_is_enough(rt: HostRuntime) -> Result<(), Fail> {
 }
 
 #[test]
+fn foreign_lines_get_their_faults(rt: HostRuntime) -> Result<(), Fail> {
+    let found = visited::<Brand, HostRuntime>(
+        &rt,
+        rt.alloc(),
+        Blank::new(PARTS),
+        1,
+        Visit::Foreign,
+    )?;
+    assert_eq!(rt; found, (true, true));
+    Ok(())
+}
+
+#[test]
 fn a_lost_connection_gives_all_back(rt: HostRuntime) -> Result<(), Fail> {
     let found = visited::<Brand, HostRuntime>(&rt, rt.alloc(), Blank::new(PARTS), 2, Visit::Lost)?;
     assert_eq!(rt; found, (true, true));
@@ -302,5 +387,94 @@ fn a_lost_connection_gives_all_back(rt: HostRuntime) -> Result<(), Fail> {
 fn thirty_two_are_told_of_their_own(rt: HostRuntime) -> Result<(), Fail> {
     let found = visited::<Brand, HostRuntime>(&rt, rt.alloc(), Blank::new(PARTS), 32, Visit::Many)?;
     assert_eq!(rt; found, (true, true));
+    Ok(())
+}
+
+/// Whether a server of two sessions whose pool can't begin ends while nobody comes, and whether its listener is closed
+/// then.
+fn given_up<L, R>(rt: &R, alloc: Global, blank: Blank) -> Result<(bool, bool), Fail>
+where
+    L: Hands + Send + Sync,
+    R: Net<Listener = TcpListener, Stream = TcpStream> + Threads + Wait + Sync,
+    requires name { blank.name ≡ L.name }
+    requires parts { (blank.parts ≡ L.parts) × (L.all ≡ L.parts) × (L.all ≡ PARTS) }
+{
+    let config = Config::new(8, 8).ok_or("the limits")?;
+    let desk: Desk<L> = Desk::new(Hall::new(alloc, config, 0)?, blank);
+    let listener = TcpListener::bind(rt, "127.0.0.1:0")?;
+    let address = listener.local_addr()?;
+    let usual = Sessions {
+        count: 2,
+        stack: None,
+    };
+    let served = serve_beside(rt, &desk, listener, usual, || {
+        desk.close(rt);
+        false
+    });
+    let is_closed = TcpStream::connect(rt, address).is_err();
+    Ok((served.is_ok(), is_closed))
+}
+
+#[test]
+fn a_pool_that_cannot_begin_ends_the_server(rt: HostRuntime) -> Result<(), Fail> {
+    let found = given_up::<Brand, HostRuntime>(&rt, rt.alloc(), Blank::new(PARTS))?;
+    assert_eq!(rt; found, (true, true));
+    Ok(())
+}
+
+/// How many bytes two clients read at a server of two sessions that can't have a thread for either.
+fn refused_threads<L, R>(rt: &R, alloc: Global, blank: Blank) -> Result<[usize; 2], Fail>
+where
+    L: Hands + Send + Sync,
+    R: Net<Listener = TcpListener, Stream = TcpStream> + Threads + Wait + Sync,
+    requires name { blank.name ≡ L.name }
+    requires parts { (blank.parts ≡ L.parts) × (L.all ≡ L.parts) × (L.all ≡ PARTS) }
+{
+    let config = Config::new(8, 8).ok_or("the limits")?;
+    let desk: Desk<L> = Desk::new(Hall::new(alloc, config, 0)?, blank);
+    let listener = TcpListener::bind(rt, "127.0.0.1:0")?;
+    let address = listener.local_addr()?;
+    let one = TcpStream::connect(rt, address)?;
+    let two = TcpStream::connect(rt, address)?;
+    let too_large = Sessions {
+        count: 2,
+        stack: Some(usize::MAX),
+    };
+    serve_beside(
+        rt,
+        &desk,
+        listener,
+        too_large,
+        || desk.next_ready(rt).is_none(),
+    )?;
+    Ok([(&one).read(&mut [0; 1])?, (&two).read(&mut [0; 1])?])
+}
+
+#[test]
+fn a_connection_without_a_thread_is_closed_and_counts(rt: HostRuntime) -> Result<(), Fail> {
+    let found = refused_threads::<Brand, HostRuntime>(&rt, rt.alloc(), Blank::new(PARTS))?;
+    assert_eq!(rt; found, [0, 0]);
+    Ok(())
+}
+
+#[test]
+fn a_connection_without_a_descriptor_is_closed(rt: HostRuntime) -> Result<(), Fail> {
+    let listener = TcpListener::bind(&rt, "127.0.0.1:0")?;
+    let address = listener.local_addr()?;
+    let mut door = Door::new(listener);
+    for _ in 0..3 {
+        let turned = TcpStream::connect(&rt, address)?;
+        assert!(rt; door.turn_away());
+        assert_eq!(rt; (&turned).read(&mut [0; 1])?, 0);
+    }
+    let stream = TcpStream::connect(&rt, address)?;
+    let taken = door.next(&rt)?;
+    let Some(mut taken) = taken else {
+        panic!(rt; "turned away");
+    };
+    taken.write_all(b"?")?;
+    assert_eq!(rt; (&stream).read(&mut [0; 1])?, 1);
+    drop(door);
+    assert!(rt; TcpStream::connect(&rt, address).is_err());
     Ok(())
 }

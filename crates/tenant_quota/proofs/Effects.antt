@@ -1,10 +1,10 @@
 -- What entering, changing and releasing one tenant's account does to a sound book.
 use Rattle.std.proofs.Common.{◌≡◌, ℕ, ◌-◌, Some, None, refl, ap, sym, subst, arith}
-use Rattle.tenant_quota.specs.Quota.{Quota, IsWithinLimits}
+use Rattle.tenant_quota.specs.Quota.{Quota, IsWithinLimits, IsAbove}
 use Rattle.tenant_quota.specs.declared.account.Account.{Account}
-use Rattle.tenant_quota.specs.Accounts.{fresh, account_of, IsWithinReserve}
-use Rattle.tenant_quota.specs.Reservations.{Reservations, admitted, changed, released, HasRoom, KeepsOthers, Admits, ChangesOnly, Releases, IsSound}
-use Rattle.tenant_quota.proofs.Edits.{account_of-with_new, account_of_other-with_new, account_of-with_changed, account_of_other-with_changed, account_of_other-without, account_of-without, AllEntries-with_new, AllEntries-without, AllEntries-with_changed, IsRising-with_new, IsRising-with_changed, IsRising-without, length-with_new, length-with_changed, length-without, sum_by-with_new, sum_by-without, sum_by-with_changed_same}
+use Rattle.tenant_quota.specs.Accounts.{fresh, raised_to, account_of, IsWithinReserve}
+use Rattle.tenant_quota.specs.Reservations.{Reservations, admitted, changed, released, HasRoom, HasRoomFor, KeepsOthers, Admits, Raises, ChangesOnly, Releases, IsSound}
+use Rattle.tenant_quota.proofs.Edits.{account_of-with_new, account_of_other-with_new, account_of-with_changed, account_of_other-with_changed, account_of_other-without, account_of-without, AllEntries-with_new, AllEntries-without, AllEntries-with_changed, IsRising-with_new, IsRising-with_changed, IsRising-without, length-with_new, length-with_changed, length-without, sum_by-with_new, sum_by-without, sum_by-with_changed, sum_by-with_changed_same}
 
 -- a new tenant
 
@@ -75,6 +75,45 @@ IsSound-changed b t f a is keeps within sound =
       tenants = omega (arith, length-with_changed t f b.accounts, sound.tenants);
       segments_reserved = omega (arith, segments, sound.segments_reserved);
       nodes_reserved = omega (arith, nodes, sound.nodes_reserved);
+    }
+
+-- an account whose reservation is raised
+
+IsWithinReserve-raised : (a : Account) (quota : Quota) → IsWithinLimits quota → IsAbove a.reserve quota → IsWithinReserve a → IsWithinReserve (raised_to quota a)
+IsWithinReserve-raised a quota limits above within = record {
+  some_segments = limits.some_segments;
+  segments_within = limits.segments_within;
+  some_nodes = limits.some_nodes;
+  nodes_within = limits.nodes_within;
+  charged_within = omega (arith, above.segments, within.charged_within);
+  opened_within = omega (arith, above.nodes, within.opened_within);
+  ticks_within = omega (arith, above.nodes, within.ticks_within);
+}
+
+pub Raises-raised : (b : Reservations) (t : ℕ) (quota : Quota) (a : Account) → account_of t b.accounts ≡ Some a → Raises b (changed b t (raised_to quota)) t quota a.reserve
+Raises-raised b t quota a is = record {
+  whole = refl;
+  account = account_of-with_changed t (raised_to quota) b.accounts;
+  tenants = length-with_changed t (raised_to quota) b.accounts;
+  segments = sum_by-with_changed (λ e. e.1.reserve.segments) t (raised_to quota) a b.accounts is;
+  nodes = sum_by-with_changed (λ e. e.1.reserve.nodes) t (raised_to quota) a b.accounts is;
+  charged = sum_by-with_changed_same (λ e. e.1.charged) t (raised_to quota) b.accounts (λ e. refl);
+}
+
+pub IsSound-raised : (b : Reservations) (t : ℕ) (quota : Quota) (a : Account) → account_of t b.accounts ≡ Some a → IsWithinLimits quota → IsAbove a.reserve quota → HasRoomFor b a.reserve quota → IsWithinReserve a → IsSound b → IsSound (changed b t (raised_to quota))
+IsSound-raised b t quota a is limits above room within sound =
+    let raises = Raises-raised b t quota a is in
+    record {
+      some_segments = sound.some_segments;
+      segments_within = sound.segments_within;
+      some_nodes = sound.some_nodes;
+      nodes_within = sound.nodes_within;
+      rising = IsRising-with_changed t (raised_to quota) b.accounts sound.rising;
+      within = AllEntries-with_changed (λ e. IsWithinReserve e.1) t (raised_to quota) b.accounts sound.within
+          (λ e had here. let same : e.1 ≡ a = cc in subst (λ x. IsWithinReserve (raised_to quota x)) (sym same) (IsWithinReserve-raised a quota limits above within));
+      tenants = omega (arith, raises.tenants, sound.tenants);
+      segments_reserved = omega (arith, raises.segments, room.segments);
+      nodes_reserved = omega (arith, raises.nodes, room.nodes);
     }
 
 -- a released tenant

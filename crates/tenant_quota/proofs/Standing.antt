@@ -4,12 +4,12 @@ use Rattle.tenant_quota.specs.declared.account.Account.{Account}
 use Rattle.std.specs.Prelude.{sum_by, option_map}
 use Rattle.std.specs.List.{remove}
 use Rattle.tenant_quota.specs.declared.account.Left.{Left}
-use Rattle.tenant_quota.specs.Quota.{Quota}
-use Rattle.tenant_quota.specs.Accounts.{account_of, count_below, left_in, with_changed, without, IsWithinReserve, reserved_segments, reserved_nodes}
-use Rattle.tenant_quota.specs.Reservations.{Reservations, left_of, changed, released, KeepsOthers, ChangesOnly, Releases, IsSound}
+use Rattle.tenant_quota.specs.Quota.{Quota, IsWithinLimits, IsAbove}
+use Rattle.tenant_quota.specs.Accounts.{account_of, count_below, raised_to, left_in, with_changed, without, IsWithinReserve, reserved_segments, reserved_nodes}
+use Rattle.tenant_quota.specs.Reservations.{Reservations, left_of, changed, released, HasRoomFor, KeepsOthers, Raises, ChangesOnly, Releases, IsSound}
 use Rattle.tenant_quota.proofs.Places.{place_found}
 use Rattle.tenant_quota.proofs.Edits.{set-count_below, remove-count_below, AllEntries-of, sum_by-with_changed, sum_by-with_changed_same}
-use Rattle.tenant_quota.proofs.Effects.{ChangesOnly-changed, KeepsOthers-changed, IsSound-changed, Releases-released, KeepsOthers-released, IsSound-released}
+use Rattle.tenant_quota.proofs.Effects.{Raises-raised, IsSound-raised, ChangesOnly-changed, KeepsOthers-changed, IsSound-changed, Releases-released, KeepsOthers-released, IsSound-released}
 
 -- the entry is that of the tenant, whose account is within its reserve
 pub record StandsFor (b : Reservations) (t : ℕ) (e : ℕ × Account) : Type 0 where
@@ -91,6 +91,23 @@ pub sum_by_write : (g : ℕ × Account → ℕ) (b : Reservations) (t i : ℕ) (
 sum_by_write g b t i read e f sound there same is at =
     let stands = stands_for b t i read e sound there same is at in
     rw (written b t i read e f sound there same is at) (sum_by-with_changed g t f e.1 b.accounts stands.account)
+
+-- the raise of one reservation, seen in full
+pub record IsRaise (old new : Reservations) (t : ℕ) (quota now : Quota) : Type 0 where
+  pub raises : Raises old new t quota now
+  pub others : KeepsOthers old new t
+  pub sound : IsSound new
+
+pub raise_by_write : (b : Reservations) (t i : ℕ) (read : List (ℕ × Account)) (e : ℕ × Account) (quota : Quota) → IsSound b → IsSome (account_of t b.accounts) → read ≡ b.accounts → i ≡ count_below t read → e ≡ get_or b.accounts i e → IsWithinLimits quota → IsAbove e.1.reserve quota → HasRoomFor b e.1.reserve quota → IsRaise b (record b { accounts = set b.accounts i (e.0, raised_to quota e.1) }) t quota e.1.reserve
+raise_by_write b t i read e quota sound there same is at limits above room =
+    let stands = stands_for b t i read e sound there same is at in
+    let facts : IsRaise b (changed b t (raised_to quota)) t quota e.1.reserve =
+    record {
+      raises = Raises-raised b t quota e.1 stands.account;
+      others = KeepsOthers-changed b t (raised_to quota);
+      sound = IsSound-raised b t quota e.1 stands.account limits above room stands.within sound;
+    } in
+    subst (λ l. IsRaise b (record b { accounts = l }) t quota e.1.reserve) (sym (written b t i read e (raised_to quota) sound there same is at)) facts
 
 pub if_from : {X : Type 0} (o : Option X) (P : X → Type 0) (x : X) → o ≡ Some x → P x → IfSome o P
 if_from o P x at is = subst (λ y. IfSome y P) (sym at) is

@@ -20,6 +20,10 @@ credited_by segments a = record a { charged = a.charged - segments }
 abbrev pub ticked : Account → Account
 ticked a = record a { ticks = a.ticks + 1 }
 
+-- the account with another reservation; what is used stays
+abbrev pub raised_to : Quota → Account → Account
+raised_to quota a = record a { reserve = quota }
+
 -- what is left: the segments reserved less those charged, the nodes reserved less those ever opened,
 -- and 16 times the nodes reserved less the steps taken
 abbrev pub left_in : Account → Left

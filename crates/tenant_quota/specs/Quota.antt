@@ -1,5 +1,5 @@
 -- An amount of segments and nodes, and the limits of what one tenant may reserve.
-use Rattle.std.specs.Prelude.{ℕ, ◌≤◌}
+use Rattle.std.specs.Prelude.{◌≡◌, ℕ, ◌<◌, ◌≤◌, ◌⊎◌}
 
 -- so many segments and so many nodes
 pub record Quota : Type 0 where
@@ -12,3 +12,14 @@ pub record IsWithinLimits (quota : Quota) : Type 0 where
   pub segments_within : quota.segments ≤ 4096
   pub some_nodes : 1 ≤ quota.nodes
   pub nodes_within : quota.nodes ≤ 65536
+
+-- the quota is below `now` in neither amount, and above it in one
+pub record IsAbove (now quota : Quota) : Type 0 where
+  pub segments : now.segments ≤ quota.segments
+  pub nodes : now.nodes ≤ quota.nodes
+  pub one : (now.segments < quota.segments) ⊎ (now.nodes < quota.nodes)
+
+-- the quota is below `now` in one amount, or above it in neither
+abbrev pub IsNotAbove : Quota → Quota → Type 0
+IsNotAbove now quota =
+    (quota.segments < now.segments) ⊎ ((quota.nodes < now.nodes) ⊎ ((quota.segments ≡ now.segments) × (quota.nodes ≡ now.nodes)))

@@ -1,10 +1,10 @@
 -- What a book holds: the totals, and the account of each tenant that is there.
 use Rattle.std.specs.Prelude.{◌≡◌, ◌≢◌, ℕ, ◌+◌, ◌-◌, ◌<◌, ◌≤◌, ◌⊎◌, List, [], length, Option, Some, None, IsSomeAnd, option_map}
-use Rattle.tenant_quota.specs.Quota.{Quota}
+use Rattle.tenant_quota.specs.Quota.{Quota, IsAbove, IsNotAbove}
 use Rattle.tenant_quota.specs.declared.account.Account.{Account}
 use Rattle.tenant_quota.specs.declared.account.Left.{Left}
 use Rattle.tenant_quota.specs.declared.book.Rest.{Rest}
-use Rattle.tenant_quota.specs.Accounts.{fresh, left_in, account_of, with_new, with_changed, without, AllEntries, IsRising, IsWithinReserve, reserved_segments, reserved_nodes, charged_segments}
+use Rattle.tenant_quota.specs.Accounts.{fresh, raised_to, left_in, account_of, with_new, with_changed, without, AllEntries, IsRising, IsWithinReserve, reserved_segments, reserved_nodes, charged_segments}
 
 -- the totals of segments and nodes, and the tenants' accounts in rising order of tenants
 pub record Reservations : Type 0 where
@@ -54,6 +54,28 @@ pub record HasRoom (b : Reservations) (quota : Quota) : Type 0 where
 abbrev pub IsFull : Reservations → Quota → Type 0
 IsFull b quota = (64 ≤ length b.accounts) ⊎ ((b.segments < reserved_segments b.accounts + quota.segments) ⊎ (b.nodes < reserved_nodes b.accounts + quota.nodes))
 
+-- the reservation isn't above the tenant's own
+abbrev pub IsLower : Reservations → ℕ → Quota → Type 0
+IsLower b tenant quota = IsSomeAnd (reserve_of tenant b) (λ now. IsNotAbove now quota)
+
+-- both totals allow the reservation in the place of `now`, which is one of those in the book
+pub record HasRoomFor (b : Reservations) (now quota : Quota) : Type 0 where
+  pub segments : reserved_segments b.accounts + quota.segments ≤ b.segments + now.segments
+  pub nodes : reserved_nodes b.accounts + quota.nodes ≤ b.nodes + now.nodes
+
+-- a total doesn't allow it
+abbrev pub IsBeyond : Reservations → Quota → Quota → Type 0
+IsBeyond b now quota =
+    (b.segments + now.segments < reserved_segments b.accounts + quota.segments) ⊎ (b.nodes + now.nodes < reserved_nodes b.accounts + quota.nodes)
+
+-- the reservation is above the tenant's own, and both totals allow it in the place of that
+abbrev pub CanRaise : Reservations → ℕ → Quota → Type 0
+CanRaise b tenant quota = IsSomeAnd (reserve_of tenant b) (λ now. IsAbove now quota × HasRoomFor b now quota)
+
+-- the reservation is above the tenant's own, and a total doesn't allow it in the place of that
+abbrev pub IsTooMuch : Reservations → ℕ → Quota → Type 0
+IsTooMuch b tenant quota = IsSomeAnd (reserve_of tenant b) (λ now. IsAbove now quota × IsBeyond b now quota)
+
 -- the tenant has so many segments and so many nodes left
 abbrev pub HasLeft : Reservations → ℕ → ℕ → ℕ → Type 0
 HasLeft b tenant segments nodes = IsSomeAnd (left_of tenant b) (λ left. (segments ≤ left.segments) × (nodes ≤ left.nodes))
@@ -94,6 +116,15 @@ pub record ChangesOnly (old new : Reservations) (tenant : ℕ) (f : Account → 
   pub whole : new ≡ changed old tenant f
   pub account : account_of tenant new.accounts ≡ option_map f (account_of tenant old.accounts)
   pub rest : rest_of new ≡ rest_of old
+
+-- the tenant has reserved this in the place of `now`, what it used stays, and nothing else has changed
+pub record Raises (old new : Reservations) (tenant : ℕ) (quota now : Quota) : Type 0 where
+  pub whole : new ≡ changed old tenant (raised_to quota)
+  pub account : account_of tenant new.accounts ≡ option_map (raised_to quota) (account_of tenant old.accounts)
+  pub tenants : length new.accounts ≡ length old.accounts
+  pub segments : reserved_segments new.accounts + now.segments ≡ reserved_segments old.accounts + quota.segments
+  pub nodes : reserved_nodes new.accounts + now.nodes ≡ reserved_nodes old.accounts + quota.nodes
+  pub charged : charged_segments new.accounts ≡ charged_segments old.accounts
 
 -- the tenant isn't there any more, what it had reserved is free again, and nothing else has changed
 pub record Releases (old new : Reservations) (tenant : ℕ) (a : Account) : Type 0 where

@@ -3,7 +3,7 @@ use Rattle.std.specs.Prelude.{ℕ}
 use Rattle.tenant_quota.specs.Quota.{Quota}
 use Rattle.tenant_quota.specs.declared.account.Left.{Left}
 use Rattle.tenant_quota.specs.declared.book.Rest.{Rest}
-use Rattle.tenant_quota.specs.Accounts.{charged_by, credited_by, ticked}
+use Rattle.tenant_quota.specs.Accounts.{raised_to, charged_by, credited_by, ticked}
 use Rattle.tenant_quota.specs.Reservations.{Reservations, empty_of, admitted, changed, released}
 
 -- so many segments and nodes, as reserved
@@ -37,3 +37,7 @@ after_credit = changed after_tick 1 (credited_by 5)
 -- and tenant 2 is released
 abbrev pub after_release : Reservations
 after_release = released after_credit 2
+
+-- tenant 1 raises what it has reserved to 8 segments and 24 nodes, all that the others leave
+abbrev pub after_raise : Reservations
+after_raise = changed after_release 1 (raised_to (quota 8 24))

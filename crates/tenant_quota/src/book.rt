@@ -31,7 +31,7 @@ pub struct Rest {
 /// A book of reservations of segments (of 16 words) and nodes, with places for 64 tenants.
 ///
 /// A tenant is named by any number. What a call asks of a tenant is decided by its own account
-/// alone, and only [`Book::reserve`] looks at the totals. A refused call changes nothing.
+/// alone, and only [`Book::reserve`] and [`Book::raise`] look at the totals. A refused call changes nothing.
 #[derive(Debug, Drop)]
 pub struct Book<A: Allocator = Global> {
     segments: u32,
@@ -93,8 +93,8 @@ fn guesses_for(accounts: &[(u64, Account)]) -> Guesses {
 }
 
 impl<A: Allocator> Book<A> {
-    ghost use Rattle.tenant_quota.specs.Accounts.{fresh, charged_by, credited_by, ticked, charged_segments};
-    ghost use Rattle.tenant_quota.specs.Reservations.{empty_of, left_of, opened_of, reserve_of, rest_of, HasRoom, IsFull, HasLeft, IsShort, HasStepLeft, IsOutOfSteps, HasCharged, KeepsOthers, Admits, ChangesOnly, Releases, IsSound};
+    ghost use Rattle.tenant_quota.specs.Accounts.{fresh, raised_to, charged_by, credited_by, ticked, charged_segments};
+    ghost use Rattle.tenant_quota.specs.Reservations.{empty_of, left_of, opened_of, reserve_of, rest_of, HasRoom, IsFull, CanRaise, IsTooMuch, IsLower, HasLeft, IsShort, HasStepLeft, IsOutOfSteps, HasCharged, KeepsOthers, Admits, Raises, ChangesOnly, Releases, IsSound};
 
     /// A book of so many segments (1 to 65,536) and nodes (1 to 4,194,304) in all, with no tenant.
     /// It makes the places of all 64 tenants, so no other call takes memory.
@@ -139,6 +139,40 @@ impl<A: Allocator> Book<A> {
         let account = Account::new(reserve);
         self.accounts.insert(place, (tenant, account)).unwrap();
         self.guesses = guesses_for(&self.accounts);
+        self.reserved_segments += segments;
+        self.reserved_nodes += nodes;
+        Ok(())
+    }
+
+    /// Raises what the tenant has reserved to this. What it has used stays.
+    ///
+    /// Refused as `Lower` exactly where an amount is below what is reserved, or neither is above it;
+    /// else as `Full` exactly where a total doesn't allow it in the place of what is reserved. That 64
+    /// tenants are there is no reason.
+    pub fn raise(&mut self, tenant: u64, reserve: Reserve) -> Result<(), Refusal>
+        requires { IsSome (account_of tenant self.old.accounts) }
+        ensures ok { IsOk result ↔ CanRaise self.old tenant reserve }
+        ensures lower { (result ≡ Err Refusal.Lower) ↔ IsLower self.old tenant reserve }
+        ensures full { (result ≡ Err Refusal.Full) ↔ IsTooMuch self.old tenant reserve }
+        ensures raises { OnOk result (
+            IfSome (reserve_of tenant self.old) (Raises self.old self.new tenant reserve)) }
+        ensures others { KeepsOthers self.old self.new tenant }
+        ensures err { OnErr result (self.new ≡ self.old) }
+        ensures sound { IsSound self.new }
+    {
+        let rest = self.rest();
+        let place = place_of(&self.guesses, &self.accounts, tenant);
+        let account = &mut self.accounts[place].1;
+        let now = account.reserve;
+        if !reserve.is_above(&now) {
+            return Err(Refusal::Lower);
+        }
+        let segments = reserve.segments() - now.segments();
+        let nodes = reserve.nodes() - now.nodes();
+        if rest.segments < segments || rest.nodes < nodes {
+            return Err(Refusal::Full);
+        }
+        account.reserve = reserve;
         self.reserved_segments += segments;
         self.reserved_nodes += nodes;
         Ok(())

@@ -10,7 +10,8 @@
 //! The invariant that makes a reservation worth something is that the reservations of all tenants
 //! together never exceed the totals, and that no tenant uses more than it reserved (`IsSound`). So a
 //! segment that a tenant has left is there whatever others do, and each call leaves the accounts of
-//! all other tenants as they were. Only [`Book::new`] takes memory. Where a tenant's account stands is
+//! all other tenants as they were. A reservation may be raised as far as the totals allow; what its
+//! tenant used stays used. Only [`Book::new`] takes memory. Where a tenant's account stands is
 //! guessed and looked at, and searched for only where the guess is wrong.
 //!
 //! ```text
@@ -31,6 +32,3 @@ pub use account::Left;
 pub use book::{Book, Rest};
 pub use refusal::Refusal;
 pub use reserve::Reserve;
-
-#[cfg(test)]
-mod tests;

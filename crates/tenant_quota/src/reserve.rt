@@ -1,4 +1,4 @@
-ghost use Rattle.std.specs.Prelude.{◌≡◌, ◌≤◌, ◌↔◌, IsSome, IfSome};
+ghost use Rattle.std.specs.Prelude.{◌≡◌, ◌≤◌, ◌↔◌, IsTrue, IsSome, IfSome};
 
 use std::marker::Model;
 
@@ -24,7 +24,7 @@ impl Model for Reserve {
 }
 
 impl Reserve {
-    ghost use Rattle.tenant_quota.specs.Quota.{Quota, IsWithinLimits};
+    ghost use Rattle.tenant_quota.specs.Quota.{Quota, IsAbove, IsWithinLimits};
 
     /// The most segments that one tenant may reserve.
     pub const MAX_SEGMENTS: u32 = 4096;
@@ -57,5 +57,16 @@ impl Reserve {
         ensures limits { IsWithinLimits self.now }
     {
         self.nodes
+    }
+
+    /// Whether it is below `now` in neither amount, and above it in one.
+    pub fn is_above(&self, now: &Reserve) -> bool
+        ensures { IsTrue result ↔ IsAbove now.now self.now }
+    {
+        if self.segments < now.segments || self.nodes < now.nodes {
+            return false;
+        }
+        let same = self.segments == now.segments && self.nodes == now.nodes;
+        !same
     }
 }

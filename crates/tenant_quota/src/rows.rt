@@ -1,8 +1,8 @@
 //! The definitions of the book, tried on one small book: each contract is computed from the definitions alone.
 ghost use Rattle.std.specs.Prelude.{◌≡◌, ◌+◌, ◌≤◌, Some, None, [], ◌∷◌, true, false};
 ghost use Rattle.tenant_quota.specs.Accounts.{account_of, fresh, charged_by, charged_segments, reserved_segments, reserved_nodes};
-ghost use Rattle.tenant_quota.specs.Reservations.{empty_of, admitted, left_of, opened_of, reserve_of, rest_of, HasRoom, IsFull, HasLeft, IsShort, IsOutOfSteps};
-ghost use Rattle.tenant_quota.specs.Rows.{quota, left, rest, two_tenants, after_charge, after_tick, after_credit, after_release};
+ghost use Rattle.tenant_quota.specs.Reservations.{empty_of, admitted, left_of, opened_of, reserve_of, rest_of, HasRoom, IsFull, CanRaise, IsTooMuch, IsLower, HasLeft, IsShort, IsOutOfSteps};
+ghost use Rattle.tenant_quota.specs.Rows.{quota, left, rest, two_tenants, after_charge, after_tick, after_credit, after_release, after_raise};
 
 /// Two tenants reserve all 8 segments, in either order; a third finds no room.
 pub fn two_tenants_reserve()
@@ -32,4 +32,17 @@ pub fn one_tenant_leaves()
     ensures gone { left_of 2 after_release ≡ None }
     ensures rest { rest_of after_release ≡ rest 63 3 24 }
     ensures room { HasRoom after_release (quota 1 1) }
+{}
+
+/// Tenant 1 can't raise what it has reserved to 7 segments while tenant 2 has 3 of the 8, nor to fewer or
+/// the same; when tenant 2 has left it can raise it to all 8, and keeps what it used.
+pub fn one_tenant_raises()
+    ensures too_much { IsTooMuch after_credit 1 (quota 7 8) }
+    ensures fewer { IsLower after_credit 1 (quota 4 24) }
+    ensures fewer_nodes { IsLower after_credit 1 (quota 8 7) }
+    ensures same { IsLower after_credit 1 (quota 5 8) }
+    ensures nodes { CanRaise after_credit 1 (quota 5 24) }
+    ensures all { CanRaise after_release 1 (quota 8 32) }
+    ensures left { left_of 1 after_raise ≡ Some (left 8 23 383) }
+    ensures rest { rest_of after_raise ≡ rest 63 0 8 }
 {}

@@ -9,6 +9,8 @@ use tenant_quota::Reserve;
 pub enum Deed {
     /// The tenant, its segments and its nodes.
     Admit(u64, u32, u32),
+    /// The tenant, its segments and its nodes from now on.
+    AdmitMore(u64, u32, u32),
     /// The tenant, the words that the root begins with, and its size.
     Submit(u64, &'static [u64], usize),
     /// The worker and the frame.
@@ -54,6 +56,7 @@ impl Deed {
     pub fn tenant(&self) -> u64 {
         match self {
             Deed::Admit(tenant, _, _) => *tenant,
+            Deed::AdmitMore(tenant, _, _) => *tenant,
             Deed::Submit(tenant, _, _) => *tenant,
             Deed::Take(_, name) => name.tenant,
             Deed::Steal(_, _, name) => name.tenant,
@@ -73,6 +76,9 @@ impl Deed {
         Some(match *self {
             Deed::Admit(tenant, segments, nodes) => {
                 StepOf::Admit(tenant, Reserve::new(segments, nodes)?)
+            }
+            Deed::AdmitMore(tenant, segments, nodes) => {
+                StepOf::AdmitMore(tenant, Reserve::new(segments, nodes)?)
             }
             Deed::Submit(tenant, words, size) => {
                 StepOf::Submit(tenant, GivenWords::new(words)?, size)

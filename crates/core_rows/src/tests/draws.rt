@@ -110,10 +110,24 @@ impl Draws {
         Deed::Submit(tenant, words, size)
     }
 
+    /// As much as a tenant reserved at first, or a little more.
+    fn more(&mut self, tenant: u64) -> Deed {
+        let (segments, nodes) = match tenant {
+            1 => (6, 40),
+            2 => (12, 30),
+            3 => (2, 1),
+            4 => (280, 300),
+            _ => (2, 8),
+        };
+        let more_segments = self.below(3) as u32;
+        let more_nodes = self.below(4) as u32;
+        Deed::AdmitMore(tenant, segments + more_segments, nodes + more_nodes)
+    }
+
     /// A step without regard to what the frame is doing.
     fn wild(&mut self, name: FrameId) -> Deed {
         let worker = self.worker();
-        match self.below(11) {
+        match self.below(12) {
             0 => Deed::Take(worker, name),
             1 => Deed::Steal(worker, self.below(6) as u8, name),
             2 => Deed::Advance(worker, name),
@@ -124,6 +138,7 @@ impl Draws {
             7 => Deed::Cancel(name.tenant, self.below(4)),
             8 => Deed::Admit(self.below(8), 2, 8),
             9 if self.below(4) == 0 => Deed::Leave(name.tenant),
+            10 => self.more(name.tenant),
             _ => self.submit(name.tenant),
         }
     }

@@ -169,6 +169,75 @@ fn fan_in_a_full_core(rt: HostRuntime) -> Result<(), Miss> {
     )
 }
 
+/// In a core of 16 segments the same two tenants leave as much.
+const HALF: [Row; 2] = [
+    Taken(Deed::Admit(1, 5, 8), DidOf::Admitted),
+    Taken(Deed::Admit(2, 3, 8), DidOf::Admitted),
+];
+
+/// The first reserves more, while its job runs: nothing changes but what it has left. Less than it
+/// reserves then, or no more, is refused, and so is more than the totals allow.
+const RESERVES_MORE: [Row; 11] = [
+    Refused(Deed::AdmitMore(3, 7, 10), Refusal::NoTenant),
+    Refused(Deed::AdmitMore(1, 5, 8), Refusal::Lower),
+    Taken(Deed::AdmitMore(1, 7, 10), DidOf::AdmittedMore),
+    Reads(WITH_MORE),
+    Refused(Deed::AdmitMore(1, 6, 10), Refusal::Lower),
+    Refused(Deed::AdmitMore(1, 17, 9), Refusal::Lower),
+    Refused(Deed::AdmitMore(1, 14, 10), Refusal::Full),
+    Reads(WITH_MORE),
+    Taken(Deed::AdmitMore(1, 13, 10), DidOf::AdmittedMore),
+    Refused(Deed::AdmitMore(2, 4, 8), Refusal::Full),
+    Free("11 free, some ready"),
+];
+
+/// What is read of it then.
+const WITH_MORE: &str = "left 2 5 151, 5 frames of 20 words, 5 ready at 3
+job 1 live under 1
+frame 1 Waiting 0 4 0 0
+frame 2 under 1 Computing(2) 1 1 0 0
+frame 3 under 1 Running(3) 2 1 0 0
+frame 4 under 1 Ready(1) 1 0 0 0
+frame 5 under 3 Ready(3) 1 0 0 0
+";
+
+/// A tenant that has used up what it reserved reserves more.
+#[test]
+fn fan_reserves_more(rt: HostRuntime) -> Result<(), Miss> {
+    run_tables(
+        rt.alloc(),
+        16,
+        32,
+        Fan,
+        &[&HALF, &OPENS, &OPENS_FIVE, &RESERVES_MORE],
+    )
+}
+
+/// A job that lacks a segment is done where more is reserved in time; one that was spent stays so.
+const IN_TIME: [Row; 4] = [
+    Taken(Deed::AdmitMore(1, 4, 8), DidOf::AdmittedMore),
+    Refused(Deed::Spend(ROOT), Refusal::NotSpent),
+    Taken(Deed::Advance(1, ROOT), DidOf::Spawned(FRAME_4)),
+    Free("28 free, some ready"),
+];
+
+const TOO_LATE: [Row; 3] = [
+    Taken(Deed::Spend(ROOT), DidOf::Spent(1)),
+    Taken(Deed::AdmitMore(1, 4, 8), DidOf::AdmittedMore),
+    Reads(
+        "left 4 5 125, 0 frames of 0 words
+job 1 spent
+",
+    ),
+];
+
+/// What is reserved before a job is given up lets it go on, and what is reserved after that doesn't.
+#[test]
+fn fan_reserves_more_in_time(rt: HostRuntime) -> Result<(), Miss> {
+    run_tables(rt.alloc(), 32, 64, Fan, &[&NARROW, &IN_TIME])?;
+    run_tables(rt.alloc(), 32, 64, Fan, &[&NARROW, &TOO_LATE])
+}
+
 /// Frames that aren't there to be had: at another home, by their own worker, running, or where the
 /// worker is busy. Nothing changes.
 const NOT_TO_BE_HAD: [Row; 8] = [

@@ -64,13 +64,14 @@ fn leave_all(core: &mut Core<Fan>) -> Result<(), Miss> {
     Ok(())
 }
 
-/// There is no place for a 65th, and some numbers can't be taken at all.
-const ONE_TENANT_MORE: [Row; 5] = [
+/// There is no place for a 65th, and some numbers can't be taken at all. One of the 64 reserves more.
+const ONE_TENANT_MORE: [Row; 6] = [
     Refused(Deed::Admit(65, 1, 1), Refusal::Full),
     Refused(Deed::Admit(64, 1, 1), Refusal::OldTenant),
     Refused(Deed::Admit(0, 1, 1), Refusal::OldTenant),
     Refused(Deed::Admit(LAST_TENANT, 1, 1), Refusal::Full),
     Refused(Deed::Admit(LAST_TENANT + 1, 1, 1), Refusal::OldTenant),
+    Taken(Deed::AdmitMore(7, 65, 65), DidOf::AdmittedMore),
 ];
 
 /// A number isn't taken twice, also when its tenant has left.

@@ -8,22 +8,22 @@ use sched_core::{Core, DidOf, Step};
 use std::alloc::{AllocError, Global};
 
 /// How many steps are drawn.
-const DRAWN: u64 = 300;
+const DRAWN: u64 = 400;
 
 /// A seed whose list meets all that a list can meet.
-const SEED: u64 = 103;
+const SEED: u64 = 92;
 
-/// The refusals that a list can meet, each by its number: 1 to 18, since none is for want of memory.
-const ALL_REFUSALS: u32 = 0b111_1111_1111_1111_1110;
+/// The refusals that a list can meet, each by its number: 1 to 18 and 20, since none is for want of memory.
+const ALL_REFUSALS: u32 = 0b1_0111_1111_1111_1111_1110;
 
 /// All that steps do.
-const ALL_DEEDS: u32 = 0b111_1111_1111_1111;
+const ALL_DEEDS: u32 = 0b1111_1111_1111_1111;
 
 /// Steps, and what each was answered.
 #[derive(Drop)]
-struct Played {
-    deeds: Vec<Deed>,
-    told: Vec<Told>,
+pub struct Played {
+    pub deeds: Vec<Deed>,
+    pub told: Vec<Told>,
 }
 
 /// Takes a step, and notes it with its answer. `refusal` is asked before, and must say the same.
@@ -78,7 +78,7 @@ fn play_drawn(core: &mut Core<Reader>, played: &mut Played) -> Result<(), Miss> 
 }
 
 /// The whole list, by `step`.
-fn play_all(alloc: Global, core: &mut Core<Reader>) -> Result<Played, Miss> {
+pub fn play_all(alloc: Global, core: &mut Core<Reader>) -> Result<Played, Miss> {
     let mut played = Played {
         deeds: Vec::new(alloc),
         told: Vec::new(alloc),
@@ -88,9 +88,14 @@ fn play_all(alloc: Global, core: &mut Core<Reader>) -> Result<Played, Miss> {
     Ok(played)
 }
 
-/// A core with room for all four tenants and no other.
-fn new_core(alloc: Global) -> Result<Core<Reader>, Miss> {
-    core_of(alloc, 300, 371, Reader)
+/// Segments and nodes for all four tenants and no other, and for a little more of what they reserve.
+pub const SEGMENTS: u32 = 301;
+
+pub const NODES: u32 = 375;
+
+/// A core with just that room.
+pub fn new_core(alloc: Global) -> Result<Core<Reader>, Miss> {
+    core_of(alloc, SEGMENTS, NODES, Reader)
 }
 
 /// Which refusals were met, by number: that of number n in the place of 2 to the n.
@@ -122,6 +127,7 @@ fn place_of(did: &DidOf<u64>) -> u32 {
         DidOf::Spent(_) => 12,
         DidOf::Cancelled => 13,
         DidOf::Left => 14,
+        DidOf::AdmittedMore => 15,
     }
 }
 

@@ -39,6 +39,8 @@ pub enum Miss {
     Differs(u64),
     /// Of what a list should meet, only these were met.
     Met(u32),
+    /// At this step memory was asked for or given back.
+    Asked(Deed),
 }
 
 impl From<AllocError> for Miss {

@@ -4,7 +4,7 @@ ghost use Rattle.std.specs.Prelude.{◌≡◌, ◌↔◌, ◌+◌, ◌≤◌, �
 ghost use Rattle.frame_table.specs.declared.names.State.TheVariants.{Ready};
 ghost use Rattle.frame_table.specs.Frames.{root_of, IsTree};
 ghost use Rattle.sched_rules.specs.Trees.{is_held_by, has_child as has_child_in, is_root as is_root_path, job_under as number_under};
-ghost use Rattle.sched_rules.specs.Cores.{tenant_in, reservations_in, is_full as is_full_for};
+ghost use Rattle.sched_rules.specs.Cores.{tenant_in, reservations_in, is_full as is_full_for, is_beyond as is_beyond_for};
 ghost use Rattle.sched_rules.specs.Headline.{IsKnown};
 ghost use Rattle.sched_rules.specs.Views.{left_of, job_of, named, frame_of, words_of_frame, live_of, newest_ready_in, ready_count, free_in};
 ghost use Rattle.sched_store.specs.Reads.{frames_in, jobs_in, serials_in, path_of, words_under, sight_of, is_busy_among, holds, AreRising, IsReadyIn};
@@ -64,6 +64,24 @@ impl<A: Allocator> Store<A> {
             return true;
         }
         rest.nodes < nodes
+    }
+
+    /// What a tenant has reserved; `None` where it isn't there.
+    pub fn reserve_of(&self, tenant: u64) -> Option<Reserve>
+        ensures { result ≡ option_map (λ owner. owner.reserve) (tenant_in self.now.tenants tenant) }
+    {
+        self.book.reserved(tenant)
+    }
+
+    /// Whether a total doesn't allow the reservation in the place of `now`, which a tenant has reserved.
+    pub fn is_beyond(&self, now: Reserve, reserve: Reserve) -> bool
+        ensures { result ≡ is_beyond_for (reservations_in self.now) now reserve }
+    {
+        let rest = self.book.rest();
+        if rest.segments + now.segments() < reserve.segments() {
+            return true;
+        }
+        rest.nodes + now.nodes() < reserve.nodes()
     }
 
     /// What a tenant has left; `None` where it isn't there.

@@ -2,11 +2,11 @@
 ghost use Rattle.std.specs.Prelude.{◌≡◌, ◌<◌, ◌≤◌, ◌^◌, ℕ, false, length, IsSome, OnOk, OnErr};
 ghost use Rattle.sched_rules.specs.Trees.{job_under as number_under};
 ghost use Rattle.sched_rules.specs.Lone.{counted};
-ghost use Rattle.sched_rules.specs.Cores.{tenant_in, reservations_in, is_full as is_full_for};
-ghost use Rattle.sched_rules.specs.Changes.{on_tenant, with_job, ending_job};
+ghost use Rattle.sched_rules.specs.Cores.{tenant_in, reservations_in, reserved_by, is_beyond, is_full as is_full_for};
+ghost use Rattle.sched_rules.specs.Changes.{on_tenant, with_reserve, with_job, ending_job};
 ghost use Rattle.sched_store.specs.Changes.{with_admitted, with_departed};
 ghost use Rattle.sched_store.specs.Ledgers.{is_live};
-ghost use Rattle.sched_store.specs.Reads.{jobs_in, HasStepLeft};
+ghost use Rattle.sched_store.specs.Reads.{jobs_in, HasStepLeft, IsAboveOwn};
 
 use crate::ledger::Ledger;
 use crate::store::Store;
@@ -31,6 +31,21 @@ impl<A: Allocator> Store<A> {
         self.ledgers.add(ledger);
         self.newest = number;
         self.book.reserve(number, reserve).unwrap();
+        Ok(())
+    }
+
+    /// The tenant's reservation becomes this, which is above what it was. It makes the places for more
+    /// frames: `AllocError` only where a growth was refused, and then nothing has changed.
+    pub fn raise(&mut self, tenant: u64, reserve: Reserve) -> Result<(), AllocError>
+    where
+        A: Clone,
+        requires above { IsAboveOwn (tenant_in self.old.tenants tenant) reserve }
+        requires room { is_beyond (reservations_in self.old) (reserved_by (tenant_in self.old.tenants tenant)) reserve ≡ false }
+        ensures ok { OnOk result (self.new ≡ on_tenant tenant (with_reserve reserve) self.old) }
+        ensures err { OnErr result (self.new ≡ self.old) }
+    {
+        self.table.reserve(tenant, reserve.segments() as usize)?;
+        self.book.raise(tenant, reserve).unwrap();
         Ok(())
     }
 

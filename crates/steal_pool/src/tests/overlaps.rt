@@ -33,7 +33,7 @@ fn is_held(number: u64, by_later: bool) -> Held {
 }
 
 /// Waits within a limit until a flag is set.
-fn is_set(flag: &AtomicBool) -> bool {
+pub(crate) fn is_set(flag: &AtomicBool) -> bool {
     for _ in 0..MOST_TURNS {
         if flag.load(Ordering::SeqCst) {
             return true;
@@ -197,7 +197,7 @@ fn goes_on<L: Hands, R: Wait>(rt: &R, desk: &Desk<L>, gate: &Held, seat: Seat<L>
 }
 
 /// An answer that comes after its tenant has left, or after its job was cancelled, is refused, and the
-/// pool goes on.
+/// pool goes on: the badge counts the two steps before the answer, and the five of the other job.
 #[test]
 fn late_answers(rt: HostRuntime) -> Result<(), Fail> {
     for leaves in [true, false] {
@@ -215,7 +215,7 @@ fn late_answers(rt: HostRuntime) -> Result<(), Fail> {
         };
         let played = play(&rt, rt.alloc(), &table).ok_or("no pool")?;
         assert!(rt; played.content && played.whole);
-        assert_eq!(rt; played.free, 8);
+        assert_eq!(rt; (played.share, played.free), (2 + 5, 8));
     }
     Ok(())
 }

@@ -3,11 +3,11 @@ ghost use Rattle.std.specs.Prelude.{◌≡◌, ◌≤◌};
 
 use super::MOST_TURNS;
 use desk::{Desk, Hands, Outcome, Seat};
-use leaf_search::search_full;
 use othello_board::Board;
 use position_text::{Position, Side};
 use std::sync::Wait;
 use std::thread;
+use task_deques::leaf_search::search_full;
 use tenant_quota::Reserve;
 
 /// A seat, if the desk gives one.

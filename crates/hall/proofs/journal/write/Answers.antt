@@ -1,5 +1,5 @@
 use Rattle.std.proofs.Common.{length, ap, sym, ◌∙◌, arith}
-use Rattle.hall.proofs.Lists.{at-within, at-read, at-written}
+use Rattle.hall.proofs.Lists.{at-within, at-read, at-written, further-longer}
 use Rattle.hall.proofs.journal.write.Goals as goal
 
 pub index_mut-journal-requires : goal.index_mut-journal-requires
@@ -21,4 +21,4 @@ write-requires-clause-own g c =
 pub returns : goal.returns
 returns g c =
     at-written c.args.tenant c.args.step.now c.args.journals.now.items _ c.place_of-at.result c.index_mut-journal.result.now c.write.new.self
-    c.requires.there c.as_slice.ensures.value c.place_of-at.ensures c.index_mut-journal.ensures.value c.write.ensures
+    c.requires.there c.as_slice.ensures.value c.place_of-at.ensures c.index_mut-journal.ensures.value (c.write.ensures ∙ further-longer c.args.step.now c.index_mut-journal.result.now c.requires.raises_not)

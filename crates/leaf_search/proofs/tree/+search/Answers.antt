@@ -2,7 +2,10 @@ use Rattle.std.proofs.Common.{rules, ◌≡◌, ◌↔◌, ◌<◌, ℕ, Bool, I
 use Rattle.std.proofs.lemmas.Int.{ints}
 use Rattle.othello_board.specs.declared.boards.Board.{Board}
 use Rattle.othello_board.specs.Words.{cells}
-use Rattle.othello_moves.specs.Choices.{choices}
+use Rattle.othello_board.specs.declared.cells.Cell.{Cell}
+use Rattle.othello_moves.specs.declared.choices.Choice.{Choice}
+use Rattle.othello_moves.specs.Choices.{choices, after, plies}
+use Rattle.othello_moves.proofs.DescentLemmas.{goes_down}
 use Rattle.othello_eval.specs.Values.{eval, final_value}
 use Rattle.othello_eval.specs.Minimax.{minimax, choice_value, int_equal}
 use Rattle.othello_eval.proofs.BestLemmas.{minimax_leaf_there}
@@ -11,6 +14,16 @@ use Rattle.leaf_search.specs.declared.scored.Scored.{Scored}
 use Rattle.othello_eval.proofs.MinimaxLemmas.{minimax-deeper, best_choice-deeper, best_choice-leaf, minimax-over, best_choice-over}
 use Rattle.leaf_search.proofs.WindowLemmas.{all_bound, all_best, IsSearching-turn, IsSearching-cut, IsSearching-all, IsSearching-real, IsSearching-next, cut_score, exact_bound, still_chosen}
 use Rattle.leaf_search.proofs.tree.+search.Goals as goal
+
+-- what a choice is worth, by the plies of the choice and the board after it
+worth_is : (d p : ℕ) (b : List Cell) (c : Choice) (board : List Cell) → p ≡ plies c → b ≡ after board c → choice_value d board c ≡ neg_ℤ (minimax (d - p) b)
+worth_is d p b c board same is = ap (λ b. neg_ℤ (minimax (d - plies c) b)) (sym is) ∙ ap (λ q. neg_ℤ (minimax (d - q) b)) (sym same)
+
+pub best_of-search_below-child-requires : goal.best_of-search_below-child-requires
+best_of-search_below-child-requires t c =
+    let here = IsSearching-next _ _ _ _ _ _ _ c.in-Some.choice _ c.loop-choice.invariant c.in-Some.ensures.cases in
+    let down = goes_down c.args.depth (c.args.depth - c.plies.result) (cells c.args.board) (cells c.after.result) c.in-Some.choice here c.after.ensures c.requires.deep (ap (λ p. c.args.depth - p) c.plies.ensures.value) in
+    search rules
 
 pub best_of-after-requires : goal.best_of-after-requires
 best_of-after-requires t c =
@@ -27,7 +40,7 @@ best_of-returns-then-best-window-clause-bound t c =
     subst (λ m. IsBound c.args.window.alpha c.args.window.beta c.take_in.new.self.score m) (sym (minimax-deeper c.args.depth (cells c.args.board) c.requires.deep)) (
     IsSearching-cut _ _ (choice_value c.args.depth (cells c.args.board)) _ _ _ _ c.in-Some.choice _ _ _ _ _ _ _ (final_value (cells c.args.board))
     c.args.window.open c.loop-choice.invariant c.in-Some.ensures.cases c.of_child.ensures.alpha c.of_child.ensures.beta c.search_below-child.ensures.bound
-    (ap (λ b. neg_ℤ (minimax (c.args.depth - 1) b)) (sym c.after.ensures)) (ending_score t c) (omega (arith, ints)))
+    (worth_is c.args.depth _ _ c.in-Some.choice (cells c.args.board) c.plies.ensures.value c.after.ensures) (ending_score t c) (omega (arith, ints)))
 
 pub best_of-returns-then-best-window-clause-within : goal.best_of-returns-then-best-window-clause-within
 best_of-returns-then-best-window-clause-within t c =
@@ -37,7 +50,7 @@ pub best_of-loop-choice-preserved : goal.best_of-loop-choice-preserved
 best_of-loop-choice-preserved t c =
     IsSearching-turn _ _ (choice_value c.args.depth (cells c.args.board)) _ _ _ _ c.in-Some.choice _ _ _ _ c.search_below-child.result.score _ _ _
     c.loop-choice.invariant c.in-Some.ensures.cases refl c.of_child.ensures.alpha c.of_child.ensures.beta c.search_below-child.ensures.bound
-    (ap (λ b. neg_ℤ (minimax (c.args.depth - 1) b)) (sym c.after.ensures))
+    (worth_is c.args.depth _ _ c.in-Some.choice (cells c.args.board) c.plies.ensures.value c.after.ensures)
     c.search_below-child.ensures.within.0 c.search_below-child.ensures.within.1 c.take_in.ensures.better c.take_in.ensures.kept (omega (arith, ints))
 
 pub best_of-returns-clause-bound : goal.best_of-returns-clause-bound

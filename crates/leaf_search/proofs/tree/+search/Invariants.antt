@@ -1,15 +1,16 @@
 use Rattle.std.proofs.Common.{length, ◌+◌, ◌*◌}
 use Rattle.othello_board.specs.Words.{cells}
 use Rattle.othello_moves.specs.Choices.{choices}
+use Rattle.othello_moves.proofs.DescentLemmas.{passing}
 use Rattle.othello_eval.specs.Minimax.{choice_value}
 use Rattle.leaf_search.proofs.WindowLemmas.{IsSearching}
 use Rattle.leaf_search.proofs.tree.+search.Given as goal
 
 abbrev pub decreases-best_of : goal.decreases-best_of
-decreases-best_of l = 2 * l.depth
+decreases-best_of l = 2 * (2 * l.depth + passing (cells l.board))
 
 abbrev pub decreases-search_below : goal.decreases-search_below
-decreases-search_below l = 2 * l.depth + 1
+decreases-search_below l = 2 * (2 * l.depth + passing (cells l.board)) + 1
 
 abbrev pub invariant-best_of-loop-choice : goal.invariant-best_of-loop-choice
 invariant-best_of-loop-choice l = IsSearching l.window.alpha l.window.beta (choice_value l.depth (cells l.board)) (choices (cells l.board)) l.left l.best.score l.best.choice

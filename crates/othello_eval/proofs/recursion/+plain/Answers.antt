@@ -1,12 +1,27 @@
-use Rattle.std.proofs.Common.{◌<◌, sym, ap, ◌∙◌, subst, to_z, w32, Some, arith}
+use Rattle.std.proofs.Common.{rules, ◌≡◌, ◌<◌, ◌-◌, ℕ, ℤ, List, sym, ap, ◌∙◌, subst, to_z, w32, Some, arith}
 use Rattle.othello_board.specs.Words.{cells}
-use Rattle.othello_moves.specs.Choices.{choices}
+use Rattle.othello_board.specs.declared.cells.Cell.{Cell}
+use Rattle.othello_moves.specs.declared.choices.Choice.{Choice}
+use Rattle.othello_moves.specs.Choices.{choices, plies}
+use Rattle.othello_moves.proofs.DescentLemmas.{goes_down}
 use Rattle.othello_moves.proofs.AllowedLemmas.{length-cells}
 use Rattle.othello_eval.specs.Values.{IsWithin}
-use Rattle.othello_eval.specs.Minimax.{choice_value}
+use Rattle.othello_eval.specs.Minimax.{minimax, choice_value}
 use Rattle.othello_eval.proofs.MinimaxLemmas.{minimax-over, best_choice-over, minimax_within}
 use Rattle.othello_eval.proofs.PlainLemmas.{same_bits, within_more, child_value, leaf_value_at, leaf_choice_at, start_value, start_choice, running_more, running_same, running_all, left_chosen, next_chosen}
 use Rattle.othello_eval.proofs.recursion.+plain.Goals as goal
+
+-- the value below, by the plies of the choice
+below_is : (r : ℤ) (d p : ℕ) (c : Choice) (b : List Cell) → p ≡ plies c → r ≡ minimax (d - p) b → r ≡ minimax (d - plies c) b
+below_is r d p c b same is = is ∙ ap (λ q. minimax (d - q) b) same
+
+pub plain-other-requires : goal.plain-other-requires
+plain-other-requires t c =
+    let next = c.in-Some-pop_first.next in
+    let here = (next_chosen (choices (cells c.args.board)) c.loop-next.left _ next c.loop-next.invariant.chosen c.in-Some-pop_first.ensures.cases).0 in
+    let deep : 0 < c.args.depth = omega arith in
+    let down = goes_down c.args.depth (c.args.depth - c.plies-in-Some-pop_first.result) (cells c.args.board) (cells c.after-in-Some-pop_first.result) next here c.after-in-Some-pop_first.ensures deep (ap (λ p. c.args.depth - p) c.plies-in-Some-pop_first.ensures.value) in
+    search rules
 
 pub returns-in_default : goal.returns-in_default
 returns-in_default t c =
@@ -36,7 +51,7 @@ loop-next-init t c =
     let board = cells c.args.board in
     let deep : 0 < c.args.depth = omega arith in
     let is = sym c.new-left.ensures ∙ c.in-Some.ensures.cases in
-    let worth = child_value c.args.depth board (cells c.after.result) c.in-Some.first c.plain-value.result.value c.after.ensures c.plain-value.ensures.value c.plain-value.ensures.within in
+    let worth = child_value c.args.depth board (cells c.after.result) c.in-Some.first c.plain-value.result.value c.after.ensures (below_is _ _ _ _ _ c.plies.ensures.value c.plain-value.ensures.value) c.plain-value.ensures.within in
     record {
       value = start_value c.args.depth board _ c.in-Some.first c.pop_first.new.self is deep worth;
       choice = start_choice c.args.depth board _ c.in-Some.first c.pop_first.new.self is deep worth;
@@ -51,7 +66,7 @@ pub loop-next-preserved-then-other-value : goal.loop-next-preserved-then-other-v
 loop-next-preserved-then-other-value t c =
     let board = cells c.args.board in
     let next = c.in-Some-pop_first.next in
-    let worth = child_value c.args.depth board (cells c.after-in-Some-pop_first.result) next c.plain-other.result.value c.after-in-Some-pop_first.ensures c.plain-other.ensures.value c.plain-other.ensures.within in
+    let worth = child_value c.args.depth board (cells c.after-in-Some-pop_first.result) next c.plain-other.result.value c.after-in-Some-pop_first.ensures (below_is _ _ _ _ _ c.plies-in-Some-pop_first.ensures.value c.plain-other.ensures.value) c.plain-other.ensures.within in
     let step = running_more (choice_value c.args.depth board) (to_z w32 c.loop-next.value-bits) _ c.loop-next.best next c.loop-next.left c.pop_first-in-loop-next.new.self c.in-Some-pop_first.ensures.cases worth c.if-other-value.true in
     record {
       value = ap (λ p. p.0) step ∙ c.loop-next.invariant.value;
@@ -63,7 +78,7 @@ pub loop-next-preserved : goal.loop-next-preserved
 loop-next-preserved t c =
     let board = cells c.args.board in
     let next = c.in-Some-pop_first.next in
-    let worth = child_value c.args.depth board (cells c.after-in-Some-pop_first.result) next c.plain-other.result.value c.after-in-Some-pop_first.ensures c.plain-other.ensures.value c.plain-other.ensures.within in
+    let worth = child_value c.args.depth board (cells c.after-in-Some-pop_first.result) next c.plain-other.result.value c.after-in-Some-pop_first.ensures (below_is _ _ _ _ _ c.plies-in-Some-pop_first.ensures.value c.plain-other.ensures.value) c.plain-other.ensures.within in
     let step = running_same (choice_value c.args.depth board) (to_z w32 c.loop-next.value-bits) _ c.loop-next.best next c.loop-next.left c.pop_first-in-loop-next.new.self c.in-Some-pop_first.ensures.cases worth c.if-other-value.false in
     record {
       value = ap (λ p. p.0) step ∙ c.loop-next.invariant.value;

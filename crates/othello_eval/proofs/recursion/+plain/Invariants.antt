@@ -1,12 +1,13 @@
-use Rattle.std.proofs.Common.{◌≡◌, Some, All, Contains, length}
+use Rattle.std.proofs.Common.{◌+◌, ◌*◌, ◌≡◌, Some, All, Contains, length}
 use Rattle.othello_board.specs.Words.{cells}
 use Rattle.othello_moves.specs.Choices.{choices}
 use Rattle.othello_eval.specs.Minimax.{minimax, choice_value, best_choice}
+use Rattle.othello_moves.proofs.DescentLemmas.{passing}
 use Rattle.othello_eval.proofs.BestLemmas.{running}
 use Rattle.othello_eval.proofs.recursion.+plain.Given as goal
 
 abbrev pub decreases-plain : goal.decreases-plain
-decreases-plain l = l.depth
+decreases-plain l = 2 * l.depth + passing (cells l.board)
 
 abbrev pub invariant-loop-next : goal.invariant-loop-next
 invariant-loop-next l = record {

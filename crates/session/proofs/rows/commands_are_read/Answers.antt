@@ -7,6 +7,7 @@ pub returns : goal.returns
 unfolding digits squares
 returns c = record {
   hello = refl;
+  reserve = refl;
   ask = refl;
   get = refl;
   zero = refl;

@@ -7,6 +7,8 @@ pub returns : goal.returns
 unfolding digits squares
 returns c = record {
   before_hello = refl;
+  reserve_before_hello = refl;
+  many_to_reserve = refl;
   before_numbers = refl;
   again = refl;
   no_number = refl;

@@ -12,6 +12,7 @@ returns c = record {
   no_argument = refl;
   one_more = refl;
   no_position = refl;
+  one_amount = refl;
   three_amounts = refl;
   longest = refl;
 }

@@ -57,13 +57,14 @@ add_serials-requires g c =
     let place = found_at _ _ _ _ c.self.invariant.index c.known_place-at.ensures.within c.known_place-at.ensures.found in
     let cuts = cut_ready c.self.inside.shelf.slots _ c.known_place-at.result c.args.serial c.self.inside.shelf.places c.at-slot.result _ c.self.inside.ready.frames c.self.invariant.sound place.within place.found c.at-slot.ensures refl c.self.invariant.ready_frames c.self.invariant.within in
     let fewer = cut_length c.args.serial c.self.inside.shelf.slots c.known_place-at.result c.at-slot.result _ refl in
-    rw (c.truncate.ensures, c.cut.ensures.kept, c.put.ensures, c.self.invariant.serial_places) (record { within = cuts.within; room = omega (arith, length-take-le c.known_place-at.result c.self.inside.serials.serials, fewer, c.self.invariant.within) })
+    rw (c.truncate.ensures, c.cut.ensures.kept, c.put.ensures) (record { within = cuts.within; room = omega (arith, length-take-le c.known_place-at.result c.self.inside.serials.serials, fewer, c.self.invariant.within, c.self.invariant.serial_places) })
 
 pub add_ready-requires : goal.add_ready-requires
 add_ready-requires g c =
     let place = found_at _ _ _ _ c.self.invariant.index c.known_place-at.ensures.within c.known_place-at.ensures.found in
     let cuts = cut_ready c.self.inside.shelf.slots _ c.known_place-at.result c.args.serial c.self.inside.shelf.places c.at-slot.result _ c.self.inside.ready.frames c.self.invariant.sound place.within place.found c.at-slot.ensures refl c.self.invariant.ready_frames c.self.invariant.within in
-    rw (c.forget_from.ensures, c.cut.ensures.kept, c.put.ensures, c.self.invariant.ready_places) (record { within = cuts.within; room = cuts.room })
+    let room = cuts.room in
+    rw (c.forget_from.ensures, c.cut.ensures.kept, c.put.ensures) (record { within = cuts.within; room = omega (arith, room, c.self.invariant.ready_places) })
 
 pub invariant_of-self : goal.invariant_of-self
 invariant_of-self g c =

@@ -1,6 +1,8 @@
 -- There is room for the entry, which stands for the step.
-use Rattle.std.proofs.Common.{ap, sym, ◌∙◌, arith}
+use Rattle.std.proofs.Common.{None, ap, sym, ◌∙◌, arith}
 use Rattle.hall.specs.Entries.{long_count}
+use Rattle.hall.specs.Journals.{JournalOf, raise_count}
+use Rattle.hall.proofs.Lists.{counted-after}
 use Rattle.hall.proofs.Entries.{has-room, written-short, long_count-more}
 use Rattle.hall.proofs.journal.Journal.write.Goals as goal
 
@@ -14,7 +16,12 @@ invariant_of-self g c =
     let short = sym c.is_long.ensures ∙ c.if-is_long.false in
     let more = rw short at (long_count-more c.of-entry.result c.self.inside.entries.items) in
     let same = ap long_count c.push_reserved.ensures.items in
-    (omega (arith, c.self.invariant.0, c.push_reserved.ensures.capacity), c.self.invariant.1, omega (arith, same, more, c.self.invariant.2))
+    let done =
+    written-short c.self.inside.tenant c.self.inside.places c.of-entry.result c.self.inside.entries.items c.push_reserved.new.self.items c.self.inside.longs.items c.args.self.now c.args.step.now c.self.view_is c.push_reserved.ensures.items short
+    (rw c.requires.own at (c.of-entry.ensures.short short)) in
+    let raises = ap (λ (j : JournalOf). raise_count j.steps) done ∙ counted-after c.args.step.now c.args.self.now.steps None c.requires.raises_not in
+    let before = ap (λ (j : JournalOf). raise_count j.steps) c.self.view_is in
+    (omega (arith, c.self.invariant.0, c.push_reserved.ensures.capacity), c.self.invariant.1, omega (arith, same, more, c.self.invariant.2), omega (arith, c.self.invariant.3, before, raises))
 
 pub returns : goal.returns
 returns g c =

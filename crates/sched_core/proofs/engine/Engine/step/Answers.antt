@@ -1,3 +1,4 @@
+use Rattle.std.proofs.Common.{refl}
 use Rattle.sched_core.proofs.Stepping.{one-step, one-admission}
 use Rattle.sched_core.proofs.engine.Engine.step.Goals as goal
 
@@ -32,4 +33,7 @@ pub returns-in-Leave-clause-one : goal.returns-in-Leave-clause-one
 returns-in-Leave-clause-one g c = rw c.in-Leave.is (one-step (g.P.Procedure.functions c.args.self.now.procedure) c.args.self.now.store _ _ _ c.leave.ensures.judged)
 
 pub returns-in-Admit-clause-one : goal.returns-in-Admit-clause-one
-returns-in-Admit-clause-one g c = rw c.in-Admit.is (one-admission (g.P.Procedure.functions c.args.self.now.procedure) c.args.self.now.store _ _ _ _ c.admit.ensures.admitted)
+returns-in-Admit-clause-one g c = rw c.in-Admit.is (one-admission (g.P.Procedure.functions c.args.self.now.procedure) c.args.self.now.store _ _ _ refl c.admit.ensures.admitted)
+
+pub returns-in-AdmitMore-clause-one : goal.returns-in-AdmitMore-clause-one
+returns-in-AdmitMore-clause-one g c = rw c.in-AdmitMore.is (one-admission (g.P.Procedure.functions c.args.self.now.procedure) c.args.self.now.store _ _ _ refl c.admit_more.ensures.admitted)

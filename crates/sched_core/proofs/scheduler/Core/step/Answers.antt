@@ -21,3 +21,9 @@ returns-clause-fitting g c =
     let procedure = c.self.inside.engine.procedure in
     rw (← c.self.view_is) (fits-still (g.P.Procedure.functions procedure) (g.P.Procedure.fits procedure) (g.P.Procedure.rooted procedure) _ _ _ _
     (record { next = g.met.P.Procedure.next_keeps procedure; inlet = g.met.P.Procedure.inlet_keeps procedure; accept = g.met.P.Procedure.accept_keeps procedure }) c.self.invariant.kept c.step.ensures.one)
+
+pub returns-clause-kept : goal.returns-clause-kept
+returns-clause-kept g c = kept-still _ _ _ _ _ c.self.invariant.kept c.step.ensures.one
+
+pub returns-clause-kept_before : goal.returns-clause-kept_before
+returns-clause-kept_before g c = rw (← c.self.view_is) c.self.invariant.kept

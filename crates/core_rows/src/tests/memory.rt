@@ -1,0 +1,68 @@
+//! No step but an admission, a further reservation and a Leave calls the allocator, and no call that reads does.
+use crate::Reader;
+use crate::tests::deed::Deed;
+use crate::tests::lists::{NODES, SEGMENTS, new_core, play_all};
+use crate::tests::walking::{Miss, Told};
+use counted_alloc::Counted;
+use frame_table::FrameId;
+use sched_core::{Config, Core, Step};
+use std::alloc::Global;
+
+/// A core whose allocator counts its calls.
+type CountedCore<'a> = Core<Reader, &'a Counted<Global>>;
+
+/// Asks for what can be read of a frame.
+fn read_frame(core: &CountedCore<'_>, name: FrameId) {
+    let _ = core.frame(name);
+    if let Some(words) = core.words(name) {
+        let _ = words.get(20);
+    }
+}
+
+/// Asks for what can be read of a tenant, and of its first frames.
+fn read(core: &CountedCore<'_>, tenant: u64) {
+    let _ = core.left(tenant);
+    let _ = core.live(tenant);
+    let _ = core.newest_ready(tenant);
+    let _ = core.any_ready();
+    for serial in 1..40 {
+        read_frame(core, FrameId { tenant, serial });
+    }
+}
+
+/// Takes a step, which must be answered so. What it foretells, does and shows calls no allocator, but for the admissions and a Leave.
+fn take(
+    counted: &Counted<Global>,
+    core: &mut CountedCore<'_>,
+    deed: Deed,
+    step: &Step<Reader>,
+    told: Told,
+) -> Result<(), Miss> {
+    let before = counted.calls();
+    let _ = core.refusal(step);
+    let answer = core.step(step);
+    if answer != told {
+        return Err(Miss::Answered(deed, answer));
+    }
+    read(core, deed.tenant());
+    match deed {
+        Deed::Admit(_, _, _) | Deed::AdmitMore(_, _, _) | Deed::Leave(_) => Ok(()),
+        _ if counted.calls() == before => Ok(()),
+        _ => Err(Miss::Asked(deed)),
+    }
+}
+
+/// A list that meets all that steps do, and every refusal that a list can meet.
+#[test]
+fn no_step_but_an_admission_takes_memory(rt: HostRuntime) -> Result<(), Miss> {
+    let mut drawn = new_core(rt.alloc())?;
+    let played = play_all(rt.alloc(), &mut drawn)?;
+    let counted = Counted::new(rt.alloc());
+    let config = Config::new(SEGMENTS, NODES).ok_or(Miss::Totals)?;
+    let mut core = Core::new(&counted, config, Reader)?;
+    for (deed, told) in played.deeds.iter().zip(played.told.iter()) {
+        let step = deed.step().ok_or(Miss::NoStep(*deed))?;
+        take(&counted, &mut core, *deed, &step, *told)?;
+    }
+    Ok(())
+}

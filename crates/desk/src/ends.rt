@@ -1,0 +1,29 @@
+//! What a step of a worker changes that somebody may wait for.
+ghost use Rattle.std.specs.Prelude.{◌≡◌};
+ghost use Rattle.desk.specs.Counts.{ends_of};
+
+use hall::{Did, DidOf, Jamboree, Refusal};
+
+/// What a step changed that somebody may wait for.
+#[derive(Clone, Copy, Debug, PartialEq, Eq)]
+pub(crate) enum Ends {
+    /// Nothing.
+    Nothing,
+    /// A frame became ready.
+    InReady,
+    /// A job ended.
+    Job,
+}
+
+impl Ends {
+    /// What a worker's step changed that was answered so.
+    pub(crate) fn of(answer: &Result<Did<Jamboree>, Refusal>) -> Ends
+        ensures { result ≡ ends_of answer.now }
+    {
+        match answer {
+            Ok(DidOf::Spawned(_)) | Ok(DidOf::TakenIn(Some(_), _)) => Ends::InReady,
+            Ok(DidOf::Finished(_)) | Ok(DidOf::Spent(_)) => Ends::Job,
+            _ => Ends::Nothing,
+        }
+    }
+}

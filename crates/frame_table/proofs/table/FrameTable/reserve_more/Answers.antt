@@ -1,0 +1,56 @@
+use Rattle.std.proofs.Common.{Result, Ok, Err, OnErr, vec_capacity, arith}
+use Rattle.frame_table.proofs.Tenants.{tree_by_places, at_tree}
+use Rattle.frame_table.proofs.Raises.{HasRaised, raised_places, raised_frames, raised_keeps, raised_sound, unraised, unraised_sound}
+use Rattle.frame_table.proofs.table.FrameTable.reserve_more.Goals as goal
+
+on_err : {T E : Type 0} (r : Result T E) (P : Type 0) → P → OnErr r P
+on_err (Ok x) P p = tt
+on_err (Err e) P p = p
+
+pub known_tenant-at-requires-clause-there : goal.known_tenant-at-requires-clause-there
+known_tenant-at-requires-clause-there g c =
+    let there = rw (← c.self.view_is) at c.requires.there in
+    rw c.as_slice.ensures.value (tree_by_places c.self.inside.trees.items c.args.tenant there)
+
+pub raise-requires-clause-more : goal.raise-requires-clause-more
+raise-requires-clause-more g c =
+    let here = rw c.as_slice.ensures.value at c.known_tenant-at.ensures.found in
+    let tree = at_tree _ _ _ _ here c.index_mut-tree.ensures.value in
+    rw (← c.self.view_is, tree.places) at c.requires.more
+
+pub invariant_of-self-in_err-raise : goal.invariant_of-self-in_err-raise
+invariant_of-self-in_err-raise g c = (
+  unraised_sound c.self.inside.trees.items (vec_capacity c.self.inside.removed) (vec_capacity c.reserve.new.self) c.self.inside.ready c.known_tenant-at.result c.index_mut-tree.result.now c.raise.new.self c.self.invariant.0 c.index_mut-tree.ensures.value c.in_err-raise.ensures.err
+      (omega (arith, c.clear.ensures.capacity, c.reserve.ensures.capacity)),
+  c.self.invariant.1,
+)
+
+pub returns-in_err-raise-clause-err : goal.returns-in_err-raise-clause-err
+returns-in_err-raise-clause-err g c =
+    rw (← c.self.view_is) (on_err c.from_residual-in_err-raise.result _ (unraised c.self.inside.trees.items c.known_tenant-at.result c.index_mut-tree.result.now c.raise.new.self c.index_mut-tree.ensures.value c.in_err-raise.ensures.err))
+
+pub invariant_of-self-2 : goal.invariant_of-self-2
+invariant_of-self-2 g c =
+    let here = rw c.as_slice.ensures.value at c.known_tenant-at.ensures.found in
+    let tree = at_tree _ _ _ _ here c.index_mut-tree.ensures.value in
+    let more = rw (← c.self.view_is, tree.places) at c.requires.more in
+    let raised : HasRaised _ _ _ _ _ _ = record { here = here; was = c.index_mut-tree.ensures.value; now = c.in_ok-raise.ensures.ok } in
+    (raised_sound _ (vec_capacity c.self.inside.removed) _ _ _ _ _ _ _ c.self.invariant.0 raised more c.requires.few (omega (arith, c.in_ok-reserve.ensures.ok, c.clear.ensures.len)) (omega (arith, c.clear.ensures.capacity, c.reserve.ensures.capacity)), c.self.invariant.1)
+
+pub returns-clause-places : goal.returns-clause-places
+returns-clause-places g c =
+    let here = rw c.as_slice.ensures.value at c.known_tenant-at.ensures.found in
+    let raised : HasRaised _ _ _ _ _ _ = record { here = here; was = c.index_mut-tree.ensures.value; now = c.in_ok-raise.ensures.ok } in
+    raised_places _ _ _ _ _ _ raised
+
+pub returns-clause-frames : goal.returns-clause-frames
+returns-clause-frames g c =
+    let here = rw c.as_slice.ensures.value at c.known_tenant-at.ensures.found in
+    let raised : HasRaised _ _ _ _ _ _ = record { here = here; was = c.index_mut-tree.ensures.value; now = c.in_ok-raise.ensures.ok } in
+    rw (← c.self.view_is) (raised_frames _ _ _ _ _ _ raised)
+
+pub returns-clause-kept : goal.returns-clause-kept
+returns-clause-kept g c =
+    let here = rw c.as_slice.ensures.value at c.known_tenant-at.ensures.found in
+    let raised : HasRaised _ _ _ _ _ _ = record { here = here; was = c.index_mut-tree.ensures.value; now = c.in_ok-raise.ensures.ok } in
+    rw (← c.self.view_is) (raised_keeps _ _ _ _ _ _ raised)

@@ -1,0 +1,22 @@
+-- What a list of searches comes to from a new core: the headline, and every reply.
+use Rattle.std.specs.Prelude.{◌≡◌, ℕ, List, Some, Result}
+use Rattle.tenant_quota.specs.Quota.{Quota}
+use Rattle.sched_rules.specs.declared.refusal.Refusal.{Refusal}
+use Rattle.sched_rules.specs.declared.step.StepOf.{StepOf}
+use Rattle.sched_rules.specs.declared.step.DidOf.{DidOf}
+use Rattle.sched_rules.specs.Trees.{Tenant}
+use Rattle.sched_rules.specs.Runs.{only}
+use Rattle.sched_rules.specs.Cores.{Shared, shared_by_nobody, tenant_in}
+use Rattle.sched_rules.specs.Headline.{IsHeadline, taken}
+use Rattle.sched_core.specs.sched_laws.Fitted.{origins_of}
+use Rattle.jamboree_laws.specs.jamboree_rules.declared.leaf.Leaf.{Leaf}
+use Rattle.jamboree_laws.specs.jamboree_rules.declared.leaf.LeafAnswer.{LeafAnswer}
+use Rattle.jamboree_laws.specs.jamboree_rules.Procedure.{jamboree}
+use Rattle.jamboree_laws.specs.Replies.{AreReplies}
+
+-- a list of steps on a core with this grain and these totals that has no tenant: no tenant is disturbed, a step is refused only for
+-- its own tenant's state or a busy worker, and each job of a tenant that is done holds the minimax value and the best choice of the
+-- board and the depth that its Submit carried, the k-th job those of the tenant's k-th taken Submit
+pub record IsHeadlineFromNew (grain : ℕ) (totals : Quota) (steps : List (StepOf LeafAnswer)) (answers : List (Result (DidOf Leaf) Refusal)) (after : Shared) : Type 0 where
+  pub tenants : IsHeadline (jamboree grain) (shared_by_nobody totals) steps answers after
+  pub replies : (number : ℕ) (tenant : Tenant) → tenant_in after.tenants number ≡ Some tenant → AreReplies (origins_of (only number (taken steps answers))) tenant.jobs

@@ -1,0 +1,21 @@
+//! What a server runs with.
+ghost use Rattle.std.specs.Prelude.{◌≤◌};
+
+use sched_rules::Worker;
+use tcp_server::desk::Config;
+
+/// What a server is asked to be.
+#[derive(Clone, Copy)]
+pub struct Asked {
+    /// How many sessions it serves.
+    pub sessions: u16,
+    /// Its port; at 0 the system chooses one.
+    pub port: u16,
+    /// How many workers it has.
+    pub workers: Worker,
+    /// The segments and nodes of all tenants together.
+    pub config: Config,
+    /// The depth that one worker searches alone.
+    pub grain: u8,
+    ghost limit: { grain ≤ 6 },
+}

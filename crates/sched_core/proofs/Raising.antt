@@ -1,0 +1,44 @@
+-- A tenant that reserves more.
+use Rattle.std.proofs.Common.{◌≡◌, ℕ, inl, inr, false, Option, Some, None, Ok, refl}
+use Rattle.std.proofs.lemmas.Bool.{cases_Bool}
+use Rattle.tenant_quota.specs.Quota.{Quota}
+use Rattle.sched_rules.specs.declared.refusal.Refusal.TheVariants.{NoTenant, Full, Lower}
+use Rattle.sched_rules.specs.declared.step.StepOf.TheVariants.{AdmitMore}
+use Rattle.sched_rules.specs.declared.step.DidOf.TheVariants.{AdmittedMore}
+use Rattle.sched_rules.specs.Functions.{Functions}
+use Rattle.sched_rules.specs.Trees.{Tenant}
+use Rattle.sched_rules.specs.Lone.{is_lower, raised}
+use Rattle.sched_rules.specs.Changes.{on_tenant, with_reserve}
+use Rattle.sched_rules.specs.Cores.{Shared, tenant_in, reservations_in, reserved_by, is_beyond, judged, shared_refusal}
+use Rattle.sched_store.specs.Reads.{IsAboveOwn}
+use Rattle.sched_core.specs.Judging.{IsJudged}
+use Rattle.sched_core.proofs.Going.{judged-taken, begins, then-changed}
+
+-- what is taken
+pub record IsRaising {I A : Type 0} (functions : Functions I A) (shared : Shared) (number : ℕ) (quota : Quota) : Type 0 where
+  pub tenant : Tenant
+  pub owner : tenant_in shared.tenants number ≡ Some tenant
+  pub above : IsAboveOwn (tenant_in shared.tenants number) quota
+  pub room : is_beyond (reservations_in shared) (reserved_by (tenant_in shared.tenants number)) quota ≡ false
+  pub among : judged functions shared (AdmitMore number quota) ≡ Ok (raised tenant quota)
+
+pub raise-going : {I A : Type 0} (functions : Functions I A) (shared : Shared) (number : ℕ) (quota : Quota) → None ≡ shared_refusal functions shared (AdmitMore number quota) → IsRaising functions shared number quota
+raise-going functions shared number quota none = by-owner (tenant_in shared.tenants number) refl
+  where
+    by-owner : (owner : Option Tenant) → tenant_in shared.tenants number ≡ owner → IsRaising functions shared number quota
+    by-owner None lost = absurd (let no : None ≡ Some NoTenant = rw lost at none in cc)
+    by-owner (Some tenant) owner = elim (cases_Bool (is_lower tenant.reserve quota)) [
+      | inl low ↦ absurd (let no : None ≡ Some Lower = rw (owner, low) at none in cc)
+      | inr high ↦ elim (cases_Bool (is_beyond (reservations_in shared) tenant.reserve quota)) [
+        | inl over ↦ absurd (let no : None ≡ Some Full = rw (owner, high, over) at none in cc)
+        | inr under ↦ record { tenant = tenant; owner = owner; above = rw owner high; room = rw owner under; among = rw (owner, high, under) refl }
+      ]
+    ]
+
+pub raise-taken : {I A : Type 0} (functions : Functions I A) (shared after : Shared) (number : ℕ) (quota : Quota) → None ≡ shared_refusal functions shared (AdmitMore number quota) →
+    after ≡ on_tenant number (with_reserve quota) shared → IsJudged functions shared (AdmitMore number quota) (Ok AdmittedMore) after
+raise-taken functions shared after number quota none is =
+    let r = raise-going functions shared number quota none in
+    let w = begins shared number r.tenant r.owner in
+    let w1 = then-changed _ _ _ _ after (with_reserve quota) w is in
+    judged-taken functions shared (AdmitMore number quota) _ _ _ r.among refl w1.is

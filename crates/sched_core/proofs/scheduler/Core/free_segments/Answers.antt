@@ -1,0 +1,6 @@
+use Rattle.std.proofs.Common.{◌∙◌, ap, ◌+◌}
+use Rattle.sched_laws.proofs.Sums.{free-whole}
+use Rattle.sched_core.proofs.scheduler.Core.free_segments.Goals as goal
+
+pub returns-clause-whole : goal.returns-clause-whole
+returns-clause-whole g c = rw (c.free_segments.ensures, ← c.self.view_is) (free-whole _ c.self.invariant.kept.shaped c.self.invariant.kept.within)

@@ -1,0 +1,5 @@
+mod acts;
+mod leaves;
+mod lines;
+mod texts;
+mod words;

@@ -1,0 +1,220 @@
+//! What no contract says: that input is read in blocks, that an error is answered at once, and that an answer is
+//! written before more is read.
+ghost use Rattle.std.specs.Prelude.{◌≡◌, ℕ, List, codes, false};
+ghost use Rattle.std.specs.Str.{bytes_eq};
+ghost use Rattle.line_io.specs.Lines.{Whole, TooLong};
+
+use arrayvec::ArrayVec;
+use line_io::{
+    Answer, Ends, FromReader, FromWriter, Line, ReadFailed, Sink, Source, TalkEnd, WriteFailed,
+    answer_lines, talk_lines,
+};
+use std::cell::Cell;
+use std::io::{self, ErrorKind, Read, Write};
+use std::test::Fail;
+
+/// Answers a line by itself, where it has fewer than 16 bytes, and else by nothing. `bye` is the last line.
+#[derive(Drop)]
+struct Echo {
+    text: ArrayVec<u8, 16>,
+}
+
+impl Echo {
+    fn new() -> Echo {
+        Echo {
+            text: ArrayVec::new(),
+        }
+    }
+}
+
+impl Answer for Echo {
+    ghost answers = { λ _ _ _ _. Unit {0} };
+
+    ghost kept = { λ echo. echo.text.items };
+
+    fn answer(&mut self, line: Line<'_>) {
+        self.text.clear();
+        if let Line::Whole(bytes) = line
+            && bytes.len() < 16
+        {
+            self.text.try_extend_from_slice(bytes).unwrap();
+        }
+        self.text.push(b'\n');
+    }
+
+    fn text(&self) -> &[u8] {
+        self.text.as_slice()
+    }
+}
+
+#[test]
+fn lines_are_echoed(rt: HostRuntime) -> Result<(), Fail> {
+    let mut source = FromReader {
+        reader: b"one\r\ntwo".as_slice(),
+    };
+    let mut sink = FromWriter::new(Vec::new(rt.alloc()));
+    answer_lines(&mut source, &mut sink, &mut Echo::new())?;
+    assert_eq!(rt; sink.writer.as_slice(), b"one\ntwo\n".as_slice());
+    Ok(())
+}
+
+/// A reader and writer that fails a few times by an error, and then gives and takes all. It counts its calls, and
+/// keeps how many bytes the last one had room for or offered.
+#[derive(Drop)]
+struct Failing {
+    error: ErrorKind,
+    failures: u32,
+    calls: u32,
+    bytes: usize,
+}
+
+impl Failing {
+    fn new(error: ErrorKind, failures: u32) -> Failing {
+        Failing {
+            error,
+            failures,
+            calls: 0,
+            bytes: 0,
+        }
+    }
+
+    fn call(&mut self, bytes: usize) -> io::Result<usize> {
+        self.calls = self.calls.saturating_add(1);
+        self.bytes = bytes;
+        if self.failures == 0 {
+            return Ok(bytes);
+        }
+        self.failures -= 1;
+        Err(io::Error::from(self.error))
+    }
+}
+
+impl Read for Failing {
+    fn read(&mut self, buf: &mut [u8]) -> io::Result<usize> {
+        let count = self.call(buf.len())?;
+        Ok(count.min(buf.len()))
+    }
+}
+
+impl Write for Failing {
+    fn write(&mut self, buf: &[u8]) -> io::Result<usize> {
+        let count = self.call(buf.len())?;
+        Ok(count.min(buf.len()))
+    }
+
+    fn flush(&mut self) -> io::Result<()> {
+        Ok(())
+    }
+}
+
+#[test]
+fn whole_blocks_are_read_and_written_and_errors_answered_at_once(rt: HostRuntime) {
+    for (error, failures, calls) in [
+        (ErrorKind::ConnectionReset, 0, 1),
+        (ErrorKind::Interrupted, 2, 3),
+        (ErrorKind::ConnectionReset, 1, 1),
+    ] {
+        let fails = error != ErrorKind::Interrupted && failures > 0;
+        let mut block = [0u8; 4096];
+        let mut source = FromReader {
+            reader: Failing::new(error, failures),
+        };
+        assert_eq!(rt; source.fill(&mut block).is_err(), fails);
+        assert_eq!(rt; source.reader.calls, calls);
+        assert_eq!(rt; source.reader.bytes, 4096);
+
+        let mut sink = FromWriter::new(Failing::new(error, failures));
+        let text = [b'a'; 100];
+        assert_eq!(rt; sink.put(text.as_slice()).is_err(), fails);
+        assert_eq!(rt; sink.writer.calls, calls);
+        assert_eq!(rt; sink.writer.bytes, 100);
+        assert_eq!(rt; sink.failure, if fails { Some(error) } else { None });
+    }
+}
+
+/// What the two ends of a talk know of each other.
+#[derive(Drop)]
+struct Ear {
+    asked: Cell<usize>,
+    answered: Cell<usize>,
+    too_early: Cell<bool>,
+}
+
+/// Gives one line a call, and notes where it is asked before the last answer was written, or has no room for a
+/// block.
+#[derive(Drop)]
+struct Asking<'a> {
+    ear: &'a Ear,
+    lines: &'a [[u8; 4]],
+}
+
+impl Source for Asking<'_> {
+    ghost gives = { λ _ _ _. Unit {0} };
+
+    fn fill(&mut self, block: &mut [u8]) -> Result<usize, ReadFailed> {
+        let asked = self.ear.asked.get();
+        if self.ear.answered.get() != asked || block.len() < 4096 {
+            self.ear.too_early.set(true);
+        }
+        match self.lines.split_first() {
+            Some((line, rest)) if block.len() >= 4 => {
+                self.ear.asked.set(asked.saturating_add(1));
+                self.lines = rest;
+                block[..4].copy_from_slice(line);
+                Ok(4)
+            }
+            _ => Ok(0),
+        }
+    }
+}
+
+/// Counts the answers, of which each has to come by one call.
+#[derive(Drop)]
+struct Hearing<'a>(&'a Ear);
+
+impl Sink for Hearing<'_> {
+    ghost takes = { λ _ _ _. Unit {0} };
+
+    fn put(&mut self, bytes: &[u8]) -> Result<usize, WriteFailed> {
+        let answered = self.0.answered.get();
+        if bytes.len() != 4 || answered == usize::MAX {
+            return Err(WriteFailed);
+        }
+        self.0.answered.set(answered + 1);
+        Ok(bytes.len())
+    }
+}
+
+impl Ends for Echo {
+    ghost ends = { elim [ Whole bytes ↦ bytes_eq bytes (codes "bye") | TooLong ↦ false ] };
+
+    fn is_last(&self, line: Line<'_>) -> bool {
+        match line {
+            Line::Whole(bytes) => bytes == b"bye".as_slice(),
+            Line::TooLong => false,
+        }
+    }
+}
+
+#[test]
+fn each_answer_is_written_before_more_is_read(rt: HostRuntime) {
+    for (lines, answered, end) in [
+        ([*b"one\n", *b"two\n", *b"six\n"], 3, TalkEnd::Input),
+        ([*b"one\n", *b"bye\n", *b"six\n"], 2, TalkEnd::Line),
+    ] {
+        let ear = Ear {
+            asked: Cell::new(0),
+            answered: Cell::new(0),
+            too_early: Cell::new(false),
+        };
+        let mut source = Asking {
+            ear: &ear,
+            lines: lines.as_slice(),
+        };
+        let result = talk_lines(&rt, &mut source, &mut Hearing(&ear), &mut Echo::new());
+        assert_eq!(rt; result, Ok(end));
+        assert_eq!(rt; ear.answered.get(), answered);
+        assert_eq!(rt; ear.asked.get(), answered);
+        assert!(rt; !ear.too_early.get());
+    }
+}

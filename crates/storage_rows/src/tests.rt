@@ -1,0 +1,5 @@
+mod frames;
+mod guess_tables;
+mod nodes;
+mod quotas;
+mod segments;

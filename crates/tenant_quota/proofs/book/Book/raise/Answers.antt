@@ -1,0 +1,187 @@
+-- A reservation above the tenant's own that the totals allow is written into its account; any other is refused.
+use Rattle.std.proofs.Common.{◌≡◌, ℕ, ◌-◌, ◌<◌, ◌≤◌, ◌⊎◌, inl, inr, length, ltb, true, false, Some, ap, refl, arith}
+use Rattle.std.specs.Prelude.{option_map}
+use Rattle.std.proofs.lemmas.Bool.{ltb-true, ltb-false}
+use Rattle.tenant_quota.specs.Quota.{Quota, IsAbove, IsNotAbove}
+use Rattle.tenant_quota.specs.declared.account.Account.{Account}
+use Rattle.tenant_quota.specs.declared.book.Rest.{Rest}
+use Rattle.tenant_quota.specs.Reservations.{Reservations, reserve_of, rest_of, HasRoomFor, IsBeyond, CanRaise, IsTooMuch, IsLower, IsSound}
+use Rattle.tenant_quota.specs.Keeping.{held_by}
+use Rattle.tenant_quota.proofs.Standing.{and_at, and_from, if_from, place_within, stands_for, IsRaise, raise_by_write}
+use Rattle.tenant_quota.proofs.book.Book.raise.Goals as goal
+
+not_above : (now quota : Quota) → (IsAbove now quota → ⊥) → IsNotAbove now quota
+not_above now quota never =
+    elim (ltb quota.segments now.segments) as (λ b. ltb quota.segments now.segments ≡ b → IsNotAbove now quota) [
+      | true ↦ λ less. inl (ltb-true quota.segments now.segments less)
+      | false ↦ λ enough.
+          elim (ltb quota.nodes now.nodes) as (λ b. ltb quota.nodes now.nodes ≡ b → IsNotAbove now quota) [
+            | true ↦ λ less. inr (inl (ltb-true quota.nodes now.nodes less))
+            | false ↦ λ many.
+                let segments : now.segments ≤ quota.segments = ltb-false quota.segments now.segments enough in
+                let nodes : now.nodes ≤ quota.nodes = ltb-false quota.nodes now.nodes many in
+                let more_segments : now.segments < quota.segments → ⊥ = λ more. never (record { segments = segments; nodes = nodes; one = inl more }) in
+                let more_nodes : now.nodes < quota.nodes → ⊥ = λ more. never (record { segments = segments; nodes = nodes; one = inr more }) in
+                inr (inr (omega arith, omega arith))
+          ] refl
+    ] refl
+
+not_both : (now quota : Quota) → IsAbove now quota → IsNotAbove now quota → ⊥
+not_both now quota above (inl less) = omega (arith, above.segments)
+not_both now quota above (inr (inl less)) = omega (arith, above.nodes)
+not_both now quota above (inr (inr same)) = elim above.one [ inl more ↦ omega (arith, same.0) | inr more ↦ omega (arith, same.1) ]
+
+-- what is asked isn't above what the tenant has reserved
+record IsTooLittle (b : Reservations) (t : ℕ) (quota : Quota) : Type 0 where
+  lower : IsLower b t quota
+  taken : CanRaise b t quota → ⊥
+  much : IsTooMuch b t quota → ⊥
+
+too_little : (b : Reservations) (t : ℕ) (quota now : Quota) → reserve_of t b ≡ Some now → (IsAbove now quota → ⊥) → IsTooLittle b t quota
+too_little b t quota now is never = record {
+  lower = and_from (reserve_of t b) (λ (q : Quota). IsNotAbove q quota) now is (not_above now quota never);
+  taken = λ can. never (and_at (reserve_of t b) (λ (q : Quota). IsAbove q quota × HasRoomFor b q quota) now is can).0;
+  much = λ much. never (and_at (reserve_of t b) (λ (q : Quota). IsAbove q quota × IsBeyond b q quota) now is much).0;
+}
+
+-- a total doesn't allow what is asked
+record IsRefused (b : Reservations) (t : ℕ) (quota : Quota) : Type 0 where
+  much : IsTooMuch b t quota
+  taken : CanRaise b t quota → ⊥
+  little : IsLower b t quota → ⊥
+
+refused : (b : Reservations) (t : ℕ) (quota now : Quota) → reserve_of t b ≡ Some now → IsAbove now quota → IsBeyond b now quota → IsRefused b t quota
+refused b t quota now is above beyond = record {
+  much = and_from (reserve_of t b) (λ (q : Quota). IsAbove q quota × IsBeyond b q quota) now is (above, beyond);
+  taken = λ can. let room = (and_at (reserve_of t b) (λ (q : Quota). IsAbove q quota × HasRoomFor b q quota) now is can).1 in elim beyond [ inl more ↦ omega (arith, room.segments) | inr more ↦ omega (arith, room.nodes) ];
+  little = λ lower. not_both now quota above (and_at (reserve_of t b) (λ (q : Quota). IsNotAbove q quota) now is lower);
+}
+
+beyond_rest : (b : Reservations) (quota now : Quota) (r : Rest) (segments nodes : ℕ) → IsSound b → r ≡ rest_of b → IsAbove now quota → segments ≡ quota.segments - now.segments → nodes ≡ quota.nodes - now.nodes → (r.segments < segments) ⊎ (r.nodes < nodes) → IsBeyond b now quota
+beyond_rest b quota now r segments nodes sound rest above segments_are nodes_are (inl less) = let e = ap (λ (x : Rest). x.segments) rest in inl (omega (arith, sound.segments_reserved, above.segments))
+beyond_rest b quota now r segments nodes sound rest above segments_are nodes_are (inr less) = let e = ap (λ (x : Rest). x.nodes) rest in inr (omega (arith, sound.nodes_reserved, above.nodes))
+
+within_rest : (b : Reservations) (quota now : Quota) (r : Rest) (segments nodes : ℕ) → IsSound b → r ≡ rest_of b → IsAbove now quota → segments ≡ quota.segments - now.segments → nodes ≡ quota.nodes - now.nodes → segments ≤ r.segments → nodes ≤ r.nodes → HasRoomFor b now quota
+within_rest b quota now r segments nodes sound rest above segments_are nodes_are enough many =
+    let e = ap (λ (x : Rest). x.segments) rest in
+    let f = ap (λ (x : Rest). x.nodes) rest in
+    record { segments = omega (arith, sound.segments_reserved, above.segments); nodes = omega (arith, sound.nodes_reserved, above.nodes) }
+
+-- the reservation is raised
+record IsRaised (b new : Reservations) (t : ℕ) (quota now : Quota) : Type 0 where
+  can : CanRaise b t quota
+  little : IsLower b t quota → ⊥
+  much : IsTooMuch b t quota → ⊥
+  raise : IsRaise b new t quota now
+
+raised : (b new : Reservations) (t : ℕ) (quota now : Quota) → reserve_of t b ≡ Some now → IsAbove now quota → HasRoomFor b now quota → IsRaise b new t quota now → IsRaised b new t quota now
+raised b new t quota now is above room raise = record {
+  can = and_from (reserve_of t b) (λ (q : Quota). IsAbove q quota × HasRoomFor b q quota) now is (above, room);
+  little = λ lower. not_both now quota above (and_at (reserve_of t b) (λ (q : Quota). IsNotAbove q quota) now is lower);
+  much = λ much. let beyond = (and_at (reserve_of t b) (λ (q : Quota). IsAbove q quota × IsBeyond b q quota) now is much).1 in elim beyond [ inl more ↦ omega (arith, room.segments) | inr more ↦ omega (arith, room.nodes) ];
+  raise = raise;
+}
+
+pub index_mut-requires : goal.index_mut-requires
+index_mut-requires g c =
+    let within = place_within (held_by c.self.inside) c.args.tenant _ _ c.self.invariant.sound (rw (← c.self.view_is) at c.requires) c.deref.ensures.value c.place_of-place.ensures in
+    omega (arith, c.deref.ensures.len, ap length c.deref.ensures.value)
+
+one_less : (a b m n : ℕ) → (a < m) ⊎ ((m ≤ a) × (b < n)) → (a < m) ⊎ (b < n)
+one_less a b m n (inl less) = inl less
+one_less a b m n (inr less) = inr less.1
+
+pub returns-then-not-is_above-clause-ok : goal.returns-then-not-is_above-clause-ok
+returns-then-not-is_above-clause-ok g c =
+    let stands = stands_for (held_by c.self.inside) c.args.tenant _ _ c.index_mut.result.now c.self.invariant.sound (rw (← c.self.view_is) at c.requires) c.deref.ensures.value c.place_of-place.ensures c.index_mut.ensures.value in
+    let is : reserve_of c.args.tenant (held_by c.self.inside) ≡ Some c.index_mut.result.now.1.reserve = ap (option_map (λ (a : Account). a.reserve)) stands.account in
+    let few = too_little (held_by c.self.inside) c.args.tenant c.args.reserve _ is (λ above. let yes = c.is_above.ensures.1 above in absurd cc) in
+    rw (← c.self.view_is) (λ never. absurd cc, λ can. absurd (few.taken can))
+
+pub returns-then-not-is_above-clause-lower : goal.returns-then-not-is_above-clause-lower
+returns-then-not-is_above-clause-lower g c =
+    let stands = stands_for (held_by c.self.inside) c.args.tenant _ _ c.index_mut.result.now c.self.invariant.sound (rw (← c.self.view_is) at c.requires) c.deref.ensures.value c.place_of-place.ensures c.index_mut.ensures.value in
+    let is : reserve_of c.args.tenant (held_by c.self.inside) ≡ Some c.index_mut.result.now.1.reserve = ap (option_map (λ (a : Account). a.reserve)) stands.account in
+    let few = too_little (held_by c.self.inside) c.args.tenant c.args.reserve _ is (λ above. let yes = c.is_above.ensures.1 above in absurd cc) in
+    rw (← c.self.view_is) (λ _. few.lower, λ _. refl)
+
+pub returns-then-not-is_above-clause-full : goal.returns-then-not-is_above-clause-full
+returns-then-not-is_above-clause-full g c =
+    let stands = stands_for (held_by c.self.inside) c.args.tenant _ _ c.index_mut.result.now c.self.invariant.sound (rw (← c.self.view_is) at c.requires) c.deref.ensures.value c.place_of-place.ensures c.index_mut.ensures.value in
+    let is : reserve_of c.args.tenant (held_by c.self.inside) ≡ Some c.index_mut.result.now.1.reserve = ap (option_map (λ (a : Account). a.reserve)) stands.account in
+    let few = too_little (held_by c.self.inside) c.args.tenant c.args.reserve _ is (λ above. let yes = c.is_above.ensures.1 above in absurd cc) in
+    rw (← c.self.view_is) (λ never. absurd cc, λ much. absurd (few.much much))
+
+pub returns-then-rest-segments-clause-ok : goal.returns-then-rest-segments-clause-ok
+returns-then-rest-segments-clause-ok g c =
+    let stands = stands_for (held_by c.self.inside) c.args.tenant _ _ c.index_mut.result.now c.self.invariant.sound (rw (← c.self.view_is) at c.requires) c.deref.ensures.value c.place_of-place.ensures c.index_mut.ensures.value in
+    let is : reserve_of c.args.tenant (held_by c.self.inside) ≡ Some c.index_mut.result.now.1.reserve = ap (option_map (λ (a : Account). a.reserve)) stands.account in
+    let above : IsAbove c.index_mut.result.now.1.reserve c.args.reserve = c.is_above.ensures.0 c.if-not-is_above.false in
+    let less = one_less _ _ _ _ c.then-rest-segments.either in
+    let segments_are : c.segments.result - c.segments-2.result ≡ c.args.reserve.segments - c.index_mut.result.now.1.reserve.segments = omega (arith, c.segments.ensures.value, c.segments-2.ensures.value) in
+    let nodes_are : c.nodes.result - c.nodes-2.result ≡ c.args.reserve.nodes - c.index_mut.result.now.1.reserve.nodes = omega (arith, c.nodes.ensures.value, c.nodes-2.ensures.value) in
+    let beyond = beyond_rest (held_by c.self.inside) c.args.reserve _ c.rest-rest.result _ _ c.self.invariant.sound (rw (← c.self.view_is) at c.rest-rest.ensures.rest) above segments_are nodes_are less in
+    let many = refused (held_by c.self.inside) c.args.tenant c.args.reserve _ is above beyond in
+    rw (← c.self.view_is) (λ never. absurd cc, λ can. absurd (many.taken can))
+
+pub returns-then-rest-segments-clause-lower : goal.returns-then-rest-segments-clause-lower
+returns-then-rest-segments-clause-lower g c =
+    let stands = stands_for (held_by c.self.inside) c.args.tenant _ _ c.index_mut.result.now c.self.invariant.sound (rw (← c.self.view_is) at c.requires) c.deref.ensures.value c.place_of-place.ensures c.index_mut.ensures.value in
+    let is : reserve_of c.args.tenant (held_by c.self.inside) ≡ Some c.index_mut.result.now.1.reserve = ap (option_map (λ (a : Account). a.reserve)) stands.account in
+    let above : IsAbove c.index_mut.result.now.1.reserve c.args.reserve = c.is_above.ensures.0 c.if-not-is_above.false in
+    let less = one_less _ _ _ _ c.then-rest-segments.either in
+    let segments_are : c.segments.result - c.segments-2.result ≡ c.args.reserve.segments - c.index_mut.result.now.1.reserve.segments = omega (arith, c.segments.ensures.value, c.segments-2.ensures.value) in
+    let nodes_are : c.nodes.result - c.nodes-2.result ≡ c.args.reserve.nodes - c.index_mut.result.now.1.reserve.nodes = omega (arith, c.nodes.ensures.value, c.nodes-2.ensures.value) in
+    let beyond = beyond_rest (held_by c.self.inside) c.args.reserve _ c.rest-rest.result _ _ c.self.invariant.sound (rw (← c.self.view_is) at c.rest-rest.ensures.rest) above segments_are nodes_are less in
+    let many = refused (held_by c.self.inside) c.args.tenant c.args.reserve _ is above beyond in
+    rw (← c.self.view_is) (λ never. absurd cc, λ lower. absurd (many.little lower))
+
+pub returns-then-rest-segments-clause-full : goal.returns-then-rest-segments-clause-full
+returns-then-rest-segments-clause-full g c =
+    let stands = stands_for (held_by c.self.inside) c.args.tenant _ _ c.index_mut.result.now c.self.invariant.sound (rw (← c.self.view_is) at c.requires) c.deref.ensures.value c.place_of-place.ensures c.index_mut.ensures.value in
+    let is : reserve_of c.args.tenant (held_by c.self.inside) ≡ Some c.index_mut.result.now.1.reserve = ap (option_map (λ (a : Account). a.reserve)) stands.account in
+    let above : IsAbove c.index_mut.result.now.1.reserve c.args.reserve = c.is_above.ensures.0 c.if-not-is_above.false in
+    let less = one_less _ _ _ _ c.then-rest-segments.either in
+    let segments_are : c.segments.result - c.segments-2.result ≡ c.args.reserve.segments - c.index_mut.result.now.1.reserve.segments = omega (arith, c.segments.ensures.value, c.segments-2.ensures.value) in
+    let nodes_are : c.nodes.result - c.nodes-2.result ≡ c.args.reserve.nodes - c.index_mut.result.now.1.reserve.nodes = omega (arith, c.nodes.ensures.value, c.nodes-2.ensures.value) in
+    let beyond = beyond_rest (held_by c.self.inside) c.args.reserve _ c.rest-rest.result _ _ c.self.invariant.sound (rw (← c.self.view_is) at c.rest-rest.ensures.rest) above segments_are nodes_are less in
+    let many = refused (held_by c.self.inside) c.args.tenant c.args.reserve _ is above beyond in
+    rw (← c.self.view_is) (λ _. many.much, λ _. refl)
+
+pub invariant_of-self-2 : goal.invariant_of-self-2
+invariant_of-self-2 g c =
+    let stands = stands_for (held_by c.self.inside) c.args.tenant _ _ c.index_mut.result.now c.self.invariant.sound (rw (← c.self.view_is) at c.requires) c.deref.ensures.value c.place_of-place.ensures c.index_mut.ensures.value in
+    let is : reserve_of c.args.tenant (held_by c.self.inside) ≡ Some c.index_mut.result.now.1.reserve = ap (option_map (λ (a : Account). a.reserve)) stands.account in
+    let above : IsAbove c.index_mut.result.now.1.reserve c.args.reserve = c.is_above.ensures.0 c.if-not-is_above.false in
+    let segments_are : c.segments.result - c.segments-2.result ≡ c.args.reserve.segments - c.index_mut.result.now.1.reserve.segments = omega (arith, c.segments.ensures.value, c.segments-2.ensures.value) in
+    let nodes_are : c.nodes.result - c.nodes-2.result ≡ c.args.reserve.nodes - c.index_mut.result.now.1.reserve.nodes = omega (arith, c.nodes.ensures.value, c.nodes-2.ensures.value) in
+    let room = within_rest (held_by c.self.inside) c.args.reserve _ c.rest-rest.result _ _ c.self.invariant.sound (rw (← c.self.view_is) at c.rest-rest.ensures.rest) above segments_are nodes_are c.if-rest-segments.false c.if-rest-nodes.false in
+    let raise = raise_by_write (held_by c.self.inside) c.args.tenant _ _ c.index_mut.result.now c.args.reserve c.self.invariant.sound (rw (← c.self.view_is) at c.requires) c.deref.ensures.value c.place_of-place.ensures c.index_mut.ensures.value c.segments.ensures.limits above room in
+    let does = raised (held_by c.self.inside) _ c.args.tenant c.args.reserve _ is above room raise in
+    let now = c.self.invariant in
+    record {
+      sound = does.raise.sound;
+      segments = omega (arith, does.raise.raises.segments, now.segments, segments_are, above.segments);
+      nodes = omega (arith, does.raise.raises.nodes, now.nodes, nodes_are, above.nodes);
+      places = now.places;
+    }
+
+pub returns : goal.returns
+returns g c =
+    let stands = stands_for (held_by c.self.inside) c.args.tenant _ _ c.index_mut.result.now c.self.invariant.sound (rw (← c.self.view_is) at c.requires) c.deref.ensures.value c.place_of-place.ensures c.index_mut.ensures.value in
+    let is : reserve_of c.args.tenant (held_by c.self.inside) ≡ Some c.index_mut.result.now.1.reserve = ap (option_map (λ (a : Account). a.reserve)) stands.account in
+    let above : IsAbove c.index_mut.result.now.1.reserve c.args.reserve = c.is_above.ensures.0 c.if-not-is_above.false in
+    let segments_are : c.segments.result - c.segments-2.result ≡ c.args.reserve.segments - c.index_mut.result.now.1.reserve.segments = omega (arith, c.segments.ensures.value, c.segments-2.ensures.value) in
+    let nodes_are : c.nodes.result - c.nodes-2.result ≡ c.args.reserve.nodes - c.index_mut.result.now.1.reserve.nodes = omega (arith, c.nodes.ensures.value, c.nodes-2.ensures.value) in
+    let room = within_rest (held_by c.self.inside) c.args.reserve _ c.rest-rest.result _ _ c.self.invariant.sound (rw (← c.self.view_is) at c.rest-rest.ensures.rest) above segments_are nodes_are c.if-rest-segments.false c.if-rest-nodes.false in
+    let raise = raise_by_write (held_by c.self.inside) c.args.tenant _ _ c.index_mut.result.now c.args.reserve c.self.invariant.sound (rw (← c.self.view_is) at c.requires) c.deref.ensures.value c.place_of-place.ensures c.index_mut.ensures.value c.segments.ensures.limits above room in
+    let does = raised (held_by c.self.inside) _ c.args.tenant c.args.reserve _ is above room raise in
+    record {
+      ok = rw (← c.self.view_is) (λ _. does.can, λ _. refl);
+      lower = rw (← c.self.view_is) (λ never. absurd cc, λ lower. absurd (does.little lower));
+      full = rw (← c.self.view_is) (λ never. absurd cc, λ much. absurd (does.much much));
+      raises = rw (← c.self.view_is) (if_from (reserve_of c.args.tenant (held_by c.self.inside)) _ _ is does.raise.raises);
+      others = rw (← c.self.view_is) does.raise.others;
+      err = tt;
+      sound = does.raise.sound;
+    }

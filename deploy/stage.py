@@ -1,0 +1,198 @@
+"""What the trials of this folder, of clients/ and of bench/ share: servers, supervisors and HAProxy on loopback.
+
+The program is the one that the variable OTHELLO names, and else `./othello` at the top of the repository.
+"""
+import contextlib
+import os
+import pathlib
+import random
+import re
+import signal
+import socket
+import subprocess
+import sys
+import tempfile
+import time
+
+HERE = pathlib.Path(__file__).resolve().parent
+TOP = HERE.parent
+sys.path[:0] = [str(TOP / "clients" / "python"), str(TOP / "clients" / "teacher")]
+from othello import Refused, Session  # noqa: E402, F401
+from review import OTHER, SQUARES, START, can_move, flips, played  # noqa: E402
+
+PROGRAM = os.environ.get("OTHELLO") or str(TOP / "othello")
+OPENING = START + " X"
+NAMES = ("one", "two", "three")  # of the servers in haproxy.cfg
+PORTS = (4711, 4712, 4713)
+
+
+def fail(text):
+    sys.exit(f"{pathlib.Path(sys.argv[0]).name}: {text}")
+
+
+def free_port():
+    """A port that nobody listens at, below those that the system gives to connections."""
+    for port in random.sample(range(20000, 32000), 100):
+        with socket.socket() as probe:
+            if probe.connect_ex(("127.0.0.1", port)):
+                return port
+    return fail("no port is free")
+
+
+def until(what, told, seconds=10):
+    """Waits until something is so."""
+    end = time.monotonic() + seconds
+    while not told():
+        if time.monotonic() > end:
+            fail(f"{what}: not after {seconds} seconds")
+        time.sleep(0.02)
+
+
+def solve(lines, *words):
+    """Of each line `depth position` what `othello solve` answers, as a client gives it."""
+    run = subprocess.run([PROGRAM, "solve", *words], input="".join(f"{line}\n" for line in lines), capture_output=True, text=True, check=True)
+    parted = [line.split() for line in run.stdout.splitlines()]
+    return [("ERR", int(second)) if first == "ERR" else ("DONE", int(first), second) for first, second, *_ in parted]
+
+
+def positions(count, seed, least=8, most=50):
+    """Positions of random games, so many plies after the opening, with the side to move, from a seed."""
+    chance, found = random.Random(seed), []
+    while len(found) < count:
+        cells, side = START, "X"
+        for _ in range(chance.randint(least, most)):
+            if not can_move(cells, side):
+                side = OTHER[side]
+            squares = [at for at in range(64) if cells[at] == "-" and flips(cells, side, at)]
+            if not squares:
+                break
+            cells, side = played(cells, side, chance.choice(squares)), OTHER[side]
+        found.append(f"{cells} {side}")
+    return found
+
+
+def random_game(seed):
+    """The moves of a random game to its end, as a text."""
+    chance, cells, side, words = random.Random(seed), START, "X", []
+    while can_move(cells, side) or can_move(cells, OTHER[side]):
+        side = side if can_move(cells, side) else OTHER[side]
+        square = chance.choice([at for at in range(64) if cells[at] == "-" and flips(cells, side, at)])
+        words.append(SQUARES[square])
+        cells, side = played(cells, side, square), OTHER[side]
+    return "".join(words)
+
+
+class From(Session):
+    """A session from another address of this host, as another customer's."""
+
+    def __init__(self, address, *words, **more):
+        self.address = address
+        super().__init__(*words, **more)
+
+    def connect(self, host, port, timeout):
+        return socket.create_connection((host, port), timeout, (self.address, 0))
+
+
+def opened(address, port, reserve, again):
+    """A session. Where no WELCOME comes it is opened once more, as a client must; how often is added up in a list."""
+    for _ in range(5):
+        try:
+            return From(address, "127.0.0.1", port, *reserve)
+        except OSError:
+            again.append(address)
+            time.sleep(0.2)
+    return fail(f"no session for {address}")
+
+
+@contextlib.contextmanager
+def ended_after(process, number=signal.SIGTERM):
+    """A process that is ended with the block."""
+    try:
+        yield process
+    finally:
+        if process.poll() is None:
+            process.send_signal(number)
+            try:
+                process.wait(20)
+            except subprocess.TimeoutExpired:
+                process.kill()
+        process.wait()
+
+
+@contextlib.contextmanager
+def server(*words):
+    """A server; gives its process and the port that it says it listens at."""
+    process = subprocess.Popen([PROGRAM, "serve", *words], stdout=subprocess.PIPE, text=True)
+    with ended_after(process), process.stdout:
+        said = process.stdout.readline()
+        if not said.startswith("listening "):
+            fail("the server doesn't listen")
+        yield process, int(said.rsplit(":", 1)[1])
+
+
+@contextlib.contextmanager
+def supervised(port, *words, most=8, log=subprocess.DEVNULL):
+    """A supervisor with a server at a port."""
+    command = [str(HERE / "supervise"), "--most", str(most), PROGRAM, "serve", "--port", str(port), *words]
+    with ended_after(subprocess.Popen(command, stdout=log)) as process:
+        subprocess.run([str(HERE / "ready"), str(port), "60"], check=True)
+        yield process
+
+
+def children(process):
+    """The process numbers of a supervisor's servers, the oldest first."""
+    with open(f"/proc/{process.pid}/task/{process.pid}/children", encoding="ascii") as told:
+        return sorted(map(int, told.read().split()))
+
+
+class Proxy:
+    """HAProxy with deploy/haproxy.cfg, at the ports of a trial."""
+
+    def __init__(self, ports, certificate=None):
+        self.port, self.metrics, self.ports = free_port(), free_port(), ports
+        self.tls = f" ssl crt {certificate}" if certificate else ""
+
+    def __enter__(self):
+        self.folder = tempfile.TemporaryDirectory()
+        self.control, self.log = f"{self.folder.name}/control", pathlib.Path(self.folder.name, "log")
+        text = (HERE / "haproxy.cfg").read_text()
+        moved = [(f"127.0.0.1:{old}\n", f"127.0.0.1:{new}\n") for old, new in zip(PORTS, self.ports)]
+        moved += [("  bind :4700\n", f"  bind 127.0.0.1:{self.port}{self.tls}\n"), ("bind 127.0.0.1:8404", f"bind 127.0.0.1:{self.metrics}")]
+        moved += [("/run/haproxy/admin.sock", self.control)]
+        if os.geteuid() != 0:  # only root may take another user and another root
+            moved += [(f"  {line}\n", "") for line in ("user haproxy", "group haproxy", "chroot /var/lib/haproxy")]
+        for old, new in moved:
+            if old not in text:
+                fail(f"haproxy.cfg hasn't {old!r}")
+            text = text.replace(old, new)
+        path = pathlib.Path(self.folder.name, "haproxy.cfg")
+        path.write_text(text)
+        with self.log.open("w") as log:
+            self.process = subprocess.Popen(["haproxy", "-db", "-f", str(path)], stdout=log, stderr=log)
+        until("HAProxy listens", lambda: self.process.poll() is not None or self.is_there())
+        return self
+
+    def is_there(self):
+        with socket.socket() as probe:
+            return probe.connect_ex(("127.0.0.1", self.metrics)) == 0
+
+    def __exit__(self, *_):
+        self.process.terminate()
+        self.process.wait()
+        self.folder.cleanup()
+
+    def ask(self, line):
+        """What HAProxy answers at its control socket."""
+        with socket.socket(socket.AF_UNIX) as asked:
+            asked.connect(self.control)
+            asked.sendall(line.encode() + b"\n")
+            return b"".join(iter(lambda: asked.recv(65536), b"")).decode()
+
+    def servers(self):
+        """Which server each session is with, by the address and port that it comes from."""
+        return dict(re.findall(r"src=(127\.[\d.]+:\d+) .*? srv=(\w+)", self.ask("show sess")))
+
+
+def source_of(session):
+    """Where a session comes from, as HAProxy writes it."""
+    return ":".join(map(str, session.socket.getsockname()))
