@@ -43,7 +43,7 @@ unsafe extern "C" {
     fn clock_gettime(clock: i32, time: &mut TimeSpec) -> i32;
     fn kernel_chain(turns: u32, came: &mut Came);
     fn kernel_fan(turns: u32, came: &mut Came);
-    fn kernel_herd(tenants: u32, frames: u32, takes_newest: bool, turns: u32, came: &mut Came);
+    fn kernel_herd(tenants: u32, frames: u32, takes_newest: bool, raised: bool, turns: u32, came: &mut Came);
 }
 
 fn own_load(load: u32, tenants: u32, frames: u32, turns: u32) -> (u64, [u64; 3]) {
@@ -51,7 +51,11 @@ fn own_load(load: u32, tenants: u32, frames: u32, turns: u32) -> (u64, [u64; 3])
         0 => chain_load(turns),
         1 => fan_load(turns),
         2 => herd_load(false, tenants, frames, turns),
-        _ => herd_load(true, tenants, frames, turns),
+        3 => herd_load(true, tenants, frames, turns),
+        _ => {
+            let (taken, left) = herd_load(true, tenants, frames, turns);
+            (taken + u64::from(tenants), left) // the proved core raises each reservation
+        }
     }
 }
 
@@ -61,8 +65,8 @@ fn proved_load(load: u32, tenants: u32, frames: u32, turns: u32) -> (u64, [u64; 
         match load {
             0 => kernel_chain(turns, &mut came),
             1 => kernel_fan(turns, &mut came),
-            2 => kernel_herd(tenants, frames, false, turns, &mut came),
-            _ => kernel_herd(tenants, frames, true, turns, &mut came),
+            2 => kernel_herd(tenants, frames, false, false, turns, &mut came),
+            _ => kernel_herd(tenants, frames, true, load == 4, turns, &mut came),
         }
     }
     assert_eq!(came.ended, 1, "the load came to its end");
@@ -114,6 +118,7 @@ fn measure_loads(rounds: u32) {
         ("herd, oldest first", 2, 64, 7, 50_000),
         ("herd, newest first", 3, 1, 7, 50_000),
         ("herd, newest first", 3, 1, 4095, 50_000),
+        ("herd, newest first, reservation raised", 4, 1, 4095, 50_000),
         ("herd, newest first", 3, 64, 7, 50_000),
     ] {
         let (plain, proved) = measure(load, tenants, frames, turns, rounds);

@@ -5,13 +5,15 @@
 //! usage: pool_peer WORKERS GRAIN DEPTH, which prints how many jobs were done, the steps, the microseconds, and how many
 //! positions a serial search of the same jobs enters; pool_peer WORKERS GRAIN DEPTH timed, which times each call of
 //! `lock` too, and prints last how much of the workers' time went to them, in 100; pool_peer WORKERS GRAIN DEPTH sparing,
-//! whose workers wake another at a frame that became ready only where one sleeps, as the proved ones do; or pool_peer
-//! positions, which prints the positions
+//! whose workers wake another at a frame that became ready only where one sleeps, as the proved ones do; pool_peer WORKERS
+//! GRAIN DEPTH hold STEPS, whose workers, sparing too, keep the core's lock over the steps that follow each other at once
+//! (the next step of their frame, or else of their newest task), at most so many; or pool_peer positions, which prints the
+//! positions
 mod plain;
 #[path = "../search/vectors.rs"]
 mod vectors;
 
-use plain::{Core, Did, INF, Name, Outcome, Task, Tenant, choices, play};
+use plain::{Core, Did, INF, Leaf, Name, Outcome, Task, Tenant, choices, play};
 use std::cell::Cell;
 use std::sync::atomic::{AtomicUsize, Ordering};
 use std::sync::{Condvar, Mutex, MutexGuard};
@@ -27,7 +29,15 @@ struct Pool {
     list: Mutex<Vec<Task>>,
     timed: bool,
     sparing: bool,
+    held_steps: usize,
     sleepers: AtomicUsize,
+}
+
+/// What a worker goes on with behind some steps under one lock.
+enum Next {
+    Nothing,
+    Do(Deed),
+    Compute(Name, Leaf),
 }
 
 /// How often a worker called `lock`, how long that took, and how long the worker worked.
@@ -104,8 +114,14 @@ impl Pool {
         }
     }
 
-    fn offer(&self, worker: u8, deed: &Deed) -> Did {
-        let mut core = self.lock(&self.core);
+    /// The worker's own newest task.
+    fn own_task(&self, worker: u8) -> Option<Task> {
+        let mut list = self.lock(&self.list);
+        let place = list.iter().rposition(|task| task.home == worker)?;
+        Some(list.remove(place))
+    }
+
+    fn step(core: &mut Core, worker: u8, deed: &Deed) -> Did {
         let did = match deed {
             Deed::Get(task) => core.take(worker, *task),
             Deed::Run(name) => core.advance(worker, *name),
@@ -117,6 +133,12 @@ impl Pool {
             let (Deed::Get(Task { name, .. }) | Deed::Run(name) | Deed::Bring(name, ..) | Deed::TakeIn(name) | Deed::Finish(name)) = deed;
             core.spend(*name);
         }
+        did
+    }
+
+    fn offer(&self, worker: u8, deed: &Deed) -> Did {
+        let mut core = self.lock(&self.core);
+        let did = Self::step(&mut core, worker, deed);
         let wakes = !self.sparing || self.sleepers.load(Ordering::Relaxed) > 0;
         drop(core);
         match did {
@@ -125,6 +147,69 @@ impl Pool {
             _ => {}
         }
         did
+    }
+
+    /// Steps that follow each other at once, under one lock: until a leaf is to be computed, or the worker has neither a
+    /// frame nor a task of its own, or so many are done. Those who wait are woken behind them.
+    fn steps(&self, worker: u8, first: Deed) -> Next {
+        let mut core = self.lock(&self.core);
+        let (mut next, mut readied, mut ended) = (Next::Do(first), 0, false);
+        for _ in 0..self.held_steps {
+            if let Next::Nothing = next {
+                let Some(task) = self.own_task(worker) else { break };
+                readied -= 1;
+                next = Next::Do(Deed::Get(task));
+            }
+            let Next::Do(deed) = &next else { break };
+            let (Deed::Get(Task { name, .. }) | Deed::Run(name) | Deed::Bring(name, ..) | Deed::TakeIn(name) | Deed::Finish(name)) = *deed;
+            next = match Self::step(&mut core, worker, deed) {
+                Did::Took | Did::Went | Did::Answered => Next::Do(Deed::Run(name)),
+                Did::Spawned(child) => {
+                    readied += 1;
+                    self.push(child, worker);
+                    Next::Do(Deed::Run(name))
+                }
+                Did::Computing(leaf) => Next::Compute(name, leaf),
+                Did::Returned(true) => Next::Do(Deed::Finish(name)),
+                Did::Returned(false) => Next::Do(Deed::TakeIn(name)),
+                Did::TakenIn(Some(parent)) => {
+                    readied += 1;
+                    self.push(parent, worker);
+                    Next::Nothing
+                }
+                did => {
+                    ended |= matches!(did, Did::Finished | Did::Short);
+                    Next::Nothing
+                }
+            };
+        }
+        let wakes = self.sleepers.load(Ordering::Relaxed).min(usize::try_from(readied).unwrap_or(0));
+        drop(core);
+        (0..wakes).for_each(|_| self.ready.notify_one());
+        if ended {
+            self.ended.notify_all();
+        }
+        next
+    }
+
+    /// A worker that keeps the lock over several steps.
+    fn work_holding(&self, worker: u8) -> Locked {
+        let start = Instant::now();
+        while let Some(task) = self.next_task(worker) {
+            let mut next = Next::Do(Deed::Get(task));
+            loop {
+                next = match next {
+                    Next::Nothing => break,
+                    Next::Do(deed) => self.steps(worker, deed),
+                    Next::Compute(name, leaf) => {
+                        let mut visited = 0;
+                        let (score, choice) = vectors::search(leaf.board.0, leaf.board.1, u32::from(leaf.depth), leaf.alpha, leaf.beta, &mut visited);
+                        Next::Do(Deed::Bring(name, score, choice as u8))
+                    }
+                };
+            }
+        }
+        Locked { worked: start.elapsed(), ..LOCKED.get() }
     }
 
     fn work(&self, worker: u8) -> Locked {
@@ -209,13 +294,14 @@ fn main() {
         list: Mutex::new(Vec::new()),
         timed: words.get(4).is_some_and(|word| word == "timed"),
         sparing: words.get(4).is_some_and(|word| word == "sparing"),
+        held_steps: words.get(5).map_or(1, |word| word.parse().unwrap()),
         sleepers: AtomicUsize::new(0),
     };
     let spent = AtomicUsize::new(0);
     let start = Instant::now();
     let locked = std::thread::scope(|scope| {
         let pool = &pool;
-        let workers: Vec<_> = (1..=workers).map(|worker| scope.spawn(move || pool.work(worker))).collect();
+        let workers: Vec<_> = (1..=workers).map(|worker| scope.spawn(move || if pool.held_steps > 1 { pool.work_holding(worker) } else { pool.work(worker) })).collect();
         std::thread::scope(|seats| {
             for seat in 0..SEATS {
                 let (positions, wanted, spent) = (&positions, &wanted, &spent);

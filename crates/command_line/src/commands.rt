@@ -35,6 +35,17 @@ pub(crate) fn othello_command<'a>(alloc: Global) -> Result<Command<'a>, AllocErr
         .subcommand(serve)
 }
 
+/// The command of this name by itself, for the usage that is told of it; the program's where there is none.
+pub(crate) fn command_of<'a>(alloc: Global, name: &str) -> Result<Command<'a>, AllocError> {
+    if name == "solve" {
+        solve_command(alloc)?.bin_name("othello solve")
+    } else if name == "serve" {
+        serve_command(alloc)?.bin_name("othello serve")
+    } else {
+        othello_command(alloc)
+    }
+}
+
 /// An option with a number, under its word.
 fn number_arg<'a>(
     alloc: Global,

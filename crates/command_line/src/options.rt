@@ -5,7 +5,7 @@ ghost use Rattle.clap.specs.declared.error.kind.ErrorKind.TheVariants.{ValueVali
 ghost use Rattle.command_line.specs.CommandLine.{IsWithinLimits, asked_of, command_asked, options_asked, program, serve_asked, solve_asked};
 ghost use Rattle.command_line.specs.Faults.{IsOutside, IsRefusal};
 
-use crate::commands::{flag_in, othello_command};
+use crate::commands::{command_of, flag_in, othello_command};
 use crate::faults::WordsFault;
 use crate::settings::{GRAIN, Missing, NODES, PORT, SEGMENTS, SESSIONS, WORKERS};
 use clap::error::ErrorKind;
@@ -59,7 +59,7 @@ impl Options {
         match command.try_get_matches_from(words) {
             Ok(matches) => match options_of(&matches) {
                 Ok(options) => Ok(options),
-                Err(missing) => Err(outside(alloc, missing)),
+                Err(missing) => Err(outside(alloc, missing, &matches)),
             },
             Err(error) if error.kind() == ErrorKind::OutOfMemory => Err(WordsFault::OutOfMemory),
             Err(error) => Err(WordsFault::Refused(error)),
@@ -130,22 +130,30 @@ fn serve_of(given: &ArgMatches<'_>) -> Result<Options, Missing>
 }
 
 /// The refusal of a value that is no number within the limits of its option.
-fn outside(alloc: Global, missing: Missing) -> WordsFault
+fn outside(alloc: Global, missing: Missing, matches: &ArgMatches<'_>) -> WordsFault
     ensures { IsOutside result }
 {
-    match outside_error(alloc, missing) {
+    match outside_error(alloc, missing, matches) {
         Ok(error) => WordsFault::Refused(error),
         Err(AllocError) => WordsFault::OutOfMemory,
     }
 }
 
-/// What is said of it.
-fn outside_error(alloc: Global, missing: Missing) -> Result<Error, AllocError>
+/// What is said of it, with the usage of the command that the words name.
+fn outside_error(
+    alloc: Global,
+    missing: Missing,
+    matches: &ArgMatches<'_>,
+) -> Result<Error, AllocError>
     ensures { IfOk result (λ error. kind_of error ≡ ValueValidation) }
 {
     let text = match missing {
         Missing::Value(setting) => format!(in alloc; "{setting}")?,
         Missing::Command => format!(in alloc; "one of the commands is needed: solve, serve")?,
     };
-    othello_command(alloc)?.error(ErrorKind::ValueValidation, text.as_str())
+    let mut command = match matches.subcommand() {
+        Some((name, _)) => command_of(alloc, name)?,
+        None => othello_command(alloc)?,
+    };
+    command.error(ErrorKind::ValueValidation, text.as_str())
 }

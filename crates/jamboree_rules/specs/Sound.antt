@@ -1,6 +1,6 @@
 -- That a frame is sound: what its numbers say of the minimax value of its board, and what its children search.
-use Rattle.std.specs.Prelude.{◌≡◌, ◌≢◌, ℕ, ◌-◌, ◌<◌, ◌⊎◌, ℤ, pos, neg_ℤ, ◌<ℤ◌, ◌≤ℤ◌, ◌+ℤ◌, List, [], ◌∷◌, slice_index}
-use Rattle.othello_moves.specs.Choices.{after, plies}
+use Rattle.std.specs.Prelude.{◌≡◌, ◌≢◌, ℕ, ◌-◌, ◌<◌, ◌⊎◌, ℤ, pos, neg_ℤ, ◌<ℤ◌, ◌≤ℤ◌, ◌+ℤ◌, List, [], ◌∷◌, length, slice_index}
+use Rattle.othello_moves.specs.Choices.{after, choices, plies}
 use Rattle.othello_eval.specs.Minimax.{best_choice}
 use Rattle.leaf_search.specs.Bounds.{IsBound}
 use Rattle.jamboree_rules.specs.Frames.{Frame, board, choice_at, code_at, coded, value_at, value, floor}
@@ -23,9 +23,11 @@ pub data HasWindow (f c : Frame) : Type 0 where
   Test : c.role ≡ 2 → (t : ℤ) → c.alpha ≡ neg_ℤ (t +ℤ pos 1) → c.beta ≡ neg_ℤ t → f.alpha ≤ℤ t → t ≤ℤ floor f → HasWindow f c
   Again : c.role ≡ 3 → c.alpha ≡ neg_ℤ f.beta → c.beta ≡ neg_ℤ (floor f) → ((i : ℕ) → i < c.number → IsSettled f i) → HasWindow f c
 
--- the goal of a child: the board after its choice (which it knows once it isn't new), less deep by the plies of that choice, and its window
+-- the goal of a child: the board after its choice, which is one of its parent's (it knows that board once it isn't new), less deep
+-- by the plies of that choice, and its window
 pub record HasGoal (f c : Frame) : Type 0 where
   pub searches : (f.phase ≡ 2) ⊎ (f.phase ≡ 3)
+  pub inside : c.number < length (choices (board f))
   pub board : c.phase ≢ 0 → board c ≡ after (board f) (choice_at f c.number)
   pub depth : c.depth ≡ f.depth - plies (choice_at f c.number)
   pub window : HasWindow f c

@@ -371,26 +371,30 @@ fn words_are_read(rt: HostRuntime) {
 #[test]
 fn refusals_are_told(rt: HostRuntime) -> Result<(), Fail> {
     let alloc = rt.alloc();
-    for (words, status, text) in [
+    for (words, status, text, usage) in [
         (
             ["othello", "solve", "--grain", "7"].as_slice(),
             2,
             "error: --grain takes a number from 0 to 6\n",
+            "Usage: othello solve [OPTIONS]",
         ),
         (
             &["othello", "serve", "--sessions", "x"],
             2,
             "error: --sessions takes a number from 1 to 1000\n",
+            "Usage: othello serve [OPTIONS] --sessions <k>",
         ),
         (
             &["othello", "serve"],
             2,
             "error: the following required arguments were not provided:\n  --sessions <k>\n",
+            "Usage: othello serve --sessions <k>",
         ),
         (
             &["othello", "serve", "--help"],
             0,
             "serves sessions of many tenants",
+            "Usage: othello serve [OPTIONS] --sessions <k>",
         ),
     ] {
         let Err(fault) = Options::read(alloc, words) else {
@@ -402,6 +406,7 @@ fn refusals_are_told(rt: HostRuntime) -> Result<(), Fail> {
         };
         let told = format!(in alloc; "{error}")?;
         assert!(rt; told.as_str().starts_with(text), "{told}");
+        assert!(rt; told.as_str().contains(usage), "{told}");
     }
     Ok(())
 }

@@ -1,11 +1,14 @@
 //! Jobs of several seats.
 ghost use Rattle.std.specs.Prelude.{◌≡◌};
 
+use super::overlaps::is_set;
 use super::seats::{all_white, corner, end_of, is_found, opening, seat};
 use super::{Scenario, Table, play};
-use crate::Open;
+use crate::{Gate, Open, Task};
 use desk::{Desk, Hands, Outcome, Seat};
+use sched_rules::Worker;
 use std::sync::Wait;
+use std::sync::atomic::{AtomicBool, Ordering};
 use std::test::Fail;
 
 /// Two seats ask three positions in turn, and read each reply twice.
@@ -146,11 +149,32 @@ fn two_hundred_pools_end(rt: HostRuntime) -> Result<(), Fail> {
     Ok(())
 }
 
-/// Four seats: one cancels, one has too little, one leaves, and one waits for its reply.
+/// The first computations pass; those after them wait within a limit until they are let go on.
 #[derive(Drop)]
-struct Mixed;
+struct Midst {
+    passing: u64,
+    let_go: AtomicBool,
+    late: AtomicBool,
+}
 
-impl Scenario for Mixed {
+impl Gate for Midst {
+    fn before(&self, _worker: Worker, _task: &Task) {}
+
+    fn inside(&self, _worker: Worker, number: u64) {
+        if number > self.passing && !is_set(&self.let_go) {
+            self.late.store(true, Ordering::SeqCst);
+        }
+    }
+}
+
+/// Four seats: one cancels, one has too little, one leaves, and one waits for its reply. No job of
+/// depth 5 can end before it is cancelled or left, as all but a few of its computations wait until then.
+#[derive(Drop)]
+struct Mixed<'g> {
+    gate: &'g Midst,
+}
+
+impl Scenario for Mixed<'_> {
     fn play<L: Hands, R: Wait>(&self, rt: &R, desk: &Desk<L>) -> bool {
         let two = seat(rt, desk, 64, 1_024).zip(seat(rt, desk, 4, 3));
         let more = seat(rt, desk, 64, 1_024).zip(seat(rt, desk, 64, 1_024));
@@ -163,6 +187,7 @@ impl Scenario for Mixed {
             && desk.ask(rt, &mut stays, &opening(), 2).is_ok();
         let cancelled = desk.cancel(rt, &mut cancels, 1).is_ok();
         desk.leave(rt, leaves);
+        self.gate.let_go.store(true, Ordering::SeqCst);
         let found = is_found(rt, desk, &stays, 1, &opening(), 2);
         let spent = end_of(rt, desk, &spends, 1) == Outcome::Spent;
         let ended = end_of(rt, desk, &cancels, 1) == Outcome::Cancelled;
@@ -180,13 +205,19 @@ fn has_all_back<L: Hands, R: Wait>(rt: &R, desk: &Desk<L>, seat: &Seat<L>, segme
     desk.live(rt, seat) == Ok((0, 0)) && matches!(quota, Ok(left) if left.segments == segments)
 }
 
-/// Jobs that are cancelled, spent or left in the midst: nothing is lost, and all segments are back.
+/// Jobs that are cancelled, spent or left in the midst, after up to four computations: nothing is lost,
+/// and all segments are back.
 #[test]
 fn jobs_end_in_the_midst(rt: HostRuntime) -> Result<(), Fail> {
     for run in 0..20 {
+        let gate = Midst {
+            passing: run / 4,
+            let_go: AtomicBool::new(false),
+            late: AtomicBool::new(false),
+        };
         let table = Table {
-            scenario: &Mixed,
-            gate: &Open,
+            scenario: &Mixed { gate: &gate },
+            gate: &gate,
             workers: 8,
             grain: 0,
             room: None,
@@ -194,6 +225,7 @@ fn jobs_end_in_the_midst(rt: HostRuntime) -> Result<(), Fail> {
         };
         let played = play(&rt, rt.alloc(), &table).ok_or("no pool")?;
         assert!(rt; played.content && played.whole, "run {run}");
+        assert!(rt; !gate.late.load(Ordering::SeqCst), "run {run}");
         assert_eq!(rt; Some(played.pushed), played.taken.checked_add(played.left));
         assert_eq!(rt; played.free, 196);
     }
