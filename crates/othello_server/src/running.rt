@@ -11,7 +11,7 @@ use crate::serving::serve_as_asked;
 use command_line::{Options, WordsFault};
 use line_io::{FromReader, FromWriter, LineFault, Sink, Source, write_text};
 use solve_engine::{solve, solve_visited};
-use std::alloc::Global;
+use std::alloc::{AllocError, Global};
 use std::convert::AsStr;
 use std::fmt::{self, Display, Write as _};
 use std::io::{ErrorKind, IsTerminal, Read, Write};
@@ -27,6 +27,11 @@ pub(crate) const DONE: u8 = 0;
 
 /// The exit status where the input or the output failed.
 pub(crate) const FAILED: u8 = 1;
+
+/// The bytes of a block that is made and given back before the first line of `solve`. The C library maps a great block
+/// from the system and gives it back when it is freed, until a greater one was: from then on it keeps what lies below
+/// that size. So the next line's core gets the memory of the last one's, whose pages are there.
+const KEPT: usize = 16 << 20;
 
 /// What somebody is told who types the lines.
 const HINT: &str = "reading lines `depth position`; `othello solve --help` explains them";
@@ -102,6 +107,7 @@ fn answer<S: Input, K: Output, E: Sink>(
     let result = if visited {
         solve_visited(source, sink)
     } else {
+        keep_memory(alloc);
         solve(alloc, source, sink, grain)
     };
     match result {
@@ -112,6 +118,11 @@ fn answer<S: Input, K: Output, E: Sink>(
             FAILED
         }
     }
+}
+
+/// Has the C library keep the memory of a line's core for the next line's. Where there is no such block nothing changes.
+fn keep_memory(alloc: Global) {
+    let _: Result<Vec<u8>, AllocError> = Vec::with_capacity(alloc, KEPT);
 }
 
 /// Says why the words are not followed, or what they ask to be told.
