@@ -12,7 +12,7 @@
 //! opening.flips(19) == 1 << 27
 //! ```
 //!
-//! The example stands as a test in `leaf_search`, which has the tests of the crates that it stands on.
+//! The example stands as a test in `search_rows`.
 #![tactic(auto)]
 
 mod boards;

@@ -15,7 +15,7 @@
 //! choice(opening, 0) == Choice::Square(19)
 //! ```
 //!
-//! The example stands as a test in `leaf_search`, which has the tests of the crates that it stands on.
+//! The example stands as a test in `search_rows`.
 #![tactic(auto)]
 
 mod choices;
