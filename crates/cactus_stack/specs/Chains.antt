@@ -1,4 +1,4 @@
--- How the words of a node lie in a region: in a chain of segments, each linked to the next.
+-- Representation: how the words of a node lie in a region: in a chain of segments, each linked to the next.
 use Rattle.std.specs.Prelude.{◌≡◌, ◌≢◌, ℕ, zero, suc, ◌+◌, ◌-◌, ◌*◌, List, [], ◌∷◌, ◌++◌, length, Option, Some, None, replicate}
 use Rattle.segment_region.specs.Segments.{Segment, Segments, segment_at, words_at, link_at, IsTaken, IsFree, taken_count}
 

@@ -1,4 +1,4 @@
--- How lists of words are kept under numbers: by their lengths, and a chain of segments for each that begins with the segment of its number.
+-- Representation: how lists of words are kept under numbers: by their lengths, and a chain of segments for each that begins with the segment of its number.
 use Rattle.std.specs.Prelude.{◌≡◌, ◌≢◌, ℕ, zero, suc, ◌-◌, ◌*◌, ◌≤◌, List, [], ◌∷◌, length, take, drop, Option, Some, None, replicate, slice_index_or, slice_index, sum_by}
 use Rattle.segment_region.specs.Segments.{Segments, taken_count}
 use Rattle.cactus_stack.specs.Nodes.{charge}

@@ -1,4 +1,4 @@
--- What a cactus stack is to its users: an entry under each number below the count, where a node is open.
+-- Meaning: what a cactus stack is to its users: an entry under each number below the count, where a node is open.
 use Rattle.std.specs.Prelude.{◌≡◌, ◌≢◌, ℕ, ◌+◌, ◌-◌, ◌/◌, ◌<◌, List, [], ◌∷◌, ◌++◌, length, Option, Some, None, IsSome, slice_index_or, slice_set, replicate, Contains, sum_by}
 
 -- a node that is open: the node that it was opened under, if there is one, and its words

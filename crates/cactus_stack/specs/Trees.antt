@@ -1,4 +1,4 @@
--- How a stack keeps its nodes: a list of words and a place in the tree for each.
+-- Representation: how a stack keeps its nodes: a list of words and a place in the tree for each.
 use Rattle.std.specs.Prelude.{◌≡◌, ℕ, zero, suc, ◌+◌, List, [], ◌∷◌, length, Option, Some, None, IsSome, slice_index_or, slice_set}
 use Rattle.cactus_stack.specs.Nodes.{Node, Nodes, node_words, node_parent, IsSight}
 use Rattle.cactus_stack.specs.Lists.{Lists, list_at}

@@ -1,4 +1,4 @@
--- What the words of the command line ask for.
+-- Meaning: what the words of the command line ask for.
 use Rattle.std.specs.Prelude.{◌≤◌, ℕ, Bool, true, false, List, Option, Some, None, codes, if◌then◌else◌}
 use Rattle.std.specs.Str.{bytes_eq}
 use Rattle.std.specs.Option.{option_map_or}

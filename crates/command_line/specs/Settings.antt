@@ -1,4 +1,4 @@
--- The options of the commands that have a number for their value.
+-- Meaning: the options of the commands that have a number for their value.
 use Rattle.std.specs.Prelude.{ℕ, Bool, ◌&&◌, ◌++◌, Option, Some, None, List, if◌then◌else◌, codes, decimal, nat_le, option_and_then}
 use Rattle.std.specs.Option.{option_map_or}
 use Rattle.clap.specs.Words.{Row, Rule, Text, first_of, new_rule}

@@ -15,8 +15,10 @@
 //!
 //! For lists that are drawn from a seed there is one more procedure, [`Reader`], whose frames do what
 //! their words say, so that a list of steps meets every act there is: it grows, opens children, waits,
-//! computes, goes on for ever, and asks for what can't be done. It is a table (`specs/Reading.antt`),
-//! tried on worked examples ([`rows`]), and its frames always fit.
+//! computes, goes on for ever, and asks for what can't be done. Word 0 has a frame's acts as the digits of
+//! an octal number, the lowest first, each taken off when it is done; word 1 has those of its children; an
+//! inlet stores the child's word 2 in the parent's, and word 3 of the parent says whether it aborts or wakes.
+//! It is a table (`specs/Reading.antt`), tried on worked examples ([`rows`]), and its frames always fit.
 //!
 //! ```text
 //! // a_root_opens_a_child: it waits for it and returns; the child is computed, and returns

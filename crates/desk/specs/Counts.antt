@@ -1,4 +1,4 @@
--- What contracts see of what lies under the lock, what one call does to the hall there, and for what is waited.
+-- Meaning: what contracts see of what lies under the lock, what one call does to the hall there, and for what is waited.
 use Rattle.std.specs.Prelude.{◌≡◌, ℕ, ◌+◌, ◌==◌, Bool, true, false, not, ◌&&◌, ◌||◌, Option, Some, None, Result, Ok, Err, if◌then◌else◌, is_ok}
 use Rattle.frame_table.specs.declared.names.FrameId.{FrameId}
 use Rattle.frame_table.specs.Frames.{IsReadyAt}

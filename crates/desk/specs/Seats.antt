@@ -1,4 +1,4 @@
--- What contracts see of a seat, and what is shown of its jobs.
+-- Meaning: what contracts see of a seat, and what is shown of its jobs.
 use Rattle.std.specs.Prelude.{◌≡◌, ◌≢◌, ℕ, ◌+◌, ◌-◌, ◌==◌, List, [], ◌∷◌, ◌++◌, length, Option, Some, None, Result, Ok, Err, if◌then◌else◌}
 use Rattle.sched_rules.specs.declared.refusal.Refusal.{Refusal}
 use Rattle.sched_rules.specs.declared.refusal.Refusal.TheVariants.{NoTenant, NoSegments, NoNodes, NoJobsLeft, Full, NoJob, OldTenant, OutOfMemory, Lower}

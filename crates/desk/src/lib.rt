@@ -14,6 +14,16 @@
 //! [`Desk::into_hall`] answers true, all steps in the hall are those that it keeps and those of the
 //! badge: no taken call was dropped, and nobody else took a step.
 //!
+//! Beside the hall and the book lies a spare share. A taken step adds 1 to the book and to the share of who
+//! took it, and a seat that leaves merges its share into the spare one: so the hall's count is what it was
+//! before the desk and the book's total, and what the hall keeps is what it was before and the spare share.
+//! [`Desk::into_hall`] counts the parts of the ledger that are out against those that the badge has; where
+//! they agree, spare and badge together are the whole ledger.
+//!
+//! An `ask` wakes one worker that waits for a frame; so does a step that made a frame ready, where one sleeps
+//! (how many do is counted under the lock, as a wake is a call of the system even where nobody sleeps); a job
+//! that ended wakes the seats that wait, and the closing wakes all.
+//!
 //! ```text
 //! let desk: Desk<L> = Desk::new(Hall::new(alloc, config, 2)?, blank);
 //! let mut seat = desk.admit(rt, reserve)?;

@@ -1,4 +1,4 @@
--- Lists in the order of a number that each element has.
+-- Representation: lists in the order of a number that each element has.
 use Rattle.std.specs.Prelude.{ℕ, ◌<◌, ◌≤◌, ◌==◌, ◌||◌, Bool, false, nat_lt, List, [], ◌∷◌, if◌then◌else◌}
 use Prim.Native.Nat.{zero, suc}
 

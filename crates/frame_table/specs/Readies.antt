@@ -1,4 +1,4 @@
--- The ready frames of one tenant, by rising serial.
+-- Representation: the ready frames of one tenant, by rising serial.
 use Rattle.std.specs.Prelude.{◌≡◌, ℕ, ◌≤◌, ◌==◌, not, filter, if◌then◌else◌, length, List, [], ◌∷◌, Option, Some, None}
 use Rattle.frame_table.specs.declared.names.State.{State}
 use Rattle.frame_table.specs.declared.names.State.TheVariants.{Ready as ReadyAt, Running, Computing, Waiting, Returned}

@@ -1,4 +1,4 @@
--- How a tenant's slots are kept: in a slab, with an index of their keys by rising serial.
+-- Representation: how a tenant's slots are kept: in a slab, with an index of their keys by rising serial.
 use Rattle.std.specs.Prelude.{◌≡◌, ℕ, ◌<◌, ◌≤◌, Bool, true, false, not, if◌then◌else◌, ◌||◌, ◌&&◌, ◌==◌, List, [], ◌∷◌, ◌++◌, Option, Some, None, IsSome, length, slice_index, get_or, set, map, drop}
 use Rattle.std.specs.Borrow.{Bor}
 use Rattle.slab.specs.Slab.{Slab, get, slab_len}

@@ -1,4 +1,4 @@
--- What the laws of a tree speak of: a child by its path alone, frames that rise, frames with other values.
+-- Representation: what the laws of a tree speak of: a child by its path alone, frames that rise, frames with other values.
 use Rattle.std.specs.Prelude.{◌≡◌, ℕ, ◌<◌, Bool, false, ◌==◌, List, [], ◌∷◌, Option, Some, None, if◌then◌else◌, map}
 use Rattle.frame_table.specs.Frames.{Frame, parent_of}
 

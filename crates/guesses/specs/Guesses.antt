@@ -1,3 +1,4 @@
+-- Representation: what a guess is, and a table after one was put down.
 use Rattle.std.specs.Prelude.{ℕ, ◌%◌, ◌^◌, List, length, slice_index, slice_set}
 
 -- the guess of a number: what stands at its remainder by the count of places

@@ -1,4 +1,4 @@
--- The journal of a tenant: its steps that were taken, in order, from its Admit on.
+-- Meaning: the journal of a tenant: its steps that were taken, in order, from its Admit on.
 use Rattle.std.specs.Prelude.{◌≡◌, ℕ, ◌+◌, ◌*◌, ◌<◌, ◌≤◌, Bool, true, false, ◌||◌, ◌==◌, List, [], ◌∷◌, ◌++◌, Option, Some, None, if◌then◌else◌, length, suc}
 use Rattle.tenant_quota.specs.Quota.{Quota}
 use Rattle.sched_rules.specs.declared.step.StepOf.{StepOf}

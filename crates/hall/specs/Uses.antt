@@ -1,4 +1,4 @@
--- What a tenant has used up of what it may do: each of its taken steps uses one.
+-- Representation: what a tenant has used up of what it may do: each of its taken steps uses one.
 use Rattle.std.specs.Prelude.{ℕ, ◌+◌, List, [], ◌∷◌, length}
 use Rattle.sched_rules.specs.declared.job.Job.{Job}
 use Rattle.sched_rules.specs.declared.job.Job.TheVariants.{Live, Done, Spent, Cancelled}

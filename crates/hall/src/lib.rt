@@ -13,7 +13,15 @@
 //! (`specs/Uses.antt`) one of what it may do with each step, so that the places which its admission
 //! reserved for its journal suffice. Only [`Hall::new`] and an admission take memory. An entry of a
 //! journal takes 8 bytes: its tenant is the journal's, and its frame's serial is at most 65,536. Steps
-//! that say more (`LongEntry`) take 48 bytes in a list of their own.
+//! that say more (`LongEntry`) take 48 bytes in a list of their own. A step is written under the lock, so what
+//! it writes first is kept small: each page that the system has to give holds up all workers.
+//!
+//! An admission asks the core first whether it would be taken, then makes room in the list of journals and in
+//! the journal, and lets the core grow last; so does an AdmitMore, whose entry is written after the core's step.
+//! So where a growth or the core refuses, nothing has changed. A journal has 16 places for each node that its
+//! tenant reserves, 770 more, and one for each AdmitMore: each counted step takes a sixteenth of a node, and
+//! the rest are the admission and what 256 jobs can need. Where a tenant's journal stands is guessed and
+//! looked at, and scanned for where the guess is wrong.
 //!
 //! ```text
 //! let mut hall = Hall::new(alloc, config, 2)?;

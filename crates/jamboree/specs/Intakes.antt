@@ -1,4 +1,4 @@
--- The inlet that an intake stands for.
+-- Representation: the inlet that an intake stands for.
 use Rattle.std.specs.Prelude.{ℕ, List, [], ◌∷◌, true}
 use Rattle.sched_rules.specs.declared.act.InletAct.{InletAct}
 use Rattle.jamboree_rules.specs.Places.{Best, Chosen, Phase, Status, pairs_of}

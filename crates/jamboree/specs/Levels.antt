@@ -1,4 +1,4 @@
--- The levels above a frame.
+-- Representation: the levels above a frame.
 use Rattle.std.specs.Prelude.{ℕ, List, [], ◌∷◌, Option, Some, None}
 
 -- the level above, if there is one

@@ -1,4 +1,4 @@
--- The numbers of phases, roles and statuses, and a frame by its parts.
+-- Representation: the numbers of phases, roles and statuses, and a frame by its parts.
 use Rattle.std.specs.Prelude.{ℕ, ℤ, List}
 use Rattle.jamboree.specs.declared.phases.Phase.{Phase}
 use Rattle.jamboree.specs.declared.phases.Phase.TheVariants.{New, Computing, First, Tests, Done}

@@ -1,4 +1,4 @@
--- The act that a plan stands for.
+-- Representation: the act that a plan stands for.
 use Rattle.std.specs.Prelude.{◌+◌, [], ◌∷◌, true, false}
 use Rattle.sched_rules.specs.declared.act.Act.{Act}
 use Rattle.sched_rules.specs.declared.act.Then.{Then}

@@ -1,4 +1,4 @@
--- What a reply says, as words for its private parts.
+-- Meaning: what a reply says, as words for its private parts.
 use Rattle.std.specs.Prelude.{ℕ}
 use Rattle.othello_board.specs.declared.boards.Board.{Board}
 use Rattle.jamboree.specs.declared.reply.Reply.{Reply}

@@ -1,4 +1,4 @@
--- The journal of a tenant: the steps of it that were taken, in order, since it was admitted.
+-- Meaning: the journal of a tenant: the steps of it that were taken, in order, since it was admitted.
 use Rattle.std.specs.Prelude.{◌≡◌, List, [], ◌∷◌, Option, Some, None, Result, Ok, Err}
 use Rattle.sched_rules.specs.declared.refusal.Refusal.{Refusal}
 use Rattle.sched_rules.specs.declared.step.StepOf.{StepOf}

@@ -1,4 +1,4 @@
--- What a list of searches comes to from a new core: the headline, and every reply.
+-- Meaning: what a list of searches comes to from a new core: the headline, and every reply.
 use Rattle.std.specs.Prelude.{◌≡◌, ℕ, List, Some, Result}
 use Rattle.tenant_quota.specs.Quota.{Quota}
 use Rattle.sched_rules.specs.declared.refusal.Refusal.{Refusal}

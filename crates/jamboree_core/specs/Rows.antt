@@ -1,4 +1,4 @@
--- A tenant and its journals on which the definitions are tried: the opening is searched to depth 1.
+-- Representation: a tenant and its journals on which the definitions are tried: the opening is searched to depth 1.
 use Rattle.std.specs.Prelude.{ℕ, List, [], ◌∷◌}
 use Rattle.cactus_stack.specs.Nodes.{padded}
 use Rattle.tenant_quota.specs.Quota.{Quota}

@@ -1,4 +1,4 @@
--- What lists of searches come to: each job that is done holds the minimax value and the best choice of what was asked.
+-- Meaning: what lists of searches come to: each job that is done holds the minimax value and the best choice of what was asked.
 use Rattle.std.specs.Prelude.{◌≡◌, ℕ, ◌≤◌, bit_and, List, [], ◌∷◌, map, slice_index}
 use Rattle.frame_table.specs.Frames.{Frame, children_of, values_of}
 use Rattle.othello_board.specs.Words.{cells_of}

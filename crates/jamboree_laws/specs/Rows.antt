@@ -1,4 +1,4 @@
--- Words on which the definitions are tried: the opening, Black to move, searched to depth 1.
+-- Representation: words on which the definitions are tried: the opening, Black to move, searched to depth 1.
 use Rattle.std.specs.Prelude.{ℕ, List, [], ◌∷◌}
 
 -- what is asked

@@ -1,4 +1,4 @@
--- What a frame of a Jamboree search does next, and what it does about a child that has returned.
+-- Meaning: what a frame of a Jamboree search does next, and what it does about a child that has returned.
 -- (Kuszmaul 1994: the first child is searched, then the others are tested; a test that fails is searched again.)
 use Rattle.std.specs.Prelude.{ℕ, suc, ◌+◌, ◌-◌, ◌==◌, ◌&&◌, ◌||◌, nat_le, nat_lt, Bool, true, false, ℤ, pos, ◌+ℤ◌, neg_ℤ, int_le, int_lt, List, [], ◌∷◌, Option, Some, None, length, slice_index, if◌then◌else◌}
 use Rattle.std.specs.Int.{int_max}

@@ -1,4 +1,4 @@
--- What is kept true of each frame: it fits its children, and they fit it.
+-- Meaning: what is kept true of each frame: it fits its children, and they fit it.
 use Rattle.std.specs.Prelude.{◌≡◌, ◌≢◌, ℕ, ◌-◌, ◌<◌, ◌≤◌, ◌⊎◌, ◌==◌, true, ℤ, pos, neg_ℤ, ◌<ℤ◌, ◌≤ℤ◌, ◌+ℤ◌, List, [], ◌∷◌, map, length, slice_index, count_by}
 use Rattle.othello_moves.specs.Choices.{choices, after, plies}
 use Rattle.othello_eval.specs.Minimax.{best_choice}

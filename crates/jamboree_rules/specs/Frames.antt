@@ -1,4 +1,4 @@
--- A frame of a Jamboree search in the terms of the game: its board, its goal, its place under its parent, and how far it has come.
+-- Meaning: a frame of a Jamboree search in the terms of the game: its board, its goal, its place under its parent, and how far it has come.
 -- (Kuszmaul, Synchronized MIMD Computing, 1994: Jamboree search.)
 use Rattle.std.specs.Prelude.{ℕ, ◌==◌, ◌&&◌, ◌||◌, nat_le, nat_lt, Bool, true, ℤ, pos, negsuc, int_le, int_lt, List, Option, Some, None, length, slice_index_or, bit_and, if◌then◌else◌, filter}
 use Rattle.std.specs.Int.{int_max}

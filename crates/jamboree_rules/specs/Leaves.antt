@@ -1,4 +1,4 @@
--- A leaf in a frame's words.
+-- Meaning: a leaf in a frame's words.
 use Rattle.std.specs.Prelude.{◌≡◌, ℕ, ◌≤◌, Bool, true, false, ◌==◌, ◌&&◌, nat_le, int_le, int_lt, ℤ, pos, ◌<ℤ◌, ◌≤ℤ◌, bit_and, List, [], ◌∷◌, Option, refl, if◌then◌else◌}
 use Rattle.std.specs.Ordering.{int_eq}
 use Rattle.std.proofs.Common.{lit≤}

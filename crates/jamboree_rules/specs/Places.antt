@@ -1,4 +1,4 @@
--- The words of a frame: which place holds what. No other file knows places.
+-- Meaning: the words of a frame: which place holds what. No other file knows places.
 --
 -- | Place | Holds |
 -- | 0, 1 | the bits of the mover's discs and of the opponent's (bit s is square s) |

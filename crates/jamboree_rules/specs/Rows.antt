@@ -1,4 +1,4 @@
--- Words on which the acts are tried: the opening, Black to move, searched to depth 1 with grain 0.
+-- Representation: words on which the acts are tried: the opening, Black to move, searched to depth 1 with grain 0.
 use Rattle.std.specs.Prelude.{ℕ, List, [], ◌∷◌}
 
 -- the root once its four choices (d3, c4, f5, e6) are counted

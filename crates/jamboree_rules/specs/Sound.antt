@@ -1,4 +1,4 @@
--- That a frame is sound: what its numbers say of the minimax value of its board, and what its children search.
+-- Meaning: that a frame is sound: what its numbers say of the minimax value of its board, and what its children search.
 use Rattle.std.specs.Prelude.{◌≡◌, ◌≢◌, ℕ, ◌-◌, ◌<◌, ◌⊎◌, ℤ, pos, neg_ℤ, ◌<ℤ◌, ◌≤ℤ◌, ◌+ℤ◌, List, [], ◌∷◌, length, slice_index}
 use Rattle.othello_moves.specs.Choices.{after, choices, plies}
 use Rattle.othello_eval.specs.Minimax.{best_choice}

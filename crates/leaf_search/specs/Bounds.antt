@@ -1,4 +1,4 @@
--- What a search through a window promises of a value.
+-- Meaning: what a search through a window promises of a value.
 use Rattle.std.specs.Prelude.{◌≡◌, ℤ, ◌<ℤ◌, ◌≤ℤ◌}
 
 -- a score s that was got with the window from a to z speaks of the value m: at most a, it is an upper

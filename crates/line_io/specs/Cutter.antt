@@ -1,4 +1,4 @@
--- What contracts see of a cutter of lines.
+-- Representation: what is seen of a cutter of lines.
 use Rattle.std.specs.Prelude.{◌≡◌, ◌≢◌, ℕ, ◌≤◌, List, [], ◌∷◌, ◌++◌, take, Option, Some, None}
 use Rattle.line_io.specs.declared.cutting.Beyond.{Beyond}
 use Rattle.line_io.specs.declared.cutting.Beyond.TheVariants.{Nothing, Return, More}

@@ -1,4 +1,4 @@
--- What a cutter of lines holds: the bytes since the last LF, or nothing where no line of at most 128 bytes can come of them.
+-- Representation: what a cutter of lines holds: the bytes since the last LF, or nothing where no line of at most 128 bytes can come of them.
 use Rattle.std.specs.Prelude.{ℕ, List, [], ◌∷◌, ◌++◌, length, nat_le, ◌==◌, if◌then◌else◌, Option, Some, None}
 use Rattle.std.specs.Str.Lines.{strip_carriage_return}
 use Rattle.line_io.specs.Lines.{LineText, Whole, TooLong, line_text}

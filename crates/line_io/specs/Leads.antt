@@ -1,4 +1,4 @@
--- Chains of states.
+-- Meaning: chains of states.
 use Rattle.std.specs.Prelude.{◌≡◌, ℕ, List, [], ◌∷◌, ◌++◌}
 use Rattle.line_io.specs.Lines.{LineText}
 

@@ -1,4 +1,4 @@
--- The lines of a stream of bytes. A line ends with LF (10), and one CR (13) directly before that LF is dropped.
+-- Meaning: the lines of a stream of bytes. A line ends with LF (10), and one CR (13) directly before that LF is dropped.
 -- Bytes after the last LF, if there are any, are a line too, and keep a CR at their end. This is std's `lines`.
 use Rattle.std.specs.Prelude.{ℕ, List, [], ◌∷◌, length, map, nat_le, ◌==◌, if◌then◌else◌}
 use Rattle.std.specs.List.{list_any}

@@ -1,4 +1,4 @@
--- What one read or one write did.
+-- Meaning: what one read or one write did.
 use Rattle.std.specs.Prelude.{ℕ, List, [], take, ◌==◌, if◌then◌else◌, Option, Result, Ok, Err}
 use Rattle.std.specs.Io.KnownBytes.{Keeps, Appends, Consumes, IsAtEnd}
 use Rattle.line_io.specs.declared.faults.ReadFailed.{ReadFailed}

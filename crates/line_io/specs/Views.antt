@@ -1,4 +1,4 @@
--- What contracts see of the types of the code.
+-- Meaning: the numbers of faults, and a line as data.
 use Rattle.std.specs.Prelude.{ℕ}
 use Rattle.line_io.specs.declared.faults.LineFault.{LineFault}
 use Rattle.line_io.specs.declared.faults.LineFault.TheVariants.{Read, Write, TooMuch}

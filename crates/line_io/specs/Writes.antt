@@ -1,4 +1,4 @@
--- The writes of a text, and of the answers to some lines.
+-- Meaning: the writes of a text, and of the answers to some lines.
 use Rattle.std.specs.Prelude.{◌≡◌, ℕ, ◌<◌, List, [], ◌∷◌, ◌++◌, map, length, Result, Ok, Err}
 use Rattle.std.specs.List.{concat, flat_map}
 use Rattle.line_io.specs.declared.faults.WriteFailed.{WriteFailed}

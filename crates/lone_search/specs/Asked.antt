@@ -1,4 +1,4 @@
--- What a core of one tenant keeps while its job is worked on.
+-- Meaning: what a core of one tenant keeps while its job is worked on.
 use Rattle.std.specs.Prelude.{◌≡◌, ℕ, List, [], ◌∷◌, Some, Result, slice_index}
 use Rattle.tenant_quota.specs.Quota.{Quota}
 use Rattle.sched_rules.specs.declared.refusal.Refusal.{Refusal}

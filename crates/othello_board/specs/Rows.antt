@@ -1,4 +1,4 @@
--- Boards on which the definitions are tried.
+-- Representation: boards on which the definitions are tried.
 use Rattle.std.specs.Prelude.{List, [], ◌∷◌, ◌++◌, replicate}
 use Rattle.othello_board.specs.declared.cells.Cell.{Cell}
 use Rattle.othello_board.specs.declared.cells.Cell.TheVariants.{Empty, Own, Opp}

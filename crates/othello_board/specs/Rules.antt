@@ -1,4 +1,4 @@
--- The board and the flipping of discs, by the rules of the World Othello Federation.
+-- Meaning: the board and the flipping of discs, by the rules of the World Othello Federation.
 --
 -- A board is a list of 64 cells, seen by the mover. Squares are numbered row by row from the top left:
 -- the square in column c and row r, both counted from 0, has the index 8 * r + c. So a1 is 0, h1 is 7,

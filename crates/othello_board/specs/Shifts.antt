@@ -1,4 +1,4 @@
--- Directions as the words of bits see them.
+-- Representation: directions as the words of bits see them.
 use Rattle.std.specs.Prelude.{ℕ, ◌+◌, ◌-◌, nat_lt, Bool, true, false, if◌then◌else◌, Option, Some, None}
 use Rattle.std.specs.Int.{bit_at}
 use Rattle.othello_board.specs.declared.directions.Direction.{Direction}

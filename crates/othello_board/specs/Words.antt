@@ -1,4 +1,4 @@
--- What the two words of a board stand for.
+-- Meaning: what the two words of a board stand for.
 use Rattle.std.specs.Prelude.{ℕ, ◌^◌, List, [], ◌∷◌, map, bit_or, if◌then◌else◌, ◌==◌}
 use Rattle.std.specs.Int.{bit_at}
 use Rattle.othello_board.specs.declared.cells.Cell.{Cell}

@@ -6,13 +6,18 @@
 //! true is that the two words share no bit. What a move flips is said over the list of cells by
 //! `specs/Rules.antt`, with the rules of the World Othello Federation and no bit in sight.
 //!
+//! All squares of a word slide one step in a direction by one shift and one mask ([`Direction::slide`]).
+//! [`Board::flips`] reads the ray of a square from a table of words: the run ends at the nearest square of
+//! the ray that isn't opposing, which is one count of zeros, and what lies before it is flipped where that
+//! square is the mover's.
+//!
 //! ```text
 //! // the opening, with Black to move: d3 (square 19) flips d4 (square 27)
 //! let opening = Board::new(0x0000_0008_1000_0000, 0x0000_0010_0800_0000)?;
 //! opening.flips(19) == 1 << 27
 //! ```
 //!
-//! The example stands as a test in `leaf_search`, which has the tests of the crates that it stands on.
+//! The example stands as a test in `search_rows`.
 #![tactic(auto)]
 
 mod boards;

@@ -1,4 +1,4 @@
--- Discs counted under words of squares.
+-- Representation: discs counted under words of squares.
 use Rattle.std.specs.Prelude.{ℕ, ℤ, pos, ◌-ℤ◌, bit_and, count_ones}
 
 -- how many discs more one word has than another on these squares

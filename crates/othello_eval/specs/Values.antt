@@ -1,4 +1,4 @@
--- The two values of a board, seen by the player to move: of a finished game, and of a game that goes on.
+-- Meaning: the two values of a board, seen by the player to move: of a finished game, and of a game that goes on.
 use Rattle.std.specs.Prelude.{ℕ, ℤ, pos, negsuc, ◌+ℤ◌, ◌-ℤ◌, ◌*ℤ◌, ◌≤ℤ◌, neg_ℤ, List, [], ◌∷◌, ◌++◌, length, count_by}
 use Rattle.othello_board.specs.declared.cells.Cell.{Cell}
 use Rattle.othello_board.specs.declared.cells.Cell.TheVariants.{Empty, Own, Opp}

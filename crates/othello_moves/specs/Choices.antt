@@ -1,4 +1,4 @@
--- What a player to move may choose, and the board after each choice, by the rules of the World Othello
+-- Meaning: what a player to move may choose, and the board after each choice, by the rules of the World Othello
 -- Federation. A pass is the one choice of a side that can't move in a game that isn't over. The order of
 -- the choices is the project's: legal corners first, then the other legal squares by rising index.
 use Rattle.std.specs.Prelude.{ℕ, ◌<◌, IsTrue, not, if◌then◌else◌, List, [], ◌∷◌, ◌++◌, map, filter}

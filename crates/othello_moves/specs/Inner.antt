@@ -1,4 +1,4 @@
--- Which squares may stand inside a run.
+-- Representation: which squares may stand inside a run.
 use Rattle.std.specs.Prelude.{ℕ, ◌%◌, ◌==◌, Bool, true, not, ◌&&◌, if◌then◌else◌}
 use Rattle.othello_board.specs.declared.directions.Direction.{Direction}
 use Rattle.othello_board.specs.declared.directions.Direction.TheVariants.{North, NorthEast, East, SouthEast, South, SouthWest, West, NorthWest}

@@ -8,6 +8,10 @@
 //! choices that are left of such a list, and takes them from two words in order. Of the depth to look
 //! ahead a square uses one ply, and a pass none ([`plies`]).
 //!
+//! The word of legal squares spreads, for each direction, over opposing discs by runs of 1, 2, 4 and 6
+//! (`proofs/LeadLemmas.antt`), within the squares that may stand inside a run, so that no ray wraps around
+//! the board (`specs/Inner.antt`).
+//!
 //! ```text
 //! // the opening, with Black to move: d3, c4, f5, e6
 //! let opening = Board::new(0x0000_0008_1000_0000, 0x0000_0010_0800_0000)?;
@@ -15,7 +19,7 @@
 //! choice(opening, 0) == Choice::Square(19)
 //! ```
 //!
-//! The example stands as a test in `leaf_search`, which has the tests of the crates that it stands on.
+//! The example stands as a test in `search_rows`.
 #![tactic(auto)]
 
 mod choices;

@@ -1,4 +1,4 @@
--- Which frames a worker's step makes ready, and that they are its tasks.
+-- Meaning: which frames a worker's step makes ready, and that they are its tasks.
 use Rattle.std.specs.Prelude.{◌≡◌, ℕ, [], Option, Some, None, Ok, IfOk, ◌⊎◌}
 use Rattle.frame_table.specs.Frames.{frame_at, IsReadyAt}
 use Rattle.sched_rules.specs.declared.step.StepOf.{StepOf}

@@ -1,4 +1,4 @@
--- Two frames, and four tasks, on which the definitions are tried.
+-- Representation: two frames, and four tasks, on which the definitions are tried.
 use Rattle.std.specs.Prelude.{ℕ, List, [], ◌∷◌}
 use Rattle.frame_table.specs.declared.names.FrameId.{FrameId}
 use Rattle.pool_rules.specs.declared.task.Task.{Task}

@@ -1,4 +1,4 @@
--- What contracts see of a list of tasks.
+-- Representation: what contracts see of a list of tasks, with which the deques are compared.
 use Rattle.std.specs.Prelude.{ℕ, ◌+◌, Bool, true, false, ◌==◌, List, [], ◌∷◌, ◌++◌, Option, Some, None, unwrap_or, remove}
 use Rattle.pool_rules.specs.declared.task.Task.{Task}
 

@@ -1,4 +1,4 @@
--- The turn of a worker: the table of what it offers, and of what it holds after each answer.
+-- Meaning: the turn of a worker: the table of what it offers, and of what it holds after each answer.
 -- (Cilk 5.4 Reference Manual: work stealing, inlets.)
 use Rattle.std.specs.Prelude.{ℕ, Bool, true, false, ◌==◌, Option, Some, None, Result, Ok, Err, if◌then◌else◌}
 use Rattle.frame_table.specs.declared.names.FrameId.{FrameId}

@@ -1,4 +1,4 @@
-//! What a worker of a pool does next, and the tasks that workers share: values alone, no thread.
+//! What a worker of a pool does next, as values: no thread, no deque, no hall.
 //!
 //! A worker of a pool has a frame or is without one. What it holds is a [`Holding`]; from that follows
 //! the step that it offers to the hall, and from the hall's answer what it holds next and whether its
@@ -11,7 +11,8 @@
 //! the table to what steps do: each frame that a worker's step makes ready is the task of its turn, so
 //! that no ready frame is forgotten.
 //!
-//! A [`TaskList`] stands for the tasks in the order in which they were pushed, the room that it took
+//! A [`TaskList`] is one plain list of tasks, with which the tests compare the deques of `task_deques`; a pool
+//! has none. It stands for the tasks in the order in which they were pushed, the room that it took
 //! at its start, and how many tasks were pushed and taken (`specs/Tasks.antt`). Its invariant is that
 //! what was pushed is what was taken and what is there. A worker takes its own newest task, else the
 //! oldest. A [`Computations`] counts the computations of a pool. [`rows`] computes worked examples.

@@ -1,4 +1,4 @@
--- The numbers of the faults of a text.
+-- Meaning: the numbers of the faults of a text.
 use Rattle.std.specs.Prelude.{ℕ}
 use Rattle.position_text.specs.declared.faults.TextFault.{TextFault}
 use Rattle.position_text.specs.declared.faults.TextFault.TheVariants.{Length, BadCell, BadSide}

@@ -1,4 +1,4 @@
--- Positions and texts on which the definitions are tried.
+-- Representation: positions and texts on which the definitions are tried.
 use Rattle.std.specs.Prelude.{ℕ, ◌+◌, ◌^◌, List, codes, refl}
 use Rattle.position_text.specs.declared.positions.Side.TheVariants.{Black, White}
 use Rattle.position_text.specs.declared.positions.Position.{Position}

@@ -1,4 +1,4 @@
--- The text of a position: the 64 cells from a1 to h8, row by row, a space, and the side to move.
+-- Meaning: the text of a position: the 64 cells from a1 to h8, row by row, a space, and the side to move.
 use Rattle.std.specs.Prelude.{◌≡◌, ◌≢◌, ℕ, ◌<◌, ◌^◌, ◌⊎◌, ◌==◌, ◌||◌, if◌then◌else◌, Option, Some, None, IsSome, List, [], ◌∷◌, ◌++◌, map, length, slice_index}
 use Rattle.std.specs.Option.{option_and_then}
 use Rattle.std.specs.Str.{byte}

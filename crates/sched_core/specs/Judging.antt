@@ -1,4 +1,4 @@
--- What a step is to answer and to leave.
+-- Representation: what a step is to answer and to leave.
 use Rattle.std.specs.Prelude.{◌≡◌, ℕ, Bool, ◌⊎◌, None, Result, Err}
 use Rattle.sched_rules.specs.declared.refusal.Refusal.{Refusal}
 use Rattle.sched_rules.specs.declared.refusal.Refusal.TheVariants.{OutOfMemory}

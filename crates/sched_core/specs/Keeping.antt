@@ -1,4 +1,4 @@
--- What a core keeps true.
+-- Representation: what a core keeps true.
 use Rattle.std.specs.Prelude.{◌≡◌, ℕ, ◌+◌, ◌*◌, Bool, true, List, Option, Some, None}
 use Rattle.tenant_quota.specs.declared.account.Left.{Left}
 use Rattle.frame_table.specs.declared.names.FrameId.{FrameId}

@@ -1,4 +1,4 @@
--- What a run keeps of a procedure's frames: that every frame fits, and that each job holds what it was asked.
+-- Meaning: what a run keeps of a procedure's frames: that every frame fits, and that each job holds what it was asked.
 use Rattle.std.specs.Prelude.{◌≡◌, ℕ, ◌<◌, true, ◌&&◌, ◌==◌, List, [], ◌∷◌, ◌++◌, Some, Result, if◌then◌else◌, is_ok}
 use Rattle.cactus_stack.specs.Nodes.{padded}
 use Rattle.sched_rules.specs.declared.job.Job.{Job}

@@ -1,4 +1,4 @@
--- The shape of a tenant, which every step keeps: its tree, its jobs, and what it used of what it reserved.
+-- Representation: the shape of a tenant, which every step keeps: its tree, its jobs, and what it used of what it reserved.
 use Rattle.std.specs.Prelude.{◌≡◌, ℕ, ◌+◌, ◌*◌, ◌≤◌, ◌⊎◌, true, false, List, [], ◌∷◌, length, filter}
 use Rattle.frame_table.specs.Frames.{Frame, path_in, AllBelow, IsTree}
 use Rattle.tenant_quota.specs.Accounts.{reserved_segments, reserved_nodes}

@@ -1,4 +1,4 @@
--- When a job may be given up, in terms of what its frame's steps would be refused.
+-- Representation: when a job may be given up, in terms of what its frame's steps would be refused.
 use Rattle.std.specs.Prelude.{◌≡◌, ℕ, ◌⊎◌, Some}
 use Rattle.frame_table.specs.declared.names.FrameId.{FrameId}
 use Rattle.sched_rules.specs.declared.refusal.Refusal.{Refusal}

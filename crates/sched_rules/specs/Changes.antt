@@ -1,4 +1,4 @@
--- One tenant of a core changed, and all others as they were.
+-- Representation: one tenant of a core changed, and all others as they were.
 use Rattle.std.specs.Prelude.{ℕ, ◌==◌, List, [], ◌∷◌, ◌++◌, if◌then◌else◌}
 use Rattle.tenant_quota.specs.Quota.{Quota}
 use Rattle.frame_table.specs.Frames.{aborted, frames_without}

@@ -1,4 +1,4 @@
--- A core of several tenants: an admission among them, a worker that is busy elsewhere, and what each step is answered.
+-- Meaning: a core of several tenants: an admission among them, a worker that is busy elsewhere, and what each step is answered.
 use Rattle.std.specs.Prelude.{ℕ, ◌+◌, ◌^◌, Bool, false, not, ◌||◌, ◌&&◌, ◌==◌, nat_lt, nat_le, List, [], ◌∷◌, Option, Some, None, Result, Ok, Err, if◌then◌else◌, length, IsTrue}
 use Rattle.tenant_quota.specs.Quota.{Quota}
 use Rattle.tenant_quota.specs.Accounts.{reserved_segments, reserved_nodes}

@@ -1,4 +1,4 @@
--- What a procedure is to the core: five functions of the words shown and of the values passed.
+-- Meaning: what a procedure is to the core: five functions of the words shown and of the values passed.
 -- (Cilk 5.4 Reference Manual: procedures, inlets.)
 use Rattle.std.specs.Prelude.{ℕ, Bool, List}
 use Rattle.sched_rules.specs.declared.act.Act.{Act}

@@ -1,4 +1,4 @@
--- What holds of any list of steps by any workers for any tenants: each tenant is what its own steps give, and a step is refused
+-- Meaning: what holds of any list of steps by any workers for any tenants: each tenant is what its own steps give, and a step is refused
 -- only for its own tenant's state or a busy worker.
 use Rattle.std.specs.Prelude.{◌≡◌, ℕ, ◌≤◌, ◌⊎◌, Bool, true, false, ◌==◌, List, [], ◌∷◌, Some, None, Result, Ok, Err, if◌then◌else◌, is_ok}
 use Rattle.sched_rules.specs.declared.refusal.Refusal.{Refusal}

@@ -1,4 +1,4 @@
--- What every lawful procedure keeps: that frames fit.
+-- Meaning: what every lawful procedure keeps: that frames fit.
 use Rattle.std.specs.Prelude.{◌≡◌, ℕ, Bool, true, false, nat_lt, List, [], ◌∷◌, ◌++◌, if◌then◌else◌, length, replicate}
 use Rattle.cactus_stack.specs.Nodes.{padded}
 use Rattle.frame_table.specs.declared.names.State.{State}

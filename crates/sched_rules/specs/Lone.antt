@@ -1,4 +1,4 @@
--- One step of one tenant that has the core to itself: the refusals in their order, and else what the step does.
+-- Meaning: one step of one tenant that has the core to itself: the refusals in their order, and else what the step does.
 -- (Cilk 5.4 Reference Manual: spawn, sync, inlet, abort, work stealing.)
 use Rattle.std.specs.Prelude.{ℕ, ◌+◌, Bool, true, false, not, ◌||◌, ◌&&◌, ◌==◌, nat_lt, nat_le, List, [], ◌∷◌, ◌++◌, Option, Some, None, Result, Ok, Err, if◌then◌else◌, length, replicate, IsTrue}
 use Rattle.tenant_quota.specs.Quota.{Quota}

@@ -1,4 +1,4 @@
--- The numbers of the refusals.
+-- Meaning: the numbers of the refusals.
 use Rattle.std.specs.Prelude.{ℕ}
 use Rattle.sched_rules.specs.declared.refusal.Refusal.{Refusal}
 use Rattle.sched_rules.specs.declared.refusal.Refusal.TheVariants.{NoTenant, NoFrame, NotReady, NotHere, Busy, NotRunning, NotComputing, Mismatch, NotReturned, NoSegments, NoNodes, NoSteps, NoJobsLeft, Full, BadAct, NotSpent, NoJob, OldTenant, OutOfMemory, Lower}

@@ -1,4 +1,4 @@
--- Lists of steps: those of one tenant, and what they come to for a tenant that has the core to itself.
+-- Meaning: lists of steps: those of one tenant, and what they come to for a tenant that has the core to itself.
 use Rattle.std.specs.Prelude.{ℕ, ◌==◌, List, [], ◌∷◌, Option, None, Result, Ok, Err, filter}
 use Rattle.sched_rules.specs.declared.refusal.Refusal.{Refusal}
 use Rattle.sched_rules.specs.declared.step.StepOf.{StepOf}

@@ -1,4 +1,4 @@
--- The limits of a core.
+-- Meaning: the limits of a core.
 use Rattle.std.specs.Prelude.{◌≤◌}
 use Rattle.tenant_quota.specs.Quota.{Quota}
 

@@ -1,4 +1,4 @@
--- The tree of one tenant: what it reserved, the serials that it was given, the steps that it took, its jobs and its frames.
+-- Meaning: the tree of one tenant: what it reserved, the serials that it was given, the steps that it took, its jobs and its frames.
 -- (Cilk 5.4 Reference Manual: cactus stack, abort.)
 use Rattle.std.specs.Prelude.{ℕ, ◌+◌, ◌-◌, Bool, false, ◌||◌, ◌==◌, nat_lt, nat_le, List, [], ◌∷◌, Option, Some, None, if◌then◌else◌, map, reverse, length, sum_by, slice_set, take}
 use Rattle.cactus_stack.specs.Nodes.{charge}

@@ -1,4 +1,4 @@
--- What the calls that only read a core answer.
+-- Meaning: what the calls that only read a core answer.
 use Rattle.std.specs.Prelude.{ℕ, ◌+◌, ◌-◌, List, [], ◌∷◌, Option, option_map, option_and_then, length, sum_by}
 use Rattle.tenant_quota.specs.declared.account.Left.{Left}
 use Rattle.frame_table.specs.declared.names.State.{State}

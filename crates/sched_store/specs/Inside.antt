@@ -1,4 +1,4 @@
--- The parts of a store.
+-- Representation: the parts of a store.
 use Rattle.sched_store.specs.declared.store.Store.TheInside.{Inside}
 use Rattle.sched_store.specs.Parts.{Parts}
 

@@ -1,4 +1,4 @@
--- The jobs of each tenant: a list of tenants, each with its jobs, in the order of their numbers.
+-- Representation: the jobs of each tenant: a list of tenants, each with its jobs, in the order of their numbers.
 use Rattle.std.specs.Prelude.{◌≡◌, ℕ, ◌<◌, Bool, true, false, ◌||◌, ◌==◌, List, [], ◌∷◌, if◌then◌else◌, nat_lt, suc}
 use Rattle.sched_rules.specs.declared.job.Job.{Job}
 use Rattle.sched_rules.specs.declared.job.Job.TheVariants.{Live, Done, Spent, Cancelled}

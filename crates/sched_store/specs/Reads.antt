@@ -1,4 +1,4 @@
--- What a store tells of its core, beside the views of a core.
+-- Representation: what a store tells of its core, beside the views of a core.
 use Rattle.std.specs.Prelude.{◌≡◌, ℕ, ◌+◌, ◌≤◌, Bool, true, false, not, ◌||◌, List, [], ◌∷◌, Option, Some, None, IsSomeAnd}
 use Rattle.tenant_quota.specs.Quota.{Quota}
 use Rattle.frame_table.specs.declared.names.FrameId.{FrameId}

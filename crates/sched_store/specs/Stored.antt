@@ -1,4 +1,4 @@
--- What a store keeps true of its parts.
+-- Representation: what a store keeps true of its parts.
 use Rattle.std.specs.Prelude.{◌≡◌, ℕ, ◌+◌, ◌^◌, ◌≤◌, true, List, [], ◌∷◌, length, Option, Some, None, slice_index_or}
 use Rattle.cactus_stack.specs.Nodes.{Nodes, IsOpen, node_words, node_parent, total_charge}
 use Rattle.tenant_quota.specs.Accounts.{account_of, charged_segments}

@@ -1,4 +1,4 @@
--- Worked examples of Chain, as lists of steps.
+-- Representation: worked examples of Chain, as lists of steps.
 use Rattle.std.specs.Prelude.{ℕ, List, [], ◌∷◌}
 use Rattle.sched_rules.specs.declared.step.StepOf.{StepOf}
 use Rattle.sched_rules.specs.declared.step.StepOf.TheVariants.{Admit, Submit, Take, Steal, Advance, Inlet, Finish}

@@ -1,4 +1,4 @@
--- Worked examples of Fan, as lists of steps.
+-- Representation: worked examples of Fan, as lists of steps.
 use Rattle.std.specs.Prelude.{ℕ, List, [], ◌∷◌, ◌++◌, Result, Ok, Err}
 use Rattle.tenant_quota.specs.Quota.{Quota}
 use Rattle.tenant_quota.specs.declared.account.Left.{Left}

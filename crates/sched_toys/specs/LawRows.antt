@@ -1,4 +1,4 @@
--- Small tenants, jobs and procedures on which the laws are tried.
+-- Representation: small tenants, jobs and procedures on which the laws are tried.
 use Rattle.std.specs.Prelude.{◌≡◌, List, [], ◌∷◌}
 use Rattle.frame_table.specs.declared.names.State.{State}
 use Rattle.frame_table.specs.declared.names.State.TheVariants.{Ready, Returned}

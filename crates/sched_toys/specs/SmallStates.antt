@@ -1,4 +1,4 @@
--- Small states and procedures for the refusals, one by one and in their order.
+-- Representation: small states and procedures for the refusals, one by one and in their order.
 use Rattle.std.specs.Prelude.{ℕ, ◌==◌, Bool, false, List, [], ◌∷◌, Option, Some, Result, replicate}
 use Rattle.frame_table.specs.declared.names.State.{State}
 use Rattle.frame_table.specs.declared.names.State.TheVariants.{Ready, Running, Waiting, Returned}

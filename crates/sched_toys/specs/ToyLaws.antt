@@ -1,4 +1,4 @@
--- The laws of a procedure whose frames always fit.
+-- Representation: the laws of a procedure whose frames always fit.
 use Rattle.std.specs.Prelude.{◌≡◌, ℕ, true, ◌==◌, List, [], ◌∷◌}
 use Rattle.std.proofs.lemmas.Bool.{eqb-true}
 use Rattle.sched_rules.specs.declared.act.Then.{Then}

@@ -1,4 +1,4 @@
--- Two toy procedures, whose every step can be followed by hand.
+-- Representation: three toy procedures, whose every step can be followed by hand.
 use Rattle.std.specs.Prelude.{ℕ, ◌+◌, ◌-◌, ◌%◌, ◌^◌, true, false, ◌&&◌, ◌==◌, List, [], ◌∷◌, if◌then◌else◌, slice_get, unwrap_or}
 use Rattle.sched_rules.specs.declared.act.Act.{Act}
 use Rattle.sched_rules.specs.declared.act.InletAct.{InletAct}

@@ -1,8 +1,11 @@
 //! Three toy procedures whose every step can be followed by hand, and the definitions of scheduling tried on them.
 //!
-//! [`Fan`] opens children of two kinds, takes the first result and aborts the others; [`Chain`] opens
-//! one child with a count of one less and waits for it; [`Spin`] goes on for ever. Each is a table
-//! (`specs/Toys.antt`), and all frames of all three always fit (`specs/ToyLaws.antt`). [`rows`],
+//! [`Fan`] opens children of two kinds, takes the first result and aborts the others: word 0 of its
+//! frames is a kind, word 1 a count, and a line of its table for a kind and a count stores the next
+//! count and opens a child, waits or computes; at any other it returns. [`Chain`] opens one child with
+//! a count of one less, waits for it and stores its count in word 2; at count 0 a frame returns.
+//! [`Spin`] goes on for ever. Each is a table (`specs/Toys.antt`), and all frames of all three always fit
+//! (`specs/ToyLaws.antt`). [`rows`],
 //! [`effect_rows`], [`refusal_rows`] and [`law_rows`] are worked examples of the definitions in
 //! `sched_rules` and `sched_laws`: each contract there is computed from the definitions alone, so that
 //! a wrong definition can't pass.

@@ -1,4 +1,4 @@
--- How a region keeps its entries: a block for each number, whose link words chain the free ones.
+-- Representation: how a region keeps its entries: a block for each number, whose link words chain the free ones.
 use Rattle.std.specs.Prelude.{◌≡◌, ℕ, zero, suc, ◌+◌, ◌<◌, ◌≤◌, Bool, true, false, if◌then◌else◌, List, [], ◌∷◌, length, Option, Some, None, slice_index_or}
 use Rattle.segment_region.specs.Segments.{Segment, Segments, taken_count}
 use Rattle.segment_region.specs.declared.block.Link.{Link}

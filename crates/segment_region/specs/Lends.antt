@@ -1,4 +1,4 @@
--- What the places end as, once one of them was lent.
+-- Representation: what the places end as, once one of them was lent.
 use Rattle.std.specs.Prelude.{ℕ, slice_set, Some}
 use Rattle.std.specs.Borrow.{Fml, RattleType, MutBor, Lends}
 use Rattle.segment_region.specs.declared.cells.Cells.{Cells}

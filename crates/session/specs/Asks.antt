@@ -1,4 +1,4 @@
--- An office that keeps what its tenant asked for, and shows the values of just that.
+-- Meaning: an office that keeps what its tenant asked for, and shows the values of just that.
 use Rattle.std.specs.Prelude.{◌≡◌, ℕ, ◌+◌, ◌-◌, ◌==◌, List, [], ◌∷◌, ◌++◌, length, Option, Some, None, if◌then◌else◌, Contains}
 use Rattle.othello_board.specs.declared.cells.Cell.{Cell}
 use Rattle.othello_eval.specs.Minimax.{minimax, best_choice}

@@ -1,4 +1,4 @@
--- What a session asks of its office, and what the office replies.
+-- Meaning: what a session asks of its office, and what the office replies.
 use Rattle.std.specs.Prelude.{ℕ, List, Result, Ok, Err}
 use Rattle.othello_board.specs.declared.cells.Cell.{Cell}
 use Rattle.position_text.specs.declared.positions.Side.{Side}

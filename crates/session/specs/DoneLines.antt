@@ -1,4 +1,4 @@
--- What the DONE lines of a session are worth, said of its lines and of their answers alone.
+-- Meaning: what the DONE lines of a session are worth, said of its lines and of their answers alone.
 use Rattle.std.specs.Prelude.{◌≡◌, ℕ, ◌+◌, List, [], ◌∷◌, length, true, false, if◌then◌else◌, nat_eq, codes, Some, Result}
 use Rattle.std.specs.List.{starts_with}
 use Rattle.line_io.specs.Lines.{LineText}

@@ -1,4 +1,4 @@
--- The words of a line: a command, and its arguments.
+-- Meaning: the words of a line: a command, and its arguments.
 use Rattle.std.specs.Prelude.{ℕ, List, Option, Some, None, Bool, ◌&&◌, false, if◌then◌else◌, codes}
 use Rattle.std.specs.Option.{is_none}
 use Rattle.std.specs.Str.{bytes_eq}

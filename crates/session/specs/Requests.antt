@@ -1,4 +1,4 @@
--- What a line asks for, or its first fault: 22 where it is too long, 21 where its word is unknown or has another number of
+-- Meaning: what a line asks for, or its first fault: 22 where it is too long, 21 where its word is unknown or has another number of
 -- arguments, 28 before HELLO, 29 for HELLO again, 23 where a number is none or those of HELLO and RESERVE are outside the limits, 27 where the
 -- depth is over 12, then 24 for the length of a position's text, 25 for a cell and 26 for the side.
 use Rattle.std.specs.Prelude.{ℕ, List, length, map, Bool, true, false, Option, Some, None, ◌==◌, ◌&&◌, nat_le, if◌then◌else◌}

@@ -1,4 +1,4 @@
--- A board on which the definitions are tried.
+-- Representation: a board on which the definitions are tried.
 use Rattle.std.specs.Prelude.{◌++◌, replicate, ◌∷◌, List}
 use Rattle.othello_board.specs.declared.cells.Cell.{Cell}
 use Rattle.othello_board.specs.declared.cells.Cell.TheVariants.{Empty, Own, Opp}

@@ -1,4 +1,4 @@
--- A whole session: what was read, the calls of the office, and what was written.
+-- Meaning: a whole session: what was read, the calls of the office, and what was written.
 use Rattle.std.specs.Prelude.{◌≡◌, ℕ, List, ◌++◌, map, Bool, true, false, Result, Ok, Err}
 use Rattle.std.specs.List.{concat}
 use Rattle.line_io.specs.declared.faults.LineFault.{LineFault}

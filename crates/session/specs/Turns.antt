@@ -1,4 +1,4 @@
--- What comes of the lines of a session, one after another: calls of the office and texts, as functions of the lines and of the
+-- Meaning: what comes of the lines of a session, one after another: calls of the office and texts, as functions of the lines and of the
 -- office's replies.
 use Rattle.std.specs.Prelude.{ℕ, List, [], ◌∷◌, ◌++◌, Bool, true, false, codes, decimal}
 use Rattle.line_io.specs.Lines.{LineText}

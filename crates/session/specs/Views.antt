@@ -1,4 +1,4 @@
--- What contracts see of the types of the code.
+-- Representation: the types of the code as data.
 use Rattle.othello_board.specs.Words.{cells}
 use Rattle.session.specs.declared.forms.Form.{Form as Formed}
 use Rattle.session.specs.declared.forms.Form.TheVariants.{Hello as hello, Reserve as reserve, Ask as ask, Get as get, Wait as wait, Cancel as cancel, Quota as quota, Live as live, Bye as bye}

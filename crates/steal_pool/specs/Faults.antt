@@ -1,4 +1,4 @@
--- The numbers of a pool's faults.
+-- Meaning: the numbers of a pool's faults.
 use Rattle.std.specs.Prelude.{ℕ}
 use Rattle.steal_pool.specs.declared.pool.PoolFault.{PoolFault}
 use Rattle.steal_pool.specs.declared.pool.PoolFault.TheVariants.{OutOfMemory, NoThread}

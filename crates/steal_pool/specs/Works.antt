@@ -1,4 +1,4 @@
--- What one act of a worker comes to: its turn is the table's, its badge counts the steps that were taken, and the turn's task is pushed.
+-- Meaning: what one act of a worker comes to: its turn is the table's, its badge counts the steps that were taken, and the turn's task is pushed.
 use Rattle.std.specs.Prelude.{◌≡◌, ◌⊎◌, ℕ, ◌+◌, Option, Some, None, Result, Ok, Err}
 use Rattle.frame_table.specs.declared.names.FrameId.{FrameId}
 use Rattle.sched_rules.specs.declared.refusal.Refusal.{Refusal}

@@ -1,4 +1,4 @@
--- What contracts see of the ends of workers: the seats that each has, and when all seats of all deques are there.
+-- Meaning: what contracts see of the ends of workers: the seats that each has, and when all seats of all deques are there.
 use Rattle.std.specs.Prelude.{◌≡◌, ℕ, ◌+◌, ◌-◌, ◌⊎◌, List, [], ◌∷◌, ◌++◌, length, map, All}
 use Rattle.pool_rules.specs.declared.task.Task.{Task}
 use Rattle.task_deques.specs.declared.owner.Owner.{Owner}

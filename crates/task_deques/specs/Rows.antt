@@ -1,4 +1,4 @@
--- Two workers' seats, on which the definitions are tried.
+-- Representation: two workers' seats, on which the definitions are tried.
 use Rattle.std.specs.Prelude.{ℕ, List, [], ◌∷◌}
 use Rattle.pool_rules.specs.declared.task.Task.{Task}
 use Rattle.task_deques.specs.Tallies.{tally}

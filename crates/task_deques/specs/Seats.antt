@@ -1,4 +1,4 @@
--- What contracts see of a deque's owner and of a thief: which deque it is, and the tally of the seat.
+-- Meaning: what contracts see of a deque's owner and of a thief: which deque it is, and the tally of the seat.
 use Rattle.std.specs.Prelude.{ℕ, ◌+◌, ◌-◌, [], ◌∷◌, ◌++◌}
 use Rattle.std.specs.declared.alloc.Global.{Global}
 use Rattle.atomic_blocks.specs.Lent.{RowsId}

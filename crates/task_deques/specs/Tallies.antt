@@ -1,4 +1,4 @@
--- What the seats of a deque know of it, and its rule.
+-- Meaning: what the seats of a deque know of it, and its rule.
 use Rattle.std.specs.Prelude.{◌≡◌, ℕ, ◌+◌, List, [], ◌∷◌}
 use mathlib.Core.Option.{some}
 use lib.ListN.{get_elem?}

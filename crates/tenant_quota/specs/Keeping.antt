@@ -1,4 +1,4 @@
--- What a book's fields stand for, and what they keep.
+-- Representation: what a book's fields stand for, and what they keep.
 use Rattle.std.specs.Prelude.{◌≡◌, ◌≤◌}
 use Rattle.std.specs.Vec.{vec_capacity}
 use Rattle.tenant_quota.specs.Accounts.{reserved_segments, reserved_nodes}

@@ -1,4 +1,4 @@
--- An amount of segments and nodes, and the limits of what one tenant may reserve.
+-- Meaning: an amount of segments and nodes, and the limits of what one tenant may reserve.
 use Rattle.std.specs.Prelude.{◌≡◌, ℕ, ◌<◌, ◌≤◌, ◌⊎◌}
 
 -- so many segments and so many nodes

@@ -1,4 +1,4 @@
--- What a book holds: the totals, and the account of each tenant that is there.
+-- Meaning: what a book holds: the totals, and the account of each tenant that is there.
 use Rattle.std.specs.Prelude.{◌≡◌, ◌≢◌, ℕ, ◌+◌, ◌-◌, ◌<◌, ◌≤◌, ◌⊎◌, List, [], length, Option, Some, None, IsSomeAnd, option_map}
 use Rattle.tenant_quota.specs.Quota.{Quota, IsAbove, IsNotAbove}
 use Rattle.tenant_quota.specs.declared.account.Account.{Account}

@@ -1,4 +1,4 @@
--- The states of a worked example: a book of 8 segments and 32 nodes.
+-- Representation: the states of a worked example: a book of 8 segments and 32 nodes.
 use Rattle.std.specs.Prelude.{ℕ}
 use Rattle.tenant_quota.specs.Quota.{Quota}
 use Rattle.tenant_quota.specs.declared.account.Left.{Left}

@@ -12,7 +12,8 @@
 //! segment that a tenant has left is there whatever others do, and each call leaves the accounts of
 //! all other tenants as they were. A reservation may be raised as far as the totals allow; what its
 //! tenant used stays used. Only [`Book::new`] takes memory. Where a tenant's account stands is
-//! guessed and looked at, and searched for only where the guess is wrong.
+//! guessed, by one of 256 bytes at the remainder of its number, and looked at; where another's account
+//! stands there it is searched for by halves.
 //!
 //! ```text
 //! let mut book = Book::new(alloc, 8, 32)?;
