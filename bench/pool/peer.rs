@@ -6,9 +6,9 @@
 //! positions a serial search of the same jobs enters; pool_peer WORKERS GRAIN DEPTH timed, which times each call of
 //! `lock` too, and prints last how much of the workers' time went to them, in 100; pool_peer WORKERS GRAIN DEPTH sparing,
 //! whose workers wake another at a frame that became ready only where one sleeps, as the proved ones do; pool_peer WORKERS
-//! GRAIN DEPTH hold STEPS, whose workers, sparing too, keep the core's lock over the steps that follow each other at once
-//! (the next step of their frame, or else of their newest task), at most so many; or pool_peer positions, which prints the
-//! positions
+//! GRAIN DEPTH hold STEPS [LOOKS PAUSES], whose workers, sparing too, keep the core's lock over the steps that follow each
+//! other at once (the next step of their frame, or else of their newest task), at most so many, and look at a lock that is
+//! taken so many times, so many pauses apart, before they sleep; or pool_peer positions, which prints the positions
 mod plain;
 #[path = "../search/vectors.rs"]
 mod vectors;
@@ -30,6 +30,8 @@ struct Pool {
     timed: bool,
     sparing: bool,
     held_steps: usize,
+    looks: u32,
+    pauses: u32,
     sleepers: AtomicUsize,
 }
 
@@ -76,6 +78,12 @@ enum Deed {
 impl Pool {
     fn lock<'a, T>(&self, mutex: &'a Mutex<T>) -> MutexGuard<'a, T> {
         if !self.timed {
+            for _ in 0..self.looks {
+                if let Ok(guard) = mutex.try_lock() {
+                    return guard;
+                }
+                (0..self.pauses).for_each(|_| std::hint::spin_loop());
+            }
             return mutex.lock().unwrap();
         }
         let start = Instant::now();
@@ -295,6 +303,8 @@ fn main() {
         timed: words.get(4).is_some_and(|word| word == "timed"),
         sparing: words.get(4).is_some_and(|word| word == "sparing"),
         held_steps: words.get(5).map_or(1, |word| word.parse().unwrap()),
+        looks: words.get(6).map_or(0, |word| word.parse().unwrap()),
+        pauses: words.get(7).map_or(0, |word| word.parse().unwrap()),
         sleepers: AtomicUsize::new(0),
     };
     let spent = AtomicUsize::new(0);
