@@ -5,3 +5,4 @@ pub mod MinimaxLemmas
 pub mod BestLemmas
 pub mod PlainLemmas
 pub mod MaskLemmas
+pub mod TableLemmas

@@ -1,4 +1,5 @@
 pub mod Values
 pub mod Minimax
+pub mod Tables
 pub mod Rows
 pub mod Masks

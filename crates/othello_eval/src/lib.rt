@@ -7,7 +7,8 @@
 //! lies within -1,184 and 1,184, so that one disc in a finished game outranks it; every value lies
 //! within -128,000 and 128,000. `minimax` and `best_choice` of `specs/Minimax.antt` are plain
 //! recursions over these and the choices of a board; [`plain`] computes both as they are written.
-//! Boards are values, and nothing here keeps a state.
+//! Boards are values, and nothing here keeps a state. A [`Bound`] is what is known of one choice at a
+//! root, and `IsTable` of `specs/Tables.antt` says which lists of them are tables of a board.
 //!
 //! ```text
 //! // the opening, with Black to move, one ply deep: d3 is the first of four equal moves
@@ -17,10 +18,12 @@
 //! The example stands as a test in `search_rows`, which has the tests of the crates that it stands on.
 #![tactic(auto)]
 
+mod bound;
 pub mod laws;
 mod recursion;
 pub mod rows;
 mod values;
 
+pub use bound::{Bound, BoundKind};
 pub use recursion::{Valued, plain};
 pub use values::{eval, eval_by_mobility, final_value};

@@ -1,0 +1,14 @@
+-- Which entry is the best choice's, by its number.
+use Rattle.std.proofs.Common.{◌≡◌, ◌≢◌, ℕ, Option, Some, None, ap, sym, ◌∙◌}
+use Rattle.othello_moves.specs.declared.choices.Choice.{Choice}
+use Rattle.othello_moves.specs.declared.choices.Choice.TheVariants.{Square, Pass}
+
+number : Option Choice → ℕ
+number None = 65
+number (Some (Square s)) = s
+number (Some Pass) = 64
+
+-- a best choice on one square isn't the choice of another
+pub apart : (best : Option Choice) (s t : ℕ) → best ≡ Some (Square s) → s ≢ t → best ≡ Some (Square t) → ⊥
+unfolding number
+apart best s t is other e = other (ap number (sym is ∙ e))
