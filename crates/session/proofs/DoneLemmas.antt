@@ -64,7 +64,7 @@ no_early_table (Some ByeForm) job h = cc h
 
 table_same : (seated : Bool) (line : LineText) (asks : List Asked) (job : ℕ) → request seated line ≡ Tabulates job → asks ≡ with_request asks (request true line)
 table_same true line asks job h = ap (with_request asks) (sym h)
-table_same false TooLong asks job h = cc h
+table_same false TooLong asks job h = refl
 table_same false (Whole bytes) asks job h = absurd (no_early_table (form_of bytes) job h)
 
 still_empty : (seated : Bool) (line : LineText) (asks : List Asked) (call : Call) → request seated line ≡ Makes call → EmptyWithout seated asks → EmptyWithout seated (with_ask asks call)

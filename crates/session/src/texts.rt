@@ -30,7 +30,7 @@ fn write_word(text: &mut Text, word: &[u8])
 fn write_numbered(text: &mut Text, word: &[u8], number: u64)
     requires { length word.now ≤ 10 }
     ensures text { text.new.items ≡ word.now ++ decimal number }
-    ensures short { length text.new.items ≤ 30 }
+    ensures short { length text.new.items ≤ length word.now + 20 }
 {
     write_word(text, word);
     push_number(text, number);
