@@ -7,7 +7,7 @@ use Rattle.session.specs.declared.outcome.Outcome.TheVariants.{Pending, Done, Sp
 use Rattle.session.specs.Calls.{Call, Hello, Get, Reply, Welcome, Reserved, Job, Told, Ended, Rest, Alive, Gone, Refused}
 use Rattle.session.specs.Forms.{Form, HelloOf, ReserveOf, AskOf, GetOf, WaitOf, CancelOf, TableOf, QuotaForm, LiveForm, ByeForm, form_of}
 use Rattle.session.specs.Requests.{Request, Fault, Makes, Tabulates, Ends, request, form_request, quota_of, quota_request}
-use Rattle.session.specs.Turns.{Faulted, Tabulated, Closed, turns, turn_text, reply_text, table_text, calls_in, leaving, next_reply, later_replies, seated_after}
+use Rattle.session.specs.Turns.{Faulted, Closed, turns, turn_text, reply_text, table_text, calls_in, leaving, next_reply, later_replies, seated_after}
 use Rattle.session.specs.Sessions.{calls_for}
 use Rattle.session.specs.Asks.{Asked, asked_at, with_ask, asks_after, SaysTrue, ShowsFound, AllTrue}
 use Rattle.session.proofs.Served.{next_turns}

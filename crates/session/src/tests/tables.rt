@@ -119,10 +119,7 @@ fn other_jobs_have_no_table(rt: HostRuntime) {
             Outcome::Pending,
             b"WELCOME 4 8\nJOB 1\nPENDING 1\nPENDING 1\n".as_slice(),
         ),
-        (
-            Outcome::Spent,
-            b"WELCOME 4 8\nJOB 1\nSPENT 1\nSPENT 1\n",
-        ),
+        (Outcome::Spent, b"WELCOME 4 8\nJOB 1\nSPENT 1\nSPENT 1\n"),
         (
             Outcome::Cancelled,
             b"WELCOME 4 8\nJOB 1\nCANCELLED 1\nCANCELLED 1\n",
