@@ -7,7 +7,8 @@ use Rattle.std.proofs.lemmas.List.{length-map}
 use Rattle.othello_board.specs.Words.{cells, cells_of}
 use Rattle.othello_eval.specs.Minimax.{minimax, best_choice}
 use Rattle.desk.specs.jamboree.declared.reply.Reply.{Reply}
-use Rattle.desk.specs.jamboree.Replies.{board_of, depth_of}
+use Rattle.othello_eval.specs.Tables.{IsTable}
+use Rattle.desk.specs.jamboree.Replies.{board_of, depth_of, table_of}
 use Rattle.desk.specs.jamboree_core.declared.outcomes.Outcome.{Outcome}
 use Rattle.desk.specs.jamboree_core.declared.outcomes.Outcome.TheVariants.{Pending, Done, Spent, Cancelled}
 use Rattle.sched_rules.specs.declared.refusal.Refusal.{Refusal}
@@ -30,7 +31,7 @@ asked_at-map (a ∷ more) job =
 
 -- what a reply is told as
 abbrev finding_of : Reply → Finding
-finding_of reply = record { value = minimax (depth_of reply) (cells (board_of reply)); choice = best_choice (depth_of reply) (cells (board_of reply)) }
+finding_of reply = record { value = minimax (depth_of reply) (cells (board_of reply)); choice = best_choice (depth_of reply) (cells (board_of reply)); bounds = table_of reply }
 
 found : (asks : List Asked) (job : ℕ) (reply : Reply) (o : Option Asked) → seat_asked_at asks job ≡ o → IsShown o (Ok (Done reply)) → IsFound (map ask_of asks) job (finding_of reply)
 found asks job reply None e h = absurd (cc h)
@@ -41,6 +42,7 @@ found asks job reply (Some a) e h =
       is = asked_at-map asks job ∙ ap (option_map ask_of) e;
       value = ap₂ minimax h.2 board;
       choice = ap₂ best_choice h.2 board;
+      table = subst (λ depth. IsTable depth (cells a.board) (table_of reply)) h.2 (subst (λ b. IsTable (depth_of reply) b (table_of reply)) board reply.table);
     }
 
 -- a job that is shown is shown with what was found for it

@@ -3,7 +3,7 @@ use Rattle.std.specs.Prelude.{List, [], map, Option, Some, None, Result, Ok, Err
 use Rattle.othello_board.specs.Words.{cells}
 use Rattle.othello_eval.specs.Minimax.{minimax, best_choice}
 use Rattle.sched_rules.specs.declared.refusal.Refusal.{Refusal}
-use Rattle.desk.specs.jamboree.Replies.{board_of, depth_of}
+use Rattle.desk.specs.jamboree.Replies.{board_of, depth_of, table_of}
 use Rattle.desk.specs.jamboree_core.declared.outcomes.Outcome.{Outcome}
 use Rattle.desk.specs.jamboree_core.declared.outcomes.Outcome.TheVariants.{Pending, Done, Spent, Cancelled}
 use Rattle.session.specs.declared.outcome.Outcome.{Outcome as Told}
@@ -21,10 +21,10 @@ abbrev pub asks_of : Option SeatOf → List Asked
 asks_of None = []
 asks_of (Some seat) = map ask_of seat.asked
 
--- how a job stands: a reply is told by the minimax value and the best choice of its board to its depth
+-- how a job stands: a reply is told by the minimax value and the best choice of its board to its depth, and by its table
 abbrev pub told : Outcome → Told
 told Pending = pending
-told (Done reply) = done (record { value = minimax (depth_of reply) (cells (board_of reply)); choice = best_choice (depth_of reply) (cells (board_of reply)) })
+told (Done reply) = done (record { value = minimax (depth_of reply) (cells (board_of reply)); choice = best_choice (depth_of reply) (cells (board_of reply)); bounds = table_of reply })
 told Spent = spent
 told Cancelled = cancelled
 

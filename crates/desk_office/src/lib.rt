@@ -3,12 +3,13 @@
 //! A [`DeskOffice`] is what a session asks of (`session::Office`): it holds the desk by reference, and its tenant's seat
 //! once HELLO was taken. What it stands for is the list of what its tenant asked for, each a board of 64 cells and a depth, from job 1
 //! on (`asks_of` of `specs/Offices.antt`): it is the seat's own list, empty where no tenant is there. Each call keeps
-//! that list (`KeepsAsks`): a new job gets the next number, and a job is shown as done only with the minimax value and
-//! the best choice of what stands under its number, since a desk shows no other reply, and a reply's type holds no other
-//! value.
+//! that list (`KeepsAsks`): a new job gets the next number, and a job is shown as done only with the minimax value, the
+//! best choice and a table of what stands under its number, since a desk shows no other reply, and a reply's type holds
+//! no other.
 //!
 //! So [`serve_desk`] can promise it of the lines themselves (`TrueSession`): each `DONE k value move` bears the minimax
-//! value and the best choice of the position and the depth of the k-th `ASK` line that was answered by `JOB`.
+//! value and the best choice of the position and the depth of the k-th `ASK` line that was answered by `JOB`, and each
+//! `TABLE k` with entries their table.
 //!
 //! ```text
 //! let mut source = FromReader { reader: &stream };

@@ -1,11 +1,25 @@
 //! How a job stands, as a session tells it.
 ghost use Rattle.std.specs.Prelude.{◌≡◌};
+ghost use Rattle.desk.specs.jamboree.Replies.{table_of};
 ghost use Rattle.desk_office.specs.Offices.{told, told_answer};
 
-use desk::{Outcome, Refusal};
-use session::{Finding, Outcome as Told};
+use desk::{Outcome, Refusal, Reply};
+use session::{Bounds, Finding, Outcome as Told};
 
-/// How a job stands: a reply is told by its value and its choice.
+/// What a reply says of each choice.
+fn bounds_of(reply: &Reply) -> Bounds
+    ensures { result ≡ table_of reply.now }
+{
+    let mut bounds = Bounds::NONE;
+    for number in 0..reply.bound_count() {
+        if let Some(bound) = reply.bound(number) {
+            bounds.push(bound);
+        }
+    }
+    bounds
+}
+
+/// How a job stands: a reply is told by its value, its choice and what it says of each choice.
 fn told(outcome: Outcome) -> Told
     ensures { result ≡ told outcome }
 {
@@ -14,6 +28,7 @@ fn told(outcome: Outcome) -> Told
         Outcome::Done(reply) => Told::Done(Finding {
             value: reply.value(),
             choice: reply.choice(),
+            bounds: bounds_of(&reply),
         }),
         Outcome::Spent => Told::Spent,
         Outcome::Cancelled => Told::Cancelled,

@@ -9,7 +9,8 @@ use session::{End, SessionFault, each_done_line_is_true, serve_lines};
 use std::sync::Wait;
 
 /// Serves one session of one tenant at a desk (`serve_lines`): each `DONE` line that it writes bears the minimax value
-/// and the best choice of the position and the depth of the k-th `ASK` line that was answered by `JOB`, k its number. Which
+/// and the best choice of the position and the depth of the k-th `ASK` line that was answered by `JOB`, k its number, and
+/// each `TABLE` line with entries their table. Which
 /// steps QUOTA, LIVE, SPENT and the refusals 10 and 11 come of no line can say: it is said of what lies under the desk's
 /// lock (`desk`, `hall`).
 pub fn serve_desk<S: Source, K: Sink, L: Hands, R: Wait>(

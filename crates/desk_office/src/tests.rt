@@ -138,21 +138,23 @@ fn alone<L: Hands, R: Wait>(
 
 /// The lines of a job of the opening at depth 0, which is shown again when it is done. More than there is can't be
 /// reserved, of either.
-const ONE_JOB: [&[u8]; 7] = [
+const ONE_JOB: [&[u8]; 8] = [
     b"HELLO 9 8\n",
     b"HELLO 8 9\n",
     b"HELLO 4 8\n",
     b"ASK 0 ---------------------------OX------XO--------------------------- X\n",
     b"WAIT 1\n",
     b"GET 1\n",
+    b"TABLE 1\n",
     b"QUOTA\n",
 ];
 
 /// The lines of a job that has too few nodes.
-const SPENT_JOB: [&[u8]; 5] = [
+const SPENT_JOB: [&[u8]; 6] = [
     b"HELLO 8 1\n",
     b"ASK 3 ---------------------------OX------XO--------------------------- X\n",
     b"WAIT 1\n",
+    b"TABLE 1\n",
     b"QUOTA\n",
     b"LIVE\n",
 ];
@@ -183,6 +185,8 @@ LIVE
 CANCEL 1
 GET 1
 CANCEL 1
+TABLE 1
+TABLE 2
 QUOTA
 LIVE
 BYE
@@ -193,7 +197,7 @@ BYE
 
 /// What the second session writes, whose tenant reserves all. While its job is pending there is one frame, of 12 words.
 const SECOND: &[u8] =
-    b"WELCOME 8 8\nJOB 1\nPENDING 1\nLIVE 1 12\nCANCELLED 1\nCANCELLED 1\nERR 17\nQUOTA 8 7 128\nLIVE 0 0\nBYE\n";
+    b"WELCOME 8 8\nJOB 1\nPENDING 1\nLIVE 1 12\nCANCELLED 1\nCANCELLED 1\nERR 17\nCANCELLED 1\nERR 17\nQUOTA 8 7 128\nLIVE 0 0\nBYE\n";
 
 #[test]
 fn a_job_is_done_and_its_tenant_leaves(rt: HostRuntime) -> Result<(), Fail> {
@@ -206,7 +210,7 @@ fn a_job_is_done_and_its_tenant_leaves(rt: HostRuntime) -> Result<(), Fail> {
     )?;
     assert_eq!(rt;
         first.as_slice(),
-        b"ERR 14\nERR 14\nWELCOME 4 8\nJOB 1\nDONE 1 0 -\nDONE 1 0 -\nQUOTA 4 7 123\n".as_slice()
+        b"ERR 14\nERR 14\nWELCOME 4 8\nJOB 1\nDONE 1 0 -\nDONE 1 0 -\nTABLE 1\nQUOTA 4 7 123\n".as_slice()
     );
     assert_eq!(rt; second.as_slice(), SECOND);
     Ok(())
@@ -223,7 +227,7 @@ fn a_job_is_spent_and_its_tenant_leaves(rt: HostRuntime) -> Result<(), Fail> {
     )?;
     assert_eq!(rt;
         first.as_slice(),
-        b"WELCOME 8 1\nJOB 1\nSPENT 1\nQUOTA 8 0 14\nLIVE 0 0\n".as_slice()
+        b"WELCOME 8 1\nJOB 1\nSPENT 1\nSPENT 1\nQUOTA 8 0 14\nLIVE 0 0\n".as_slice()
     );
     assert_eq!(rt; second.as_slice(), SECOND);
     Ok(())

@@ -1,4 +1,4 @@
--- What the entries of a frame say of its choices, and the table that a root holds.
+-- Meaning: what the entries of a frame say of its choices, and the table that a root holds.
 use Rattle.std.specs.Prelude.{◌≡◌, ℕ, ◌==◌, ℤ, List, [], ◌∷◌, if◌then◌else◌}
 use Rattle.othello_moves.specs.declared.choices.Choice.{Choice}
 use Rattle.othello_moves.specs.Choices.{choices}

@@ -1,4 +1,4 @@
--- Tables of bounds: what is known of each choice at a root.
+-- Meaning: tables of bounds: what is known of each choice at a root.
 use Rattle.std.specs.Prelude.{◌≡◌, ℕ, zero, suc, ℤ, ◌≤ℤ◌, List, [], map, Option, Some, All}
 use Rattle.othello_board.specs.declared.cells.Cell.{Cell}
 use Rattle.othello_moves.specs.declared.choices.Choice.{Choice}

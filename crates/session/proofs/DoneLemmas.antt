@@ -1,17 +1,17 @@
--- True replies make true DONE lines.
+-- True replies make true DONE lines and true tables.
 use Rattle.std.proofs.Common.{◌≡◌, ℕ, ◌+◌, List, [], ◌∷◌, ◌++◌, length, Bool, true, false, Option, Some, None, refl, sym, ap, ◌∙◌}
 use Rattle.line_io.specs.Lines.{LineText, Whole, TooLong}
 use Rattle.tenant_quota.specs.Quota.{Quota}
 use Rattle.session.specs.declared.outcome.Outcome.{Outcome}
 use Rattle.session.specs.declared.outcome.Outcome.TheVariants.{Pending, Done, Spent, Cancelled}
-use Rattle.session.specs.Calls.{Call, Hello, Reply, Welcome, Reserved, Job, Told, Ended, Rest, Alive, Gone, Refused}
-use Rattle.session.specs.Forms.{Form, HelloOf, ReserveOf, AskOf, GetOf, WaitOf, CancelOf, QuotaForm, LiveForm, ByeForm, form_of}
-use Rattle.session.specs.Requests.{Request, Fault, Makes, Ends, request, form_request, quota_of, quota_request}
-use Rattle.session.specs.Turns.{Faulted, Closed, turns, turn_text, reply_text, calls_in, leaving, next_reply, later_replies, seated_after}
+use Rattle.session.specs.Calls.{Call, Hello, Get, Reply, Welcome, Reserved, Job, Told, Ended, Rest, Alive, Gone, Refused}
+use Rattle.session.specs.Forms.{Form, HelloOf, ReserveOf, AskOf, GetOf, WaitOf, CancelOf, TableOf, QuotaForm, LiveForm, ByeForm, form_of}
+use Rattle.session.specs.Requests.{Request, Fault, Makes, Tabulates, Ends, request, form_request, quota_of, quota_request}
+use Rattle.session.specs.Turns.{Faulted, Closed, turns, turn_text, reply_text, table_text, calls_in, leaving, next_reply, later_replies, seated_after}
 use Rattle.session.specs.Sessions.{calls_for}
 use Rattle.session.specs.Asks.{Asked, asked_at, with_ask, asks_after, SaysTrue, ShowsFound, AllTrue}
 use Rattle.session.proofs.Served.{next_turns}
-use Rattle.session.specs.DoneLines.{with_request, asks_of_lines, OutcomeHolds, ReplyHolds, EachDoneIsTrue}
+use Rattle.session.specs.DoneLines.{with_request, asks_of_lines, OutcomeHolds, ReplyHolds, TableHolds, TableReplyHolds, EachDoneIsTrue}
 
 -- ---- where no tenant is there, nothing is asked for
 
@@ -33,6 +33,7 @@ early_same (Some (AskOf depth text)) asks call h = cc h
 early_same (Some (GetOf job)) asks call h = cc h
 early_same (Some (WaitOf job)) asks call h = cc h
 early_same (Some (CancelOf job)) asks call h = cc h
+early_same (Some (TableOf job)) asks call h = cc h
 early_same (Some QuotaForm) asks call h = cc h
 early_same (Some LiveForm) asks call h = cc h
 early_same (Some ByeForm) asks call h = cc h
@@ -42,6 +43,29 @@ asks_seated : (seated : Bool) (line : LineText) (asks : List Asked) (call : Call
 asks_seated true line asks call h = ap (with_request asks) (sym h)
 asks_seated false TooLong asks call h = cc h
 asks_seated false (Whole bytes) asks call h = let same = early_same (form_of bytes) asks call h in sym same.0 ∙ sym same.1
+
+-- a table is asked for where a tenant is there, and its line asks for no position
+no_early_hello : (quota : Option Quota) (job : ℕ) → quota_request Hello quota ≡ Tabulates job → ⊥
+no_early_hello None job h = cc h
+no_early_hello (Some quota) job h = cc h
+
+no_early_table : (form : Option Form) (job : ℕ) → form_request false form ≡ Tabulates job → ⊥
+no_early_table None job h = cc h
+no_early_table (Some (HelloOf segments nodes)) job h = no_early_hello (quota_of segments nodes) job h
+no_early_table (Some (ReserveOf segments nodes)) job h = cc h
+no_early_table (Some (AskOf depth text)) job h = cc h
+no_early_table (Some (GetOf job')) job h = cc h
+no_early_table (Some (WaitOf job')) job h = cc h
+no_early_table (Some (CancelOf job')) job h = cc h
+no_early_table (Some (TableOf job')) job h = cc h
+no_early_table (Some QuotaForm) job h = cc h
+no_early_table (Some LiveForm) job h = cc h
+no_early_table (Some ByeForm) job h = cc h
+
+table_same : (seated : Bool) (line : LineText) (asks : List Asked) (job : ℕ) → request seated line ≡ Tabulates job → asks ≡ with_request asks (request true line)
+table_same true line asks job h = ap (with_request asks) (sym h)
+table_same false TooLong asks job h = refl
+table_same false (Whole bytes) asks job h = absurd (no_early_table (form_of bytes) job h)
 
 still_empty : (seated : Bool) (line : LineText) (asks : List Asked) (call : Call) → request seated line ≡ Makes call → EmptyWithout seated asks → EmptyWithout seated (with_ask asks call)
 still_empty true line asks call h empty = tt
@@ -72,12 +96,36 @@ reply_holds before asks (Alive live) known h = tt
 reply_holds before asks Gone known h = tt
 reply_holds before asks (Refused number) known h = tt
 
+table_holds : (before : List (LineText × List ℕ)) (asks : List Asked) (job : ℕ) (outcome : Outcome) → asks ≡ asks_of_lines before → ShowsFound asks job outcome → TableHolds before job outcome
+table_holds before asks job Pending known h = tt
+table_holds before asks job (Done finding) known h =
+    record { asked = h.asked; is = ap (λ a. asked_at a job) (sym known) ∙ h.is; table = h.table }
+table_holds before asks job Spent known h = tt
+table_holds before asks job Cancelled known h = tt
+
+table_reply_holds : (before : List (LineText × List ℕ)) (asks : List Asked) (reply : Reply) → asks ≡ asks_of_lines before → SaysTrue asks reply → TableReplyHolds before reply
+table_reply_holds before asks (Welcome quota) known h = tt
+table_reply_holds before asks (Reserved quota) known h = tt
+table_reply_holds before asks (Job number) known h = h ∙ ap (λ a. length a + 1) known
+table_reply_holds before asks (Told job outcome) known h = table_holds before asks job outcome known h
+table_reply_holds before asks (Ended job) known h = tt
+table_reply_holds before asks (Rest left) known h = tt
+table_reply_holds before asks (Alive live) known h = tt
+table_reply_holds before asks Gone known h = tt
+table_reply_holds before asks (Refused number) known h = tt
+
 -- how a job stands begins with none of the words that change the asks
 told_same : (before : List (LineText × List ℕ)) (line : LineText) (job : ℕ) (outcome : Outcome) → asks_of_lines ((line, reply_text (Told job outcome)) ∷ before) ≡ asks_of_lines before
 told_same before line job Pending = refl
 told_same before line job (Done finding) = refl
 told_same before line job Spent = refl
 told_same before line job Cancelled = refl
+
+table_told_same : (before : List (LineText × List ℕ)) (line : LineText) (job : ℕ) (outcome : Outcome) → asks_of_lines ((line, table_text (Told job outcome)) ∷ before) ≡ asks_of_lines before
+table_told_same before line job Pending = refl
+table_told_same before line job (Done finding) = refl
+table_told_same before line job Spent = refl
+table_told_same before line job Cancelled = refl
 
 next_known : (before : List (LineText × List ℕ)) (asks : List Asked) (line : LineText) (call : Call) (reply : Reply) (seated : Bool) → request seated line ≡ Makes call → Known seated before asks
     → Known (seated_after seated reply) ((line, reply_text reply) ∷ before) (asks_after asks call reply)
@@ -91,6 +139,19 @@ next_known before asks line call (Rest left) seated e known = known
 next_known before asks line call (Alive live) seated e known = known
 next_known before asks line call Gone seated e known = (refl, refl)
 next_known before asks line call (Refused number) seated e known = known
+
+table_known : (before : List (LineText × List ℕ)) (asks : List Asked) (line : LineText) (job : ℕ) (reply : Reply) (seated : Bool) → request seated line ≡ Tabulates job → Known seated before asks
+    → Known (seated_after seated reply) ((line, table_text reply) ∷ before) (asks_after asks (Get job) reply)
+table_known before asks line job (Welcome quota) seated e known = (refl, tt)
+table_known before asks line job (Reserved quota) seated e known = known
+table_known before asks line job (Job number) seated e known =
+    (table_same seated line asks job e ∙ ap (λ a. with_request a (request true line)) known.0, known.1)
+table_known before asks line job (Told k outcome) seated e known = (known.0 ∙ sym (table_told_same before line k outcome), known.1)
+table_known before asks line job (Ended k) seated e known = known
+table_known before asks line job (Rest left) seated e known = known
+table_known before asks line job (Alive live) seated e known = known
+table_known before asks line job Gone seated e known = (refl, refl)
+table_known before asks line job (Refused number) seated e known = known
 
 -- what holds of the lines after this one, whatever came before them
 abbrev LaterHold : List LineText → Type 0
@@ -108,6 +169,11 @@ line_holds (Makes call) before asks seated line lines replies e later known h =
     let reply = next_reply replies in (
       reply_holds before asks reply known.0 h.0,
       later ((line, reply_text reply) ∷ before) (asks_after asks call reply) (seated_after seated reply) (later_replies replies) (next_known before asks line call reply seated e known) h.1,
+    )
+line_holds (Tabulates job) before asks seated line lines replies e later known h =
+    let reply = next_reply replies in (
+      table_reply_holds before asks reply known.0 h.0,
+      later ((line, table_text reply) ∷ before) (asks_after asks (Get job) reply) (seated_after seated reply) (later_replies replies) (table_known before asks line job reply seated e known) h.1,
     )
 line_holds Ends before asks seated line lines replies e later known h = (tt, after_bye before asks seated line lines replies later known h)
 

@@ -15,8 +15,8 @@ use Rattle.session.specs.declared.faults.SessionFault.{SessionFault}
 use Rattle.session.specs.declared.faults.SessionFault.TheVariants.{Read, Write}
 use Rattle.session.specs.Calls.{Call, Reply}
 use Rattle.session.specs.Forms.{is_bye}
-use Rattle.session.specs.Requests.{Request, Fault, Makes, Ends, request}
-use Rattle.session.specs.Turns.{Turn, Faulted, Made, Closed, turns, turn_text, calls_in, leaving, by_request, next_reply, later_replies, seated_after}
+use Rattle.session.specs.Requests.{Request, Fault, Makes, Tabulates, Ends, request}
+use Rattle.session.specs.Turns.{Turn, Faulted, Made, Tabulated, Closed, turns, turn_text, calls_in, leaving, by_request, next_reply, later_replies, seated_after}
 use Rattle.session.specs.Sessions.{Called, LeavesIf, Turned, Session, IsAnsweredOf, IsWrittenOf, session_lines, talk_result, texts_for, calls_for}
 
 -- the turns of a line that asks for this, and of the lines after it
@@ -24,6 +24,7 @@ abbrev pub next_turns : Request → Bool → List LineText → List Reply → Li
 next_turns q seated lines replies =
     by_request q (λ number. Faulted number ∷ turns seated lines replies)
     (λ call. Made call (next_reply replies) ∷ turns (seated_after seated (next_reply replies)) lines (later_replies replies))
+    (λ job. Tabulated job (next_reply replies) ∷ turns (seated_after seated (next_reply replies)) lines (later_replies replies))
     (λ _. Closed ∷ turns false lines replies)
 
 module _ {O : Type 0} (does : O → Call → Reply → O → Type 0) where
@@ -48,6 +49,9 @@ module _ {O : Type 0} (does : O → Call → Reply → O → Type 0) where
       let same = subst (λ o. Came (turns seated lines) o seated texts to seated'') (sym h.0) (subst (λ s. Came (turns s lines) mid s texts to seated'') h.1 came) in
       record { replies = same.replies; are = ap₂ (λ t ts. t ∷ ts) h.2 same.are; made = same.made }
   came-next (Makes call) from seated text mid seated' lines texts to seated'' h came =
+      let same = subst (λ s. Came (turns s lines) mid s texts to seated'') h.2 came in
+      record { replies = h.0 ∷ same.replies; are = ap₂ (λ t ts. t ∷ ts) h.3 same.are; made = λ end k. (mid, h.1, same.made end k) }
+  came-next (Tabulates job) from seated text mid seated' lines texts to seated'' h came =
       let same = subst (λ s. Came (turns s lines) mid s texts to seated'') h.2 came in
       record { replies = h.0 ∷ same.replies; are = ap₂ (λ t ts. t ∷ ts) h.3 same.are; made = λ end k. (mid, h.1, same.made end k) }
   came-next Ends from seated text mid seated' lines texts to seated'' h came =

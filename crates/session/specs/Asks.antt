@@ -2,6 +2,7 @@
 use Rattle.std.specs.Prelude.{◌≡◌, ℕ, ◌+◌, ◌-◌, ◌==◌, List, [], ◌∷◌, ◌++◌, length, Option, Some, None, if◌then◌else◌, Contains}
 use Rattle.othello_board.specs.declared.cells.Cell.{Cell}
 use Rattle.othello_eval.specs.Minimax.{minimax, best_choice}
+use Rattle.othello_eval.specs.Tables.{IsTable}
 use Rattle.session.specs.declared.outcome.Finding.{Finding}
 use Rattle.session.specs.declared.outcome.Outcome.{Outcome}
 use Rattle.session.specs.declared.outcome.Outcome.TheVariants.{Pending, Done, Spent, Cancelled}
@@ -42,12 +43,13 @@ abbrev pub asked_at : List Asked → ℕ → Option Asked
 asked_at [] job = None
 asked_at (asked ∷ later) job = if job == 1 then Some asked else asked_at later (job - 1)
 
--- a value and a move are the minimax value and the best choice of what was asked as this job
+-- a value and a move are the minimax value and the best choice of what was asked as this job, and the entries beside them its table
 pub record IsFound (asks : List Asked) (job : ℕ) (finding : Finding) : Type 0 where
   pub asked : Asked
   pub is : asked_at asks job ≡ Some asked
   pub value : finding.value ≡ minimax asked.depth asked.board
   pub choice : finding.choice ≡ best_choice asked.depth asked.board
+  pub table : IsTable asked.depth asked.board finding.bounds
 
 -- a job that is shown as done is shown with what was found for it
 abbrev pub ShowsFound : List Asked → ℕ → Outcome → Type 0
@@ -95,8 +97,8 @@ IsRefusedWhere asks Leave reply = reply ≡ Gone
 abbrev pub KeepsAsks : List Asked → Call → Reply → List Asked → Type 0
 KeepsAsks asks call reply asks' = (asks' ≡ asks_after asks call reply) × SaysTrue asks reply × IsRefusedWhere asks call reply
 
--- of these calls, in order, each ASK that is answered by JOB gets the next number, each DONE shows the minimax value and the best choice
--- of what was asked by the ASK that was answered by JOB and its number, and each is refused where its asks say so
+-- of these calls, in order, each ASK that is answered by JOB gets the next number, each DONE shows the minimax value, the best choice and a
+-- table of what was asked by the ASK that was answered by JOB and its number, and each is refused where its asks say so
 abbrev pub AllTrue : List Asked → List (Call × Reply) → Type 0
 AllTrue asks [] = Unit {0}
 AllTrue asks (made ∷ more) = SaysTrue asks made.1 × AllTrue (asks_after asks made.0 made.1) more × IsRefusedWhere asks made.0 made.1

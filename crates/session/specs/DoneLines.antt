@@ -1,8 +1,9 @@
--- Meaning: what the DONE lines of a session are worth, said of its lines and of their answers alone.
+-- Meaning: what the DONE lines and the tables of a session are worth, said of its lines and of their answers alone.
 use Rattle.std.specs.Prelude.{◌≡◌, ℕ, ◌+◌, List, [], ◌∷◌, length, true, false, if◌then◌else◌, nat_eq, codes, Some, Result}
 use Rattle.std.specs.List.{starts_with}
 use Rattle.line_io.specs.Lines.{LineText}
 use Rattle.othello_eval.specs.Minimax.{minimax, best_choice}
+use Rattle.othello_eval.specs.Tables.{IsTable}
 use Rattle.line_io.specs.Streams.{ReadAnswer, WriteAnswer}
 use Rattle.session.specs.declared.faults.End.{End}
 use Rattle.session.specs.declared.faults.SessionFault.{SessionFault}
@@ -11,14 +12,15 @@ use Rattle.session.specs.declared.outcome.Outcome.{Outcome}
 use Rattle.session.specs.declared.outcome.Outcome.TheVariants.{Pending, Done, Spent, Cancelled}
 use Rattle.session.specs.Asks.{Asked, asked_at, with_ask, KeepsAsks, AllTrue}
 use Rattle.session.specs.Calls.{Reply, Welcome, Reserved, Job, Told, Ended, Rest, Alive, Gone, Refused}
-use Rattle.session.specs.Requests.{Request, Fault, Makes, Ends, request}
-use Rattle.session.specs.Turns.{Turn, Faulted, Made, Closed, turns, turn_text}
+use Rattle.session.specs.Requests.{Request, Fault, Makes, Tabulates, Ends, request}
+use Rattle.session.specs.Turns.{Turn, Faulted, Made, Tabulated, Closed, turns, turn_text}
 use Rattle.session.specs.Sessions.{Session, calls_for}
 
 -- the asks so far, and what this request asks for, where it is one
 abbrev pub with_request : List Asked → Request → List Asked
 with_request asks (Fault number) = asks
 with_request asks (Makes call) = with_ask asks call
+with_request asks (Tabulates job) = asks
 with_request asks Ends = asks
 
 -- the asks so far, after one more line and its answer: a tenant's begin at WELCOME and end at BYE, and an ASK line that is answered by JOB is
@@ -51,6 +53,20 @@ OutcomeHolds before job (Done finding) = IsTrueDone before job finding
 OutcomeHolds before job Spent = Unit {0}
 OutcomeHolds before job Cancelled = Unit {0}
 
+-- entries are a table of what was asked for by the ASK line of this number, of those that were answered by JOB: one for each choice, in their
+-- order, each true, and the best choice's exact
+pub record IsTrueTable (before : List (LineText × List ℕ)) (job : ℕ) (finding : Finding) : Type 0 where
+  pub asked : Asked
+  pub is : asked_at (asks_of_lines before) job ≡ Some asked
+  pub table : IsTable asked.depth asked.board finding.bounds
+
+-- where a job's table is shown, that is so
+abbrev pub TableHolds : List (LineText × List ℕ) → ℕ → Outcome → Type 0
+TableHolds before job Pending = Unit {0}
+TableHolds before job (Done finding) = IsTrueTable before job finding
+TableHolds before job Spent = Unit {0}
+TableHolds before job Cancelled = Unit {0}
+
 -- and where a line is answered by JOB, the number is that of the next ask
 abbrev pub ReplyHolds : List (LineText × List ℕ) → Reply → Type 0
 ReplyHolds before (Welcome quota) = Unit {0}
@@ -63,19 +79,32 @@ ReplyHolds before (Alive live) = Unit {0}
 ReplyHolds before Gone = Unit {0}
 ReplyHolds before (Refused number) = Unit {0}
 
+-- the same of a reply that is told with its table
+abbrev pub TableReplyHolds : List (LineText × List ℕ) → Reply → Type 0
+TableReplyHolds before (Welcome quota) = Unit {0}
+TableReplyHolds before (Reserved quota) = Unit {0}
+TableReplyHolds before (Job number) = number ≡ length (asks_of_lines before) + 1
+TableReplyHolds before (Told job outcome) = TableHolds before job outcome
+TableReplyHolds before (Ended job) = Unit {0}
+TableReplyHolds before (Rest left) = Unit {0}
+TableReplyHolds before (Alive live) = Unit {0}
+TableReplyHolds before Gone = Unit {0}
+TableReplyHolds before (Refused number) = Unit {0}
+
 abbrev pub TurnHolds : List (LineText × List ℕ) → Turn → Type 0
 TurnHolds before (Faulted number) = Unit {0}
 TurnHolds before (Made call reply) = ReplyHolds before reply
+TurnHolds before (Tabulated job reply) = TableReplyHolds before reply
 TurnHolds before Closed = Unit {0}
 
 -- what came of these lines, one after another: the k-th ASK that is answered by JOB is answered by JOB k, and each DONE k bears the minimax
--- value and the best choice of what that line asked for. The lines before these come first, the last of them foremost, each with its answer
+-- value and the best choice of what that line asked for, and each TABLE k its table. The lines before these come first, the last of them foremost, each with its answer
 abbrev pub EachDoneIsTrue : List (LineText × List ℕ) → List LineText → List Turn → Type 0
 EachDoneIsTrue before [] turned = Unit {0}
 EachDoneIsTrue before (line ∷ lines) [] = Unit {0}
 EachDoneIsTrue before (line ∷ lines) (turn ∷ turned) = TurnHolds before turn × EachDoneIsTrue ((line, turn_text turn) ∷ before) lines turned
 
--- a session in which each JOB and each DONE line is true (`dones`), said of its lines and answers alone
+-- a session in which each JOB, each DONE and each TABLE line is true (`dones`), said of its lines and answers alone
 pub record TrueSession {S K : Type 0} (gives : S → ReadAnswer → S → Type 0) (takes : K → WriteAnswer → K → Type 0) (source : S) (sink : K) (source' : S) (sink' : K) (r : Result End SessionFault) : Type 0 where
   pub asks : List Asked
   pub session : Session gives takes KeepsAsks source sink [] source' sink' asks r

@@ -13,6 +13,7 @@ pub data Form : Type 0 where
   GetOf : (job : Option ℕ) → Form
   WaitOf : (job : Option ℕ) → Form
   CancelOf : (job : Option ℕ) → Form
+  TableOf : (job : Option ℕ) → Form
   QuotaForm : Form
   LiveForm : Form
   ByeForm : Form
@@ -31,7 +32,8 @@ form_of_one word argument =
     if bytes_eq word (codes "GET") then Some (GetOf (number_of argument))
     else (if bytes_eq word (codes "WAIT") then Some (WaitOf (number_of argument))
     else (if bytes_eq word (codes "CANCEL") then Some (CancelOf (number_of argument))
-    else None))
+    else (if bytes_eq word (codes "TABLE") then Some (TableOf (number_of argument))
+    else None)))
 
 -- a line of three words or more: a position is all that follows the second space, and HELLO and RESERVE have just two arguments
 abbrev pub form_of_two : List ℕ → List ℕ → List ℕ → Option Form

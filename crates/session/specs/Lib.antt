@@ -1,3 +1,4 @@
+pub mod Places
 pub mod Forms
 pub mod Calls
 pub mod Requests

@@ -8,12 +8,13 @@ use Rattle.position_text.specs.declared.marks.Mark.{Mark}
 use Rattle.position_text.specs.Readings.{marks_of, mover_of, seen_by}
 use Rattle.tenant_quota.specs.Quota.{Quota}
 use Rattle.session.specs.Calls.{Call, Hello, Reserve, Ask, Get, Wait, Cancel, AskQuota, AskLive}
-use Rattle.session.specs.Forms.{Form, HelloOf, ReserveOf, AskOf, GetOf, WaitOf, CancelOf, QuotaForm, LiveForm, ByeForm, form_of}
+use Rattle.session.specs.Forms.{Form, HelloOf, ReserveOf, AskOf, GetOf, WaitOf, CancelOf, TableOf, QuotaForm, LiveForm, ByeForm, form_of}
 
--- a fault by its number, a call of the office, or the end of the session
+-- a fault by its number, a call of the office whose reply is told, a Get whose reply is told with its table, or the end of the session
 pub data Request : Type 0 where
   Fault : (number : ℕ) → Request
   Makes : (call : Call) → Request
+  Tabulates : (job : ℕ) → Request
   Ends : Request
 
 -- 26 where no side is spelled
@@ -51,18 +52,19 @@ quota_request call None = Fault 23
 quota_request call (Some quota) = Makes (call quota)
 
 -- 23 where a job is no number
-abbrev pub job_request : (ℕ → Call) → Option ℕ → Request
-job_request call None = Fault 23
-job_request call (Some job) = Makes (call job)
+abbrev pub job_request : (ℕ → Request) → Option ℕ → Request
+job_request asked None = Fault 23
+job_request asked (Some job) = asked job
 
 -- what a command asks for, where a tenant is there
 abbrev pub seated_request : Form → Request
 seated_request (HelloOf segments nodes) = Fault 29
 seated_request (ReserveOf segments nodes) = quota_request Reserve (quota_of segments nodes)
 seated_request (AskOf depth text) = ask_request depth text
-seated_request (GetOf job) = job_request Get job
-seated_request (WaitOf job) = job_request Wait job
-seated_request (CancelOf job) = job_request Cancel job
+seated_request (GetOf job) = job_request (λ k. Makes (Get k)) job
+seated_request (WaitOf job) = job_request (λ k. Makes (Wait k)) job
+seated_request (CancelOf job) = job_request (λ k. Makes (Cancel k)) job
+seated_request (TableOf job) = job_request Tabulates job
 seated_request QuotaForm = Makes AskQuota
 seated_request LiveForm = Makes AskLive
 seated_request ByeForm = Ends
@@ -75,6 +77,7 @@ early_request (AskOf depth text) = Fault 28
 early_request (GetOf job) = Fault 28
 early_request (WaitOf job) = Fault 28
 early_request (CancelOf job) = Fault 28
+early_request (TableOf job) = Fault 28
 early_request QuotaForm = Fault 28
 early_request LiveForm = Fault 28
 early_request ByeForm = Ends

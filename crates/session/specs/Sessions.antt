@@ -17,10 +17,10 @@ use Rattle.session.specs.declared.faults.SessionFault.{SessionFault}
 use Rattle.session.specs.declared.faults.SessionFault.TheVariants.{Read, Write}
 use Rattle.session.specs.declared.faults.End.{End}
 use Rattle.session.specs.declared.faults.End.TheVariants.{Bye, EndOfInput}
-use Rattle.session.specs.Calls.{Call, Leave, Reply, Gone}
+use Rattle.session.specs.Calls.{Call, Get, Leave, Reply, Gone}
 use Rattle.session.specs.Forms.{is_bye}
-use Rattle.session.specs.Requests.{Request, Fault, Makes, Ends}
-use Rattle.session.specs.Turns.{turns, calls_in, turn_text, reply_text, seated_after}
+use Rattle.session.specs.Requests.{Request, Fault, Makes, Tabulates, Ends}
+use Rattle.session.specs.Turns.{turns, calls_in, turn_text, reply_text, table_text, seated_after}
 
 -- the lines of a session: those of the bytes up to a line BYE, that one too
 abbrev pub session_lines : List ℕ → List LineText
@@ -55,6 +55,8 @@ abbrev pub Turned : {O : Type 0} → (O → Call → Reply → O → Type 0) →
 Turned does (Fault number) from seated text to seated' = (from ≡ to) × (seated' ≡ seated) × (text ≡ error_text number)
 Turned does (Makes call) from seated text to seated' =
     (reply : Reply) × does from call reply to × (seated' ≡ seated_after seated reply) × (text ≡ reply_text reply)
+Turned does (Tabulates job) from seated text to seated' =
+    (reply : Reply) × does from (Get job) reply to × (seated' ≡ seated_after seated reply) × (text ≡ table_text reply)
 Turned does Ends from seated text to seated' = LeavesIf does seated from to × (seated' ≡ false) × (text ≡ reply_text Gone)
 
 -- how a session ended, as the end of its talk

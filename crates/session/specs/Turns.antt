@@ -1,17 +1,22 @@
 -- Meaning: what comes of the lines of a session, one after another: calls of the office and texts, as functions of the lines and of the
 -- office's replies.
-use Rattle.std.specs.Prelude.{ℕ, List, [], ◌∷◌, ◌++◌, Bool, true, false, codes, decimal}
+use Rattle.std.specs.Prelude.{ℕ, List, [], ◌∷◌, ◌++◌, Bool, true, false, Some, codes, decimal}
 use Rattle.line_io.specs.Lines.{LineText}
-use Rattle.line_words.specs.Texts.{value_text, error_text}
+use Rattle.std.specs.Fmt.{signed_decimal}
+use Rattle.othello_eval.specs.declared.bound.Bound.{Bound}
+use Rattle.othello_eval.specs.declared.bound.BoundKind.{BoundKind}
+use Rattle.othello_eval.specs.declared.bound.BoundKind.TheVariants.{Low, High, Exact}
+use Rattle.line_words.specs.Texts.{value_text, move_text, error_text}
 use Rattle.session.specs.declared.outcome.Outcome.{Outcome}
 use Rattle.session.specs.declared.outcome.Outcome.TheVariants.{Pending, Done, Spent, Cancelled}
-use Rattle.session.specs.Calls.{Call, Leave, Reply, Welcome, Reserved, Job, Told, Ended, Rest, Alive, Gone, Refused}
-use Rattle.session.specs.Requests.{Request, Fault, Makes, Ends, request}
+use Rattle.session.specs.Calls.{Call, Get, Leave, Reply, Welcome, Reserved, Job, Told, Ended, Rest, Alive, Gone, Refused}
+use Rattle.session.specs.Requests.{Request, Fault, Makes, Tabulates, Ends, request}
 
--- what came of a line: a fault, a call with its reply, or the end of the session
+-- what came of a line: a fault, a call with its reply, a Get of a job whose reply is told with its table, or the end of the session
 pub data Turn : Type 0 where
   Faulted : (number : ℕ) → Turn
   Made : (call : Call) (reply : Reply) → Turn
+  Tabulated : (job : ℕ) (reply : Reply) → Turn
   Closed : Turn
 
 -- the next of the replies: each call takes one. The number 0 is no office's
@@ -36,10 +41,11 @@ seated_after seated Gone = false
 seated_after seated (Refused number) = seated
 
 -- by what a line asks for
-abbrev pub by_request : {X : Type 0} → Request → (ℕ → X) → (Call → X) → (Unit {0} → X) → X
-by_request (Fault number) fault call end = fault number
-by_request (Makes made) fault call end = call made
-by_request Ends fault call end = end tt
+abbrev pub by_request : {X : Type 0} → Request → (ℕ → X) → (Call → X) → (ℕ → X) → (Unit {0} → X) → X
+by_request (Fault number) fault call table end = fault number
+by_request (Makes made) fault call table end = call made
+by_request (Tabulates job) fault call table end = table job
+by_request Ends fault call table end = end tt
 
 -- what comes of these lines, where a tenant is there or not, and the office replies this
 abbrev pub turns : Bool → List LineText → List Reply → List Turn
@@ -48,6 +54,7 @@ turns seated (line ∷ lines) replies =
     by_request (request seated line)
     (λ number. Faulted number ∷ turns seated lines replies)
     (λ call. Made call (next_reply replies) ∷ turns (seated_after seated (next_reply replies)) lines (later_replies replies))
+    (λ job. Tabulated job (next_reply replies) ∷ turns (seated_after seated (next_reply replies)) lines (later_replies replies))
     (λ _. Closed ∷ turns false lines replies)
 
 -- a tenant that is there leaves
@@ -60,6 +67,7 @@ abbrev pub calls_in : Bool → List Turn → List (Call × Reply)
 calls_in seated [] = leaving seated
 calls_in seated (Faulted number ∷ more) = calls_in seated more
 calls_in seated (Made call reply ∷ more) = (call, reply) ∷ calls_in (seated_after seated reply) more
+calls_in seated (Tabulated job reply ∷ more) = (Get job, reply) ∷ calls_in (seated_after seated reply) more
 calls_in seated (Closed ∷ more) = leaving seated ++ calls_in false more
 
 -- two numbers and a space between them
@@ -85,8 +93,43 @@ reply_text (Alive live) = codes "LIVE " ++ pair_text live.frames live.words
 reply_text Gone = codes "BYE"
 reply_text (Refused number) = error_text number
 
+-- what is known of a choice: = exact, < at most, > at least
+abbrev pub kind_text : BoundKind → List ℕ
+kind_text Exact = codes "="
+kind_text Low = codes "<"
+kind_text High = codes ">"
+
+-- an entry of a table: a space, the move, what is known of it, and the score
+abbrev pub entry_text : Bound → List ℕ
+entry_text bound = codes " " ++ move_text (Some bound.choice) ++ kind_text bound.kind ++ signed_decimal bound.score
+
+-- the entries, one after another
+abbrev pub entries_text : List Bound → List ℕ
+entries_text [] = []
+entries_text (bound ∷ more) = entry_text bound ++ entries_text more
+
+-- how a job stands, told with its table where it is done
+abbrev pub table_outcome_text : ℕ → Outcome → List ℕ
+table_outcome_text job Pending = outcome_text job Pending
+table_outcome_text job (Done finding) = codes "TABLE " ++ decimal job ++ entries_text finding.bounds
+table_outcome_text job Spent = outcome_text job Spent
+table_outcome_text job Cancelled = outcome_text job Cancelled
+
+-- a reply, told with the table of a job that is done
+abbrev pub table_text : Reply → List ℕ
+table_text (Told job outcome) = table_outcome_text job outcome
+table_text (Welcome quota) = reply_text (Welcome quota)
+table_text (Reserved quota) = reply_text (Reserved quota)
+table_text (Job number) = reply_text (Job number)
+table_text (Ended job) = reply_text (Ended job)
+table_text (Rest left) = reply_text (Rest left)
+table_text (Alive live) = reply_text (Alive live)
+table_text Gone = reply_text Gone
+table_text (Refused number) = reply_text (Refused number)
+
 -- what a line is answered
 abbrev pub turn_text : Turn → List ℕ
 turn_text (Faulted number) = error_text number
 turn_text (Made call reply) = reply_text reply
+turn_text (Tabulated job reply) = table_text reply
 turn_text Closed = codes "BYE"

@@ -20,6 +20,8 @@ pub(crate) enum Form<'a> {
     Wait(Option<u32>),
     /// A job.
     Cancel(Option<u32>),
+    /// A job.
+    Table(Option<u32>),
     /// What is left is asked for.
     Quota,
     /// What is alive is asked for.
@@ -53,6 +55,8 @@ fn form_of_one<'a>(word: &[u8], argument: &[u8]) -> Option<Form<'a>>
         Some(Form::Wait(number_of(argument)))
     } else if word == b"CANCEL".as_slice() {
         Some(Form::Cancel(number_of(argument)))
+    } else if word == b"TABLE".as_slice() {
+        Some(Form::Table(number_of(argument)))
     } else {
         None
     }

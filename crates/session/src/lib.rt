@@ -24,6 +24,7 @@
 //! ```
 #![tactic(auto)]
 
+mod bounds;
 mod faults;
 mod forms;
 mod laws;
@@ -36,6 +37,7 @@ mod serving;
 mod texts;
 mod turns;
 
+pub use bounds::Bounds;
 pub use faults::{End, SessionFault};
 pub use laws::each_done_line_is_true;
 pub use office::Office;

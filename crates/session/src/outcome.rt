@@ -1,4 +1,5 @@
 //! What an office tells of a job, and of what its tenant has.
+use crate::bounds::Bounds;
 use othello_moves::Choice;
 
 /// How a job stands.
@@ -14,13 +15,15 @@ pub enum Outcome {
     Cancelled,
 }
 
-/// The value of a position to a depth, and the move that attains it.
+/// The value of a position to a depth, the move that attains it, and what is known of each choice.
 #[derive(Clone, Copy, Debug, PartialEq, Eq)]
 pub struct Finding {
     /// The value, from -128,000 to 128,000, seen by the side to move.
     pub value: i32,
     /// The move; none at depth 0 and where the game is over.
     pub choice: Option<Choice>,
+    /// An entry for each choice, in their order; none at depth 0 and where the game is over.
+    pub bounds: Bounds,
 }
 
 /// What a tenant has alive.

@@ -52,6 +52,8 @@ pub(crate) enum Request {
     Wait(u64),
     /// The end of a job.
     Cancel(u64),
+    /// How a job stands, with its table where it is done.
+    Table(u64),
     /// What is left.
     Quota,
     /// What is alive.
@@ -108,7 +110,10 @@ fn seated_request(form: Form<'_>) -> Request
         Form::Get(Some(job)) => Request::Get(u64::from(job)),
         Form::Wait(Some(job)) => Request::Wait(u64::from(job)),
         Form::Cancel(Some(job)) => Request::Cancel(u64::from(job)),
-        Form::Get(None) | Form::Wait(None) | Form::Cancel(None) => Request::Fault(NO_NUMBER),
+        Form::Table(Some(job)) => Request::Table(u64::from(job)),
+        Form::Get(None) | Form::Wait(None) | Form::Cancel(None) | Form::Table(None) => {
+            Request::Fault(NO_NUMBER)
+        }
         Form::Quota => Request::Quota,
         Form::Live => Request::Live,
         Form::Bye => Request::Bye,

@@ -1,14 +1,17 @@
 //! The definitions of requests and sessions, tried on worked lines: each contract is computed from the definitions alone.
 //! LF is 10, CR is 13.
-ghost use Rattle.std.specs.Prelude.{◌≡◌, [], ◌∷◌, ◌++◌, replicate, codes, pos, None, true, false};
+ghost use Rattle.std.specs.Prelude.{◌≡◌, [], ◌∷◌, ◌++◌, replicate, length, codes, pos, negsuc, Some, None, true, false};
+ghost use Rattle.othello_moves.specs.declared.choices.Choice.TheVariants.{Square, Pass};
+ghost use Rattle.othello_eval.specs.declared.bound.BoundKind.TheVariants.{Low, High, Exact};
 ghost use Rattle.line_io.specs.Lines.{Whole, TooLong};
 ghost use Rattle.position_text.specs.declared.positions.Side.TheVariants.{Black};
-ghost use Rattle.session.specs.declared.outcome.Outcome.TheVariants.{Done, Spent};
+ghost use Rattle.session.specs.declared.outcome.Outcome.TheVariants.{Pending, Done, Spent, Cancelled};
 ghost use Rattle.session.specs.Calls.{Hello, Reserve, Ask, Get, Wait, Cancel, AskQuota, AskLive, Leave, Welcome, Reserved, Job, Told, Rest, Alive, Gone, Refused};
-ghost use Rattle.session.specs.Requests.{Fault, Makes, Ends, request};
+ghost use Rattle.session.specs.Requests.{Fault, Makes, Tabulates, Ends, request};
+ghost use Rattle.session.specs.Turns.{table_text};
 ghost use Rattle.session.specs.Sessions.{calls, out};
 ghost use Rattle.session.specs.DoneLines.{asks_of_lines};
-ghost use Rattle.session.specs.Rows.{opening_board};
+ghost use Rattle.session.specs.Rows.{opening_board, opening_table, found};
 
 /// Each command, where a tenant is there, and HELLO where none is. Numbers may begin with zeros.
 pub fn commands_are_read()
@@ -19,6 +22,8 @@ pub fn commands_are_read()
     ensures zero { request true (Whole (codes "GET 0")) ≡ Makes (Get 0) }
     ensures wait { request true (Whole (codes "WAIT 256")) ≡ Makes (Wait 256) }
     ensures cancel { request true (Whole (codes "CANCEL 2")) ≡ Makes (Cancel 2) }
+    ensures table { request true (Whole (codes "TABLE 1")) ≡ Tabulates 1 }
+    ensures table_of_none { request true (Whole (codes "TABLE 00")) ≡ Tabulates 0 }
     ensures quota { request true (Whole (codes "QUOTA")) ≡ Makes AskQuota }
     ensures live { request true (Whole (codes "LIVE")) ≡ Makes AskLive }
     ensures bye { request true (Whole (codes "BYE")) ≡ Ends }
@@ -32,6 +37,9 @@ pub fn foreign_lines_are_faults()
     ensures small_letters { request true (Whole (codes "get 1")) ≡ Fault 21 }
     ensures no_argument { request true (Whole (codes "GET")) ≡ Fault 21 }
     ensures one_more { request true (Whole (codes "GET 1 ")) ≡ Fault 21 }
+    ensures no_table { request true (Whole (codes "TABLE")) ≡ Fault 21 }
+    ensures two_tables { request false (Whole (codes "TABLE 1 2")) ≡ Fault 21 }
+    ensures small_table { request true (Whole (codes "table 1")) ≡ Fault 21 }
     ensures no_position { request true (Whole (codes "ASK 0")) ≡ Fault 21 }
     ensures one_amount { request true (Whole (codes "RESERVE 8")) ≡ Fault 21 }
     ensures three_amounts { request false (Whole (codes "HELLO 1 2 3")) ≡ Fault 21 }
@@ -42,6 +50,9 @@ pub fn foreign_lines_are_faults()
 pub fn faults_come_in_order()
     ensures before_hello { request false (Whole (codes "GET 1")) ≡ Fault 28 }
     ensures reserve_before_hello { request false (Whole (codes "RESERVE x 1")) ≡ Fault 28 }
+    ensures table_before_hello { request false (Whole (codes "TABLE x")) ≡ Fault 28 }
+    ensures no_table_number { request true (Whole (codes "TABLE x")) ≡ Fault 23 }
+    ensures nine_table_digits { request true (Whole (codes "TABLE 000000001")) ≡ Fault 23 }
     ensures many_to_reserve { request true (Whole (codes "RESERVE 4097 1")) ≡ Fault 23 }
     ensures before_numbers { request false (Whole (codes "WAIT x")) ≡ Fault 28 }
     ensures again { request true (Whole (codes "HELLO x 1")) ≡ Fault 29 }
@@ -64,11 +75,11 @@ pub fn faults_come_in_order()
 pub fn one_job()
     ensures calls { calls
         (codes "HELLO 4 8" ++ 10 ∷ codes "ASK 0 ---------------------------OX------XO--------------------------- X" ++ 13 ∷ 10 ∷ codes "WAIT 1" ++ 10 ∷ codes "QUOTA" ++ 10 ∷ codes "BYE" ++ 10 ∷ codes "LIVE" ++ 10 ∷ [])
-        (Welcome (record { segments = 4; nodes = 8 }) ∷ Job 1 ∷ Told 1 (Done (record { value = pos 0; choice = None })) ∷ Rest (record { segments = 4; nodes = 7; steps = 123 }) ∷ [])
-        ≡ (Hello (record { segments = 4; nodes = 8 }), Welcome (record { segments = 4; nodes = 8 })) ∷ (Ask 0 opening_board Black, Job 1) ∷ (Wait 1, Told 1 (Done (record { value = pos 0; choice = None }))) ∷ (AskQuota, Rest (record { segments = 4; nodes = 7; steps = 123 })) ∷ (Leave, Gone) ∷ [] }
+        (Welcome (record { segments = 4; nodes = 8 }) ∷ Job 1 ∷ Told 1 (Done (found (pos 0) None [])) ∷ Rest (record { segments = 4; nodes = 7; steps = 123 }) ∷ [])
+        ≡ (Hello (record { segments = 4; nodes = 8 }), Welcome (record { segments = 4; nodes = 8 })) ∷ (Ask 0 opening_board Black, Job 1) ∷ (Wait 1, Told 1 (Done (found (pos 0) None []))) ∷ (AskQuota, Rest (record { segments = 4; nodes = 7; steps = 123 })) ∷ (Leave, Gone) ∷ [] }
     ensures out { out
         (codes "HELLO 4 8" ++ 10 ∷ codes "ASK 0 ---------------------------OX------XO--------------------------- X" ++ 13 ∷ 10 ∷ codes "WAIT 1" ++ 10 ∷ codes "QUOTA" ++ 10 ∷ codes "BYE" ++ 10 ∷ codes "LIVE" ++ 10 ∷ [])
-        (Welcome (record { segments = 4; nodes = 8 }) ∷ Job 1 ∷ Told 1 (Done (record { value = pos 0; choice = None })) ∷ Rest (record { segments = 4; nodes = 7; steps = 123 }) ∷ [])
+        (Welcome (record { segments = 4; nodes = 8 }) ∷ Job 1 ∷ Told 1 (Done (found (pos 0) None [])) ∷ Rest (record { segments = 4; nodes = 7; steps = 123 }) ∷ [])
         ≡ codes "WELCOME 4 8" ++ 10 ∷ codes "JOB 1" ++ 10 ∷ codes "DONE 1 0 -" ++ 10 ∷ codes "QUOTA 4 7 123" ++ 10 ∷ codes "BYE" ++ 10 ∷ [] }
 {}
 
@@ -119,4 +130,33 @@ pub fn more_is_reserved()
     ensures out { out (codes "HELLO 8 1" ++ 10 ∷ codes "RESERVE 8 8" ++ 10 ∷ codes "RESERVE 4 8" ++ 10 ∷ [])
         (Welcome (record { segments = 8; nodes = 1 }) ∷ Reserved (record { segments = 8; nodes = 8 }) ∷ Refused 20 ∷ [])
         ≡ codes "WELCOME 8 1" ++ 10 ∷ codes "RESERVED 8 8" ++ 10 ∷ codes "ERR 20" ++ 10 ∷ [] }
+{}
+
+/// The tables of a finished job: of the opening to depths 0 and 1, of a side that has to pass, and of a position with two
+/// choices. A kind is at most, at least or exact.
+pub fn tables_are_written()
+    ensures no_depth { table_text (Told 1 (Done (found (pos 0) None []))) ≡ codes "TABLE 1" }
+    ensures opening { table_text (Told 1 (Done (found (negsuc 2) (Some (Square 19)) opening_table))) ≡ codes "TABLE 1 d3=-3 c4<-3 f5<-3 e6<-3" }
+    ensures passed { table_text (Told 1 (Done (found (negsuc 5999) (Some Pass) (record { choice = Pass; score = negsuc 5999; kind = Exact } ∷ [])))) ≡ codes "TABLE 1 pass=-6000" }
+    ensures two { table_text (Told 1 (Done (found (pos 89) (Some (Square 0)) (record { choice = Square 0; score = pos 89; kind = Exact } ∷ record { choice = Square 4; score = pos 40; kind = Low } ∷ [])))) ≡ codes "TABLE 1 a1=89 e1<40" }
+    ensures at_least { table_text (Told 256 (Done (found (pos 0) (Some (Square 63)) (record { choice = Square 63; score = pos 0; kind = High } ∷ [])))) ≡ codes "TABLE 256 h8>0" }
+    ensures longest { length (table_text (Told 18446744073709551615 (Done (found (pos 0) None (replicate 64 (record { choice = Pass; score = negsuc 2147483647; kind = Low })))))) ≡ 1114 }
+{}
+
+/// A job that isn't done, and a refusal, are told to TABLE as to GET.
+pub fn tables_of_others_are_none()
+    ensures pending { table_text (Told 1 Pending) ≡ codes "PENDING 1" }
+    ensures spent { table_text (Told 2 Spent) ≡ codes "SPENT 2" }
+    ensures cancelled { table_text (Told 3 Cancelled) ≡ codes "CANCELLED 3" }
+    ensures refused { table_text (Refused 17) ≡ codes "ERR 17" }
+{}
+
+/// TABLE makes the call of GET, and tells of the same reply the table where GET tells the value and the move.
+pub fn a_table_is_asked_for()
+    ensures calls { calls (codes "HELLO 4 8" ++ 10 ∷ codes "TABLE 1" ++ 10 ∷ codes "GET 1" ++ 10 ∷ codes "TABLE 2" ++ 10 ∷ [])
+        (Welcome (record { segments = 4; nodes = 8 }) ∷ Told 1 (Done (found (negsuc 2) (Some (Square 19)) opening_table)) ∷ Told 1 (Done (found (negsuc 2) (Some (Square 19)) opening_table)) ∷ Refused 17 ∷ [])
+        ≡ (Hello (record { segments = 4; nodes = 8 }), Welcome (record { segments = 4; nodes = 8 })) ∷ (Get 1, Told 1 (Done (found (negsuc 2) (Some (Square 19)) opening_table))) ∷ (Get 1, Told 1 (Done (found (negsuc 2) (Some (Square 19)) opening_table))) ∷ (Get 2, Refused 17) ∷ (Leave, Gone) ∷ [] }
+    ensures out { out (codes "HELLO 4 8" ++ 10 ∷ codes "TABLE 1" ++ 10 ∷ codes "GET 1" ++ 10 ∷ codes "TABLE 2" ++ 10 ∷ [])
+        (Welcome (record { segments = 4; nodes = 8 }) ∷ Told 1 (Done (found (negsuc 2) (Some (Square 19)) opening_table)) ∷ Told 1 (Done (found (negsuc 2) (Some (Square 19)) opening_table)) ∷ Refused 17 ∷ [])
+        ≡ codes "WELCOME 4 8" ++ 10 ∷ codes "TABLE 1 d3=-3 c4<-3 f5<-3 e6<-3" ++ 10 ∷ codes "DONE 1 -3 d3" ++ 10 ∷ codes "ERR 17" ++ 10 ∷ [] }
 {}

@@ -15,7 +15,7 @@ use std::sync::Wait;
 /// Ends each answer.
 const LF: u8 = 10;
 
-/// Answers the lines of one session, and knows whether its tenant is there.
+/// Answers the lines of one session, and knows whether its tenant is there. Its text is the one place of all answers.
 struct Clerk<'a, O: Office> {
     office: &'a mut O,
     seated: bool,
@@ -46,7 +46,7 @@ impl<O: Office> Answer for Clerk<'_, O> {
     ghost kept = { λ clerk. clerk.text.items };
 
     fn answer(&mut self, line: Line<'_>) {
-        self.text = take_turn(self.office, &mut self.seated, line);
+        take_turn(self.office, &mut self.seated, &mut self.text, line);
         self.text.push(LF);
     }
 

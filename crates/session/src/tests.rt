@@ -1,4 +1,6 @@
 //! Sessions over memory, with an office of prepared replies.
+mod tables;
+
 use crate::*;
 use line_io::{FromReader, FromWriter, ReadFailed, Sink, Source, WriteFailed};
 use position_text::Position;
@@ -101,6 +103,7 @@ impl Office for Prepared {
 const NOTHING_TO_PLAY: Outcome = Outcome::Done(Finding {
     value: 0,
     choice: None,
+    bounds: Bounds::NONE,
 });
 
 /// Serves these lines, and gives the end and the answers.
@@ -273,11 +276,12 @@ QUOTA
 }
 
 /// A session of all lines but BYE.
-const LINES: [&[u8]; 9] = [
+const LINES: [&[u8]; 10] = [
     b"GET 1\n",
     b"HELLO 4 8\n",
     b"ASK 0 ---------------------------OX------XO--------------------------- X\n",
     b"WAIT 1\n",
+    b"TABLE 1\n",
     b"get 1\r\n",
     b"QUOTA\n",
     b"LIVE\n",
@@ -286,11 +290,12 @@ const LINES: [&[u8]; 9] = [
 ];
 
 /// Their answers.
-const ANSWERS: [&[u8]; 9] = [
+const ANSWERS: [&[u8]; 10] = [
     b"ERR 28\n",
     b"WELCOME 4 8\n",
     b"JOB 1\n",
     b"DONE 1 0 -\n",
+    b"TABLE 1\n",
     b"ERR 21\n",
     b"QUOTA 4 7 123\n",
     b"LIVE 0 0\n",
@@ -387,7 +392,7 @@ fn joined(alloc: Global, texts: &[&[u8]]) -> Result<Vec<u8>, Fail> {
 #[test]
 fn a_read_that_fails_leaves_the_answers_before_it(rt: HostRuntime) -> Result<(), Fail> {
     let alloc = rt.alloc();
-    for count in 0..10 {
+    for count in 0..11 {
         for fails in [true, false] {
             let source = Blocks {
                 blocks: &LINES[..count],

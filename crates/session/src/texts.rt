@@ -1,190 +1,258 @@
-//! The texts of replies, each without LF.
-ghost use Rattle.std.specs.Prelude.{◌≡◌, ◌+◌, ◌≤◌, ◌++◌, length, codes, decimal};
+//! The texts of replies, each without LF. Each function writes over the last answer.
+ghost use Rattle.std.specs.Prelude.{◌≡◌, ◌+◌, ◌≤◌, [], ◌∷◌, ◌++◌, length, codes, decimal};
 ghost use Rattle.line_words.specs.Texts.{error_text, value_text};
 ghost use Rattle.session.specs.Calls.{Welcome, Reserved, Job, Told, Ended, Rest, Alive, reply_of};
-ghost use Rattle.session.specs.Turns.{reply_text, outcome_text, pair_text};
+ghost use Rattle.session.specs.Turns.{reply_text, outcome_text, pair_text, kind_text, entry_text, entries_text, table_outcome_text, table_text};
 
 use crate::outcome::{Finding, Live, Outcome};
 use arrayvec::ArrayVec;
 use line_words::{push_error, push_move, push_number, push_value};
+use othello_eval::{Bound, BoundKind};
 use sched_rules::Refusal;
 use tenant_quota::{Left, Reserve};
 
-/// The most bytes of an answer with its LF.
-const ANSWER_BYTES: usize = 80;
+/// The most bytes of an answer with its LF: a table of 64 entries, of 17 bytes each, after 26 bytes.
+const ANSWER_BYTES: usize = 1115;
 
-/// An answer: of at most 72 bytes, and an LF.
+/// The last answer: of at most 1,114 bytes, and an LF. A session has one, which no call hands on by value.
 pub(crate) type Text = ArrayVec<u8, ANSWER_BYTES>;
 
 /// A word of at most 10 bytes with the space after it.
-fn word_text(word: &[u8]) -> Text
+fn write_word(text: &mut Text, word: &[u8])
     requires { length word.now ≤ 10 }
-    ensures { result.items ≡ word.now }
+    ensures { text.new.items ≡ word.now }
 {
-    let mut text = Text::new();
+    text.clear();
     text.try_extend_from_slice(word).unwrap();
-    text
 }
 
 /// A word and a number.
-fn numbered_text(word: &[u8], number: u64) -> Text
+fn write_numbered(text: &mut Text, word: &[u8], number: u64)
     requires { length word.now ≤ 10 }
-    ensures text { result.items ≡ word.now ++ decimal number }
-    ensures short { length result.items ≤ 30 }
+    ensures text { text.new.items ≡ word.now ++ decimal number }
+    ensures short { length text.new.items ≤ length word.now + 20 }
 {
-    let mut text = word_text(word);
-    push_number(&mut text, number);
-    text
+    write_word(text, word);
+    push_number(text, number);
 }
 
 /// A word and two numbers.
-fn pair_text(word: &[u8], first: u64, second: u64) -> Text
+fn write_pair(text: &mut Text, word: &[u8], first: u64, second: u64)
     requires { length word.now ≤ 10 }
-    ensures text { result.items ≡ word.now ++ pair_text first second }
-    ensures short { length result.items ≤ 51 }
+    ensures text { text.new.items ≡ word.now ++ pair_text first second }
+    ensures short { length text.new.items ≤ 51 }
 {
-    let mut text = numbered_text(word, first);
+    write_numbered(text, word, first);
     text.push(b' ');
-    push_number(&mut text, second);
-    text
+    push_number(text, second);
 }
 
 /// The value and the move of a job.
-fn finding_text(job: u64, finding: Finding) -> Text
-    ensures text { result.items ≡ codes "DONE " ++ decimal job ++ codes " " ++ value_text finding.value finding.choice }
-    ensures short { length result.items ≤ 72 }
+fn write_finding(text: &mut Text, job: u64, finding: &Finding)
+    ensures text { text.new.items ≡ codes "DONE " ++ decimal job ++ codes " " ++ value_text finding.now.value finding.now.choice }
+    ensures short { length text.new.items ≤ 72 }
 {
-    let mut text = numbered_text(b"DONE ", job);
+    write_numbered(text, b"DONE ", job);
     text.push(b' ');
-    push_value(&mut text, finding.value);
+    push_value(text, finding.value);
     text.push(b' ');
-    push_move(&mut text, finding.choice);
-    text
+    push_move(text, finding.choice);
 }
 
 /// How a job stands.
-fn outcome_text(job: u64, outcome: Outcome) -> Text
-    ensures text { result.items ≡ outcome_text job outcome }
-    ensures short { length result.items ≤ 72 }
+fn write_outcome(text: &mut Text, job: u64, outcome: &Outcome)
+    ensures text { text.new.items ≡ outcome_text job outcome.now }
+    ensures short { length text.new.items ≤ 72 }
 {
     match outcome {
-        Outcome::Pending => numbered_text(b"PENDING ", job),
-        Outcome::Done(finding) => finding_text(job, finding),
-        Outcome::Spent => numbered_text(b"SPENT ", job),
-        Outcome::Cancelled => numbered_text(b"CANCELLED ", job),
+        Outcome::Pending => write_numbered(text, b"PENDING ", job),
+        Outcome::Done(finding) => write_finding(text, job, finding),
+        Outcome::Spent => write_numbered(text, b"SPENT ", job),
+        Outcome::Cancelled => write_numbered(text, b"CANCELLED ", job),
+    }
+}
+
+/// The byte that says what is known of a choice.
+fn kind_byte(kind: BoundKind) -> u8
+    ensures { result ∷ [] ≡ kind_text kind }
+{
+    match kind {
+        BoundKind::Exact => b'=',
+        BoundKind::Low => b'<',
+        BoundKind::High => b'>',
+    }
+}
+
+/// Appends an entry of a table: at most 17 bytes.
+fn push_entry(text: &mut Text, bound: &Bound)
+    requires { length text.old.items + 17 ≤ 1114 }
+    ensures text { text.new.items ≡ text.old.items ++ entry_text bound.now }
+    ensures short { length text.new.items ≤ length text.old.items + 17 }
+{
+    text.push(b' ');
+    push_move(text, Some(bound.choice));
+    text.push(kind_byte(bound.kind));
+    push_value(text, bound.score);
+}
+
+/// Appends the entries of a table.
+fn push_entries(text: &mut Text, bounds: &[Bound])
+    requires few { length bounds.now ≤ 64 }
+    requires room { length text.old.items ≤ 26 }
+    ensures text { text.new.items ≡ text.old.items ++ entries_text bounds.now }
+    ensures short { length text.new.items ≤ 1114 }
+{
+    for bound in bounds {
+        push_entry(text, bound);
+    }
+}
+
+/// The table of a job.
+fn write_table(text: &mut Text, job: u64, finding: &Finding)
+    ensures text { text.new.items ≡ codes "TABLE " ++ decimal job ++ entries_text finding.now.bounds }
+    ensures short { length text.new.items ≤ 1114 }
+{
+    write_numbered(text, b"TABLE ", job);
+    push_entries(text, finding.bounds.as_slice());
+}
+
+/// How a job stands, with its table where it is done.
+fn write_table_outcome(text: &mut Text, job: u64, outcome: &Outcome)
+    ensures text { text.new.items ≡ table_outcome_text job outcome.now }
+    ensures short { length text.new.items ≤ 1114 }
+{
+    match outcome {
+        Outcome::Done(finding) => write_table(text, job, finding),
+        _ => write_outcome(text, job, outcome),
     }
 }
 
 /// The fault of this number.
-pub(crate) fn fault_text(number: u8) -> Text
-    ensures text { result.items ≡ error_text number }
-    ensures short { length result.items ≤ 72 }
+pub(crate) fn write_fault(text: &mut Text, number: u8)
+    ensures text { text.new.items ≡ error_text number }
+    ensures short { length text.new.items ≤ 72 }
 {
-    let mut text = Text::new();
-    push_error(&mut text, number);
-    text
+    text.clear();
+    push_error(text, number);
 }
 
 /// The reply to HELLO.
-pub(crate) fn welcome_text(reserve: Reserve, reply: Result<(), Refusal>) -> Text
-    ensures text { result.items ≡ reply_text (reply_of (λ _. Welcome reserve) reply) }
-    ensures short { length result.items ≤ 72 }
+pub(crate) fn write_welcome(text: &mut Text, reserve: Reserve, reply: Result<(), Refusal>)
+    ensures text { text.new.items ≡ reply_text (reply_of (λ _. Welcome reserve) reply) }
+    ensures short { length text.new.items ≤ 72 }
 {
     match reply {
-        Ok(()) => pair_text(
+        Ok(()) => write_pair(
+            text,
             b"WELCOME ",
             u64::from(reserve.segments()),
             u64::from(reserve.nodes()),
         ),
-        Err(refusal) => fault_text(refusal.number()),
+        Err(refusal) => write_fault(text, refusal.number()),
     }
 }
 
 /// The reply to RESERVE.
-pub(crate) fn reserved_text(reserve: Reserve, reply: Result<(), Refusal>) -> Text
-    ensures text { result.items ≡ reply_text (reply_of (λ _. Reserved reserve) reply) }
-    ensures short { length result.items ≤ 72 }
+pub(crate) fn write_reserved(text: &mut Text, reserve: Reserve, reply: Result<(), Refusal>)
+    ensures text { text.new.items ≡ reply_text (reply_of (λ _. Reserved reserve) reply) }
+    ensures short { length text.new.items ≤ 72 }
 {
     match reply {
-        Ok(()) => pair_text(
+        Ok(()) => write_pair(
+            text,
             b"RESERVED ",
             u64::from(reserve.segments()),
             u64::from(reserve.nodes()),
         ),
-        Err(refusal) => fault_text(refusal.number()),
+        Err(refusal) => write_fault(text, refusal.number()),
     }
 }
 
 /// The reply to ASK.
-pub(crate) fn job_text(reply: Result<u64, Refusal>) -> Text
-    ensures text { result.items ≡ reply_text (reply_of Job reply) }
-    ensures short { length result.items ≤ 72 }
+pub(crate) fn write_job(text: &mut Text, reply: Result<u64, Refusal>)
+    ensures text { text.new.items ≡ reply_text (reply_of Job reply) }
+    ensures short { length text.new.items ≤ 72 }
 {
     match reply {
-        Ok(job) => numbered_text(b"JOB ", job),
-        Err(refusal) => fault_text(refusal.number()),
+        Ok(job) => write_numbered(text, b"JOB ", job),
+        Err(refusal) => write_fault(text, refusal.number()),
     }
 }
 
 /// The reply to GET and WAIT.
-pub(crate) fn told_text(job: u64, reply: Result<Outcome, Refusal>) -> Text
-    ensures text { result.items ≡ reply_text (reply_of (Told job) reply) }
-    ensures short { length result.items ≤ 72 }
+pub(crate) fn write_told(text: &mut Text, job: u64, reply: &Result<Outcome, Refusal>)
+    ensures text { text.new.items ≡ reply_text (reply_of (Told job) reply.now) }
+    ensures short { length text.new.items ≤ 72 }
 {
     match reply {
-        Ok(outcome) => outcome_text(job, outcome),
-        Err(refusal) => fault_text(refusal.number()),
+        Ok(outcome) => write_outcome(text, job, outcome),
+        Err(refusal) => write_fault(text, refusal.number()),
+    }
+}
+
+/// The reply to TABLE.
+pub(crate) fn write_table_reply(text: &mut Text, job: u64, reply: &Result<Outcome, Refusal>)
+    ensures text { text.new.items ≡ table_text (reply_of (Told job) reply.now) }
+    ensures short { length text.new.items ≤ 1114 }
+{
+    match reply {
+        Ok(outcome) => write_table_outcome(text, job, outcome),
+        Err(refusal) => write_fault(text, refusal.number()),
     }
 }
 
 /// The reply to CANCEL.
-pub(crate) fn ended_text(job: u64, reply: Result<(), Refusal>) -> Text
-    ensures text { result.items ≡ reply_text (reply_of (λ _. Ended job) reply) }
-    ensures short { length result.items ≤ 72 }
+pub(crate) fn write_ended(text: &mut Text, job: u64, reply: Result<(), Refusal>)
+    ensures text { text.new.items ≡ reply_text (reply_of (λ _. Ended job) reply) }
+    ensures short { length text.new.items ≤ 72 }
 {
     match reply {
-        Ok(()) => numbered_text(b"CANCELLED ", job),
-        Err(refusal) => fault_text(refusal.number()),
+        Ok(()) => write_numbered(text, b"CANCELLED ", job),
+        Err(refusal) => write_fault(text, refusal.number()),
     }
 }
 
 /// The segments, nodes and steps that are left.
-fn left_text(left: Left) -> Text
-    ensures text { result.items ≡ reply_text (Rest left) }
-    ensures short { length result.items ≤ 72 }
+fn write_left(text: &mut Text, left: Left)
+    ensures text { text.new.items ≡ reply_text (Rest left) }
+    ensures short { length text.new.items ≤ 72 }
 {
-    let mut text = pair_text(b"QUOTA ", u64::from(left.segments), u64::from(left.nodes));
+    write_pair(
+        text,
+        b"QUOTA ",
+        u64::from(left.segments),
+        u64::from(left.nodes),
+    );
     text.push(b' ');
-    push_number(&mut text, u64::from(left.steps));
-    text
+    push_number(text, u64::from(left.steps));
 }
 
 /// The reply to QUOTA.
-pub(crate) fn quota_text(reply: Result<Left, Refusal>) -> Text
-    ensures text { result.items ≡ reply_text (reply_of Rest reply) }
-    ensures short { length result.items ≤ 72 }
+pub(crate) fn write_quota(text: &mut Text, reply: Result<Left, Refusal>)
+    ensures text { text.new.items ≡ reply_text (reply_of Rest reply) }
+    ensures short { length text.new.items ≤ 72 }
 {
     match reply {
-        Ok(left) => left_text(left),
-        Err(refusal) => fault_text(refusal.number()),
+        Ok(left) => write_left(text, left),
+        Err(refusal) => write_fault(text, refusal.number()),
     }
 }
 
 /// The reply to LIVE.
-pub(crate) fn live_text(reply: Result<Live, Refusal>) -> Text
-    ensures text { result.items ≡ reply_text (reply_of Alive reply) }
-    ensures short { length result.items ≤ 72 }
+pub(crate) fn write_live(text: &mut Text, reply: Result<Live, Refusal>)
+    ensures text { text.new.items ≡ reply_text (reply_of Alive reply) }
+    ensures short { length text.new.items ≤ 72 }
 {
     match reply {
-        Ok(live) => pair_text(b"LIVE ", live.frames, live.words),
-        Err(refusal) => fault_text(refusal.number()),
+        Ok(live) => write_pair(text, b"LIVE ", live.frames, live.words),
+        Err(refusal) => write_fault(text, refusal.number()),
     }
 }
 
 /// The answer to BYE.
-pub(crate) fn bye_text() -> Text
-    ensures text { result.items ≡ codes "BYE" }
-    ensures short { length result.items ≤ 72 }
+pub(crate) fn write_bye(text: &mut Text)
+    ensures text { text.new.items ≡ codes "BYE" }
+    ensures short { length text.new.items ≤ 72 }
 {
-    word_text(b"BYE")
+    write_word(text, b"BYE");
 }

@@ -9,8 +9,8 @@ ghost use Rattle.session.specs.Views.{request_seen};
 use crate::office::Office;
 use crate::requests::{Request, read_request};
 use crate::texts::{
-    Text, bye_text, ended_text, fault_text, job_text, live_text, quota_text, reserved_text,
-    told_text, welcome_text,
+    Text, write_bye, write_ended, write_fault, write_job, write_live, write_quota, write_reserved,
+    write_table_reply, write_told, write_welcome,
 };
 use line_io::Line;
 use tenant_quota::Reserve;
@@ -26,47 +26,53 @@ pub(crate) fn leave_if<O: Office>(office: &mut O, seated: bool)
 }
 
 /// A new tenant.
-fn take_hello<O: Office>(office: &mut O, seated: &mut bool, reserve: Reserve) -> Text
-    ensures turn { Turned O.does (request_seen (Request.Hello reserve)) office.old seated.old result.items office.new seated.new }
-    ensures short { length result.items ≤ 72 }
+fn take_hello<O: Office>(office: &mut O, seated: &mut bool, text: &mut Text, reserve: Reserve)
+    ensures turn { Turned O.does (request_seen (Request.Hello reserve)) office.old seated.old text.new.items office.new seated.new }
+    ensures short { length text.new.items ≤ 1114 }
 {
     let reply = office.hello(reserve);
     if reply.is_ok() {
         *seated = true;
     }
-    welcome_text(reserve, reply)
+    write_welcome(text, reserve, reply);
 }
 
 /// The answer to a request.
-fn answer_request<O: Office>(office: &mut O, seated: &mut bool, request: Request) -> Text
+fn answer_request<O: Office>(office: &mut O, seated: &mut bool, text: &mut Text, request: Request)
     requires { O.ready ≡ true }
-    ensures turn { Turned O.does (request_seen request) office.old seated.old result.items office.new seated.new }
-    ensures short { length result.items ≤ 72 }
+    ensures turn { Turned O.does (request_seen request) office.old seated.old text.new.items office.new seated.new }
+    ensures short { length text.new.items ≤ 1114 }
 {
     match request {
-        Request::Fault(number) => fault_text(number),
-        Request::Hello(reserve) => take_hello(office, seated, reserve),
-        Request::Reserve(reserve) => reserved_text(reserve, office.reserve(reserve)),
-        Request::Ask(question) => job_text(office.ask(&question.position, question.depth)),
-        Request::Get(job) => told_text(job, office.get(job)),
-        Request::Wait(job) => told_text(job, office.wait(job)),
-        Request::Cancel(job) => ended_text(job, office.cancel(job)),
-        Request::Quota => quota_text(office.quota()),
-        Request::Live => live_text(office.live()),
+        Request::Fault(number) => write_fault(text, number),
+        Request::Hello(reserve) => take_hello(office, seated, text, reserve),
+        Request::Reserve(reserve) => write_reserved(text, reserve, office.reserve(reserve)),
+        Request::Ask(question) => write_job(text, office.ask(&question.position, question.depth)),
+        Request::Get(job) => write_told(text, job, &office.get(job)),
+        Request::Wait(job) => write_told(text, job, &office.wait(job)),
+        Request::Cancel(job) => write_ended(text, job, office.cancel(job)),
+        Request::Table(job) => write_table_reply(text, job, &office.get(job)),
+        Request::Quota => write_quota(text, office.quota()),
+        Request::Live => write_live(text, office.live()),
         Request::Bye => {
             leave_if(office, *seated);
             *seated = false;
-            bye_text()
+            write_bye(text);
         }
     }
 }
 
-/// Answers a line: at most one call of the office, and a text.
-pub(crate) fn take_turn<O: Office>(office: &mut O, seated: &mut bool, line: Line<'_>) -> Text
+/// Answers a line: at most one call of the office, and a text, which is written over the last one.
+pub(crate) fn take_turn<O: Office>(
+    office: &mut O,
+    seated: &mut bool,
+    text: &mut Text,
+    line: Line<'_>,
+)
     requires { O.ready ≡ true }
-    ensures turn { Turned O.does (request seated.old (text_of line.entry)) office.old seated.old result.items office.new seated.new }
-    ensures short { length result.items ≤ 72 }
+    ensures turn { Turned O.does (request seated.old (text_of line.entry)) office.old seated.old text.new.items office.new seated.new }
+    ensures short { length text.new.items ≤ 1114 }
 {
     let request = read_request(*seated, line);
-    answer_request(office, seated, request)
+    answer_request(office, seated, text, request);
 }

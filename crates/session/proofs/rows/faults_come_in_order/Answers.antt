@@ -8,6 +8,9 @@ unfolding digits squares
 returns c = record {
   before_hello = refl;
   reserve_before_hello = refl;
+  table_before_hello = refl;
+  no_table_number = refl;
+  nine_table_digits = refl;
   many_to_reserve = refl;
   before_numbers = refl;
   again = refl;

@@ -1,0 +1,15 @@
+use Rattle.std.proofs.Common.{refl}
+use Rattle.std.specs.Fmt.{digits}
+use Rattle.othello_board.specs.Rules.{squares}
+use Rattle.session.proofs.rows.tables_are_written.Goals as goal
+
+pub returns : goal.returns
+unfolding digits squares
+returns c = record {
+  no_depth = refl;
+  opening = refl;
+  passed = refl;
+  two = refl;
+  at_least = refl;
+  longest = refl;
+}

@@ -1,0 +1,7 @@
+use Rattle.std.proofs.Common.{◌≡◌, ◌+◌, ◌*◌, ◌≤◌, ◌++◌, drop, length}
+use Rattle.session.specs.Turns.{entries_text}
+use Rattle.session.proofs.texts.push_entries.Given as goal
+
+abbrev pub invariant-loop-bound : goal.invariant-loop-bound
+invariant-loop-bound l =
+    (l.text.items ++ entries_text (drop l.bound-index l.bounds) ≡ l.initial.text.items ++ entries_text l.bounds) × (length l.text.items ≤ 26 + 17 * l.bound-index)
