@@ -1,4 +1,4 @@
-use Rattle.std.proofs.Common.{◌≡◌, Option, Some, subst}
+use Rattle.std.proofs.Common.{◌≡◌, Some, subst}
 use Rattle.std.specs.Fmt.{digits}
 use Rattle.othello_board.specs.Rules.{squares}
 use Rattle.othello_eval.specs.Tables.{IsTable}
