@@ -3,7 +3,8 @@
 //! A session is a talk in lines of at most 128 bytes with one tenant of a desk. A line is a command of one word with
 //! its arguments, parted by single spaces (`specs/Forms.antt`), and comes to a fault, to one call of the office, or to
 //! the end of the session (`specs/Requests.antt`). Each line is answered by one line, as soon as it is complete, before
-//! more is read: a fault by `ERR` and its number, a call by what the office replied.
+//! more is read: a fault by `ERR` and its number, a call by what the office replied. `GET` and `TABLE` make one call, and tell of
+//! its reply the value and the move, or what is known of each choice.
 //!
 //! What a session did is told by two functions of the lines that it read and of the office's replies in order
 //! (`specs/Turns.antt`): the calls that it made, and the bytes that it wrote. [`serve_lines`] has them in its contract
@@ -13,8 +14,8 @@
 //! office.
 //!
 //! For an office that keeps what its tenant asked for, and shows the values of just that (`specs/Asks.antt`), each
-//! `DONE` line bears the minimax value and the best choice of what the `ASK` line of its number asked for
-//! ([`each_done_line_is_true`]).
+//! `DONE` line bears the minimax value and the best choice of what the `ASK` line of its number asked for, and each `TABLE`
+//! line with entries its table: what is known of each choice, each entry true ([`each_done_line_is_true`]).
 //!
 //! ```text
 //! let lines = b"HELLO 4 8\nASK 0 ---------------------------OX------XO--------------------------- X\nWAIT 1\nQUOTA\n";

@@ -29,7 +29,7 @@ pub trait Office {
         requires { depth ≤ 12 }
         ensures { does self.old (Ask depth (cells position.now.board) position.now.side) (reply_of Job result) self.new };
 
-    /// How a job stands.
+    /// How a job stands. GET tells of it the value and the move, TABLE what is known of each choice.
     fn get(&mut self, job: u64) -> Result<Outcome, Refusal>
         ensures { does self.old (Get job) (reply_of (Told job) result) self.new };
 

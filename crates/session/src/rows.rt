@@ -2,16 +2,19 @@
 //! LF is 10, CR is 13.
 ghost use Rattle.std.specs.Prelude.{◌≡◌, [], ◌∷◌, ◌++◌, replicate, length, codes, pos, negsuc, Some, None, true, false};
 ghost use Rattle.othello_moves.specs.declared.choices.Choice.TheVariants.{Square, Pass};
-ghost use Rattle.othello_eval.specs.declared.bound.BoundKind.TheVariants.{Low, High, Exact};
+ghost use Rattle.othello_eval.specs.declared.bound.BoundKind.TheVariants.{Low, High};
+ghost use Rattle.othello_eval.specs.Tables.{IsTable};
+ghost use Rattle.othello_eval.specs.Rows.{entry, equal_moves, corner_and_edge, to_pass};
 ghost use Rattle.line_io.specs.Lines.{Whole, TooLong};
 ghost use Rattle.position_text.specs.declared.positions.Side.TheVariants.{Black};
+ghost use Rattle.session.specs.declared.outcome.Finding.{Finding};
 ghost use Rattle.session.specs.declared.outcome.Outcome.TheVariants.{Pending, Done, Spent, Cancelled};
 ghost use Rattle.session.specs.Calls.{Hello, Reserve, Ask, Get, Wait, Cancel, AskQuota, AskLive, Leave, Welcome, Reserved, Job, Told, Rest, Alive, Gone, Refused};
 ghost use Rattle.session.specs.Requests.{Fault, Makes, Tabulates, Ends, request};
-ghost use Rattle.session.specs.Turns.{table_text};
+ghost use Rattle.session.specs.Turns.{Tabulated, table_text};
 ghost use Rattle.session.specs.Sessions.{calls, out};
-ghost use Rattle.session.specs.DoneLines.{asks_of_lines};
-ghost use Rattle.session.specs.Rows.{opening_board, opening_table, found};
+ghost use Rattle.session.specs.DoneLines.{asks_of_lines, TurnHolds};
+ghost use Rattle.session.specs.Rows.{opening_board, found};
 
 /// Each command, where a tenant is there, and HELLO where none is. Numbers may begin with zeros.
 pub fn commands_are_read()
@@ -116,7 +119,7 @@ pub fn a_last_line_without_an_end()
 /// The last line stands foremost.
 pub fn asks_are_counted()
     ensures asked { asks_of_lines
-        ((Whole (codes "ASK 1 ---------------------------OX------XO--------------------------- X"), codes "JOB 2") ∷ (Whole (codes "WAIT 1"), codes "DONE 1 0 -") ∷ (Whole (codes "ASK 2 ---------------------------OX------XO--------------------------- X"), codes "ERR 11")
+        ((Whole (codes "ASK 1 ---------------------------OX------XO--------------------------- X"), codes "JOB 2") ∷ (Whole (codes "TABLE 1"), codes "TABLE 1") ∷ (Whole (codes "WAIT 1"), codes "DONE 1 0 -") ∷ (Whole (codes "ASK 2 ---------------------------OX------XO--------------------------- X"), codes "ERR 11")
         ∷ (Whole (codes "ASK 0 ---------------------------OX------XO--------------------------- X"), codes "JOB 1") ∷ (Whole (codes "HELLO 4 8"), codes "WELCOME 4 8") ∷ [])
         ≡ record { board = opening_board; depth = 0 } ∷ record { board = opening_board; depth = 1 } ∷ [] }
     ensures left { asks_of_lines ((Whole (codes "BYE"), codes "BYE") ∷ (Whole (codes "ASK 0 ---------------------------OX------XO--------------------------- X"), codes "JOB 1") ∷ []) ≡ [] }
@@ -136,11 +139,11 @@ pub fn more_is_reserved()
 /// choices. A kind is at most, at least or exact.
 pub fn tables_are_written()
     ensures no_depth { table_text (Told 1 (Done (found (pos 0) None []))) ≡ codes "TABLE 1" }
-    ensures opening { table_text (Told 1 (Done (found (negsuc 2) (Some (Square 19)) opening_table))) ≡ codes "TABLE 1 d3=-3 c4<-3 f5<-3 e6<-3" }
-    ensures passed { table_text (Told 1 (Done (found (negsuc 5999) (Some Pass) (record { choice = Pass; score = negsuc 5999; kind = Exact } ∷ [])))) ≡ codes "TABLE 1 pass=-6000" }
-    ensures two { table_text (Told 1 (Done (found (pos 89) (Some (Square 0)) (record { choice = Square 0; score = pos 89; kind = Exact } ∷ record { choice = Square 4; score = pos 40; kind = Low } ∷ [])))) ≡ codes "TABLE 1 a1=89 e1<40" }
-    ensures at_least { table_text (Told 256 (Done (found (pos 0) (Some (Square 63)) (record { choice = Square 63; score = pos 0; kind = High } ∷ [])))) ≡ codes "TABLE 256 h8>0" }
-    ensures longest { length (table_text (Told 18446744073709551615 (Done (found (pos 0) None (replicate 64 (record { choice = Pass; score = negsuc 2147483647; kind = Low })))))) ≡ 1114 }
+    ensures opening { table_text (Told 1 (Done (found (negsuc 2) (Some (Square 19)) equal_moves))) ≡ codes "TABLE 1 d3=-3 c4<-3 f5<-3 e6<-3" }
+    ensures passed { table_text (Told 1 (Done (found (negsuc 5999) (Some Pass) to_pass))) ≡ codes "TABLE 1 pass=-6000" }
+    ensures two { table_text (Told 1 (Done (found (pos 89) (Some (Square 0)) corner_and_edge))) ≡ codes "TABLE 1 a1=89 e1<40" }
+    ensures at_least { table_text (Told 256 (Done (found (pos 0) (Some (Square 63)) (entry (Square 63) High (pos 0) ∷ [])))) ≡ codes "TABLE 256 h8>0" }
+    ensures longest { length (table_text (Told 18446744073709551615 (Done (found (pos 0) None (replicate 64 (entry Pass Low (negsuc 2147483647))))))) ≡ 1114 }
 {}
 
 /// A job that isn't done, and a refusal, are told to TABLE as to GET.
@@ -154,9 +157,20 @@ pub fn tables_of_others_are_none()
 /// TABLE makes the call of GET, and tells of the same reply the table where GET tells the value and the move.
 pub fn a_table_is_asked_for()
     ensures calls { calls (codes "HELLO 4 8" ++ 10 ∷ codes "TABLE 1" ++ 10 ∷ codes "GET 1" ++ 10 ∷ codes "TABLE 2" ++ 10 ∷ [])
-        (Welcome (record { segments = 4; nodes = 8 }) ∷ Told 1 (Done (found (negsuc 2) (Some (Square 19)) opening_table)) ∷ Told 1 (Done (found (negsuc 2) (Some (Square 19)) opening_table)) ∷ Refused 17 ∷ [])
-        ≡ (Hello (record { segments = 4; nodes = 8 }), Welcome (record { segments = 4; nodes = 8 })) ∷ (Get 1, Told 1 (Done (found (negsuc 2) (Some (Square 19)) opening_table))) ∷ (Get 1, Told 1 (Done (found (negsuc 2) (Some (Square 19)) opening_table))) ∷ (Get 2, Refused 17) ∷ (Leave, Gone) ∷ [] }
+        (Welcome (record { segments = 4; nodes = 8 }) ∷ Told 1 (Done (found (negsuc 2) (Some (Square 19)) equal_moves)) ∷ Told 1 (Done (found (negsuc 2) (Some (Square 19)) equal_moves)) ∷ Refused 17 ∷ [])
+        ≡ (Hello (record { segments = 4; nodes = 8 }), Welcome (record { segments = 4; nodes = 8 })) ∷ (Get 1, Told 1 (Done (found (negsuc 2) (Some (Square 19)) equal_moves))) ∷ (Get 1, Told 1 (Done (found (negsuc 2) (Some (Square 19)) equal_moves))) ∷ (Get 2, Refused 17) ∷ (Leave, Gone) ∷ [] }
     ensures out { out (codes "HELLO 4 8" ++ 10 ∷ codes "TABLE 1" ++ 10 ∷ codes "GET 1" ++ 10 ∷ codes "TABLE 2" ++ 10 ∷ [])
-        (Welcome (record { segments = 4; nodes = 8 }) ∷ Told 1 (Done (found (negsuc 2) (Some (Square 19)) opening_table)) ∷ Told 1 (Done (found (negsuc 2) (Some (Square 19)) opening_table)) ∷ Refused 17 ∷ [])
+        (Welcome (record { segments = 4; nodes = 8 }) ∷ Told 1 (Done (found (negsuc 2) (Some (Square 19)) equal_moves)) ∷ Told 1 (Done (found (negsuc 2) (Some (Square 19)) equal_moves)) ∷ Refused 17 ∷ [])
         ≡ codes "WELCOME 4 8" ++ 10 ∷ codes "TABLE 1 d3=-3 c4<-3 f5<-3 e6<-3" ++ 10 ∷ codes "DONE 1 -3 d3" ++ 10 ∷ codes "ERR 17" ++ 10 ∷ [] }
+{}
+
+/// What a TABLE line is worth: where the opening was asked for to depth 1 as job 1, and nothing else, the entries of job 1 are a
+/// table of the opening to depth 1, and no other job has any.
+pub fn a_table_is_of_what_was_asked()
+    ensures opening { (finding : Finding)
+        → TurnHolds ((Whole (codes "ASK 1 ---------------------------OX------XO--------------------------- X"), codes "JOB 1") ∷ (Whole (codes "HELLO 4 8"), codes "WELCOME 4 8") ∷ []) (Tabulated 1 (Told 1 (Done finding)))
+        → IsTable 1 opening_board finding.bounds }
+    ensures unasked { (finding : Finding)
+        → TurnHolds ((Whole (codes "ASK 1 ---------------------------OX------XO--------------------------- X"), codes "JOB 1") ∷ (Whole (codes "HELLO 4 8"), codes "WELCOME 4 8") ∷ []) (Tabulated 2 (Told 2 (Done finding)))
+        → ⊥ }
 {}

@@ -149,13 +149,15 @@ TABLE x
 TABLE 123456789
 TABLE 1
 TABLE 0
+ASK 0 ---------------------------OX------XO--------------------------- X
+TABLE 2
 TABLE 01\r
 ",
     );
     assert_eq!(rt; result, Ok(End::EndOfInput));
     assert_eq!(rt;
         answers.as_slice(),
-        b"ERR 28\nERR 28\nERR 21\nWELCOME 4 8\nERR 21\nERR 21\nERR 21\nERR 21\nERR 23\nERR 23\nERR 17\nERR 17\nERR 17\n".as_slice()
+        b"ERR 28\nERR 28\nERR 21\nWELCOME 4 8\nERR 21\nERR 21\nERR 21\nERR 21\nERR 23\nERR 23\nERR 17\nERR 17\nJOB 1\nERR 17\nTABLE 1\n".as_slice()
     );
 }
 

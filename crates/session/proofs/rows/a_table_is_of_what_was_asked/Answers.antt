@@ -1,0 +1,18 @@
+use Rattle.std.proofs.Common.{◌≡◌, Some, subst}
+use Rattle.std.specs.Fmt.{digits}
+use Rattle.othello_board.specs.Rules.{squares}
+use Rattle.othello_eval.specs.Tables.{IsTable}
+use Rattle.session.specs.Asks.{Asked}
+use Rattle.session.specs.Rows.{opening_board}
+use Rattle.session.proofs.rows.a_table_is_of_what_was_asked.Goals as goal
+
+-- what is there is what was asked
+same : (a b : Asked) → Some a ≡ Some b → b ≡ a
+same a b h = cc h
+
+pub returns : goal.returns
+unfolding digits squares
+returns c = record {
+  opening = λ finding h. subst (λ a. IsTable a.depth a.board finding.bounds) (same (record { board = opening_board; depth = 1 }) h.asked h.is) h.table;
+  unasked = λ finding h. absurd (cc h.is);
+}
