@@ -63,18 +63,18 @@ impl Plan {
                     after: Then::Grow(count),
                 };
             }
-            Plan::Starts(child) => {
+            Plan::Starts(child, rest) => {
                 let mut changes = Changes::new();
                 changes.spawned(child.number + 1);
-                changes.status(child.number, Status::Runs);
+                changes.status(child.number, Status::Runs, rest);
                 return Act {
                     stores: changes.stores(),
                     after: child.spawn(),
                 };
             }
-            Plan::Again(child) => {
+            Plan::Again(child, rest) => {
                 let mut changes = Changes::new();
-                changes.status(child.number, Status::RunsAgain);
+                changes.status(child.number, Status::RunsAgain, rest);
                 return Act {
                     stores: changes.stores(),
                     after: child.spawn(),
@@ -105,27 +105,27 @@ impl Finding {
         match self {
             Finding::Nothing => {}
             Finding::Ended(told, code) => {
-                changes.best(told.score);
+                changes.best(told.best);
                 changes.chosen(code);
-                changes.status(told.number, Status::Settled);
+                changes.status(told.said.number, Status::Settled, told.said.rest());
                 changes.phase(Phase::Done);
             }
             Finding::Low(told) => {
-                changes.best(told.score);
-                changes.status(told.number, Status::Settled);
+                changes.best(told.best);
+                changes.status(told.said.number, Status::Settled, told.said.rest());
             }
-            Finding::Failed(number) => {
-                changes.status(usize::from(number), Status::Failed);
+            Finding::Failed(said) => {
+                changes.status(said.number, Status::Failed, said.rest());
             }
             Finding::Raised(told, code) => {
-                changes.best(told.score);
+                changes.best(told.best);
                 changes.chosen(code);
-                changes.status(told.number, Status::Settled);
+                changes.status(told.said.number, Status::Settled, told.said.rest());
                 changes.phase(Phase::Tests);
             }
             Finding::Kept(told) => {
-                changes.best(told.score);
-                changes.status(told.number, Status::Settled);
+                changes.best(told.best);
+                changes.status(told.said.number, Status::Settled, told.said.rest());
                 changes.phase(Phase::Tests);
             }
         }

@@ -8,10 +8,11 @@ ghost use Rattle.jamboree.specs.Numbers.{role_number};
 ghost use Rattle.jamboree.specs.Plans.{act_for, spawn_of};
 ghost use Rattle.jamboree.specs.Views.{frame_in, frame_with, statuses_in};
 
+use crate::entry::Rest;
 use crate::frame::View;
 use crate::phases::{Phase, Role};
 use crate::plan::{NewChild, Plan};
-use crate::statuses::{first_open, has_failed};
+use crate::statuses::{failed_rest, first_open};
 use cactus_stack::Words;
 use othello_board::Board;
 use othello_moves::{after, choice, choice_count, plies};
@@ -102,8 +103,8 @@ fn tests(frame: &View, words: &Words) -> Plan
     ensures { act_for result ≡ tests_from (frame_with frame.now (statuses_in words.now)) (first_open (statuses_in words.now)) }
 {
     let open = first_open(words);
-    if has_failed(words, open) {
-        return search_again(frame, open);
+    if let Some(rest) = failed_rest(words, open) {
+        return search_again(frame, open, rest);
     }
     if frame.spawned < frame.count {
         return test(frame, frame.spawned);
@@ -114,15 +115,16 @@ fn tests(frame: &View, words: &Words) -> Plan
     Plan::Waits
 }
 
-/// To search a choice again, above the greater of alpha and the best score.
+/// To search a choice again, above the greater of alpha and the best score. What is known of it stays.
 #[inline(always)]
-fn search_again(frame: &View, number: usize) -> Plan
+fn search_again(frame: &View, number: usize, rest: Rest) -> Plan
     requires deep { 0 < frame.now.depth }
     requires choices { frame.now.count ≡ length (choices (cells frame.now.board)) }
     requires inside { number < frame.now.count }
     ensures { (more all : Bool) (statuses : List ℕ) → act_for result ≡ tests true more all (frame_with frame.now statuses) number }
 {
-    Plan::Again(child(frame, Role::Again, number, -frame.beta, -floor(frame)))
+    let child = child(frame, Role::Again, number, -frame.beta, -floor(frame));
+    Plan::Again(child, rest)
 }
 
 /// To test the next choice, just above the greater of alpha and the best score.
@@ -153,14 +155,15 @@ pub(crate) fn later(frame: &View, words: &Words) -> Plan
     }
 }
 
-/// What a root does next in these words.
+/// What a root does next in these words. Whatever the grain, it is computed outside only at depth 0 and
+/// where the game is over: else it has an entry for each choice.
 #[inline(always)]
 pub(crate) fn of_root(grain: u8, frame: &View, words: &Words) -> Plan
     requires { length words.now ≡ 12 + frame.now.count }
     ensures { act_for result ≡ act_of grain (frame_with frame.now (statuses_in words.now)) None }
 {
     match frame.phase {
-        Phase::New => opening(grain, frame, frame.board),
+        Phase::New => opening(0, frame, frame.board),
         _ => later(frame, words),
     }
 }

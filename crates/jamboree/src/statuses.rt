@@ -5,43 +5,34 @@ ghost use Rattle.jamboree_rules.specs.Acts.{first_open};
 ghost use Rattle.jamboree.specs.Numbers.{status_number};
 ghost use Rattle.jamboree.specs.Views.{statuses_in};
 
+use crate::entry::{Rest, is_entry, is_entry_of};
 use crate::phases::Status;
 use crate::view::{SIZE, entries, entry, first_number};
 use cactus_stack::{Words, charge};
 
-/// The greatest number of a status.
-const LAST: u64 = 4;
-
-/// Whether each of these entries is a status.
-fn all_are_statuses(entries: &[u64]) -> bool
-    ensures { result ≡ are_statuses entries.now }
+/// Whether each of these words is an entry.
+fn all_are_entries(entries: &[u64]) -> bool
+    ensures { result ≡ are_entries entries.now }
 {
     for entry in entries {
-        if *entry > LAST {
+        if !is_entry(*entry) {
             return false;
         }
     }
     true
 }
 
-/// Whether each entry of a frame's words is a status, 0 to 4.
-pub(crate) fn are_statuses(words: &Words) -> bool
+/// Whether each word behind the first twelve of a frame is an entry.
+pub(crate) fn are_entries(words: &Words) -> bool
     requires { 12 ≤ length words.now }
-    ensures { result ≡ are_statuses (drop 12 words.now) }
+    ensures { result ≡ are_entries (drop 12 words.now) }
 {
     for number in 0..charge(words.len()) {
-        if !all_are_statuses(entries(words, number)) {
+        if !all_are_entries(entries(words, number)) {
             return false;
         }
     }
     true
-}
-
-/// Whether this is the entry of a choice that stands so.
-fn is_entry_of(entry: u64, status: Status) -> bool
-    ensures { result ≡ (status_of entry == status_number status) }
-{
-    entry % 8 == status.number()
 }
 
 /// The place of the first of these entries that isn't settled, or how many there are.
@@ -72,13 +63,15 @@ pub(crate) fn first_open(words: &Words) -> usize
     words.len() - SIZE
 }
 
-/// Whether the test of the choice of this number has failed.
-pub(crate) fn has_failed(words: &Words, number: usize) -> bool
+/// What is known of the choice of this number, if its test has failed.
+pub(crate) fn failed_rest(words: &Words, number: usize) -> Option<Rest>
     requires { number ≤ 128 }
-    ensures { result ≡ (nat_lt number (length (statuses_in words.now)) && (slice_index (statuses_in words.now) number == 3)) }
+    ensures failed { is_some result ≡ (nat_lt number (length (statuses_in words.now)) && (slice_index (statuses_in words.now) number == 3)) }
+    ensures rest { IfSome result (λ rest. rest.word ≡ slice_index (map rest_of (entries_of words.now)) number) }
 {
-    match entry(words, number) {
-        Some(entry) => is_entry_of(entry, Status::Failed),
-        None => false,
+    let entry = entry(words, number)?;
+    if !is_entry_of(entry, Status::Failed) {
+        return None;
     }
+    Some(Rest::of(entry))
 }
