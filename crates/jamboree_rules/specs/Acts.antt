@@ -5,12 +5,14 @@ use Rattle.std.specs.Int.{int_max}
 use Rattle.othello_board.specs.declared.cells.Cell.{Cell}
 use Rattle.othello_board.specs.Words.{cells_of}
 use Rattle.othello_moves.specs.Choices.{choices, after, plies}
+use Rattle.othello_eval.specs.declared.bound.BoundKind.{BoundKind}
+use Rattle.othello_eval.specs.declared.bound.BoundKind.TheVariants.{Low, High, Exact}
 use Rattle.sched_rules.specs.declared.act.Act.{Act}
 use Rattle.sched_rules.specs.declared.act.InletAct.{InletAct}
 use Rattle.sched_rules.specs.declared.act.Then.{Then}
 use Rattle.sched_rules.specs.declared.act.Then.TheVariants.{Grow, Spawn, Wait, Compute, Return}
-use Rattle.jamboree_rules.specs.Frames.{Frame, board, choice_at, code_at, floor, least, own_word, opp_word, may_be_child}
-use Rattle.jamboree_rules.specs.Places.{frame_of, is_formed, is_placed, Change, OwnBits, OppBits, Phase, Best, Chosen, Count, Spawned, Status, pairs_of, given_words, frame_size}
+use Rattle.jamboree_rules.specs.Frames.{Frame, board, choice_at, code_at, rest_at, floor, least, own_word, opp_word, may_be_child}
+use Rattle.jamboree_rules.specs.Places.{frame_of, is_formed, is_placed, Change, OwnBits, OppBits, Phase, Best, Chosen, Count, Spawned, Status, rest_with, pairs_of, given_words, frame_size}
 
 -- to return without a store, which is what words of no frame do
 abbrev pub returns : Act
@@ -36,14 +38,15 @@ is_computed grain f b = nat_le f.depth grain || (length (choices b) == 0)
 abbrev pub opening_on : ℕ → Frame → ℕ → ℕ → Act
 opening_on grain f own opp = opening (is_computed grain f (cells_of own opp)) own opp (length (choices (cells_of own opp)))
 
--- phase 0: a root holds its board, and another frame's board is the one after its choice of the parent's board
+-- phase 0: a root holds its board, and is computed outside only at depth 0 or where the game is over, whatever the grain, so that
+-- each of its choices gets an entry; another frame's board is the one after its choice of the parent's board
 abbrev pub opening_under : ℕ → Frame → Option Frame → Act
-opening_under grain f None = opening_on grain f f.own f.opp
+opening_under grain f None = opening_on 0 f f.own f.opp
 opening_under grain f (Some parent) = let b : List Cell = after (board parent) (choice_at parent f.number) in opening_on grain f (own_word b) (opp_word b)
 
--- phase 2: the first child is opened with the whole window, and awaited
+-- phase 2: the first child is opened with the whole window, and awaited; here and in phase 3 a status is stored with the rest that is there
 abbrev pub first_search : Bool → Frame → Act
-first_search true f = record { stores = pairs_of (Spawned 1 ∷ Status 0 1 ∷ []); after = spawns f 1 0 (neg_ℤ f.beta) (neg_ℤ f.alpha) }
+first_search true f = record { stores = pairs_of (Spawned 1 ∷ Status 0 1 (rest_at f 0) ∷ []); after = spawns f 1 0 (neg_ℤ f.beta) (neg_ℤ f.alpha) }
 first_search false f = record { stores = []; after = Wait }
 
 -- the number of the first choice that isn't settled, or how many choices there are
@@ -54,9 +57,9 @@ first_open (status ∷ statuses) = if status == 2 then suc (first_open statuses)
 -- phase 3: the first choice j that isn't settled has failed its test, and is searched again with the window above the floor; else a
 -- choice is left, and is tested just above the floor; else all are settled, and the frame is done; else it waits
 abbrev pub tests : (failed more all : Bool) → Frame → ℕ → Act
-tests true more all f j = record { stores = pairs_of (Status j 4 ∷ []); after = spawns f 3 j (neg_ℤ f.beta) (neg_ℤ (floor f)) }
+tests true more all f j = record { stores = pairs_of (Status j 4 (rest_at f j) ∷ []); after = spawns f 3 j (neg_ℤ f.beta) (neg_ℤ (floor f)) }
 tests false true all f j = record {
-  stores = pairs_of (Spawned (f.spawned + 1) ∷ Status f.spawned 1 ∷ []);
+  stores = pairs_of (Spawned (f.spawned + 1) ∷ Status f.spawned 1 (rest_at f f.spawned) ∷ []);
   after = spawns f 2 f.spawned (neg_ℤ (floor f +ℤ pos 1)) (neg_ℤ (floor f));
 }
 tests false false true f j = record { stores = pairs_of (Phase 4 ∷ []); after = Return }
@@ -92,14 +95,28 @@ next_act grain (own ∷ above) = if is_formed own && is_placed own above then ac
 abbrev pub seen : Frame → ℤ
 seen c = neg_ℤ c.best
 
+-- the kind of a score that was searched for between these ends: low where it is at most the lower, high where it is at least the
+-- upper, and else exact
+abbrev pub kind_by : (low high : Bool) → BoundKind
+kind_by true high = Low
+kind_by false true = High
+kind_by false false = Exact
+
+abbrev pub kind_of : (lower upper score : ℤ) → BoundKind
+kind_of lower upper score = kind_by (int_le score lower) (int_le upper score)
+
+-- what a child's score says of its choice: the ends of its window are seen from the parent, too
+abbrev pub found_of : Frame → ℕ
+found_of c = rest_with (kind_of (neg_ℤ c.beta) (neg_ℤ c.alpha) (seen c)) (seen c)
+
 -- what the inlet of frame f stores of child c: its score is at least beta, and ends the frame; a test was low, and settles the
--- choice; a test failed; a search in full was better than the floor, or it wasn't
+-- choice; a test failed; a search in full was better than the floor, or it wasn't. Beside the status each stores what the score says
 abbrev pub changes_by : (cuts test low higher : Bool) → Frame → Frame → List Change
-changes_by true test low higher f c = Best (seen c) ∷ Chosen (code_at f c.number) ∷ Status c.number 2 ∷ Phase 4 ∷ []
-changes_by false true true higher f c = Best (int_max f.best (seen c)) ∷ Status c.number 2 ∷ []
-changes_by false true false higher f c = Status c.number 3 ∷ []
-changes_by false false low true f c = Best (int_max f.best (seen c)) ∷ Chosen (code_at f c.number) ∷ Status c.number 2 ∷ Phase 3 ∷ []
-changes_by false false low false f c = Best (int_max f.best (seen c)) ∷ Status c.number 2 ∷ Phase 3 ∷ []
+changes_by true test low higher f c = Best (seen c) ∷ Chosen (code_at f c.number) ∷ Status c.number 2 (found_of c) ∷ Phase 4 ∷ []
+changes_by false true true higher f c = Best (int_max f.best (seen c)) ∷ Status c.number 2 (found_of c) ∷ []
+changes_by false true false higher f c = Status c.number 3 (found_of c) ∷ []
+changes_by false false low true f c = Best (int_max f.best (seen c)) ∷ Chosen (code_at f c.number) ∷ Status c.number 2 (found_of c) ∷ Phase 3 ∷ []
+changes_by false false low false f c = Best (int_max f.best (seen c)) ∷ Status c.number 2 (found_of c) ∷ Phase 3 ∷ []
 
 -- the same, from the two frames: the lower end of a test's window, seen from the parent, is -beta of the child
 abbrev pub changes_of : Frame → Frame → List Change

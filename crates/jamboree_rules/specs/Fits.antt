@@ -1,12 +1,15 @@
 -- What is kept true of each frame: it fits its children, and they fit it.
 use Rattle.std.specs.Prelude.{◌≡◌, ◌≢◌, ℕ, ◌-◌, ◌<◌, ◌≤◌, ◌⊎◌, ◌==◌, true, ℤ, pos, neg_ℤ, ◌<ℤ◌, ◌≤ℤ◌, ◌+ℤ◌, List, [], ◌∷◌, map, length, slice_index, count_by}
 use Rattle.othello_moves.specs.Choices.{choices, after, plies}
+use Rattle.othello_eval.specs.declared.bound.BoundKind.TheVariants.{Exact}
 use Rattle.othello_eval.specs.Minimax.{best_choice}
+use Rattle.othello_eval.specs.Tables.{entered}
 use Rattle.leaf_search.specs.Bounds.{IsBound}
 use Rattle.sched_rules.specs.Trees.{kept_words}
 use Rattle.sched_rules.specs.Laws.{Mark, Neither, Computes, HasReturned}
 use Rattle.jamboree_rules.specs.Frames.{Frame, board, choice_at, code_at, coded, value_at, value, floor, least, greatest}
-use Rattle.jamboree_rules.specs.Places.{frame_of, is_formed}
+use Rattle.jamboree_rules.specs.Places.{frame_of, is_formed, kind_in}
+use Rattle.jamboree_rules.specs.Entries.{IsOfKind, IsTrueRest}
 
 -- c is the first child of f: it is searched with the whole window
 pub record IsFirst (f c : Frame) : Type 0 where
@@ -56,21 +59,29 @@ AreChildren f (c ∷ cs) = IsChildOf f c × AreChildren f cs
 abbrev pub how_many : ℕ → List Frame → ℕ
 how_many i children = count_by (λ c. c.number == i) children
 
--- the choice with this code is the first that is worth the best score, and it is settled
-pub record IsFound (v : ℕ → ℤ) (code : ℕ → ℕ) (statuses : List ℕ) (best : ℤ) (choice : ℕ) : Type 0 where
+-- the table, over what the choices are worth, their statuses and what is found of them: a rest for each status, each true, and a
+-- settled choice has a kind
+pub record IsTabled (v : ℕ → ℤ) (statuses rests : List ℕ) : Type 0 where
+  pub places : length rests ≡ length statuses
+  pub holds : (k : ℕ) → IsTrueRest (slice_index rests k) (v k)
+  pub said : (k : ℕ) → slice_index statuses k ≡ 2 → kind_in (slice_index rests k) ≢ 0
+
+-- the choice with this code is the first that is worth the best score; it is settled, and its entry is exact
+pub record IsFound (v : ℕ → ℤ) (code : ℕ → ℕ) (statuses rests : List ℕ) (best : ℤ) (choice : ℕ) : Type 0 where
   pub place : ℕ
   pub inside : place < length statuses
   pub settled : slice_index statuses place ≡ 2
+  pub exact : IsOfKind (slice_index rests place) Exact
   pub named : choice ≡ code place
   pub worth : v place ≡ best
   pub earlier : (k : ℕ) → k < place → v k <ℤ best
 
--- between two searches, over what the choices are worth, their codes and their statuses: the best score is below beta, no settled
+-- between two searches, over what the choices are worth, their codes, their statuses and what is found of them: the best score is below beta, no settled
 -- choice is worth more, and where it is above alpha, the first choice that is worth it is named
-pub record IsSearching (v : ℕ → ℤ) (code : ℕ → ℕ) (statuses : List ℕ) (alpha beta best : ℤ) (choice : ℕ) : Type 0 where
+pub record IsSearching (v : ℕ → ℤ) (code : ℕ → ℕ) (statuses rests : List ℕ) (alpha beta best : ℤ) (choice : ℕ) : Type 0 where
   pub below : best <ℤ beta
   pub settled : (k : ℕ) → k < length statuses → slice_index statuses k ≡ 2 → v k ≤ℤ best
-  pub found : alpha <ℤ best → IsFound v code statuses best choice
+  pub found : alpha <ℤ best → IsFound v code statuses rests best choice
 
 -- phases 2 and 3: a status for each choice, 0 for those that aren't spawned yet
 pub record IsSearchingFrame (f : Frame) : Type 0 where
@@ -79,12 +90,15 @@ pub record IsSearchingFrame (f : Frame) : Type 0 where
   pub deep : 0 < f.depth
   pub spawned_in : f.spawned ≤ length f.statuses
   pub unspawned : (k : ℕ) → f.spawned ≤ k → k < length f.statuses → slice_index f.statuses k ≡ 0
-  pub search : IsSearching (value_at f) (code_at f) f.statuses f.alpha f.beta f.best f.choice
+  pub search : IsSearching (value_at f) (code_at f) f.statuses f.rests f.alpha f.beta f.best f.choice
 
--- phase 4: the best score is a bound of the minimax value, and inside the window the choice is the best choice
+-- phase 4: the best score is a bound of the minimax value, and inside the window the choice is the best choice; below beta each
+-- choice that has a place is settled, and inside the window the best of them is found
 pub record IsDoneFrame (f : Frame) : Type 0 where
   pub bound : IsBound f.alpha f.beta f.best (value f)
   pub named : f.alpha <ℤ f.best → f.best <ℤ f.beta → f.choice ≡ coded (best_choice f.depth (board f))
+  pub all : f.best <ℤ f.beta → (k : ℕ) → k < length f.statuses → slice_index f.statuses k ≡ 2
+  pub found : f.alpha <ℤ f.best → f.best <ℤ f.beta → 0 < length f.statuses → IsFound (value_at f) (code_at f) f.statuses f.rests f.best f.choice
 
 -- what the scheduler knows of a frame agrees with its phase
 abbrev pub IsMarked : ℕ → Mark → Type 0
@@ -99,6 +113,9 @@ pub record Fits (f : Frame) (children : List Frame) (mark : Mark) : Type 0 where
   pub idle : f.phase ≢ 2 → f.phase ≢ 3 → children ≡ []
   pub searching : (f.phase ≡ 2) ⊎ (f.phase ≡ 3) → IsSearchingFrame f
   pub done : f.phase ≡ 4 → IsDoneFrame f
+  -- the table holds in every phase; a root that has begun has a place for each choice, and none at depth 0
+  pub table : IsTabled (value_at f) f.statuses f.rests
+  pub whole : f.role ≡ 0 → f.phase ≢ 0 → length f.statuses ≡ length (entered f.depth (board f))
   pub kin : AreChildren f children
   pub once : (i : ℕ) → how_many i children ≤ 1
 
@@ -116,7 +133,7 @@ pub record IsRoot (origin own : List ℕ) : Type 0 where
   pub alpha_is : (frame_of own).alpha ≡ least
   pub beta_is : (frame_of own).beta ≡ greatest
 
--- what a job keeps of a root that has returned: the first 12 words of words that fit, of a root
+-- what a job keeps of a root that has returned: the first 76 words of words that fit, of a root
 pub record IsKeptRoot (words : List ℕ) : Type 0 where
   pub origin : List ℕ
   pub whole : List ℕ

@@ -1,6 +1,6 @@
 -- A frame of a Jamboree search in the terms of the game: its board, its goal, its place under its parent, and how far it has come.
 -- (Kuszmaul, Synchronized MIMD Computing, 1994: Jamboree search.)
-use Rattle.std.specs.Prelude.{ℕ, ◌==◌, ◌&&◌, ◌||◌, nat_le, nat_lt, Bool, true, ℤ, pos, negsuc, int_le, int_lt, List, Option, Some, None, length, slice_index_or, bit_and, if◌then◌else◌, filter}
+use Rattle.std.specs.Prelude.{ℕ, ◌==◌, ◌&&◌, ◌||◌, nat_le, nat_lt, Bool, true, ℤ, pos, negsuc, int_le, int_lt, List, Option, Some, None, length, slice_index, slice_index_or, bit_and, if◌then◌else◌, filter}
 use Rattle.std.specs.Int.{int_max}
 use Rattle.std.specs.Ordering.{int_eq}
 use Rattle.othello_board.specs.declared.cells.Cell.{Cell}
@@ -28,10 +28,11 @@ pub record Frame : Type 0 where
   -- the best score so far, and the code of the choice that has it
   pub best : ℤ
   pub choice : ℕ
-  -- how many choices there are, how many of them were spawned, and the status of each
+  -- how many choices there are, how many of them were spawned, the status of each, and what is found of each (0 for nothing)
   pub count : ℕ
   pub spawned : ℕ
   pub statuses : List ℕ
+  pub rests : List ℕ
 
 -- the ends of the full window, and the best score of a frame that has none yet (that of the word 0)
 abbrev pub least : ℤ
@@ -64,6 +65,10 @@ code_at f i = code_of (choice_at f i)
 abbrev pub coded : Option Choice → ℕ
 coded None = 65
 coded (Some c) = code_of c
+
+-- what is found of the choice with this number
+abbrev pub rest_at : Frame → ℕ → ℕ
+rest_at f i = slice_index f.rests i
 
 -- what the choice with this number is worth to the mover
 abbrev pub value_at : Frame → ℕ → ℤ

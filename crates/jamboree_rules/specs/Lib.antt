@@ -2,6 +2,7 @@ pub use Rattle.leaf_search.specs as leaf_search
 pub mod Frames
 pub mod Leaves
 pub mod Places
+pub mod Entries
 pub mod Acts
 pub mod Fits
 pub mod Sound

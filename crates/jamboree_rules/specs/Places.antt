@@ -7,9 +7,12 @@
 -- | 5 | role | 6 | number of the choice in the parent's order |
 -- | 7 | phase | 8 | the word of the best score | 9 | the code of the choice, 65 for none |
 -- | 10 | number of choices | 11 | number of choices spawned so far |
--- | 12 + i | status of choice i |
-use Rattle.std.specs.Prelude.{ℕ, ◌+◌, ◌%◌, ◌==◌, ◌&&◌, nat_le, Bool, true, ℤ, pos, ◌+ℤ◌, ◌-ℤ◌, nat_abs, List, [], ◌∷◌, map, drop, length, slice_index, slice_set}
-use Rattle.jamboree_rules.specs.Frames.{Frame, is_frame, may_be_child}
+-- | 12 + i | the entry of choice i: status + 8 * kind + 32 * the word of a score |
+-- The kinds are 1 low, 2 high, 3 exact, and 0 where nothing is found yet, with no score: then the entry is the status.
+use Rattle.std.specs.Prelude.{ℕ, ◌+◌, ◌*◌, ◌/◌, ◌%◌, ◌==◌, ◌&&◌, nat_le, Bool, true, if◌then◌else◌, ℤ, pos, ◌+ℤ◌, ◌-ℤ◌, nat_abs, List, [], ◌∷◌, map, drop, length, slice_index, slice_set}
+use Rattle.othello_eval.specs.declared.bound.BoundKind.{BoundKind}
+use Rattle.othello_eval.specs.declared.bound.BoundKind.TheVariants.{Low, High, Exact}
+use Rattle.jamboree_rules.specs.Frames.{Frame, is_score, is_frame, may_be_child}
 
 -- the score that a word stands for, and the word of a score
 abbrev pub score_of : ℕ → ℤ
@@ -18,9 +21,33 @@ score_of word = pos word -ℤ pos 1000000
 abbrev pub word_of : ℤ → ℕ
 word_of score = nat_abs (score +ℤ pos 1000000)
 
--- the status in an entry: its three low bits
+-- the status in an entry, its three low bits, and the rest of it: what is found of the choice, 0 for nothing
 abbrev pub status_of : ℕ → ℕ
 status_of entry = entry % 8
+
+abbrev pub rest_of : ℕ → ℕ
+rest_of entry = entry / 8
+
+-- the entry of a status and a rest
+abbrev pub entry_of : ℕ → ℕ → ℕ
+entry_of status rest = status + 8 * rest
+
+-- the number of a kind
+abbrev pub kind_number : BoundKind → ℕ
+kind_number Low = 1
+kind_number High = 2
+kind_number Exact = 3
+
+-- the number of the kind in a rest, 0 for none, and the score in it
+abbrev pub kind_in : ℕ → ℕ
+kind_in rest = rest % 4
+
+abbrev pub score_in : ℕ → ℤ
+score_in rest = score_of (rest / 4)
+
+-- the rest of a score of this kind
+abbrev pub rest_with : BoundKind → ℤ → ℕ
+rest_with kind score = kind_number kind + 4 * word_of score
 
 -- the frame in these words
 abbrev pub frame_of : List ℕ → Frame
@@ -38,16 +65,25 @@ frame_of words = record {
   count = slice_index words 10;
   spawned = slice_index words 11;
   statuses = map status_of (drop 12 words);
+  rests = map rest_of (drop 12 words);
 }
 
--- whether each of these entries is a status, 0 to 4
-abbrev pub are_statuses : List ℕ → Bool
-are_statuses [] = true
-are_statuses (entry ∷ entries) = nat_le entry 4 && are_statuses entries
+-- whether this is the rest of an entry: nothing, or a kind with the word of a score from -INF to INF
+abbrev pub is_rest : ℕ → Bool
+is_rest rest = if kind_in rest == 0 then rest == 0 else is_score (score_in rest)
+
+-- whether this is an entry: a status, 0 to 4, and a rest
+abbrev pub is_entry : ℕ → Bool
+is_entry entry = nat_le (status_of entry) 4 && is_rest (rest_of entry)
+
+-- whether each of these is an entry
+abbrev pub are_entries : List ℕ → Bool
+are_entries [] = true
+are_entries (entry ∷ entries) = is_entry entry && are_entries entries
 
 -- whether words have the form of a frame: the places 0 to 11, one place for each choice and no other, and each in its range
 abbrev pub is_formed : List ℕ → Bool
-is_formed words = (length words == 12 + slice_index words 10) && (are_statuses (drop 12 words) && is_frame (frame_of words))
+is_formed words = (length words == 12 + slice_index words 10) && (are_entries (drop 12 words) && is_frame (frame_of words))
 
 -- whether words are those of a frame at the place where they stand: a root with no level above it, or else a child of the parent,
 -- whose words, too, have the form
@@ -64,7 +100,7 @@ pub data Change : Type 0 where
   Chosen : (code : ℕ) → Change
   Count : (count : ℕ) → Change
   Spawned : (count : ℕ) → Change
-  Status : (i status : ℕ) → Change
+  Status : (i status rest : ℕ) → Change
 
 -- the place and the word of a store
 abbrev pub pair_of : Change → ℕ × ℕ
@@ -75,7 +111,7 @@ pair_of (Best score) = (8, word_of score)
 pair_of (Chosen code) = (9, code)
 pair_of (Count count) = (10, count)
 pair_of (Spawned count) = (11, count)
-pair_of (Status i status) = (12 + i, status)
+pair_of (Status i status rest) = (12 + i, entry_of status rest)
 
 -- stores as places and words
 abbrev pub pairs_of : List Change → List (ℕ × ℕ)
@@ -91,7 +127,7 @@ changed (Best score) f = record f { best = score }
 changed (Chosen code) f = record f { choice = code }
 changed (Count count) f = record f { count = count }
 changed (Spawned count) f = record f { spawned = count }
-changed (Status i status) f = record f { statuses = slice_set f.statuses i (status_of status) }
+changed (Status i status rest) f = record f { statuses = slice_set f.statuses i status; rests = slice_set f.rests i rest }
 
 -- the first words of a new frame: a goal with no board known, in this role, for the choice with this number
 abbrev pub given_words : ℕ → ℤ → ℤ → ℕ → ℕ → List ℕ

@@ -5,13 +5,20 @@ use Rattle.std.specs.Prelude.{ℕ, List, [], ◌∷◌}
 abbrev pub opened : List ℕ
 opened = 34628173824 ∷ 68853694464 ∷ 1 ∷ 800000 ∷ 1200000 ∷ 0 ∷ 0 ∷ 2 ∷ 800000 ∷ 65 ∷ 4 ∷ 0 ∷ 0 ∷ 0 ∷ 0 ∷ 0 ∷ []
 
--- the root while its first child is searched
-abbrev pub first_runs : List ℕ
-first_runs = 34628173824 ∷ 68853694464 ∷ 1 ∷ 800000 ∷ 1200000 ∷ 0 ∷ 0 ∷ 2 ∷ 800000 ∷ 65 ∷ 4 ∷ 1 ∷ 1 ∷ 0 ∷ 0 ∷ 0 ∷ []
+-- the root while its first child is searched, to this depth
+abbrev pub first_runs_to : ℕ → List ℕ
+first_runs_to depth = 34628173824 ∷ 68853694464 ∷ depth ∷ 800000 ∷ 1200000 ∷ 0 ∷ 0 ∷ 2 ∷ 800000 ∷ 65 ∷ 4 ∷ 1 ∷ 1 ∷ 0 ∷ 0 ∷ 0 ∷ []
 
--- the root once d3 is worth -3, and c4 has this status
+abbrev pub first_runs : List ℕ
+first_runs = first_runs_to 1
+
+-- a new child under it, for d3, to this depth
+abbrev pub d3_to : ℕ → List ℕ
+d3_to depth = 0 ∷ 0 ∷ depth ∷ 800000 ∷ 1200000 ∷ 1 ∷ 0 ∷ 0 ∷ 0 ∷ 0 ∷ 0 ∷ 0 ∷ []
+
+-- the root once d3 is settled (2), exact (8 * 3) with -3 (32 * 999997), and c4 has this entry
 abbrev pub tests_with : ℕ → ℕ → List ℕ
-tests_with spawned status = 34628173824 ∷ 68853694464 ∷ 1 ∷ 800000 ∷ 1200000 ∷ 0 ∷ 0 ∷ 3 ∷ 999997 ∷ 19 ∷ 4 ∷ spawned ∷ 2 ∷ status ∷ 0 ∷ 0 ∷ []
+tests_with spawned entry = 34628173824 ∷ 68853694464 ∷ 1 ∷ 800000 ∷ 1200000 ∷ 0 ∷ 0 ∷ 3 ∷ 999997 ∷ 19 ∷ 4 ∷ spawned ∷ 31999930 ∷ entry ∷ 0 ∷ 0 ∷ []
 
 -- a child of depth 0, done, with this window, in this role, for this choice, and with this score
 abbrev pub returned : ℕ → ℕ → ℕ → ℕ → ℕ → List ℕ

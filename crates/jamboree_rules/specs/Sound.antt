@@ -1,9 +1,12 @@
 -- That a frame is sound: what its numbers say of the minimax value of its board, and what its children search.
 use Rattle.std.specs.Prelude.{◌≡◌, ◌≢◌, ℕ, ◌-◌, ◌<◌, ◌⊎◌, ℤ, pos, neg_ℤ, ◌<ℤ◌, ◌≤ℤ◌, ◌+ℤ◌, List, [], ◌∷◌, slice_index}
 use Rattle.othello_moves.specs.Choices.{after, plies}
+use Rattle.othello_eval.specs.declared.bound.BoundKind.{BoundKind}
 use Rattle.othello_eval.specs.Minimax.{best_choice}
+use Rattle.othello_eval.specs.Tables.{Says}
 use Rattle.leaf_search.specs.Bounds.{IsBound}
 use Rattle.jamboree_rules.specs.Frames.{Frame, board, choice_at, code_at, coded, value_at, value, floor}
+use Rattle.jamboree_rules.specs.Entries.{HasKind, score_at}
 
 -- choice i of the frame is settled
 abbrev pub IsSettled : Frame → ℕ → Type 0
@@ -34,11 +37,12 @@ abbrev pub HaveGoals : Frame → List Frame → Type 0
 HaveGoals f [] = Unit {0}
 HaveGoals f (c ∷ cs) = HasGoal f c × HaveGoals f cs
 
--- a frame with these children is sound
+-- a frame with these children is sound; in every phase each entry with a kind is true
 pub record IsSound (f : Frame) (cs : List Frame) : Type 0 where
   pub below : (f.phase ≡ 2) ⊎ (f.phase ≡ 3) → f.best <ℤ f.beta
   pub settled : (f.phase ≡ 2) ⊎ (f.phase ≡ 3) → (i : ℕ) → IsSettled f i → value_at f i ≤ℤ f.best
   pub chosen : (f.phase ≡ 2) ⊎ (f.phase ≡ 3) → f.alpha <ℤ f.best → IsFirstBest f
   pub bound : f.phase ≡ 4 → IsBound f.alpha f.beta f.best (value f)
   pub named : f.phase ≡ 4 → f.alpha <ℤ f.best → f.best <ℤ f.beta → f.choice ≡ coded (best_choice f.depth (board f))
+  pub entries : (i : ℕ) (kind : BoundKind) → HasKind f i kind → Says kind (score_at f i) (value_at f i)
   pub children : HaveGoals f cs

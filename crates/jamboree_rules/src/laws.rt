@@ -1,14 +1,16 @@
 //! What holds of every Jamboree search: each contract is a law.
-ghost use Rattle.std.specs.Prelude.{◌≡◌, ℕ, ◌≤◌, List, [], ◌∷◌, ◌++◌, true, false, bit_and, map};
+ghost use Rattle.std.specs.Prelude.{◌≡◌, ◌≢◌, ℕ, ◌<◌, ◌≤◌, List, [], ◌∷◌, ◌++◌, true, false, bit_and, length, map};
 ghost use Rattle.cactus_stack.specs.Nodes.{padded};
 ghost use Rattle.othello_eval.specs.Minimax.{best_choice};
+ghost use Rattle.othello_eval.specs.Tables.{entered, IsTable};
 ghost use Rattle.sched_rules.specs.Trees.{is_outside};
 ghost use Rattle.sched_rules.specs.Lone.{is_bad_act};
 ghost use Rattle.sched_rules.specs.Laws.{Mark, Neither, Computes, HasReturned, has_one, ParentFits, NextKeeps, InletKeeps, AcceptKeeps};
 ghost use Rattle.jamboree_rules.specs.declared.leaf.Leaf.{Leaf};
 ghost use Rattle.jamboree_rules.specs.declared.leaf.LeafAnswer.{LeafAnswer};
-ghost use Rattle.jamboree_rules.specs.Frames.{board, value, coded};
-ghost use Rattle.jamboree_rules.specs.Places.{frame_of, root_words, frame_size};
+ghost use Rattle.jamboree_rules.specs.Frames.{board, rest_at, value, coded};
+ghost use Rattle.jamboree_rules.specs.Places.{frame_of, kind_in, root_words, frame_size};
+ghost use Rattle.jamboree_rules.specs.Entries.{bounds_of};
 ghost use Rattle.jamboree_rules.specs.Acts.{next_act, inlet_act};
 ghost use Rattle.jamboree_rules.specs.Leaves.{leaf_in, accepts, same_leaf};
 ghost use Rattle.jamboree_rules.specs.Fits.{AreFitting, IsRoot};
@@ -53,6 +55,17 @@ pub fn a_returned_root_holds_value_and_choice()
     ensures value { (origin words : List ℕ) → AreFitting words [] HasReturned → IsRoot origin words → (frame_of words).best ≡ value (frame_of words) }
     ensures choice { (origin words : List ℕ) → AreFitting words [] HasReturned → IsRoot origin words →
         (frame_of words).choice ≡ coded (best_choice (frame_of words).depth (board (frame_of words))) }
+{}
+
+/// A returned root holds a table of its board to its depth: it has a place for each choice, and none at
+/// depth 0; each place has a kind; each entry is true, and the best choice's is exact.
+pub fn a_returned_root_holds_a_table()
+    ensures places { (origin words : List ℕ) → AreFitting words [] HasReturned → IsRoot origin words →
+        length (frame_of words).rests ≡ length (entered (frame_of words).depth (board (frame_of words))) }
+    ensures kinds { (origin words : List ℕ) → AreFitting words [] HasReturned → IsRoot origin words →
+        (i : ℕ) → i < length (frame_of words).rests → kind_in (rest_at (frame_of words) i) ≢ 0 }
+    ensures table { (origin words : List ℕ) → AreFitting words [] HasReturned → IsRoot origin words →
+        IsTable (frame_of words).depth (board (frame_of words)) (bounds_of (frame_of words)) }
 {}
 
 /// A frame that fits is sound.

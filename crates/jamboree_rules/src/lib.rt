@@ -3,19 +3,21 @@
 //! A Jamboree search (Kuszmaul, *Synchronized MIMD Computing*, MIT 1994) looks for the minimax value
 //! of an Othello position with many workers. A frame of the scheduler is one node of the tree: its
 //! words hold a board, a depth and a window, what the frame is to its parent, how far it has come,
-//! the best score so far, and a status for each of its choices (`specs/Places.antt`, the only file
+//! the best score so far, and an entry for each of its choices (`specs/Places.antt`, the only file
 //! that knows places). The first choice is searched in full; then all others are tested with a
 //! window of width one; a choice whose test fails is searched again once all before it are settled;
 //! a score of at least beta ends the node and aborts what is under it (`specs/Acts.antt`). Frames
-//! near the leaves are searched serially by one worker ([`LeafAnswer::compute`]).
+//! near the leaves are searched serially by one worker ([`LeafAnswer::compute`]); a root only where it
+//! has no choice to enter: at depth 0, and where the game is over.
 //!
 //! What makes every reply the minimax value, whatever the order of spawns, steals, inlets and aborts,
 //! is one predicate of a frame and its children (`AreFitting` of `specs/Fits.antt`): no settled choice
 //! is worth more than the best score, the stored choice is the first that is worth it, each child's
-//! window is right for its role, and a frame that is done holds a bound of its value. [`laws`] proves
-//! that each act, inlet and answer keeps it, that none of them can be refused, that it makes a frame
-//! sound (`specs/Sound.antt`), and that a returned root then holds value and best choice. [`rows`]
-//! computes worked examples of the acts.
+//! window is right for its role, a frame that is done holds a bound of its value, and what each entry
+//! says of its choice is true (`specs/Entries.antt`). [`laws`] proves that each act, inlet and answer
+//! keeps it, that none of them can be refused, that it makes a frame sound (`specs/Sound.antt`), and
+//! that a returned root then holds value, best choice and a table of bounds. [`rows`] computes worked
+//! examples of the acts.
 //!
 //! ```text
 //! // a leaf of the opening to depth 1, through the full window

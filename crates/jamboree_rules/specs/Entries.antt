@@ -1,0 +1,43 @@
+-- What the entries of a frame say of its choices, and the table that a root holds.
+use Rattle.std.specs.Prelude.{◌≡◌, ℕ, ◌==◌, ℤ, List, [], ◌∷◌, if◌then◌else◌}
+use Rattle.othello_moves.specs.declared.choices.Choice.{Choice}
+use Rattle.othello_moves.specs.Choices.{choices}
+use Rattle.othello_eval.specs.declared.bound.Bound.{Bound}
+use Rattle.othello_eval.specs.declared.bound.BoundKind.{BoundKind}
+use Rattle.othello_eval.specs.declared.bound.BoundKind.TheVariants.{Low, High, Exact}
+use Rattle.othello_eval.specs.Tables.{Says}
+use Rattle.jamboree_rules.specs.Frames.{Frame, board, rest_at}
+use Rattle.jamboree_rules.specs.Places.{kind_number, kind_in, score_in}
+
+-- a rest has this kind
+abbrev pub IsOfKind : ℕ → BoundKind → Type 0
+IsOfKind rest kind = kind_in rest ≡ kind_number kind
+
+-- what a rest says of a value is true; where it has no kind it says nothing
+abbrev pub IsTrueRest : ℕ → ℤ → Type 0
+IsTrueRest rest value = (kind : BoundKind) → IsOfKind rest kind → Says kind (score_in rest) value
+
+-- the kind with this number
+abbrev pub kind_numbered : ℕ → BoundKind
+kind_numbered number = if number == 1 then Low else (if number == 2 then High else Exact)
+
+-- the entry of a choice whose rest has a kind
+abbrev pub bound_in : Choice → ℕ → Bound
+bound_in choice rest = record { choice = choice; score = score_in rest; kind = kind_numbered (kind_in rest) }
+
+-- the entries of these choices, from their rests
+abbrev pub bounds_in : List Choice → List ℕ → List Bound
+bounds_in [] rests = []
+bounds_in (c ∷ cs) [] = []
+bounds_in (c ∷ cs) (rest ∷ rests) = bound_in c rest ∷ bounds_in cs rests
+
+-- the table of a frame: an entry for each choice that has a place
+abbrev pub bounds_of : Frame → List Bound
+bounds_of f = bounds_in (choices (board f)) f.rests
+
+-- the entry of choice i of the frame has this kind, and its score
+abbrev pub HasKind : Frame → ℕ → BoundKind → Type 0
+HasKind f i kind = IsOfKind (rest_at f i) kind
+
+abbrev pub score_at : Frame → ℕ → ℤ
+score_at f i = score_in (rest_at f i)
