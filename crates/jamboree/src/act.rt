@@ -1,10 +1,11 @@
 //! The act of a plan, and the inlet of an intake.
 ghost use Rattle.std.specs.Prelude.{◌≡◌, []};
-ghost use Rattle.jamboree.specs.Intakes.{inlet_for, stores_for};
+ghost use Rattle.jamboree.specs.Intakes.{inlet_for, rest_said, stores_for};
 ghost use Rattle.jamboree.specs.Plans.{act_for, spawn_of};
 
 use crate::codes::NONE;
-use crate::intake::{Finding, Intake};
+use crate::entry::Rest;
+use crate::intake::{Finding, Intake, Said};
 use crate::phases::{Phase, Status};
 use crate::plan::{NewChild, Plan};
 use crate::view::{Changes, spawn};
@@ -92,6 +93,16 @@ fn without_stores(after: Then) -> Act
     Act {
         stores: Stores::new(),
         after,
+    }
+}
+
+impl Said {
+    /// The rest of the choice's entry then.
+    #[inline(always)]
+    fn rest(&self) -> Rest
+        ensures { result.word ≡ rest_said self.now }
+    {
+        Rest::saying(self.known)
     }
 }
 

@@ -1,8 +1,7 @@
 //! What an inlet does, in few words: it is made of them once, at the end.
-ghost use Rattle.std.specs.Prelude.{◌≡◌, ◌≤◌, ◌≤ℤ◌, pos, negsuc};
-ghost use Rattle.jamboree.specs.Intakes.{rest_said};
+ghost use Rattle.std.specs.Prelude.{◌≤◌, ◌≤ℤ◌, pos, negsuc};
 
-use crate::entry::{Known, Rest};
+use crate::entry::Known;
 
 /// What a child says of its choice: the number of the choice, and what is known of it now.
 #[derive(Drop)]
@@ -12,16 +11,6 @@ pub(crate) struct Said {
     ghost few: { number ≤ 64 },
     ghost low: { negsuc 199999 ≤ℤ known.score },
     ghost high: { known.score ≤ℤ pos 1000000 },
-}
-
-impl Said {
-    /// The rest of the choice's entry then.
-    #[inline(always)]
-    pub(crate) fn rest(&self) -> Rest
-        ensures { result.word ≡ rest_said self.now }
-    {
-        Rest::said(self.known)
-    }
 }
 
 /// What it says of a choice that is settled, and the best score of the frame then.

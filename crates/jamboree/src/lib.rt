@@ -26,6 +26,7 @@
 
 mod act;
 mod codes;
+mod entry;
 mod frame;
 mod inlet;
 mod intake;

@@ -1,6 +1,7 @@
 //! Replies, read and shown.
-ghost use Rattle.std.specs.Prelude.{◌≡◌, ◌≤◌, ◌<◌, ◌↔◌, IsSome, IfSome, length, map, slice_get, slice_index, take};
-ghost use Rattle.jamboree_rules.specs.Places.{are_entries};
+ghost use Rattle.std.specs.Prelude.{◌≡◌, ◌≤◌, ◌<◌, ◌↔◌, true, Some, IsSome, IfSome, length, map, slice_get, slice_index, take};
+ghost use Rattle.jamboree_rules.specs.Places.{frame_of, rest_of, are_entries};
+ghost use Rattle.jamboree_rules.specs.Entries.{bounds_of};
 ghost use Rattle.jamboree.specs.Knowledge.{known_of};
 
 use crate::codes::decoded;
@@ -16,7 +17,7 @@ use othello_moves::{Choice, choice};
 fn known_in(entries: &[u64]) -> [Known; MOST]
     requires few { length entries.now ≤ 64 }
     requires entries { are_entries entries.now ≡ true }
-    ensures { take (length entries.now) result ≡ map known_of entries.now }
+    ensures { take (length entries.now) result ≡ map known_of (map rest_of entries.now) }
 {
     let nothing = Known {
         score: 0,
@@ -35,7 +36,7 @@ impl Reply {
     ghost use Rattle.othello_eval.specs.Minimax.{minimax, best_choice};
     ghost use Rattle.othello_eval.specs.Tables.{entered, IsTrueBound, IsExactIfBest, IsTable};
     ghost use Rattle.jamboree_rules.specs.Fits.{IsKeptRoot};
-    ghost use Rattle.jamboree.specs.Replies.{board_of, depth_of, bounds_of, bounds_in};
+    ghost use Rattle.jamboree.specs.Replies.{board_of, depth_of, table_of};
 
     /// The reply in the words that a job kept of its returned root.
     pub fn read(words: &[u64]) -> Reply
@@ -43,7 +44,7 @@ impl Reply {
         ensures own { (board_of result).own ≡ slice_index words.now 0 }
         ensures opp { (board_of result).opp ≡ slice_index words.now 1 }
         ensures depth { depth_of result ≡ slice_index words.now 2 }
-        ensures bounds { bounds_of result ≡ bounds_in words.now }
+        ensures table { table_of result ≡ bounds_of (frame_of words.now) }
     {
         let kept = read_kept(words);
         let entries = kept_entries(words);
@@ -94,8 +95,8 @@ impl Reply {
     pub fn bound_count(&self) -> usize
         ensures value { result ≡ length (entered (depth_of self.now) (cells (board_of self.now))) }
         ensures few { result ≤ 64 }
-        ensures entries { result ≡ length (bounds_of self.now) }
-        ensures table { IsTable (depth_of self.now) (cells (board_of self.now)) (bounds_of self.now) }
+        ensures entries { result ≡ length (table_of self.now) }
+        ensures table { IsTable (depth_of self.now) (cells (board_of self.now)) (table_of self.now) }
     {
         self.count
     }
@@ -103,7 +104,7 @@ impl Reply {
     /// What is known of the choice with this number, from 0, in the order of the choices; None from the
     /// count on. It is true of the minimax value of the choice, and the best choice's is exact.
     pub fn bound(&self, number: usize) -> Option<Bound>
-        ensures value { result ≡ slice_get (bounds_of self.now) number }
+        ensures value { result ≡ slice_get (table_of self.now) number }
         ensures there { IsSome result ↔ (number < length (entered (depth_of self.now) (cells (board_of self.now)))) }
         ensures choice { IfSome result (λ bound. slice_get (choices (cells (board_of self.now))) number ≡ Some bound.choice) }
         ensures holds { IfSome result (IsTrueBound (depth_of self.now) (cells (board_of self.now))) }

@@ -1,5 +1,5 @@
 //! The reply to a job.
-ghost use Rattle.std.specs.Prelude.{◌≡◌, ◌≤◌, length};
+ghost use Rattle.std.specs.Prelude.{◌≡◌, ◌≤◌, length, take};
 ghost use Rattle.std.proofs.Props.{props};
 ghost use Rattle.othello_board.specs.Words.{cells};
 ghost use Rattle.othello_moves.specs.Choices.{choices};

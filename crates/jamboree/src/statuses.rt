@@ -1,9 +1,8 @@
 //! How the choices of a frame stand: the entries behind its first twelve words, segment by segment.
 ghost use Rattle.std.specs.Prelude.{◌≡◌, ◌≤◌, ◌==◌, ◌&&◌, nat_lt, drop, length, map, slice_index};
-ghost use Rattle.jamboree_rules.specs.Places.{status_of, are_statuses};
+ghost use Rattle.jamboree_rules.specs.Places.{status_of, are_entries};
 ghost use Rattle.jamboree_rules.specs.Acts.{first_open};
-ghost use Rattle.jamboree.specs.Numbers.{status_number};
-ghost use Rattle.jamboree.specs.Views.{statuses_in};
+ghost use Rattle.jamboree.specs.Views.{statuses_in, rests_in};
 
 use crate::entry::{Rest, is_entry, is_entry_of};
 use crate::phases::Status;
@@ -63,15 +62,21 @@ pub(crate) fn first_open(words: &Words) -> usize
     words.len() - SIZE
 }
 
-/// What is known of the choice of this number, if its test has failed.
-pub(crate) fn failed_rest(words: &Words, number: usize) -> Option<Rest>
+/// Whether the test of the choice of this number has failed.
+pub(crate) fn has_failed(words: &Words, number: usize) -> bool
     requires { number ≤ 128 }
-    ensures failed { is_some result ≡ (nat_lt number (length (statuses_in words.now)) && (slice_index (statuses_in words.now) number == 3)) }
-    ensures rest { IfSome result (λ rest. rest.word ≡ slice_index (map rest_of (entries_of words.now)) number) }
+    ensures { result ≡ (nat_lt number (length (statuses_in words.now)) && (slice_index (statuses_in words.now) number == 3)) }
 {
-    let entry = entry(words, number)?;
-    if !is_entry_of(entry, Status::Failed) {
-        return None;
+    match entry(words, number) {
+        Some(entry) => is_entry_of(entry, Status::Failed),
+        None => false,
     }
-    Some(Rest::of(entry))
+}
+
+/// The rest of the entry of this number: what is known of the choice.
+pub(crate) fn rest_at(words: &Words, number: usize) -> Rest
+    requires { number ≤ 128 }
+    ensures { result.word ≡ slice_index (rests_in words.now) number }
+{
+    Rest::of(entry(words, number).unwrap_or(0))
 }

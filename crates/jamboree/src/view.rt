@@ -5,7 +5,7 @@
 //! frame in words that have it.
 ghost use Rattle.std.specs.Prelude.{◌≡◌, ◌<◌, ◌≤◌, ◌+◌, ◌++◌, ◌∷◌, [], ◌↔◌, ◌==◌, ◌&&◌, true, IsSome, IfSome, List, ℕ, ◌*◌, ◌-◌, bit_and, drop, length, map, slice_get, slice_index, ◌≤ℤ◌, pos, negsuc};
 ghost use Rattle.jamboree_rules.specs.Frames.{is_leaf, is_frame, is_in_phase, counts_choices, least, greatest};
-ghost use Rattle.jamboree_rules.specs.Places.{score_of, status_of, frame_of, are_statuses, is_formed, pair_of, OwnBits, OppBits, Phase as ToPhase, Best, Chosen, Count, Spawned, Status as ToStatus, given_words, root_words, frame_size};
+ghost use Rattle.jamboree_rules.specs.Places.{score_of, frame_of, is_formed, pair_of, OwnBits, OppBits, Phase as ToPhase, Best, Chosen, Count, Spawned, Status as ToStatus, given_words, root_words, frame_size};
 ghost use Rattle.jamboree_rules.specs.Fits.{AreFitting, IsRoot};
 ghost use Rattle.cactus_stack.specs.Nodes.{padded};
 ghost use Rattle.sched_rules.specs.Laws.{Neither};
