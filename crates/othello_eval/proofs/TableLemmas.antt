@@ -10,4 +10,5 @@ number (Some Pass) = 64
 
 -- a best choice on one square isn't the choice of another
 pub apart : (best : Option Choice) (s t : ℕ) → best ≡ Some (Square s) → s ≢ t → best ≡ Some (Square t) → ⊥
+unfolding number
 apart best s t is other e = other (ap number (sym is ∙ e))

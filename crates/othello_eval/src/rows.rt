@@ -7,7 +7,7 @@ ghost use Rattle.othello_moves.specs.Rows.{two_discs, two_discs_from_there};
 ghost use Rattle.othello_eval.specs.Minimax.{minimax, choice_value, best_choice};
 ghost use Rattle.othello_eval.specs.declared.bound.BoundKind.TheVariants.{Low, High, Exact};
 ghost use Rattle.othello_eval.specs.Tables.{IsTrueBound, IsTable};
-ghost use Rattle.othello_eval.specs.Rows.{all_opposing, no_discs, corner_or_edge};
+ghost use Rattle.othello_eval.specs.Rows.{all_opposing, no_discs, corner_or_edge, entry, equal_moves, corner_and_edge, to_pass};
 
 /// The opening is worth nothing to either side.
 pub fn opening_at_depth_0()
@@ -68,25 +68,20 @@ pub fn corner_outweighs_edge()
 /// One ply from the opening all four moves are worth -3: d3 just that, and the others at most that. At
 /// depth 0 and in a finished game no choice has an entry.
 pub fn tables_of_equal_moves()
-    ensures opening { IsTable 1 opening (record { choice = Square 19; score = negsuc 2; kind = Exact }
-        ∷ record { choice = Square 26; score = negsuc 2; kind = Low }
-        ∷ record { choice = Square 37; score = negsuc 2; kind = Low }
-        ∷ record { choice = Square 44; score = negsuc 2; kind = Low } ∷ []) }
+    ensures opening { IsTable 1 opening equal_moves }
     ensures leaf { IsTable 0 opening [] }
     ensures over { IsTable 12 all_opposing [] }
 {}
 
 /// The corner is worth 89, and e1 at most 40; the one choice to pass is worth -6000.
 pub fn tables_of_a_best_move()
-    ensures corner { IsTable 1 corner_or_edge (record { choice = Square 0; score = pos 89; kind = Exact }
-        ∷ record { choice = Square 4; score = pos 40; kind = Low } ∷ []) }
-    ensures pass { IsTable 1 two_discs_from_there (record { choice = Pass; score = negsuc 5999; kind = Exact } ∷ []) }
+    ensures corner { IsTable 1 corner_or_edge corner_and_edge }
+    ensures pass { IsTable 1 two_discs_from_there to_pass }
 {}
 
 /// No tables: an entry that isn't true, a best choice whose entry isn't exact, and a choice without an entry.
 pub fn no_tables()
-    ensures untrue { IsTrueBound 1 corner_or_edge (record { choice = Square 4; score = pos 39; kind = Low }) → ⊥ }
-    ensures vague { IsTable 1 corner_or_edge (record { choice = Square 0; score = pos 89; kind = High }
-        ∷ record { choice = Square 4; score = pos 40; kind = Low } ∷ []) → ⊥ }
-    ensures short { IsTable 1 corner_or_edge (record { choice = Square 0; score = pos 89; kind = Exact } ∷ []) → ⊥ }
+    ensures untrue { IsTrueBound 1 corner_or_edge (entry (Square 4) Low (pos 39)) → ⊥ }
+    ensures vague { IsTable 1 corner_or_edge (entry (Square 0) High (pos 89) ∷ entry (Square 4) Low (pos 40) ∷ []) → ⊥ }
+    ensures short { IsTable 1 corner_or_edge (entry (Square 0) Exact (pos 89) ∷ []) → ⊥ }
 {}
