@@ -2,7 +2,7 @@
 ghost use Rattle.std.specs.Prelude.{◌≡◌, ◌≤◌, ◌<◌, ◌↔◌, true, Some, IsSome, IfSome, length, map, slice_get, slice_index, take};
 ghost use Rattle.jamboree_rules.specs.Places.{frame_of, rest_of, are_entries};
 ghost use Rattle.jamboree_rules.specs.Entries.{bounds_of};
-ghost use Rattle.jamboree.specs.Knowledge.{known_of};
+ghost use Rattle.jamboree.specs.Knowledge.{known_of, bound_by};
 
 use crate::codes::decoded;
 use crate::entry::{Known, Rest};
@@ -28,6 +28,19 @@ fn known_in(entries: &[u64]) -> [Known; MOST]
         known[number] = Rest::of(*entry).known();
     }
     known
+}
+
+impl Known {
+    /// The entry of a choice of which this is known.
+    fn of(self, choice: Choice) -> Bound
+        ensures { result ≡ bound_by choice self }
+    {
+        Bound {
+            choice,
+            score: self.score,
+            kind: self.kind,
+        }
+    }
 }
 
 impl Reply {
@@ -114,10 +127,6 @@ impl Reply {
             return None;
         }
         let known = self.known[number];
-        Some(Bound {
-            choice: choice(self.board, number),
-            score: known.score,
-            kind: known.kind,
-        })
+        Some(known.of(choice(self.board, number)))
     }
 }

@@ -59,7 +59,7 @@ none-at (origin ∷ origins) (first ∷ jobs) number are is = elim (cases_Bool (
 is-to : (origin : List ℕ) (job : Job) (outcome : Outcome) → HoldsReply origin job → IsOutcomeOf job outcome → IsTo origin outcome
 is-to origin (Live root) outcome holds is = subst (IsTo origin) (sym is) tt
 is-to origin (Done words) outcome holds is =
-    let to : IsReplyOn origin is.0 = record { own = is.2.own ∙ holds.own; opp = is.2.opp ∙ holds.opp; depth = is.2.depth ∙ holds.depth } in
+    let to : IsReplyOn origin is.0 = record { own = is.2.on.own ∙ holds.own; opp = is.2.on.opp ∙ holds.opp; depth = is.2.on.depth ∙ holds.depth } in
     subst (IsTo origin) (sym is.1) to
 is-to origin SpentJob outcome holds is = subst (IsTo origin) (sym is) tt
 is-to origin CancelledJob outcome holds is = subst (IsTo origin) (sym is) tt
