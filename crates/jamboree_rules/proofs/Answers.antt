@@ -1,5 +1,5 @@
 -- An answer, once accepted, leaves the frame fitting; roots; and what a returned root holds.
-use Rattle.std.specs.Prelude.{◌≡◌, ℕ, ◌<◌, ◌≤◌, Bool, true, false, ℤ, pos, negsuc, ◌≤ℤ◌, ◌<ℤ◌, bit_and, List, [], refl, if◌then◌else◌}
+use Rattle.std.specs.Prelude.{◌≡◌, ℕ, ◌<◌, ◌≤◌, Bool, true, false, ℤ, pos, negsuc, ◌≤ℤ◌, ◌<ℤ◌, bit_and, List, [], length, refl, if◌then◌else◌}
 use Rattle.std.proofs.Common.{sym, ◌∙◌, ap, subst, arith, ⊎_elim}
 use Rattle.std.proofs.lemmas.Int.{ints, by_lt_z}
 use Rattle.cactus_stack.specs.Nodes.{padded}
@@ -12,7 +12,7 @@ use Rattle.sched_rules.specs.Trees.{stored, is_outside}
 use Rattle.sched_rules.specs.Laws.{ParentFits, AcceptKeeps, Neither, Computes, HasReturned}
 use Rattle.jamboree_rules.specs.declared.leaf.Leaf.{Leaf}
 use Rattle.jamboree_rules.specs.declared.leaf.LeafAnswer.{LeafAnswer}
-use Rattle.jamboree_rules.specs.Frames.{Frame, board, value, coded, least, greatest}
+use Rattle.jamboree_rules.specs.Frames.{Frame, board, value_at, value, coded, least, greatest}
 use Rattle.jamboree_rules.specs.Places.{frame_of, is_formed, pairs_of, root_words, frame_size}
 use Rattle.jamboree_rules.specs.Leaves.{leaf_in, leaf_of_answer, same_leaf, changes_of_answer, accepts}
 use Rattle.jamboree_rules.specs.Fits.{IsDoneFrame, Fits, AreFitting, IsRoot}
@@ -20,6 +20,8 @@ use Rattle.jamboree_rules.proofs.LeafLemmas.{Has, has-from, same-has, moved, nam
 use Rattle.jamboree_rules.proofs.BoardWords.{length-cells-of}
 use Rattle.jamboree_rules.proofs.Openings.{accepted}
 use Rattle.jamboree_rules.proofs.Forms.{IsFrame, IsFormed, formed-told, formed-passes}
+use Rattle.jamboree_rules.proofs.Steps.{status-count}
+use Rattle.jamboree_rules.proofs.Tabling.{tabled-none}
 use Rattle.jamboree_rules.proofs.Takings.{IsGoodStore, good-store}
 use Rattle.jamboree_rules.proofs.Keeping.{store-above}
 
@@ -49,8 +51,8 @@ answer-good own answer form phase =
     (record { depth = refl; alpha = refl; beta = refl; role = refl; number = refl }) refl refl (λ (e : 4 ≡ 0). absurd (omega arith))
 
 -- an answer to a frame's leaf bounds its value
-answered-done : (own : List ℕ) (answer : LeafAnswer) → IsFormed own → same_leaf answer.leaf (leaf_in own) ≡ true → IsDoneFrame (answered_frame (frame_of own) answer)
-answered-done own answer form alike =
+answered-done : (own : List ℕ) (answer : LeafAnswer) → IsFormed own → (frame_of own).phase ≡ 1 → same_leaf answer.leaf (leaf_in own) ≡ true → IsDoneFrame (answered_frame (frame_of own) answer)
+answered-done own answer form phase alike =
     let f : Frame = frame_of own in
     let there : Has (leaf_in own) f.own f.opp f.depth f.alpha f.beta = has-from f.own f.opp f.depth f.alpha f.beta form.frame.leaf in
     let asked : Has answer.leaf (leaf_in own).board.own (leaf_in own).board.opp (leaf_in own).depth (leaf_in own).alpha (leaf_in own).beta = same-has answer.leaf (leaf_in own) alike in
@@ -61,9 +63,13 @@ answered-done own answer form alike =
       alpha_is = asked.alpha_is ∙ there.alpha_is;
       beta_is = asked.beta_is ∙ there.beta_is;
     } in
+    let early = form.frame.early (omega arith) in
+    let none : length f.statuses ≡ 0 = status-count own form ∙ early.1 in
     record {
       bound = moved answer f.own f.opp f.depth f.alpha f.beta has;
       named = named-by answer f.own f.opp f.depth f.alpha f.beta has;
+      all = λ _ k below. absurd (omega arith);
+      found = λ _ _ some. absurd (omega arith);
     }
 
 chosen-stores : (formed : Bool) (stores : List (ℕ × ℕ)) → formed ≡ true → stores ≡ (if formed then stores else [])
@@ -85,7 +91,7 @@ accept-leaves origin own above older younger answer fits parent alike =
     subst (λ (stores : List (ℕ × ℕ)). AreFitting (stored stores own) [] Neither × ParentFits AreFitting IsRoot origin above older (stored stores own) younger) (accepts-is own answer fits.formed) (
       record {
         formed = formed-passes (stored (pairs_of (changes_of_answer answer)) own) s.formed;
-        frame = subst (λ (h : Frame). Fits h [] Neither) (sym s.is) (accepted f answer.score (coded answer.choice) fits.frame (answered-done own answer form alike));
+        frame = subst (λ (h : Frame). Fits h [] Neither) (sym s.is) (accepted f answer.score (coded answer.choice) fits.frame (answered-done own answer form phase alike));
       },
       store-above origin own (stored (pairs_of (changes_of_answer answer)) own) g above older younger (λ (z : f.phase ≡ 0). absurd (omega arith)) s.is s.goal s.own_is s.opp_is parent,
     )
@@ -133,6 +139,8 @@ root-fits own opp depth apart shallow = (
       idle = λ _ _. refl;
       searching = ⊎_elim (λ (e : 0 ≡ 2). absurd (omega arith)) (λ (e : 0 ≡ 3). absurd (omega arith));
       done = λ (e : 0 ≡ 4). absurd (omega arith);
+      table = tabled-none (value_at (frame_of (padded (root_words own opp depth) frame_size))) [] [] refl refl;
+      whole = λ _ known. absurd (known refl);
       kin = tt;
       once = λ i. omega arith;
     };
@@ -157,6 +165,17 @@ root-holds origin words low high fits root =
     let under : f.best <ℤ greatest = below-beta f.best (value f) bound high in
     let named : least <ℤ f.best → f.best <ℤ greatest → f.choice ≡ coded (best_choice f.depth (board f)) = rw (root.alpha_is, root.beta_is) at done.named in
     (sym (bound.exact over under), named over under)
+
+-- its score lies inside the full window, which is its own
+pub root-inside : (origin words : List ℕ) → AreFitting words [] HasReturned → IsRoot origin words → ((frame_of words).alpha <ℤ (frame_of words).best) × ((frame_of words).best <ℤ (frame_of words).beta)
+root-inside origin words fits root =
+    let f : Frame = frame_of words in
+    let within : IsWithin 128000 (value f) = minimax_within f.depth (board f) (length-cells-of f.own f.opp) in
+    let done = fits.frame.done fits.frame.marked in
+    let bound : IsBound least greatest f.best (value f) = rw (root.alpha_is, root.beta_is) at done.bound in
+    let over : least <ℤ f.best = above-alpha f.best (value f) bound (omega (arith, ints, within.0)) in
+    let under : f.best <ℤ greatest = below-beta f.best (value f) bound (omega (arith, ints, within.1)) in
+    (subst (λ (a : ℤ). a <ℤ f.best) (sym root.alpha_is) over, subst (λ (b : ℤ). f.best <ℤ b) (sym root.beta_is) under)
 
 -- the value of every board lies between -128,000 and 128,000
 pub root-value : (origin words : List ℕ) → AreFitting words [] HasReturned → IsRoot origin words →

@@ -74,11 +74,13 @@ IsGreatest-frame f deep some =
     subst (λ (m : ℤ). IsGreatest (value_at f) (length (choices (board f))) m) (sym (minimax-deeper f.depth (board f) deep)) g
 
 -- the choice that is found first with the greatest value is the best choice
-pub named-best : (f : Frame) (st : List ℕ) → 0 < f.depth → length st ≡ length (choices (board f)) → IsFound (value_at f) (code_at f) st f.best f.choice → value f ≡ f.best → f.choice ≡ coded (best_choice f.depth (board f))
-named-best f st deep len found same =
+pub found-best : (f : Frame) (st rests : List ℕ) → 0 < f.depth → length st ≡ length (choices (board f)) → (found : IsFound (value_at f) (code_at f) st rests f.best f.choice) → value f ≡ f.best → best_choice f.depth (board f) ≡ Some (choice_at f found.place)
+found-best f st rests deep len found same =
     let p : Choice → Bool = λ c. int_equal (choice_value f.depth (board f) c) (minimax f.depth (board f)) in
-    let first : find p (choices (board f)) ≡ Some (choice_at f found.place) =
-    find-is p Pass (choices (board f)) found.place (omega (arith, found.inside))
+    best_choice-deeper f.depth (board f) deep
+    ∙ find-is p Pass (choices (board f)) found.place (omega (arith, found.inside))
     (int_equal-same (value_at f found.place) (value f) (found.worth ∙ sym same))
-    (λ k below. int_equal-below (value_at f k) (value f) (subst (λ (m : ℤ). value_at f k <ℤ m) (sym same) (found.earlier k below))) in
-    found.named ∙ ap coded (sym first) ∙ ap coded (sym (best_choice-deeper f.depth (board f) deep))
+    (λ k below. int_equal-below (value_at f k) (value f) (subst (λ (m : ℤ). value_at f k <ℤ m) (sym same) (found.earlier k below)))
+
+pub named-best : (f : Frame) (st rests : List ℕ) → 0 < f.depth → length st ≡ length (choices (board f)) → IsFound (value_at f) (code_at f) st rests f.best f.choice → value f ≡ f.best → f.choice ≡ coded (best_choice f.depth (board f))
+named-best f st rests deep len found same = found.named ∙ ap coded (sym (found-best f st rests deep len found same))

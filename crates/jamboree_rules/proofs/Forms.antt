@@ -9,7 +9,7 @@ use Rattle.othello_moves.specs.Choices.{choices}
 use Rattle.sched_rules.specs.Trees.{stored}
 use Rattle.jamboree_rules.specs.Frames.{Frame, board, least, greatest, unscored, is_leaf, is_score, is_searching, counts_choices, is_in_phase, is_frame, may_be_child}
 use Rattle.jamboree_rules.specs.Leaves.{IsLeaf, leaf-told}
-use Rattle.jamboree_rules.specs.Places.{frame_of, are_statuses, is_formed, Change, pairs_of}
+use Rattle.jamboree_rules.specs.Places.{frame_of, are_entries, is_formed, Change, pairs_of}
 use Rattle.jamboree_rules.proofs.PlaceLemmas.{AreSafe, changed_by, length-stored, frame-stored, entries-stored}
 
 -- the numbers of a frame are in their ranges
@@ -86,19 +86,19 @@ frame-passes f h =
 -- words have the form of a frame
 pub record IsFormed (words : List ℕ) : Type 0 where
   pub places : length words ≡ 12 + (frame_of words).count
-  pub entries : are_statuses (drop 12 words) ≡ true
+  pub entries : are_entries (drop 12 words) ≡ true
   pub frame : IsFrame (frame_of words)
 
 pub formed-told : (words : List ℕ) → is_formed words ≡ true → IsFormed words
 formed-told words h =
-    let a = and_parts (length words == 12 + (frame_of words).count) (are_statuses (drop 12 words) && is_frame (frame_of words)) h in
-    let b = and_parts (are_statuses (drop 12 words)) (is_frame (frame_of words)) a.1 in
+    let a = and_parts (length words == 12 + (frame_of words).count) (are_entries (drop 12 words) && is_frame (frame_of words)) h in
+    let b = and_parts (are_entries (drop 12 words)) (is_frame (frame_of words)) a.1 in
     record { places = eqb-true (length words) (12 + (frame_of words).count) a.0; entries = b.0; frame = frame-told (frame_of words) b.1 }
 
 pub formed-passes : (words : List ℕ) → IsFormed words → is_formed words ≡ true
 formed-passes words h =
-    and_from (length words == 12 + (frame_of words).count) (are_statuses (drop 12 words) && is_frame (frame_of words)) (eq-eqb (length words) (12 + (frame_of words).count) h.places)
-    (and_from (are_statuses (drop 12 words)) (is_frame (frame_of words)) h.entries (frame-passes (frame_of words) h.frame))
+    and_from (length words == 12 + (frame_of words).count) (are_entries (drop 12 words) && is_frame (frame_of words)) (eq-eqb (length words) (12 + (frame_of words).count) h.places)
+    (and_from (are_entries (drop 12 words)) (is_frame (frame_of words)) h.entries (frame-passes (frame_of words) h.frame))
 
 -- words have the form after stores that leave the count
 pub formed-stored : (changes : List Change) (w : List ℕ) → IsFormed w → AreSafe changes → (changed_by changes (frame_of w)).count ≡ (frame_of w).count → IsFrame (changed_by changes (frame_of w)) →

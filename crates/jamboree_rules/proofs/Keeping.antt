@@ -1,11 +1,12 @@
 -- The laws of Jamboree as a procedure: frames stay fitting, whatever the order of spawns, steals, inlets and aborts.
 use Rattle.std.specs.Prelude.{◌≡◌, ◌≢◌, ℕ, zero, suc, ◌<◌, ◌≤◌, ◌⊎◌, ◌==◌, ◌&&◌, ◌||◌, nat_lt, nat_le, Bool, true, false, int_le, bit_and, List, [], ◌∷◌, ◌++◌, map, length, refl, slice_index, if◌then◌else◌}
 use Rattle.std.proofs.Common.{sym, ◌∙◌, ap, subst, arith, inl, inr}
-use Rattle.std.proofs.lemmas.Bool.{and_from, eq-eqb}
+use Rattle.std.proofs.lemmas.Bool.{and_from, eq-eqb, cases_eq}
 use Rattle.std.proofs.lemmas.Bool.Decides.{nat_tests}
 use Rattle.othello_board.specs.declared.cells.Cell.{Cell}
 use Rattle.othello_board.specs.Words.{cells_of}
 use Rattle.othello_moves.specs.Choices.{choices, after}
+use Rattle.othello_eval.specs.Tables.{entered}
 use Rattle.sched_rules.specs.declared.act.Act.{Act}
 use Rattle.sched_rules.specs.declared.act.InletAct.{InletAct}
 use Rattle.sched_rules.specs.Functions.{Functions}
@@ -16,6 +17,7 @@ use Rattle.jamboree_rules.specs.Frames.{Frame, board, choice_at, own_word, opp_w
 use Rattle.jamboree_rules.specs.Places.{frame_of, is_formed, is_placed, pairs_of}
 use Rattle.jamboree_rules.specs.Acts.{returns, is_computed, opening_on, opening_under, first_open, act_by, act_of, parent_in, next_act, seen, changes_of, inlet_of, inlet_act}
 use Rattle.jamboree_rules.specs.Fits.{IsInRole, First, Test, Again, IsChildOf, IsSearchingFrame, Fits, AreFitting, IsRoot}
+use Rattle.jamboree_rules.proofs.Tabling.{entered-none}
 use Rattle.jamboree_rules.proofs.Kinship.{IsSameGoal, parent-kept, child-of, in-search}
 use Rattle.jamboree_rules.proofs.BoardWords.{words-apart, after-holds}
 use Rattle.jamboree_rules.proofs.Forms.{IsFormed, formed-told, formed-passes, child-passes}
@@ -124,22 +126,35 @@ computed-told grain depth n e = (grind (arith, nat_tests), grind (arith, nat_tes
 abbrev pub Goes : List ℕ → List (List ℕ) → List (List ℕ) → Act → Type 0
 Goes own above children act = (o : ℕ) × (p : ℕ) × IsGoodAct own children o p act × IsBoardOf above (frame_of own) o p
 
-opening-goes : (grain : ℕ) (own : List ℕ) (above children : List (List ℕ)) (o p : ℕ) → (frame_of own).phase ≡ 0 → bit_and o p ≡ 0 → IsBoardOf above (frame_of own) o p →
-    IsFormed own → Fits (frame_of own) (map frame_of children) Neither → Goes own above children (opening_on grain (frame_of own) o p)
-opening-goes grain own above children o p phase apart words form fits =
-    (o, p, opening-good (is_computed grain (frame_of own) (cells_of o p)) own children o p (λ e. computed-told grain (frame_of own).depth (length (choices (cells_of o p))) e) apart phase form fits, words)
+-- a root has no grain
+over-told : (depth n : ℕ) → (nat_le depth 0 || (n == 0)) ≡ true → (depth ≡ 0) ⊎ (n ≡ 0)
+over-told depth n e = elim (cases_eq depth 0) [ inl none ↦ inl none | inr more ↦ inr (none-left depth n e more) ]
+  where
+    none-left : (depth n : ℕ) → (nat_le depth 0 || (n == 0)) ≡ true → depth ≢ 0 → n ≡ 0
+    none-left depth n e more = grind (arith, nat_tests)
 
-opens : (grain : ℕ) (own : List ℕ) (above children : List (List ℕ)) → (frame_of own).phase ≡ 0 → IsFormed own → Fits (frame_of own) (map frame_of children) Neither → Goes own above children (opening_under grain (frame_of own) (parent_in above))
-opens grain own [] children phase form fits = opening-goes grain own [] children (frame_of own).own (frame_of own).opp phase form.frame.leaf.disjoint (refl, refl) form fits
-opens grain own (parent ∷ above) children phase form fits =
+root-over : (f : Frame) (b : List Cell) → is_computed 0 f b ≡ true → length (entered f.depth b) ≡ 0
+root-over f b e = entered-none f.depth b (over-told f.depth (length (choices b)) e)
+
+opening-goes : (grain : ℕ) (own : List ℕ) (above children : List (List ℕ)) (o p : ℕ) → (is_computed grain (frame_of own) (cells_of o p) ≡ true → (frame_of own).role ≡ 0 → length (entered (frame_of own).depth (cells_of o p)) ≡ 0) →
+    (frame_of own).phase ≡ 0 → bit_and o p ≡ 0 → IsBoardOf above (frame_of own) o p → IsFormed own → Fits (frame_of own) (map frame_of children) Neither → Goes own above children (opening_on grain (frame_of own) o p)
+opening-goes grain own above children o p over phase apart words form fits =
+    (o, p, opening-good (is_computed grain (frame_of own) (cells_of o p)) own children o p (λ e. computed-told grain (frame_of own).depth (length (choices (cells_of o p))) e) over apart phase form fits, words)
+
+opens : (grain : ℕ) (origin own : List ℕ) (above older younger children : List (List ℕ)) → (frame_of own).phase ≡ 0 → IsFormed own → Fits (frame_of own) (map frame_of children) Neither →
+    ParentFits AreFitting IsRoot origin above older own younger → Goes own above children (opening_under grain (frame_of own) (parent_in above))
+opens grain origin own [] older younger children phase form fits root =
+    opening-goes 0 own [] children (frame_of own).own (frame_of own).opp (λ e _. root-over (frame_of own) (board (frame_of own)) e) phase form.frame.leaf.disjoint (refl, refl) form fits
+opens grain origin own (parent ∷ above) older younger children phase form fits there =
     let q : Frame = frame_of parent in
     let b : List Cell = after (board q) (choice_at q (frame_of own).number) in
-    opening-goes grain own (parent ∷ above) children (own_word b) (opp_word b) phase (words-apart b) (after-holds q.own q.opp (choice_at q (frame_of own).number)) form fits
+    let kin : IsChildOf q (frame_of own) = kin-of parent own older younger Neither there in
+    opening-goes grain own (parent ∷ above) children (own_word b) (opp_word b) (λ _ (root : (frame_of own).role ≡ 0). absurd (omega (arith, root, role-there q (frame_of own) kin.in_role))) phase (words-apart b) (after-holds q.own q.opp (choice_at q (frame_of own).number)) form fits
 
 act-goes : (p0 p1 p2 p3 : Bool) (grain : ℕ) (origin own : List ℕ) (above older younger children : List (List ℕ)) →
     p0 ≡ ((frame_of own).phase == 0) → p1 ≡ ((frame_of own).phase == 1) → p2 ≡ ((frame_of own).phase == 2) → p3 ≡ ((frame_of own).phase == 3) →
     IsFormed own → Fits (frame_of own) (map frame_of children) Neither → ParentFits AreFitting IsRoot origin above older own younger → Goes own above children (act_by p0 p1 p2 p3 grain (frame_of own) (parent_in above))
-act-goes true p1 p2 p3 grain origin own above older younger children e0 e1 e2 e3 form fits parent = opens grain own above children (none-told (frame_of own).phase e0) form fits
+act-goes true p1 p2 p3 grain origin own above older younger children e0 e1 e2 e3 form fits parent = opens grain origin own above older younger children (none-told (frame_of own).phase e0) form fits parent
 act-goes false true p2 p3 grain origin own above older younger children e0 e1 e2 e3 form fits parent = absurd (fits.marked (is-told (frame_of own).phase 1 e1))
 act-goes false false true p3 grain origin own above older younger children e0 e1 e2 e3 form fits parent = (
   (frame_of own).own,
@@ -242,7 +257,7 @@ inlet-leaves origin own child above older younger before behind fits parent retu
       record {
         formed = formed-passes after s.formed;
         frame = subst (λ (g : Frame). Fits g (map frame_of (children_left cuts (before ++ behind))) Neither) (sym s.is)
-            (subst (λ (fs : List Frame). Fits (frame_after f c) fs Neither) (sym (left-joined cuts before behind)) (inlet-fits f c (map frame_of before) (map frame_of behind) there returned.frame));
+            (subst (λ (fs : List Frame). Fits (frame_after f c) fs Neither) (sym (left-joined cuts before behind)) (inlet-fits f c (map frame_of before) (map frame_of behind) there returned.frame (formed-told child returned.formed).frame));
       },
       store-above origin own after (frame_after f c) above older younger (searching-known f phase) s.is s.goal s.own_is s.opp_is parent,
     )

@@ -9,21 +9,26 @@ use Rattle.othello_moves.specs.Choices.{after, plies}
 use Rattle.leaf_search.specs.Bounds.{IsBound}
 use Rattle.sched_rules.specs.Laws.{Neither, HasReturned}
 use Rattle.othello_eval.specs.Minimax.{best_choice}
-use Rattle.jamboree_rules.specs.Fits.{IsSearching}
+use Rattle.othello_eval.specs.declared.bound.BoundKind.TheVariants.{Exact}
+use Rattle.othello_eval.specs.Tables.{entered}
+use Rattle.jamboree_rules.specs.Fits.{IsSearching, IsTabled}
+use Rattle.jamboree_rules.specs.Entries.{IsOfKind, IsTrueRest}
+use Rattle.jamboree_rules.specs.Acts.{found_of}
 use Rattle.jamboree_rules.proofs.Searching.{all_settled, IsSearching-mark, IsSearching-low, IsSearching-higher, set_there, set_beside, set_length, low_side, high_side, inner_side, cut, IsGreatest}
-use Rattle.jamboree_rules.specs.Frames.{Frame, coded, board, choice_at, code_at, value_at, value, floor}
+use Rattle.jamboree_rules.specs.Frames.{Frame, coded, board, choice_at, code_at, rest_at, value_at, value, floor}
 use Rattle.jamboree_rules.specs.Fits.{IsFirst, IsTest, IsAgain, IsInRole, First, Test, Again, IsChildOf, AreChildren, how_many, IsSearchingFrame, Fits}
 use Rattle.jamboree_rules.proofs.Roles.{worth_of, role-kept-mark}
+use Rattle.jamboree_rules.proofs.Tabling.{found-said, tabled-set, tabled-kept}
 
 -- a child of another number stays a child where a choice is settled
-pub role-kept-settle : (f c : Frame) (i choice : ℕ) (best : ℤ) → i < length f.statuses → c.number ≢ i → f.phase ≡ 3 →
+pub role-kept-settle : (f c : Frame) (i choice rest : ℕ) (best : ℤ) → i < length f.statuses → c.number ≢ i → f.phase ≡ 3 →
     floor f ≤ℤ int_max f.alpha best → (IsAgain f c → int_max f.alpha best ≡ floor f) →
-    IsInRole f c → IsInRole (record f { phase = 3; best = best; choice = choice; statuses = slice_set f.statuses i 2 }) c
-role-kept-settle f c i choice best inside other phase more same (First r) = absurd (omega (arith, r.phase, phase))
-role-kept-settle f c i choice best inside other phase more same (Test r) =
+    IsInRole f c → IsInRole (record f { phase = 3; best = best; choice = choice; statuses = slice_set f.statuses i 2; rests = slice_set f.rests i rest }) c
+role-kept-settle f c i choice rest best inside other phase more same (First r) = absurd (omega (arith, r.phase, phase))
+role-kept-settle f c i choice rest best inside other phase more same (Test r) =
     let most : neg_ℤ c.beta ≤ℤ floor f = r.most in
     Test (record { role = r.role; phase = refl; status = set_beside f.statuses i 2 c.number other ∙ r.status; low = r.low; least = r.least; most = omega (arith, ints, clamps) })
-role-kept-settle f c i choice best inside other phase more same (Again r) = Again (record {
+role-kept-settle f c i choice rest best inside other phase more same (Again r) = Again (record {
   role = r.role;
   phase = refl;
   status = set_beside f.statuses i 2 c.number other ∙ r.status;
@@ -71,6 +76,8 @@ pub record IsTakenIn (f f' : Frame) (i : ℕ) : Type 0 where
   pub phase : f'.phase ≡ 3
   pub window : f'.alpha <ℤ f'.beta
   pub searching : IsSearchingFrame f'
+  pub table : IsTabled (value_at f') f'.statuses f'.rests
+  pub whole : f'.role ≡ 0 → length f'.statuses ≡ length (entered f'.depth (board f'))
   pub step : (c : Frame) → c.number ≢ i → IsChildOf f c → IsChildOf f' c
 
 pub Fits-taken : (f f' c : Frame) (before behind : List Frame) → Fits f (before ++ c ∷ behind) Neither → IsTakenIn f f' c.number → Fits f' (before ++ behind) Neither
@@ -87,6 +94,8 @@ Fits-taken f f' c before behind fits t =
       idle = λ _ not3. absurd (not3 t.phase);
       searching = λ _. t.searching;
       done = λ (e : f'.phase ≡ 4). absurd (omega arith);
+      table = t.table;
+      whole = λ root _. t.whole root;
       kin = children-joined f' before behind
           (children-kept f f' c.number t.step before none_before (children-front f before (c ∷ behind) fits.kin))
           (children-kept f f' c.number t.step behind none_behind (children-back f before (c ∷ behind) fits.kin).1);
@@ -108,6 +117,10 @@ in-search f c (First r) = inl r.phase
 in-search f c (Test r) = inr r.phase
 in-search f c (Again r) = inr r.phase
 
+begun-phase : (f : Frame) → (f.phase ≡ 2) ⊎ (f.phase ≡ 3) → f.phase ≢ 0
+begun-phase f (inl e) = λ (z : f.phase ≡ 0). absurd (omega arith)
+begun-phase f (inr e) = λ (z : f.phase ≡ 0). absurd (omega arith)
+
 -- a child with status 1 or 4 isn't settled
 pub unsettled : (f c : Frame) → IsInRole f c → slice_index f.statuses c.number ≢ 2
 unsettled f c (First r) = λ e. absurd (omega (arith, r.status, e))
@@ -127,14 +140,18 @@ unspawned-set st i x spawned here h k low high =
     let zero : slice_index st k ≡ 0 = h k low below in
     set_beside st i x k (λ (e : k ≡ i). here (subst (λ j. slice_index st j ≡ 0) e zero)) ∙ zero
 
+-- a root that has begun keeps its places
+whole-set : (f c : Frame) (children : List Frame) (x : ℕ) → IsInRole f c → Fits f children Neither → f.role ≡ 0 → length (slice_set f.statuses c.number x) ≡ length (entered f.depth (board f))
+whole-set f c children x role fits root = set_length f.statuses c.number x ∙ fits.whole root (begun-phase f (in-search f c role))
+
 -- inlet case 4: a test above its window's lower end, below beta
-pub inlet-failed : (f c : Frame) (before behind : List Frame) → Fits f (before ++ c ∷ behind) Neither → Fits c [] HasReturned → IsTest f c →
-    Fits (record f { statuses = slice_set f.statuses c.number 3 }) (before ++ behind) Neither
-inlet-failed f c before behind fits returned test =
+pub inlet-failed : (f c : Frame) (before behind : List Frame) → Fits f (before ++ c ∷ behind) Neither → Fits c [] HasReturned → IsTrueRest (found_of c) (value_at f c.number) → IsTest f c →
+    Fits (record f { statuses = slice_set f.statuses c.number 3; rests = slice_set f.rests c.number (found_of c) }) (before ++ behind) Neither
+inlet-failed f c before behind fits returned holds test =
     let kin : IsChildOf f c = child-of f c before behind fits.kin in
     let s : IsSearchingFrame f = fits.searching (inr test.phase) in
     let open_ : slice_index f.statuses c.number ≢ 2 = unsettled f c kin.in_role in
-    let f' : Frame = record f { statuses = slice_set f.statuses c.number 3 } in
+    let f' : Frame = record f { statuses = slice_set f.statuses c.number 3; rests = slice_set f.rests c.number (found_of c) } in
     Fits-taken f f' c before behind fits (record {
       own = refl;
       phase = test.phase;
@@ -145,13 +162,15 @@ inlet-failed f c before behind fits returned test =
         deep = s.deep;
         spawned_in = rw (set_length f.statuses c.number 3) s.spawned_in;
         unspawned = unspawned-set f.statuses c.number 3 f.spawned (begun f c kin.in_role) s.unspawned;
-        search = IsSearching-mark (value_at f) (code_at f) f.statuses f.alpha f.beta f.best f.choice c.number 3 kin.inside open_ (λ e. absurd (omega (arith, e))) s.search;
+        search = IsSearching-mark (value_at f) (code_at f) f.statuses f.rests f.alpha f.beta f.best f.choice c.number 3 (found_of c) kin.inside open_ (λ e. absurd (omega (arith, e))) s.search;
       };
+      table = tabled-set (value_at f) f.statuses f.rests c.number 3 (found_of c) kin.inside holds (λ _. found-said c) fits.table;
+      whole = whole-set f c (before ++ c ∷ behind) 3 kin.in_role fits;
       step = λ d other dkin. record {
         inside = rw (set_length f.statuses c.number 3) dkin.inside;
         shallower = dkin.shallower;
         known = dkin.known;
-        in_role = role-kept-mark f d c.number 3 kin.inside other open_ dkin.in_role;
+        in_role = role-kept-mark f d c.number 3 (found_of c) kin.inside other open_ dkin.in_role;
       };
     })
 
@@ -168,12 +187,12 @@ scored f c before behind fits returned kin =
 
 -- inlet cases 2 and 3 with a score that is at most the greater of alpha and best, and an upper bound of the choice's value
 pub inlet-low : (f c : Frame) (before behind : List Frame) → Fits f (before ++ c ∷ behind) Neither →
-    neg_ℤ c.best ≤ℤ floor f → value_at f c.number ≤ℤ neg_ℤ c.best → f.phase ≡ 3 →
-    Fits (record f { phase = 3; best = int_max f.best (neg_ℤ c.best); statuses = slice_set f.statuses c.number 2 }) (before ++ behind) Neither
-inlet-low f c before behind fits low worth phase =
+    neg_ℤ c.best ≤ℤ floor f → value_at f c.number ≤ℤ neg_ℤ c.best → IsTrueRest (found_of c) (value_at f c.number) → f.phase ≡ 3 →
+    Fits (record f { phase = 3; best = int_max f.best (neg_ℤ c.best); statuses = slice_set f.statuses c.number 2; rests = slice_set f.rests c.number (found_of c) }) (before ++ behind) Neither
+inlet-low f c before behind fits low worth holds phase =
     let kin : IsChildOf f c = child-of f c before behind fits.kin in
     let s : IsSearchingFrame f = fits.searching (inr phase) in
-    let f' : Frame = record f { phase = 3; best = int_max f.best (neg_ℤ c.best); statuses = slice_set f.statuses c.number 2 } in
+    let f' : Frame = record f { phase = 3; best = int_max f.best (neg_ℤ c.best); statuses = slice_set f.statuses c.number 2; rests = slice_set f.rests c.number (found_of c) } in
     Fits-taken f f' c before behind fits (record {
       own = refl;
       phase = refl;
@@ -184,13 +203,15 @@ inlet-low f c before behind fits low worth phase =
         deep = s.deep;
         spawned_in = rw (set_length f.statuses c.number 2) s.spawned_in;
         unspawned = unspawned-set f.statuses c.number 2 f.spawned (begun f c kin.in_role) s.unspawned;
-        search = IsSearching-low (value_at f) (code_at f) f.statuses f.alpha f.beta f.best (neg_ℤ c.best) f.choice c.number fits.window kin.inside low worth s.search;
+        search = IsSearching-low (value_at f) (code_at f) f.statuses f.rests f.alpha f.beta f.best (neg_ℤ c.best) f.choice c.number (found_of c) fits.window kin.inside (unsettled f c kin.in_role) low worth s.search;
       };
+      table = tabled-set (value_at f) f.statuses f.rests c.number 2 (found_of c) kin.inside holds (λ _. found-said c) fits.table;
+      whole = whole-set f c (before ++ c ∷ behind) 2 kin.in_role fits;
       step = λ d other dkin. record {
         inside = rw (set_length f.statuses c.number 2) dkin.inside;
         shallower = dkin.shallower;
         known = dkin.known;
-        in_role = role-kept-settle f d c.number f.choice (int_max f.best (neg_ℤ c.best)) kin.inside other phase (omega (arith, ints, clamps)) (λ _. omega (arith, ints, clamps)) dkin.in_role;
+        in_role = role-kept-settle f d c.number f.choice (found_of c) (int_max f.best (neg_ℤ c.best)) kin.inside other phase (omega (arith, ints, clamps)) (λ _. omega (arith, ints, clamps)) dkin.in_role;
       };
     })
 
@@ -206,12 +227,12 @@ one-again f c d r q other =
 
 -- inlet case 2 of a search again, with a better score
 pub inlet-higher : (f c : Frame) (before behind : List Frame) → Fits f (before ++ c ∷ behind) Neither → IsAgain f c →
-    floor f <ℤ neg_ℤ c.best → neg_ℤ c.best <ℤ f.beta → value_at f c.number ≡ neg_ℤ c.best →
-    Fits (record f { phase = 3; best = int_max f.best (neg_ℤ c.best); choice = code_at f c.number; statuses = slice_set f.statuses c.number 2 }) (before ++ behind) Neither
-inlet-higher f c before behind fits again high under worth =
+    floor f <ℤ neg_ℤ c.best → neg_ℤ c.best <ℤ f.beta → value_at f c.number ≡ neg_ℤ c.best → IsTrueRest (found_of c) (value_at f c.number) → IsOfKind (found_of c) Exact →
+    Fits (record f { phase = 3; best = int_max f.best (neg_ℤ c.best); choice = code_at f c.number; statuses = slice_set f.statuses c.number 2; rests = slice_set f.rests c.number (found_of c) }) (before ++ behind) Neither
+inlet-higher f c before behind fits again high under worth holds exact =
     let kin : IsChildOf f c = child-of f c before behind fits.kin in
     let s : IsSearchingFrame f = fits.searching (inr again.phase) in
-    let f' : Frame = record f { phase = 3; best = int_max f.best (neg_ℤ c.best); choice = code_at f c.number; statuses = slice_set f.statuses c.number 2 } in
+    let f' : Frame = record f { phase = 3; best = int_max f.best (neg_ℤ c.best); choice = code_at f c.number; statuses = slice_set f.statuses c.number 2; rests = slice_set f.rests c.number (found_of c) } in
     Fits-taken f f' c before behind fits (record {
       own = refl;
       phase = refl;
@@ -222,22 +243,24 @@ inlet-higher f c before behind fits again high under worth =
         deep = s.deep;
         spawned_in = rw (set_length f.statuses c.number 2) s.spawned_in;
         unspawned = unspawned-set f.statuses c.number 2 f.spawned (begun f c kin.in_role) s.unspawned;
-        search = IsSearching-higher (value_at f) (code_at f) f.statuses f.alpha f.beta f.best (neg_ℤ c.best) f.choice c.number kin.inside high under worth again.earlier s.search;
+        search = IsSearching-higher (value_at f) (code_at f) f.statuses f.rests f.alpha f.beta f.best (neg_ℤ c.best) f.choice c.number (found_of c) kin.inside fits.table.places exact high under worth again.earlier s.search;
       };
+      table = tabled-set (value_at f) f.statuses f.rests c.number 2 (found_of c) kin.inside holds (λ _. found-said c) fits.table;
+      whole = whole-set f c (before ++ c ∷ behind) 2 kin.in_role fits;
       step = λ d other dkin. record {
         inside = rw (set_length f.statuses c.number 2) dkin.inside;
         shallower = dkin.shallower;
         known = dkin.known;
-        in_role = role-kept-settle f d c.number (code_at f c.number) (int_max f.best (neg_ℤ c.best)) kin.inside other again.phase (omega (arith, ints, clamps))
+        in_role = role-kept-settle f d c.number (code_at f c.number) (found_of c) (int_max f.best (neg_ℤ c.best)) kin.inside other again.phase (omega (arith, ints, clamps))
             (λ r. absurd (one-again f c d again r other)) dkin.in_role;
       };
     })
 
 -- inlet case 1: the frame is done, and has no child
 pub inlet-cut : (f c : Frame) (before behind : List Frame) (m : ℤ) (g : IsGreatest (value_at f) (length f.statuses) (value f)) → Fits f (before ++ c ∷ behind) Neither →
-    f.beta ≤ℤ neg_ℤ c.best → neg_ℤ c.best ≤ℤ value_at f c.number →
-    Fits (record f { phase = 4; best = neg_ℤ c.best; choice = code_at f c.number; statuses = slice_set f.statuses c.number 2 }) [] Neither
-inlet-cut f c before behind m g fits high under =
+    f.beta ≤ℤ neg_ℤ c.best → neg_ℤ c.best ≤ℤ value_at f c.number → IsTrueRest (found_of c) (value_at f c.number) →
+    Fits (record f { phase = 4; best = neg_ℤ c.best; choice = code_at f c.number; statuses = slice_set f.statuses c.number 2; rests = slice_set f.rests c.number (found_of c) }) [] Neither
+inlet-cut f c before behind m g fits high under holds =
     let kin : IsChildOf f c = child-of f c before behind fits.kin in
     record {
       window = fits.window;
@@ -247,7 +270,11 @@ inlet-cut f c before behind m g fits high under =
       done = λ _. record {
         bound = cut (value_at f) (length f.statuses) f.alpha f.beta (neg_ℤ c.best) (value f) c.number kin.inside fits.window high under g;
         named = λ _ (low : neg_ℤ c.best <ℤ f.beta). absurd (omega (arith, ints));
+        all = λ (low : neg_ℤ c.best <ℤ f.beta). absurd (omega (arith, ints));
+        found = λ _ (low : neg_ℤ c.best <ℤ f.beta). absurd (omega (arith, ints));
       };
+      table = tabled-set (value_at f) f.statuses f.rests c.number 2 (found_of c) kin.inside holds (λ _. found-said c) fits.table;
+      whole = λ root _. whole-set f c (before ++ c ∷ behind) 2 kin.in_role fits root;
       kin = tt;
       once = λ i. omega arith;
     }
@@ -259,13 +286,13 @@ first-alone f c d first (Test r) other = absurd (omega (arith, first.phase, r.ph
 first-alone f c d first (Again r) other = absurd (omega (arith, first.phase, r.phase))
 
 -- inlet case 2 of the first child: below beta
-pub inlet-first : (f c : Frame) (before behind : List Frame) (choice : ℕ) → Fits f (before ++ c ∷ behind) Neither → IsFirst f c →
-    IsSearching (value_at f) (code_at f) (slice_set f.statuses c.number 2) f.alpha f.beta (int_max f.best (neg_ℤ c.best)) choice →
-    Fits (record f { phase = 3; best = int_max f.best (neg_ℤ c.best); choice = choice; statuses = slice_set f.statuses c.number 2 }) (before ++ behind) Neither
-inlet-first f c before behind choice fits first search =
+pub inlet-first : (f c : Frame) (before behind : List Frame) (choice : ℕ) → Fits f (before ++ c ∷ behind) Neither → IsFirst f c → IsTrueRest (found_of c) (value_at f c.number) →
+    IsSearching (value_at f) (code_at f) (slice_set f.statuses c.number 2) (slice_set f.rests c.number (found_of c)) f.alpha f.beta (int_max f.best (neg_ℤ c.best)) choice →
+    Fits (record f { phase = 3; best = int_max f.best (neg_ℤ c.best); choice = choice; statuses = slice_set f.statuses c.number 2; rests = slice_set f.rests c.number (found_of c) }) (before ++ behind) Neither
+inlet-first f c before behind choice fits first holds search =
     let kin : IsChildOf f c = child-of f c before behind fits.kin in
     let s : IsSearchingFrame f = fits.searching (inl first.phase) in
-    let f' : Frame = record f { phase = 3; best = int_max f.best (neg_ℤ c.best); choice = choice; statuses = slice_set f.statuses c.number 2 } in
+    let f' : Frame = record f { phase = 3; best = int_max f.best (neg_ℤ c.best); choice = choice; statuses = slice_set f.statuses c.number 2; rests = slice_set f.rests c.number (found_of c) } in
     Fits-taken f f' c before behind fits (record {
       own = refl;
       phase = refl;
@@ -278,6 +305,8 @@ inlet-first f c before behind choice fits first search =
         unspawned = unspawned-set f.statuses c.number 2 f.spawned (begun f c kin.in_role) s.unspawned;
         search = search;
       };
+      table = tabled-set (value_at f) f.statuses f.rests c.number 2 (found_of c) kin.inside holds (λ _. found-said c) fits.table;
+      whole = whole-set f c (before ++ c ∷ behind) 2 kin.in_role fits;
       step = λ d other dkin. first-alone f c d first dkin.in_role other;
     })
 
@@ -336,10 +365,11 @@ none-for f i (c ∷ cs) not1 not4 kin =
     let apart : c.number ≢ i = λ e. not-there f c i not1 not4 e kin.0.in_role in
     grind (arith, common_steps, rest, apart)
 
-respawned : (f c : Frame) (spawned i x : ℕ) → IsInRole (record f { statuses = slice_set f.statuses i x }) c → IsInRole (record f { spawned = spawned; statuses = slice_set f.statuses i x }) c
-respawned f c spawned i x (First r) = First (record { role = r.role; phase = r.phase; number = r.number; status = r.status; low = r.low; high = r.high })
-respawned f c spawned i x (Test r) = Test (record { role = r.role; phase = r.phase; status = r.status; low = r.low; least = r.least; most = r.most })
-respawned f c spawned i x (Again r) = Again (record { role = r.role; phase = r.phase; status = r.status; low = r.low; high = r.high; earlier = r.earlier })
+respawned : (f c : Frame) (spawned i x rest : ℕ) → IsInRole (record f { statuses = slice_set f.statuses i x; rests = slice_set f.rests i rest }) c →
+    IsInRole (record f { spawned = spawned; statuses = slice_set f.statuses i x; rests = slice_set f.rests i rest }) c
+respawned f c spawned i x rest (First r) = First (record { role = r.role; phase = r.phase; number = r.number; status = r.status; low = r.low; high = r.high })
+respawned f c spawned i x rest (Test r) = Test (record { role = r.role; phase = r.phase; status = r.status; low = r.low; least = r.least; most = r.most })
+respawned f c spawned i x rest (Again r) = Again (record { role = r.role; phase = r.phase; status = r.status; low = r.low; high = r.high; earlier = r.earlier })
 
 once-more : (j i : ℕ) (c : Frame) (children : List Frame) → c.number ≡ i → how_many i children ≡ 0 → how_many j children ≤ 1 → how_many j (children ++ c ∷ []) ≡ how_many j children + how_many j (c ∷ []) → how_many j (children ++ c ∷ []) ≤ 1
 once-more j i c children number none most sum =
@@ -358,11 +388,11 @@ once-more j i c children number none most sum =
 pub spawned-child : (f c : Frame) (children : List Frame) (i x spawned : ℕ) → Fits f children Neither → (f.phase ≡ 2) ⊎ (f.phase ≡ 3) →
     i < length f.statuses → slice_index f.statuses i ≢ 1 → slice_index f.statuses i ≢ 2 → slice_index f.statuses i ≢ 4 → x ≢ 2 → x ≢ 0 →
     f.spawned ≤ spawned → spawned ≤ length f.statuses → i < spawned →
-    c.number ≡ i → IsChildOf (record f { spawned = spawned; statuses = slice_set f.statuses i x }) c →
-    Fits (record f { spawned = spawned; statuses = slice_set f.statuses i x }) (children ++ c ∷ []) Neither
+    c.number ≡ i → IsChildOf (record f { spawned = spawned; statuses = slice_set f.statuses i x; rests = slice_set f.rests i (rest_at f i) }) c →
+    Fits (record f { spawned = spawned; statuses = slice_set f.statuses i x; rests = slice_set f.rests i (rest_at f i) }) (children ++ c ∷ []) Neither
 spawned-child f c children i x spawned fits phase inside not1 not2 not4 x2 x0 more few before number kin =
     let s : IsSearchingFrame f = fits.searching phase in
-    let f' : Frame = record f { spawned = spawned; statuses = slice_set f.statuses i x } in
+    let f' : Frame = record f { spawned = spawned; statuses = slice_set f.statuses i x; rests = slice_set f.rests i (rest_at f i) } in
     let none : how_many i children ≡ 0 = none-for f i children not1 not4 fits.kin in
     record {
       window = fits.window;
@@ -374,15 +404,17 @@ spawned-child f c children i x spawned fits phase inside not1 not2 not4 x2 x0 mo
         deep = s.deep;
         spawned_in = rw (set_length f.statuses i x) (omega arith);
         unspawned = λ k low high. set_beside f.statuses i x k (λ (e : k ≡ i). omega arith) ∙ s.unspawned k (omega arith) (omega (arith, set_length f.statuses i x));
-        search = IsSearching-mark (value_at f) (code_at f) f.statuses f.alpha f.beta f.best f.choice i x inside not2 x2 s.search;
+        search = IsSearching-mark (value_at f) (code_at f) f.statuses f.rests f.alpha f.beta f.best f.choice i x (rest_at f i) inside not2 x2 s.search;
       };
       done = λ (e : f.phase ≡ 4). ⊎_elim (λ (p : f.phase ≡ 2). absurd (omega arith)) (λ (p : f.phase ≡ 3). absurd (omega arith)) phase;
+      table = tabled-kept (value_at f) f.statuses f.rests i x inside x2 fits.table;
+      whole = λ root known. set_length f.statuses i x ∙ fits.whole root known;
       kin = children-joined f' children (c ∷ [])
           (children-kept f f' i (λ d other dkin. record {
             inside = rw (set_length f.statuses i x) dkin.inside;
             shallower = dkin.shallower;
             known = dkin.known;
-            in_role = respawned f d spawned i x (role-kept-mark f d i x inside other not2 dkin.in_role);
+            in_role = respawned f d spawned i x (rest_at f i) (role-kept-mark f d i x (rest_at f i) inside other not2 dkin.in_role);
           }) children none fits.kin)
           (kin, tt);
       once = λ j.
@@ -458,6 +490,8 @@ parent-kept p c c' older younger g fits = record {
   idle = λ no2 no3. not-empty older younger c (fits.idle no2 no3);
   searching = fits.searching;
   done = fits.done;
+  table = fits.table;
+  whole = fits.whole;
   kin = kin-replaced p c c' older younger g fits.kin;
   once = λ i. rw (many-replaced i c c' older younger g.number) (fits.once i);
 }
@@ -479,7 +513,14 @@ next-settled f children fits phase all g named =
         marked = refl;
         idle = λ _ _. refl;
         searching = ⊎_elim (λ (e : 4 ≡ 2). absurd (omega arith)) (λ (e : 4 ≡ 3). absurd (omega arith));
-        done = λ _. record { bound = all_settled (value_at f) (code_at f) f.statuses f.alpha f.beta f.best (value f) f.choice s.search all g; named = named };
+        done = λ _. record {
+          bound = all_settled (value_at f) (code_at f) f.statuses f.rests f.alpha f.beta f.best (value f) f.choice s.search all g;
+          named = named;
+          all = λ _. all;
+          found = λ higher _ _. s.search.found higher;
+        };
+        table = fits.table;
+        whole = λ root _. fits.whole root (λ (e : f.phase ≡ 0). absurd (omega arith));
         kin = tt;
         once = λ i. omega arith;
       },
@@ -495,6 +536,8 @@ next-done f children fits phase = (
     idle = λ _ _. refl;
     searching = fits.searching;
     done = fits.done;
+    table = fits.table;
+    whole = fits.whole;
     kin = tt;
     once = λ i. omega arith;
   },

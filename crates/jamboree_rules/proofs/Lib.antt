@@ -1,4 +1,6 @@
+pub mod Packing
 pub mod Searching
+pub mod Tabling
 pub mod Roles
 pub mod Best
 pub mod Kinship
@@ -12,4 +14,6 @@ pub mod Takings
 pub mod Keeping
 pub mod LeafLemmas
 pub mod Answers
+pub mod Distinct
+pub mod Rooted
 pub mod Soundness

@@ -1,28 +1,23 @@
 -- Stores by what they set: the frame in the words after them, and the form of these words.
-use Rattle.std.specs.Prelude.{◌≡◌, ◌≢◌, ℕ, ◌+◌, ◌<◌, ◌≤◌, ◌==◌, nat_le, true, ℤ, ◌≤ℤ◌, if◌then◌else◌, List, [], ◌∷◌, ◌++◌, map, drop, replicate, length, refl, slice_index, slice_set}
+use Rattle.std.specs.Prelude.{◌≡◌, ◌≢◌, ℕ, ◌+◌, ◌<◌, ◌≤◌, ◌==◌, true, ℤ, ◌≤ℤ◌, if◌then◌else◌, List, [], ◌∷◌, ◌++◌, map, drop, replicate, length, refl, slice_index, slice_set}
 use Rattle.std.proofs.Common.{zero, suc, zero-add, suc-add, sym, ◌∙◌, ap, arith}
 use Rattle.std.proofs.lemmas.Grind.{common_steps}
-use Rattle.std.proofs.lemmas.Bool.{le-leb}
 use Rattle.std.proofs.lemmas.List.{get_or-set_other, get_or-set_same, map-set}
 use Rattle.std.proofs.lemmas.List.Recursion.{and_set}
-use Rattle.std.proofs.lemmas.Int.{ints}
 use Rattle.std.proofs.Math.ListN.{length-set}
 use Rattle.std.proofs.Math.Path.{fun_ext}
 use Rattle.sched_rules.specs.Trees.{stored}
+use Rattle.jamboree_rules.proofs.Packing.{held, status-read, rest-read, entry-passes}
 use Rattle.jamboree_rules.specs.Frames.{Frame, least}
-use Rattle.jamboree_rules.specs.Places.{score_of, word_of, status_of, frame_of, are_statuses, Change, OwnBits, OppBits, Phase, Best, Chosen, Count, Spawned, Status, pair_of, pairs_of, changed}
-
--- the word of a score holds it
-pub held : (s : ℤ) → least ≤ℤ s → score_of (word_of s) ≡ s
-held s low = omega (arith, ints)
+use Rattle.jamboree_rules.specs.Places.{score_of, word_of, status_of, rest_of, entry_of, frame_of, is_rest, is_entry, are_entries, Change, OwnBits, OppBits, Phase, Best, Chosen, Count, Spawned, Status, pair_of, pairs_of, changed}
 
 -- a word among others changed
 abbrev pub put : (ℕ → ℕ) → ℕ → ℕ → ℕ → ℕ
 put g k x j = if j == k then x else g j
 
--- the frame of these first words and statuses
+-- the frame of these first words and entries
 abbrev pub frame_with : (ℕ → ℕ) → List ℕ → Frame
-frame_with g statuses = record {
+frame_with g entries = record {
   own = g 0;
   opp = g 1;
   depth = g 2;
@@ -35,7 +30,8 @@ frame_with g statuses = record {
   choice = g 9;
   count = g 10;
   spawned = g 11;
-  statuses = statuses;
+  statuses = map status_of entries;
+  rests = map rest_of entries;
 }
 
 pub there : (w : List ℕ) (place x : ℕ) → place < length w → slice_index (slice_set w place x) place ≡ x
@@ -56,14 +52,14 @@ drop-behind w zero i x = ap (λ j. slice_set w j x) (zero-add i)
 drop-behind [] (suc n) i x = refl
 drop-behind (y ∷ w) (suc n) i x = rw suc-add (drop-behind w n i x)
 
-set-first : (w : List ℕ) (k x : ℕ) → k < 12 → 12 ≤ length w → frame_of (slice_set w k x) ≡ frame_with (put (slice_index w) k x) (map status_of (drop 12 w))
+set-first : (w : List ℕ) (k x : ℕ) → k < 12 → 12 ≤ length w → frame_of (slice_set w k x) ≡ frame_with (put (slice_index w) k x) (drop 12 w)
 set-first w k x early long =
     let words : slice_index (slice_set w k x) ≡ put (slice_index w) k x = fun_ext (λ j. put-is w k x j (omega arith)) in
-    let statuses : drop 12 (slice_set w k x) ≡ drop 12 w = drop-front w 12 k x early in
-    ap (λ (g : ℕ → ℕ). frame_with g (map status_of (drop 12 (slice_set w k x)))) words ∙ ap (λ (st : List ℕ). frame_with (put (slice_index w) k x) (map status_of st)) statuses
+    let entries : drop 12 (slice_set w k x) ≡ drop 12 w = drop-front w 12 k x early in
+    ap (λ (g : ℕ → ℕ). frame_with g (drop 12 (slice_set w k x))) words ∙ ap (λ (es : List ℕ). frame_with (put (slice_index w) k x) es) entries
 
-set-status : (w : List ℕ) (i x : ℕ) → frame_of (slice_set w (12 + i) x) ≡ record (frame_of w) { statuses = slice_set (map status_of (drop 12 w)) i (status_of x) }
-set-status w i x =
+set-entry : (w : List ℕ) (i x : ℕ) → frame_of (slice_set w (12 + i) x) ≡ record (frame_of w) { statuses = slice_set (map status_of (drop 12 w)) i (status_of x); rests = slice_set (map rest_of (drop 12 w)) i (rest_of x) }
+set-entry w i x =
     let same : (j : ℕ) → j < 12 → slice_index (slice_set w (12 + i) x) j ≡ slice_index w j = λ j below. beside w j (12 + i) x (λ e. absurd (omega (arith, e))) in
     rw (
       same 0 (omega arith),
@@ -80,9 +76,17 @@ set-status w i x =
       same 11 (omega arith),
       drop-behind w 12 i x,
       map-set status_of (drop 12 w) i x,
+      map-set rest_of (drop 12 w) i x,
     )
 
--- what is stored can be read again: a score is one, and a status is one
+-- an entry that is set is read again
+set-both : (w : List ℕ) (i status rest : ℕ) → status ≤ 4 → frame_of (slice_set w (12 + i) (entry_of status rest)) ≡ changed (Status i status rest) (frame_of w)
+set-both w i status rest small =
+    set-entry w i (entry_of status rest)
+    ∙ ap (λ (x : ℕ). record (frame_of w) { statuses = slice_set (map status_of (drop 12 w)) i x; rests = slice_set (map rest_of (drop 12 w)) i (rest_of (entry_of status rest)) }) (status-read status rest small)
+    ∙ ap (λ (x : ℕ). record (frame_of w) { statuses = slice_set (map status_of (drop 12 w)) i status; rests = slice_set (map rest_of (drop 12 w)) i x }) (rest-read status rest small)
+
+-- what is stored can be read again: a score is one, and a status and a rest are
 abbrev pub IsSafe : Change → Type 0
 IsSafe (OwnBits word) = Unit {0}
 IsSafe (OppBits word) = Unit {0}
@@ -91,7 +95,7 @@ IsSafe (Best score) = least ≤ℤ score
 IsSafe (Chosen code) = Unit {0}
 IsSafe (Count count) = Unit {0}
 IsSafe (Spawned count) = Unit {0}
-IsSafe (Status i status) = status ≤ 4
+IsSafe (Status i status rest) = (status ≤ 4) × (is_rest rest ≡ true)
 
 abbrev pub AreSafe : List Change → Type 0
 AreSafe [] = Unit {0}
@@ -106,7 +110,7 @@ set-one (Best score) w safe long = set-first w 8 (word_of score) (omega arith) l
 set-one (Chosen code) w safe long = set-first w 9 code (omega arith) long
 set-one (Count count) w safe long = set-first w 10 count (omega arith) long
 set-one (Spawned count) w safe long = set-first w 11 count (omega arith) long
-set-one (Status i status) w safe long = set-status w i status
+set-one (Status i status rest) w safe long = set-both w i status rest safe.0
 
 -- the frame after stores
 abbrev pub changed_by : List Change → Frame → Frame
@@ -124,11 +128,11 @@ frame-stored (change ∷ changes) w safe long =
     frame-stored changes (slice_set w (pair_of change).0 (pair_of change).1) safe.1 (omega (arith, length-set w (pair_of change).0 (pair_of change).1))
     ∙ ap (λ (f : Frame). changed_by changes f) (set-one change w safe.0 long)
 
--- entries stay statuses
-entries-front : (w : List ℕ) (k x : ℕ) → k < 12 → are_statuses (drop 12 w) ≡ true → are_statuses (drop 12 (slice_set w k x)) ≡ true
-entries-front w k x early h = ap are_statuses (drop-front w 12 k x early) ∙ h
+-- entries stay entries
+entries-front : (w : List ℕ) (k x : ℕ) → k < 12 → are_entries (drop 12 w) ≡ true → are_entries (drop 12 (slice_set w k x)) ≡ true
+entries-front w k x early h = ap are_entries (drop-front w 12 k x early) ∙ h
 
-entries-one : (change : Change) (w : List ℕ) → IsSafe change → are_statuses (drop 12 w) ≡ true → are_statuses (drop 12 (slice_set w (pair_of change).0 (pair_of change).1)) ≡ true
+entries-one : (change : Change) (w : List ℕ) → IsSafe change → are_entries (drop 12 w) ≡ true → are_entries (drop 12 (slice_set w (pair_of change).0 (pair_of change).1)) ≡ true
 entries-one (OwnBits word) w safe h = entries-front w 0 word (omega arith) h
 entries-one (OppBits word) w safe h = entries-front w 1 word (omega arith) h
 entries-one (Phase phase) w safe h = entries-front w 7 phase (omega arith) h
@@ -136,11 +140,11 @@ entries-one (Best score) w safe h = entries-front w 8 (word_of score) (omega ari
 entries-one (Chosen code) w safe h = entries-front w 9 code (omega arith) h
 entries-one (Count count) w safe h = entries-front w 10 count (omega arith) h
 entries-one (Spawned count) w safe h = entries-front w 11 count (omega arith) h
-entries-one (Status i status) w safe h =
-    ap are_statuses (drop-behind w 12 i status)
-    ∙ and_set are_statuses (λ entry. nat_le entry 4) refl (λ entry entries. refl) (drop 12 w) i status (le-leb status 4 safe) h
+entries-one (Status i status rest) w safe h =
+    ap are_entries (drop-behind w 12 i (entry_of status rest))
+    ∙ and_set are_entries is_entry refl (λ entry entries. refl) (drop 12 w) i (entry_of status rest) (entry-passes status rest safe.0 safe.1) h
 
-pub entries-stored : (changes : List Change) (w : List ℕ) → AreSafe changes → are_statuses (drop 12 w) ≡ true → are_statuses (drop 12 (stored (pairs_of changes) w)) ≡ true
+pub entries-stored : (changes : List Change) (w : List ℕ) → AreSafe changes → are_entries (drop 12 w) ≡ true → are_entries (drop 12 (stored (pairs_of changes) w)) ≡ true
 entries-stored [] w safe h = h
 entries-stored (change ∷ changes) w safe h =
     entries-stored changes (slice_set w (pair_of change).0 (pair_of change).1) safe.1 (entries-one change w safe.0 h)
@@ -160,11 +164,15 @@ statuses-zeros : (n : ℕ) → map status_of (replicate n 0) ≡ replicate n 0
 statuses-zeros zero = refl
 statuses-zeros (suc n) = ap (λ rest. 0 ∷ rest) (statuses-zeros n)
 
-pub entries-zeros : (n : ℕ) → are_statuses (replicate n 0) ≡ true
+rests-zeros : (n : ℕ) → map rest_of (replicate n 0) ≡ replicate n 0
+rests-zeros zero = refl
+rests-zeros (suc n) = ap (λ rest. 0 ∷ rest) (rests-zeros n)
+
+pub entries-zeros : (n : ℕ) → are_entries (replicate n 0) ≡ true
 entries-zeros zero = refl
 entries-zeros (suc n) = entries-zeros n
 
-pub frame-grown : (w : List ℕ) (n : ℕ) → length w ≡ 12 → frame_of (w ++ replicate n 0) ≡ record (frame_of w) { statuses = replicate n 0 }
+pub frame-grown : (w : List ℕ) (n : ℕ) → length w ≡ 12 → frame_of (w ++ replicate n 0) ≡ record (frame_of w) { statuses = replicate n 0; rests = replicate n 0 }
 frame-grown w n len =
     let long : 12 ≤ length w = omega arith in
     let same : (j : ℕ) → j < 12 → slice_index (w ++ replicate n 0) j ≡ slice_index w j = λ j below. first-grown w (replicate n 0) j long below in
@@ -183,4 +191,5 @@ frame-grown w n len =
       same 11 (omega arith),
       drop-grown w (replicate n 0) len,
       statuses-zeros n,
+      rests-zeros n,
     )

@@ -13,10 +13,10 @@ pub worth_of : (f c : Frame) → IsChildOf f c → c.phase ≢ 0 → value_at f 
 worth_of f c kin there = ap neg_ℤ (ap (λ (d : ℕ). minimax d (after (board f) (choice_at f c.number))) (sym kin.shallower) ∙ ap (λ (b : List Cell). minimax c.depth b) (sym (kin.known there)))
 
 -- a child of another number stays a child where a status is set that isn't its own and that no other search again relies on
-pub role-kept-mark : (f c : Frame) (i x : ℕ) → i < length f.statuses → c.number ≢ i → slice_index f.statuses i ≢ 2 → IsInRole f c → IsInRole (record f { statuses = slice_set f.statuses i x }) c
-role-kept-mark f c i x inside other unsettled (First r) = First (record { role = r.role; phase = r.phase; number = r.number; status = set_beside f.statuses i x c.number other ∙ r.status; low = r.low; high = r.high })
-role-kept-mark f c i x inside other unsettled (Test r) = Test (record { role = r.role; phase = r.phase; status = set_beside f.statuses i x c.number other ∙ r.status; low = r.low; least = r.least; most = r.most })
-role-kept-mark f c i x inside other unsettled (Again r) = Again (record {
+pub role-kept-mark : (f c : Frame) (i x rest : ℕ) → i < length f.statuses → c.number ≢ i → slice_index f.statuses i ≢ 2 → IsInRole f c → IsInRole (record f { statuses = slice_set f.statuses i x; rests = slice_set f.rests i rest }) c
+role-kept-mark f c i x rest inside other unsettled (First r) = First (record { role = r.role; phase = r.phase; number = r.number; status = set_beside f.statuses i x c.number other ∙ r.status; low = r.low; high = r.high })
+role-kept-mark f c i x rest inside other unsettled (Test r) = Test (record { role = r.role; phase = r.phase; status = set_beside f.statuses i x c.number other ∙ r.status; low = r.low; least = r.least; most = r.most })
+role-kept-mark f c i x rest inside other unsettled (Again r) = Again (record {
   role = r.role;
   phase = r.phase;
   status = set_beside f.statuses i x c.number other ∙ r.status;

@@ -35,6 +35,7 @@ frame-sound f cs mark fits = record {
   chosen = λ phase higher. let found = (fits.searching phase).search.found higher in record { place = found.place; stored = found.named; settled = found.settled; worth = found.worth; earlier = found.earlier };
   bound = λ phase. (fits.done phase).bound;
   named = λ phase. (fits.done phase).named;
+  entries = λ i kind has. fits.table.holds i kind has;
   children = goals-of f cs fits.kin;
 }
 

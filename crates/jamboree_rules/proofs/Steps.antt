@@ -15,9 +15,10 @@ use Rattle.sched_rules.specs.declared.act.Then.TheVariants.{Grow, Wait, Compute,
 use Rattle.sched_rules.specs.Trees.{stored, is_outside}
 use Rattle.sched_rules.specs.Lone.{is_bad_then, is_bad_act}
 use Rattle.sched_rules.specs.Laws.{NewChildFits, Mark, Neither, HasReturned, grown, children_after, mark_after, has_one}
+use Rattle.othello_eval.specs.Tables.{entered}
 use Rattle.leaf_search.specs.Bounds.{IsBound}
-use Rattle.jamboree_rules.specs.Frames.{Frame, code_at, value_at, value, floor, least, greatest, choice_at}
-use Rattle.jamboree_rules.specs.Places.{word_of, status_of, frame_of, are_statuses, Change, OwnBits, OppBits, Phase, Best, Chosen, Count, Spawned, Status, pair_of, pairs_of, given_words, frame_size}
+use Rattle.jamboree_rules.specs.Frames.{Frame, code_at, rest_at, value_at, value, floor, least, greatest, choice_at}
+use Rattle.jamboree_rules.specs.Places.{word_of, status_of, frame_of, is_rest, are_entries, Change, OwnBits, OppBits, Phase, Best, Chosen, Count, Spawned, Status, pair_of, pairs_of, given_words, frame_size}
 use Rattle.jamboree_rules.specs.Acts.{returns, spawns, opening, first_search, tests}
 use Rattle.jamboree_rules.specs.Fits.{IsSearchingFrame, Fits, AreFitting}
 use Rattle.jamboree_rules.specs.Leaves.{IsLeaf}
@@ -26,7 +27,8 @@ use Rattle.jamboree_rules.proofs.Best.{IsGreatest-frame, named-best}
 use Rattle.jamboree_rules.proofs.Kinship.{next-settled, next-done}
 use Rattle.jamboree_rules.proofs.Openings.{new_child, next-first, next-again, next-test, next-opened, next-computed}
 use Rattle.jamboree_rules.proofs.Codes.{few-choices}
-use Rattle.jamboree_rules.proofs.PlaceLemmas.{held, length-stored, frame-stored, drop-grown, entries-zeros, frame-grown}
+use Rattle.jamboree_rules.proofs.Packing.{held, rests-are}
+use Rattle.jamboree_rules.proofs.PlaceLemmas.{length-stored, frame-stored, drop-grown, entries-zeros, frame-grown}
 use Rattle.jamboree_rules.proofs.Forms.{IsFrame, IsFormed, formed-passes, formed-stored}
 
 -- a frame of the same depth, window, role and number
@@ -72,7 +74,7 @@ IsInside n (Best score) = Unit {0}
 IsInside n (Chosen code) = Unit {0}
 IsInside n (Count count) = Unit {0}
 IsInside n (Spawned count) = Unit {0}
-IsInside n (Status i status) = i < n
+IsInside n (Status i status rest) = i < n
 
 abbrev pub AreInside : ℕ → List Change → Type 0
 AreInside n [] = Unit {0}
@@ -86,7 +88,7 @@ inside-place n (Best score) h = omega arith
 inside-place n (Chosen code) h = omega arith
 inside-place n (Count count) h = omega arith
 inside-place n (Spawned count) h = omega arith
-inside-place n (Status i status) h = omega arith
+inside-place n (Status i status rest) h = omega arith
 
 neither : (a b : Bool) → a ≡ false → b ≡ false → (a || b) ≡ false
 neither a b ea eb = rw (ea, eb) refl
@@ -105,10 +107,14 @@ good-act changes own n has after len inside fine = neither (is_outside (pairs_of
 pub status-count : (w : List ℕ) → IsFormed w → length (frame_of w).statuses ≡ (frame_of w).count
 status-count w h = omega (arith, length-map (drop 12 w) status_of, length-drop 12 w, h.places)
 
+-- the rest of each choice is one
+rest-there : (w : List ℕ) (i : ℕ) → IsFormed w → is_rest (rest_at (frame_of w) i) ≡ true
+rest-there w i h = rests-are (drop 12 w) i h.entries
+
 -- a frame that goes on searching, or ends
-pub searched : (f : Frame) (phase choice spawned : ℕ) (best : ℤ) (st : List ℕ) → IsFrame f → (f.phase ≡ 2) ⊎ (f.phase ≡ 3) → 1 < phase → phase ≤ 4 → choice ≤ 65 → spawned ≤ f.count → least ≤ℤ best → best ≤ℤ greatest →
-    IsFrame (record f { phase = phase; best = best; choice = choice; spawned = spawned; statuses = st })
-searched f phase choice spawned best st h before later last small few low high = record {
+pub searched : (f : Frame) (phase choice spawned : ℕ) (best : ℤ) (st rests : List ℕ) → IsFrame f → (f.phase ≡ 2) ⊎ (f.phase ≡ 3) → 1 < phase → phase ≤ 4 → choice ≤ 65 → spawned ≤ f.count → least ≤ℤ best → best ≤ℤ greatest →
+    IsFrame (record f { phase = phase; best = best; choice = choice; spawned = spawned; statuses = st; rests = rests })
+searched f phase choice spawned best st rests h before later last small few low high = record {
   leaf = h.leaf;
   role = h.role;
   phase = last;
@@ -197,7 +203,7 @@ pub first-good : (none : Bool) (own : List ℕ) (children : List (List ℕ)) →
     IsGoodAct own children (frame_of own).own (frame_of own).opp (first_search none (frame_of own))
 first-good true own children e phase form fits =
     let f : Frame = frame_of own in
-    let changes : List Change = Spawned 1 ∷ Status 0 1 ∷ [] in
+    let changes : List Change = Spawned 1 ∷ Status 0 1 (rest_at f 0) ∷ [] in
     let counts = form.frame.counts (inl phase) in
     let some : 0 < f.count = counts.1 in
     let late = form.frame.late (searching-late f (inl phase)) in
@@ -205,10 +211,10 @@ first-good true own children e phase form fits =
     let low : least ≤ℤ f.alpha = leaf.low in
     let window : f.alpha <ℤ f.beta = leaf.window in
     let high : f.beta ≤ℤ greatest = leaf.high in
-    spawn-good own children changes 1 0 (neg_ℤ f.beta) (neg_ℤ f.alpha) (record f { spawned = 1; statuses = slice_set f.statuses 0 1 }) form
-    (frame-stored changes own (tt, (omega arith, tt)) (omega (arith, form.places))) (tt, (some, tt))
-    (formed-stored changes own form (tt, (omega arith, tt)) refl
-    (searched f f.phase f.choice 1 f.best (slice_set f.statuses 0 1) form.frame (inl phase) (searching-late f (inl phase)) form.frame.phase form.frame.choice (omega arith) late.0 late.1))
+    spawn-good own children changes 1 0 (neg_ℤ f.beta) (neg_ℤ f.alpha) (record f { spawned = 1; statuses = slice_set f.statuses 0 1; rests = slice_set f.rests 0 (rest_at f 0) }) form
+    (frame-stored changes own (tt, ((omega arith, rest-there own 0 form), tt)) (omega (arith, form.places))) (tt, (some, tt))
+    (formed-stored changes own form (tt, ((omega arith, rest-there own 0 form), tt)) refl
+    (searched f f.phase f.choice 1 f.best (slice_set f.statuses 0 1) (slice_set f.rests 0 (rest_at f 0)) form.frame (inl phase) (searching-late f (inl phase)) form.frame.phase form.frame.choice (omega arith) late.0 late.1))
     (omega arith) (omega (arith, ints)) (omega (arith, ints)) (omega (arith, ints))
     (next-first f (map frame_of children) fits phase (none-told f.spawned e))
     (record { depth = refl; alpha = refl; beta = refl; role = refl; number = refl }) refl refl (late-known f.phase (searching-late f (inl phase)))
@@ -233,7 +239,7 @@ pub greatest-of : (f : Frame) → IsSearchingFrame f → IsGreatest (value_at f)
 greatest-of f s = subst (λ (n : ℕ). IsGreatest (value_at f) n (value f)) (sym s.places) (IsGreatest-frame f s.deep (subst (λ (n : ℕ). 0 < n) s.places s.some))
 
 all-bound : (f : Frame) → IsSearchingFrame f → ((k : ℕ) → k < length f.statuses → slice_index f.statuses k ≡ 2) → IsGreatest (value_at f) (length f.statuses) (value f) → IsBound f.alpha f.beta f.best (value f)
-all-bound f s all g = all_settled (value_at f) (code_at f) f.statuses f.alpha f.beta f.best (value f) f.choice s.search all g
+all-bound f s all g = all_settled (value_at f) (code_at f) f.statuses f.rests f.alpha f.beta f.best (value f) f.choice s.search all g
 
 -- to return where no child is left
 return-good : (own : List ℕ) (children : List (List ℕ)) (changes : List Change) (g : Frame) → IsFormed own → frame_of (stored (pairs_of changes) own) ≡ g → AreInside (frame_of own).count changes →
@@ -255,7 +261,7 @@ pub tests-good : (failed more all : Bool) (own : List ℕ) (children : List (Lis
     IsGoodAct own children (frame_of own).own (frame_of own).opp (tests failed more all (frame_of own) j)
 tests-good true more all own children j at ef em ea phase form fits =
     let f : Frame = frame_of own in
-    let changes : List Change = Status j 4 ∷ [] in
+    let changes : List Change = Status j 4 (rest_at f j) ∷ [] in
     let told = failed-told j (length f.statuses) (slice_index f.statuses j) ef in
     let late = form.frame.late (searching-late f (inr phase)) in
     let leaf : IsLeaf f.own f.opp f.depth f.alpha f.beta = form.frame.leaf in
@@ -265,16 +271,16 @@ tests-good true more all own children j at ef em ea phase form fits =
     let s : IsSearchingFrame f = fits.searching (inr phase) in
     let below : f.best <ℤ f.beta = s.search.below in
     let inside : j < f.count = omega (arith, status-count own form, told.0) in
-    spawn-good own children changes 3 j (neg_ℤ f.beta) (neg_ℤ (floor f)) (record f { statuses = slice_set f.statuses j 4 }) form
-    (frame-stored changes own (omega arith, tt) (omega (arith, form.places))) (inside, tt)
-    (formed-stored changes own form (omega arith, tt) refl
-    (searched f f.phase f.choice f.spawned f.best (slice_set f.statuses j 4) form.frame (inr phase) (searching-late f (inr phase)) form.frame.phase form.frame.choice form.frame.spawned late.0 late.1))
+    spawn-good own children changes 3 j (neg_ℤ f.beta) (neg_ℤ (floor f)) (record f { statuses = slice_set f.statuses j 4; rests = slice_set f.rests j (rest_at f j) }) form
+    (frame-stored changes own ((omega arith, rest-there own j form), tt) (omega (arith, form.places))) (inside, tt)
+    (formed-stored changes own form ((omega arith, rest-there own j form), tt) refl
+    (searched f f.phase f.choice f.spawned f.best (slice_set f.statuses j 4) (slice_set f.rests j (rest_at f j)) form.frame (inr phase) (searching-late f (inr phase)) form.frame.phase form.frame.choice form.frame.spawned late.0 late.1))
     (omega arith) (omega (arith, ints)) (omega (arith, ints, clamps)) (omega (arith, ints, clamps))
     (next-again f (map frame_of children) j fits phase told.0 told.1 at.settled)
     (record { depth = refl; alpha = refl; beta = refl; role = refl; number = refl }) refl refl (late-known f.phase (searching-late f (inr phase)))
 tests-good false true all own children j at ef em ea phase form fits =
     let f : Frame = frame_of own in
-    let changes : List Change = Spawned (f.spawned + 1) ∷ Status f.spawned 1 ∷ [] in
+    let changes : List Change = Spawned (f.spawned + 1) ∷ Status f.spawned 1 (rest_at f f.spawned) ∷ [] in
     let told : f.spawned < length f.statuses = more-told f.spawned (length f.statuses) em in
     let late = form.frame.late (searching-late f (inr phase)) in
     let leaf : IsLeaf f.own f.opp f.depth f.alpha f.beta = form.frame.leaf in
@@ -284,10 +290,10 @@ tests-good false true all own children j at ef em ea phase form fits =
     let s : IsSearchingFrame f = fits.searching (inr phase) in
     let below : f.best <ℤ f.beta = s.search.below in
     let inside : f.spawned < f.count = omega (arith, status-count own form, told) in
-    spawn-good own children changes 2 f.spawned (neg_ℤ (floor f +ℤ pos 1)) (neg_ℤ (floor f)) (record f { spawned = f.spawned + 1; statuses = slice_set f.statuses f.spawned 1 }) form
-    (frame-stored changes own (tt, (omega arith, tt)) (omega (arith, form.places))) (tt, (inside, tt))
-    (formed-stored changes own form (tt, (omega arith, tt)) refl
-    (searched f f.phase f.choice (f.spawned + 1) f.best (slice_set f.statuses f.spawned 1) form.frame (inr phase) (searching-late f (inr phase)) form.frame.phase form.frame.choice (omega arith) late.0 late.1))
+    spawn-good own children changes 2 f.spawned (neg_ℤ (floor f +ℤ pos 1)) (neg_ℤ (floor f)) (record f { spawned = f.spawned + 1; statuses = slice_set f.statuses f.spawned 1; rests = slice_set f.rests f.spawned (rest_at f f.spawned) }) form
+    (frame-stored changes own (tt, ((omega arith, rest-there own f.spawned form), tt)) (omega (arith, form.places))) (tt, (inside, tt))
+    (formed-stored changes own form (tt, ((omega arith, rest-there own f.spawned form), tt)) refl
+    (searched f f.phase f.choice (f.spawned + 1) f.best (slice_set f.statuses f.spawned 1) (slice_set f.rests f.spawned (rest_at f f.spawned)) form.frame (inr phase) (searching-late f (inr phase)) form.frame.phase form.frame.choice (omega arith) late.0 late.1))
     (omega arith) (omega (arith, ints, clamps)) (omega (arith, ints, clamps)) (omega (arith, ints, clamps))
     (next-test f (map frame_of children) fits phase told)
     (record { depth = refl; alpha = refl; beta = refl; role = refl; number = refl }) refl refl (late-known f.phase (searching-late f (inr phase)))
@@ -301,10 +307,10 @@ tests-good false false true own children j at ef em ea phase form fits =
     let g : IsGreatest (value_at f) (length f.statuses) (value f) = greatest-of f s in
     let done = next-settled f (map frame_of children) fits phase settled g (λ higher below.
     let bound = all-bound f s settled g in
-    named-best f f.statuses s.deep s.places (s.search.found higher) (bound.exact higher below)) in
+    named-best f f.statuses f.rests s.deep s.places (s.search.found higher) (bound.exact higher below)) in
     return-good own children changes (record f { phase = 4 }) form (frame-stored changes own (tt, tt) (omega (arith, form.places))) (tt, tt)
     (formed-stored changes own form (tt, tt) refl
-    (searched f 4 f.choice f.spawned f.best f.statuses form.frame (inr phase) (omega arith) (omega arith) form.frame.choice form.frame.spawned late.0 late.1))
+    (searched f 4 f.choice f.spawned f.best f.statuses f.rests form.frame (inr phase) (omega arith) (omega arith) form.frame.choice form.frame.spawned late.0 late.1))
     done.0 done.1 (record { depth = refl; alpha = refl; beta = refl; role = refl; number = refl }) refl refl (λ (e : 4 ≡ 0). absurd (omega arith))
 tests-good false false false own children j at ef em ea phase form fits = wait-good own children form fits (late-known (frame_of own).phase (searching-late (frame_of own) (inr phase)))
 
@@ -321,29 +327,30 @@ abbrev pub opened_changes : ℕ → ℕ → ℕ → List Change
 opened_changes o p n = OwnBits o ∷ OppBits p ∷ Phase 2 ∷ Best least ∷ Chosen 65 ∷ Count n ∷ Spawned 0 ∷ []
 
 abbrev pub opened_frame : Frame → ℕ → ℕ → ℕ → Frame
-opened_frame f o p n = record f { own = o; opp = p; phase = 2; best = least; choice = 65; count = n; spawned = 0; statuses = replicate n 0 }
+opened_frame f o p n = record f { own = o; opp = p; phase = 2; best = least; choice = 65; count = n; spawned = 0; statuses = replicate n 0; rests = replicate n 0 }
 
 opened-is : (own : List ℕ) (o p n : ℕ) → length own ≡ 12 → frame_of (stored (pairs_of (opened_changes o p n)) own ++ replicate n 0) ≡ opened_frame (frame_of own) o p n
 opened-is own o p n len =
     frame-grown (stored (pairs_of (opened_changes o p n)) own) n (length-stored (pairs_of (opened_changes o p n)) own ∙ len)
-    ∙ ap (λ (g : Frame). record g { statuses = replicate n 0 }) (frame-stored (opened_changes o p n) own (tt, (tt, (tt, (omega (arith, ints), (tt, (tt, (tt, tt))))))) (omega arith))
+    ∙ ap (λ (g : Frame). record g { statuses = replicate n 0; rests = replicate n 0 }) (frame-stored (opened_changes o p n) own (tt, (tt, (tt, (omega (arith, ints), (tt, (tt, (tt, tt))))))) (omega arith))
 
 length-grown : (w : List ℕ) (n : ℕ) → length w ≡ 12 → length (w ++ replicate n 0) ≡ 12 + n
 length-grown w n len = grind (arith, common_steps)
 
-entries-grown : (w : List ℕ) (n : ℕ) → length w ≡ 12 → are_statuses (drop 12 (w ++ replicate n 0)) ≡ true
-entries-grown w n len = ap are_statuses (drop-grown w (replicate n 0) len) ∙ entries-zeros n
+entries-grown : (w : List ℕ) (n : ℕ) → length w ≡ 12 → are_entries (drop 12 (w ++ replicate n 0)) ≡ true
+entries-grown w n len = ap are_entries (drop-grown w (replicate n 0) len) ∙ entries-zeros n
 
 grow-fine : (length n : ℕ) → length ≡ 12 → 0 < n → n ≤ 64 → ((n == 0) || nat_lt 128 (length + n)) ≡ false
 grow-fine length n len some few = grind (arith, nat_tests)
 
-pub opening-good : (computed : Bool) (own : List ℕ) (children : List (List ℕ)) (o p : ℕ) → (computed ≡ false → (0 < (frame_of own).depth) × (0 < length (choices (cells_of o p)))) → bit_and o p ≡ 0 → (frame_of own).phase ≡ 0 →
+pub opening-good : (computed : Bool) (own : List ℕ) (children : List (List ℕ)) (o p : ℕ) → (computed ≡ false → (0 < (frame_of own).depth) × (0 < length (choices (cells_of o p)))) →
+    (computed ≡ true → (frame_of own).role ≡ 0 → length (entered (frame_of own).depth (cells_of o p)) ≡ 0) → bit_and o p ≡ 0 → (frame_of own).phase ≡ 0 →
     IsFormed own → Fits (frame_of own) (map frame_of children) Neither → IsGoodAct own children o p (opening computed o p (length (choices (cells_of o p))))
-opening-good true own children o p deep apart phase form fits =
+opening-good true own children o p deep over apart phase form fits =
     let f : Frame = frame_of own in
-    let done = next-computed f (map frame_of children) o p fits phase in
-    let changes : List Change = OwnBits o ∷ OppBits p ∷ Phase 1 ∷ [] in
     let early = form.frame.early (omega arith) in
+    let done = next-computed f (map frame_of children) o p fits phase (status-count own form ∙ early.1) (over refl) in
+    let changes : List Change = OwnBits o ∷ OppBits p ∷ Phase 1 ∷ [] in
     let frame : IsFrame (record f { own = o; opp = p; phase = 1 }) = record {
       leaf = record { disjoint = apart; shallow = form.frame.leaf.shallow; low = form.frame.leaf.low; window = form.frame.leaf.window; high = form.frame.leaf.high };
       role = form.frame.role;
@@ -360,7 +367,7 @@ opening-good true own children o p deep apart phase form fits =
     (good-act changes own f.count false Compute form.places (tt, (tt, (tt, tt))) refl)
     (formed-stored changes own form (tt, (tt, (tt, tt))) refl frame) done.1 tt
     (record { depth = refl; alpha = refl; beta = refl; role = refl; number = refl }) refl refl (λ (e : 1 ≡ 0). absurd (omega arith)))
-opening-good false own children o p deep apart phase form fits =
+opening-good false own children o p deep over apart phase form fits =
     let f : Frame = frame_of own in
     let n : ℕ = length (choices (cells_of o p)) in
     let d = deep refl in

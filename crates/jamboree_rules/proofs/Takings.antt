@@ -7,10 +7,13 @@ use Rattle.sched_rules.specs.Trees.{stored, is_outside}
 use Rattle.sched_rules.specs.Laws.{Neither, HasReturned}
 use Rattle.jamboree_rules.specs.Frames.{Frame, code_at, value_at, value, floor, least, greatest}
 use Rattle.jamboree_rules.specs.Places.{frame_of, Change, pairs_of}
-use Rattle.jamboree_rules.specs.Acts.{seen, changes_by, changes_of}
+use Rattle.jamboree_rules.specs.Acts.{seen, found_of, changes_by, changes_of}
+use Rattle.othello_eval.specs.declared.bound.BoundKind.TheVariants.{Exact}
+use Rattle.jamboree_rules.specs.Entries.{IsOfKind, IsTrueRest}
 use Rattle.jamboree_rules.specs.Fits.{IsFirst, IsTest, IsAgain, IsInRole, First, Test, Again, IsChildOf, IsSearchingFrame, Fits}
 use Rattle.jamboree_rules.proofs.Searching.{IsSearching-low, IsSearching-higher}
-use Rattle.jamboree_rules.proofs.Kinship.{child-of, in-search, scored, inlet-failed, inlet-low, inlet-higher, inlet-first, inlet-cut, first-low, first-exact, again-low, again-exact, test-low, over-beta}
+use Rattle.jamboree_rules.proofs.Tabling.{found-true, found-exact, found-passes}
+use Rattle.jamboree_rules.proofs.Kinship.{child-of, in-search, unsettled, scored, inlet-failed, inlet-low, inlet-higher, inlet-first, inlet-cut, first-low, first-exact, again-low, again-exact, test-low, over-beta}
 use Rattle.jamboree_rules.proofs.Codes.{code-small}
 use Rattle.jamboree_rules.proofs.PlaceLemmas.{AreSafe, changed_by, frame-stored}
 use Rattle.jamboree_rules.proofs.Forms.{IsFrame, IsFormed, formed-stored}
@@ -18,11 +21,11 @@ use Rattle.jamboree_rules.proofs.Steps.{AreInside, inside-stored, searched, sear
 
 -- the frame after each of the five cases of an inlet
 abbrev pub frame_by : (cuts test low higher : Bool) → Frame → Frame → Frame
-frame_by true test low higher f c = record f { phase = 4; best = seen c; choice = code_at f c.number; statuses = slice_set f.statuses c.number 2 }
-frame_by false true true higher f c = record f { best = int_max f.best (seen c); statuses = slice_set f.statuses c.number 2 }
-frame_by false true false higher f c = record f { statuses = slice_set f.statuses c.number 3 }
-frame_by false false low true f c = record f { phase = 3; best = int_max f.best (seen c); choice = code_at f c.number; statuses = slice_set f.statuses c.number 2 }
-frame_by false false low false f c = record f { phase = 3; best = int_max f.best (seen c); statuses = slice_set f.statuses c.number 2 }
+frame_by true test low higher f c = record f { phase = 4; best = seen c; choice = code_at f c.number; statuses = slice_set f.statuses c.number 2; rests = slice_set f.rests c.number (found_of c) }
+frame_by false true true higher f c = record f { best = int_max f.best (seen c); statuses = slice_set f.statuses c.number 2; rests = slice_set f.rests c.number (found_of c) }
+frame_by false true false higher f c = record f { statuses = slice_set f.statuses c.number 3; rests = slice_set f.rests c.number (found_of c) }
+frame_by false false low true f c = record f { phase = 3; best = int_max f.best (seen c); choice = code_at f c.number; statuses = slice_set f.statuses c.number 2; rests = slice_set f.rests c.number (found_of c) }
+frame_by false false low false f c = record f { phase = 3; best = int_max f.best (seen c); statuses = slice_set f.statuses c.number 2; rests = slice_set f.rests c.number (found_of c) }
 
 -- the same, from the two frames
 abbrev pub frame_after : Frame → Frame → Frame
@@ -56,48 +59,61 @@ other-told f c e (First r) = inl r
 other-told f c e (Test r) = let two : c.role ≡ 2 = r.role in absurd (grind (arith))
 other-told f c e (Again r) = inr r
 
+-- a better score of a search in full is exact
+first-kind : (f c : Frame) → IsFirst f c → seen c <ℤ f.beta → floor f <ℤ seen c → IsOfKind (found_of c) Exact
+first-kind f c r under over =
+    let low : c.alpha ≡ neg_ℤ f.beta = r.low in
+    let high : c.beta ≡ neg_ℤ f.alpha = r.high in
+    found-exact c (omega (arith, ints, clamps)) (omega (arith, ints))
+
+again-kind : (f c : Frame) → IsAgain f c → seen c <ℤ f.beta → floor f <ℤ seen c → IsOfKind (found_of c) Exact
+again-kind f c r under over =
+    let low : c.alpha ≡ neg_ℤ f.beta = r.low in
+    let high : c.beta ≡ neg_ℤ (floor f) = r.high in
+    found-exact c (omega (arith, ints)) (omega (arith, ints))
+
 -- each case keeps that the frame fits
 fits-by : (cuts test low higher : Bool) (f c : Frame) (before behind : List Frame) → cuts ≡ int_le f.beta (seen c) → test ≡ (c.role == 2) → low ≡ int_le (seen c) (neg_ℤ c.beta) → higher ≡ int_lt (floor f) (seen c) →
-    Fits f (before ++ c ∷ behind) Neither → Fits c [] HasReturned → Fits (frame_by cuts test low higher f c) (frames_left cuts (before ++ behind)) Neither
-fits-by true test low higher f c before behind ec et el eh fits returned =
+    Fits f (before ++ c ∷ behind) Neither → Fits c [] HasReturned → IsTrueRest (found_of c) (value_at f c.number) → Fits (frame_by cuts test low higher f c) (frames_left cuts (before ++ behind)) Neither
+fits-by true test low higher f c before behind ec et el eh fits returned holds =
     let kin : IsChildOf f c = child-of f c before behind fits.kin in
     let s : IsSearchingFrame f = fits.searching (in-search f c kin.in_role) in
     let worth = scored f c before behind fits returned kin in
     let over : f.beta ≤ℤ seen c = le-told f.beta (seen c) ec in
-    inlet-cut f c before behind (value f) (greatest-of f s) fits over (over-beta f c fits.window s.search.below kin.in_role worth.0 worth.1 over)
-fits-by false true true higher f c before behind ec et el eh fits returned =
+    inlet-cut f c before behind (value f) (greatest-of f s) fits over (over-beta f c fits.window s.search.below kin.in_role worth.0 worth.1 over) holds
+fits-by false true true higher f c before behind ec et el eh fits returned holds =
     let kin : IsChildOf f c = child-of f c before behind fits.kin in
     let r : IsTest f c = test-told f c et kin.in_role in
     let worth = scored f c before behind fits returned kin in
     let under : seen c ≤ℤ neg_ℤ c.beta = le-told (seen c) (neg_ℤ c.beta) el in
     let most : neg_ℤ c.beta ≤ℤ floor f = r.most in
-    subst (λ (p : ℕ). Fits (record f { phase = p; best = int_max f.best (seen c); statuses = slice_set f.statuses c.number 2 }) (before ++ behind) Neither) (sym r.phase)
-    (inlet-low f c before behind fits (omega (arith, ints)) (test-low f c worth.0 worth.1 under) r.phase)
-fits-by false true false higher f c before behind ec et el eh fits returned =
+    subst (λ (p : ℕ). Fits (record f { phase = p; best = int_max f.best (seen c); statuses = slice_set f.statuses c.number 2; rests = slice_set f.rests c.number (found_of c) }) (before ++ behind) Neither) (sym r.phase)
+    (inlet-low f c before behind fits (omega (arith, ints)) (test-low f c worth.0 worth.1 under) holds r.phase)
+fits-by false true false higher f c before behind ec et el eh fits returned holds =
     let kin : IsChildOf f c = child-of f c before behind fits.kin in
-    inlet-failed f c before behind fits returned (test-told f c et kin.in_role)
-fits-by false false low true f c before behind ec et el eh fits returned =
+    inlet-failed f c before behind fits returned holds (test-told f c et kin.in_role)
+fits-by false false low true f c before behind ec et el eh fits returned holds =
     let kin : IsChildOf f c = child-of f c before behind fits.kin in
     let s : IsSearchingFrame f = fits.searching (in-search f c kin.in_role) in
     let worth = scored f c before behind fits returned kin in
     let under : seen c <ℤ f.beta = not-le-told f.beta (seen c) ec in
     let over : floor f <ℤ seen c = lt-told (floor f) (seen c) eh in
     ⊎_elim
-    (λ (r : IsFirst f c). inlet-first f c before behind (code_at f c.number) fits r
-    (IsSearching-higher (value_at f) (code_at f) f.statuses f.alpha f.beta f.best (seen c) f.choice c.number kin.inside over under
+    (λ (r : IsFirst f c). inlet-first f c before behind (code_at f c.number) fits r holds
+    (IsSearching-higher (value_at f) (code_at f) f.statuses f.rests f.alpha f.beta f.best (seen c) f.choice c.number (found_of c) kin.inside fits.table.places (first-kind f c r under over) over under
     (first-exact f c r worth.0 worth.1 under over) (λ k below. absurd (omega (arith, r.number, below))) s.search))
-    (λ (r : IsAgain f c). inlet-higher f c before behind fits r over under (again-exact f c r worth.0 worth.1 under over))
+    (λ (r : IsAgain f c). inlet-higher f c before behind fits r over under (again-exact f c r worth.0 worth.1 under over) holds (again-kind f c r under over))
     (other-told f c et kin.in_role)
-fits-by false false low false f c before behind ec et el eh fits returned =
+fits-by false false low false f c before behind ec et el eh fits returned holds =
     let kin : IsChildOf f c = child-of f c before behind fits.kin in
     let s : IsSearchingFrame f = fits.searching (in-search f c kin.in_role) in
     let worth = scored f c before behind fits returned kin in
     let under : seen c <ℤ f.beta = not-le-told f.beta (seen c) ec in
     let small : seen c ≤ℤ floor f = not-lt-told (floor f) (seen c) eh in
     ⊎_elim
-    (λ (r : IsFirst f c). inlet-first f c before behind f.choice fits r
-    (IsSearching-low (value_at f) (code_at f) f.statuses f.alpha f.beta f.best (seen c) f.choice c.number fits.window kin.inside small (first-low f c r worth.0 worth.1 under) s.search))
-    (λ (r : IsAgain f c). inlet-low f c before behind fits small (again-low f c r worth.0 worth.1 small) r.phase)
+    (λ (r : IsFirst f c). inlet-first f c before behind f.choice fits r holds
+    (IsSearching-low (value_at f) (code_at f) f.statuses f.rests f.alpha f.beta f.best (seen c) f.choice c.number (found_of c) fits.window kin.inside (unsettled f c kin.in_role) small (first-low f c r worth.0 worth.1 under) s.search))
+    (λ (r : IsAgain f c). inlet-low f c before behind fits small (again-low f c r worth.0 worth.1 small) holds r.phase)
     (other-told f c et kin.in_role)
 
 -- a score from -INF to INF
@@ -129,11 +145,11 @@ taken-by true test low higher f c form phase inside rf rc =
     let l : least ≤ℤ c.best = rc.low in
     let code : code_at f c.number ≤ 64 = code-small f c.number in
     record {
-      safe = (omega (arith, ints), (tt, (omega arith, (tt, tt))));
+      safe = (omega (arith, ints), (tt, ((omega arith, found-passes c l h), (tt, tt))));
       inside = (tt, (tt, (inside, (tt, tt))));
       is = refl;
       count = refl;
-      form = searched f 4 (code_at f c.number) f.spawned (seen c) (slice_set f.statuses c.number 2) form phase (omega arith) (omega arith) (omega arith) form.spawned (omega (arith, ints)) (omega (arith, ints));
+      form = searched f 4 (code_at f c.number) f.spawned (seen c) (slice_set f.statuses c.number 2) (slice_set f.rests c.number (found_of c)) form phase (omega arith) (omega arith) (omega arith) form.spawned (omega (arith, ints)) (omega (arith, ints));
       goal = record { depth = refl; alpha = refl; beta = refl; role = refl; number = refl };
       own_is = refl;
       opp_is = refl;
@@ -146,11 +162,11 @@ taken-by false true true higher f c form phase inside rf rc =
     let fl : least ≤ℤ f.best = rf.low in
     let late : 1 < f.phase = searching-late f phase in
     record {
-      safe = (omega (arith, ints, clamps), (omega arith, tt));
+      safe = (omega (arith, ints, clamps), ((omega arith, found-passes c l h), tt));
       inside = (tt, (inside, tt));
       is = refl;
       count = refl;
-      form = searched f f.phase f.choice f.spawned (int_max f.best (seen c)) (slice_set f.statuses c.number 2) form phase late form.phase form.choice form.spawned (omega (arith, ints, clamps)) (omega (arith, ints, clamps));
+      form = searched f f.phase f.choice f.spawned (int_max f.best (seen c)) (slice_set f.statuses c.number 2) (slice_set f.rests c.number (found_of c)) form phase late form.phase form.choice form.spawned (omega (arith, ints, clamps)) (omega (arith, ints, clamps));
       goal = record { depth = refl; alpha = refl; beta = refl; role = refl; number = refl };
       own_is = refl;
       opp_is = refl;
@@ -159,11 +175,11 @@ taken-by false true true higher f c form phase inside rf rc =
 taken-by false true false higher f c form phase inside rf rc =
     let late : 1 < f.phase = searching-late f phase in
     record {
-      safe = (omega arith, tt);
+      safe = ((omega arith, found-passes c rc.low rc.high), tt);
       inside = (inside, tt);
       is = refl;
       count = refl;
-      form = searched f f.phase f.choice f.spawned f.best (slice_set f.statuses c.number 3) form phase late form.phase form.choice form.spawned rf.low rf.high;
+      form = searched f f.phase f.choice f.spawned f.best (slice_set f.statuses c.number 3) (slice_set f.rests c.number (found_of c)) form phase late form.phase form.choice form.spawned rf.low rf.high;
       goal = record { depth = refl; alpha = refl; beta = refl; role = refl; number = refl };
       own_is = refl;
       opp_is = refl;
@@ -176,11 +192,11 @@ taken-by false false low true f c form phase inside rf rc =
     let fl : least ≤ℤ f.best = rf.low in
     let code : code_at f c.number ≤ 64 = code-small f c.number in
     record {
-      safe = (omega (arith, ints, clamps), (tt, (omega arith, (tt, tt))));
+      safe = (omega (arith, ints, clamps), (tt, ((omega arith, found-passes c l h), (tt, tt))));
       inside = (tt, (tt, (inside, (tt, tt))));
       is = refl;
       count = refl;
-      form = searched f 3 (code_at f c.number) f.spawned (int_max f.best (seen c)) (slice_set f.statuses c.number 2) form phase (omega arith) (omega arith) (omega arith) form.spawned (omega (arith, ints, clamps)) (omega (arith, ints, clamps));
+      form = searched f 3 (code_at f c.number) f.spawned (int_max f.best (seen c)) (slice_set f.statuses c.number 2) (slice_set f.rests c.number (found_of c)) form phase (omega arith) (omega arith) (omega arith) form.spawned (omega (arith, ints, clamps)) (omega (arith, ints, clamps));
       goal = record { depth = refl; alpha = refl; beta = refl; role = refl; number = refl };
       own_is = refl;
       opp_is = refl;
@@ -192,11 +208,11 @@ taken-by false false low false f c form phase inside rf rc =
     let fh : f.best ≤ℤ greatest = rf.high in
     let fl : least ≤ℤ f.best = rf.low in
     record {
-      safe = (omega (arith, ints, clamps), (omega arith, (tt, tt)));
+      safe = (omega (arith, ints, clamps), ((omega arith, found-passes c l h), (tt, tt)));
       inside = (tt, (inside, (tt, tt)));
       is = refl;
       count = refl;
-      form = searched f 3 f.choice f.spawned (int_max f.best (seen c)) (slice_set f.statuses c.number 2) form phase (omega arith) (omega arith) form.choice form.spawned (omega (arith, ints, clamps)) (omega (arith, ints, clamps));
+      form = searched f 3 f.choice f.spawned (int_max f.best (seen c)) (slice_set f.statuses c.number 2) (slice_set f.rests c.number (found_of c)) form phase (omega arith) (omega arith) form.choice form.spawned (omega (arith, ints, clamps)) (omega (arith, ints, clamps));
       goal = record { depth = refl; alpha = refl; beta = refl; role = refl; number = refl };
       own_is = refl;
       opp_is = refl;
@@ -243,7 +259,16 @@ inlet-good own c form child kin done =
     taken-good own c (changes_of f c) (frame_after f c) form
     (taken-by (int_le f.beta (seen c)) (c.role == 2) (int_le (seen c) (neg_ℤ c.beta)) (int_lt (floor f) (seen c)) f c form.frame phase inside (ranged f form.frame (searching-late f phase)) (ranged c child (omega arith)))
 
+-- what it says of the child's choice is true
+inlet-true : (f c : Frame) (before behind : List Frame) → Fits f (before ++ c ∷ behind) Neither → Fits c [] HasReturned → IsFrame c → IsTrueRest (found_of c) (value_at f c.number)
+inlet-true f c before behind fits returned form =
+    let late : 1 < c.phase = omega (arith, returned.marked) in
+    let r : IsRanged c = ranged c form late in
+    let high : c.best ≤ℤ greatest = r.high in
+    let worth = scored f c before behind fits returned (child-of f c before behind fits.kin) in
+    found-true c (value_at f c.number) (omega (arith, ints)) worth.1 worth.0
+
 -- and it leaves the frame fitting
-pub inlet-fits : (f c : Frame) (before behind : List Frame) → Fits f (before ++ c ∷ behind) Neither → Fits c [] HasReturned → Fits (frame_after f c) (frames_left (int_le f.beta (seen c)) (before ++ behind)) Neither
-inlet-fits f c before behind fits returned =
-    fits-by (int_le f.beta (seen c)) (c.role == 2) (int_le (seen c) (neg_ℤ c.beta)) (int_lt (floor f) (seen c)) f c before behind refl refl refl refl fits returned
+pub inlet-fits : (f c : Frame) (before behind : List Frame) → Fits f (before ++ c ∷ behind) Neither → Fits c [] HasReturned → IsFrame c → Fits (frame_after f c) (frames_left (int_le f.beta (seen c)) (before ++ behind)) Neither
+inlet-fits f c before behind fits returned form =
+    fits-by (int_le f.beta (seen c)) (c.role == 2) (int_le (seen c) (neg_ℤ c.beta)) (int_lt (floor f) (seen c)) f c before behind refl refl refl refl fits returned (inlet-true f c before behind fits returned form)
