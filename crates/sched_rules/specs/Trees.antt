@@ -119,6 +119,6 @@ abbrev pub with_ended : ℕ → Job → List Job → List Job
 with_ended root ended [] = []
 with_ended root ended (job ∷ jobs) = (if is_live_at root job then ended else job) ∷ with_ended root ended jobs
 
--- what a finished job keeps of its root's words: the first 12
+-- what a finished job keeps of its root's words: the first 76
 abbrev pub kept_words : List ℕ → List ℕ
-kept_words words = take 12 words
+kept_words words = take 76 words

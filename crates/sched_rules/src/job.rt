@@ -7,9 +7,9 @@ use cactus_stack::Words;
 use std::marker::Model;
 
 /// How many words of its root a finished job keeps, or all where it has fewer.
-const KEPT: usize = 12;
+const KEPT: usize = 76;
 
-/// What a finished job keeps: the first 12 words of its root, or all where it has fewer.
+/// What a finished job keeps: the first 76 words of its root, or all where it has fewer.
 #[derive(Drop)]
 pub struct JobWords {
     words: ArrayVec<u64, KEPT>,
@@ -41,7 +41,7 @@ impl JobWords {
     /// The words, in order.
     pub fn as_slice(&self) -> &[u64]
         ensures words { result.now ≡ self.now }
-        ensures few { length result.now ≤ 12 }
+        ensures few { length result.now ≤ 76 }
     {
         self.words.as_slice()
     }

@@ -90,13 +90,14 @@ pub fn reserving_more()
     ensures left_after { left (resting 17 18) ≡ some_left 16 9 32 }
 {}
 
-/// A job that ends takes all its frames with it, and no frame of another job.
+/// A job that ends takes all its frames with it, and no frame of another job. Of a root of 77 words the
+/// job keeps 76.
 pub fn ending_a_job()
     ensures cancel { outcome idle (housed 0 two_jobs (family Waiting)) (Cancel 1 1) ≡
         Ok (Some (housed 0 (CancelledJob ∷ Live 3 ∷ []) (bare 3 (3 ∷ []) Waiting ∷ bare 9 (3 ∷ 9 ∷ []) (Ready 0) ∷ [])), Cancelled) }
     ensures spend { outcome idle (housed 256 two_jobs (bare 1 (1 ∷ []) Waiting ∷ bare 3 (3 ∷ []) Waiting ∷ bare 9 (3 ∷ 9 ∷ []) (Ready 0) ∷ [])) (Spend (one 9)) ≡
         Ok (Some (housed 256 (Live 1 ∷ SpentJob ∷ []) (bare 1 (1 ∷ []) Waiting ∷ [])), Spent 2) }
-    ensures finish { outcome idle (housed 0 two_jobs (bare 1 (1 ∷ []) Waiting ∷ frame 3 (3 ∷ []) Returned (1 ∷ 2 ∷ 3 ∷ 4 ∷ 5 ∷ 6 ∷ 7 ∷ 8 ∷ 9 ∷ 10 ∷ 11 ∷ 12 ∷ 13 ∷ []) ∷ [])) (Finish 1 (one 3)) ≡
-        Ok (Some (housed 1 (Live 1 ∷ Done (1 ∷ 2 ∷ 3 ∷ 4 ∷ 5 ∷ 6 ∷ 7 ∷ 8 ∷ 9 ∷ 10 ∷ 11 ∷ 12 ∷ []) ∷ []) (bare 1 (1 ∷ []) Waiting ∷ [])), Finished 2) }
+    ensures finish { outcome idle (housed 0 two_jobs (bare 1 (1 ∷ []) Waiting ∷ frame 3 (3 ∷ []) Returned (replicate 75 1 ++ 2 ∷ 3 ∷ []) ∷ [])) (Finish 1 (one 3)) ≡
+        Ok (Some (housed 1 (Live 1 ∷ Done (replicate 75 1 ++ 2 ∷ []) ∷ []) (bare 1 (1 ∷ []) Waiting ∷ [])), Finished 2) }
     ensures leave { outcome idle (housed 0 two_jobs (family Waiting)) (Leave 1) ≡ Ok (None, Left) }
 {}

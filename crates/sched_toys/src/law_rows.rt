@@ -60,7 +60,7 @@ pub fn what_jobs_hold()
     ensures not_its_own { JobsFit AlwaysFits SameFirstWord (parent_in Waiting) ((5 ∷ 0 ∷ []) ∷ []) (Live 1 ∷ []) → ⊥ }
     ensures done { JobFits FitsReturned SameFirstWord [] (2 ∷ []) (Done (2 ∷ 9 ∷ [])) }
     ensures done_with_other_words { JobFits FitsReturned SameFirstWord [] (3 ∷ []) (Done (2 ∷ 9 ∷ [])) → ⊥ }
-    ensures thirteen_words { JobFits FitsReturned SameFirstWord [] (2 ∷ []) (Done (2 ∷ replicate 12 0)) → ⊥ }
+    ensures a_77th_word { JobFits FitsReturned SameFirstWord [] (2 ∷ []) (Done (2 ∷ replicate 76 0)) → ⊥ }
     ensures no_submit { JobsFit AlwaysFits SameFirstWord (parent_in Waiting) [] (Live 1 ∷ []) → ⊥ }
     ensures no_job { JobsFit AlwaysFits SameFirstWord (parent_in Waiting) ((0 ∷ []) ∷ []) [] → ⊥ }
 {}

@@ -123,13 +123,13 @@ pub fn fan_with_three_segments()
     ensures left { option_map left (alone fan (narrow_returns ++ Advance 1 (one 1) ∷ [])) ≡ Some (some_left 1 4 119) }
 {}
 
-/// Chain of count 2 with enough: three frames of two segments, and the job is done with the root's first 12 words.
+/// Chain of count 2 with enough: three frames of two segments, and the job is done with all 20 words of the root.
 pub fn chain_with_enough()
     ensures done { alone chain (chain_begins 6 3 ++ chain_ends) ≡ Some (record {
       reserve = quota 6 3;
       serials = 3;
       steps = 15;
-      jobs = Done (2 ∷ 2 ∷ 1 ∷ replicate 9 0) ∷ [];
+      jobs = Done (2 ∷ 2 ∷ 1 ∷ replicate 17 0) ∷ [];
       frames = [];
     }) }
     ensures left { option_map left (alone chain (chain_begins 6 3 ++ chain_ends)) ≡ Some (some_left 6 0 33) }

@@ -37,11 +37,11 @@ const ENDS: [Row; 6] = [
 /// Enough for three frames of two segments.
 const ENOUGH: [Row; 1] = [Taken(Deed::Admit(1, 6, 3), DidOf::Admitted)];
 
-/// The job is done, with the root's first 12 words.
+/// The job is done, with all 20 words of the root.
 const DONE: [Row; 2] = [
     Reads(
         "left 6 0 33, 0 frames of 0 words
-job 1 done [2, 2, 1, 0, 0, 0, 0, 0, 0, 0, 0, 0]
+job 1 done [2, 2, 1, 0, 0, 0, 0, 0, 0, 0, 0, 0, 0, 0, 0, 0, 0, 0, 0, 0]
 ",
     ),
     Free("32 free, none ready"),

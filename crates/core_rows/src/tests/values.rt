@@ -3,9 +3,9 @@ use sched_rules::{Config, GivenWords, JobWords, Refusal, Worker};
 use std::process::Abort;
 use std::test::Fail;
 
-/// What a finished job keeps of its root.
+/// A finished job keeps all words of a short root.
 #[test]
-fn a_job_keeps_twelve_words(rt: HostRuntime) -> Result<(), Fail> {
+fn a_job_keeps_all_20_words(rt: HostRuntime) -> Result<(), Fail> {
     let mut stack = Stack::new(rt.alloc(), 2)?;
     let node = stack
         .open(None, &[2, 2, 1], 20)
@@ -13,8 +13,23 @@ fn a_job_keeps_twelve_words(rt: HostRuntime) -> Result<(), Fail> {
     let kept = JobWords::of(&stack.own(node));
     assert_eq!(rt;
         kept.as_slice(),
-        [2, 2, 1, 0, 0, 0, 0, 0, 0, 0, 0, 0].as_slice()
+        [2, 2, 1, 0, 0, 0, 0, 0, 0, 0, 0, 0, 0, 0, 0, 0, 0, 0, 0, 0].as_slice()
     );
+    Ok(())
+}
+
+/// Of a longer root it keeps the first 76.
+#[test]
+fn a_job_keeps_76_words(rt: HostRuntime) -> Result<(), Fail> {
+    let mut stack = Stack::new(rt.alloc(), 5)?;
+    let node = stack
+        .open(None, &[1], 77)
+        .expect(&rt, "the stack has room");
+    stack.store(node, 75, 7);
+    stack.store(node, 76, 8);
+    let kept = JobWords::of(&stack.own(node));
+    assert_eq!(rt; kept.as_slice().len(), 76);
+    assert_eq!(rt; kept.as_slice().last(), Some(&7));
     Ok(())
 }
 

@@ -10,9 +10,9 @@ other-word : (all : List ℕ) → kept_words all ≡ 2 ∷ 9 ∷ [] → word_at 
 other-word [] kept word = cc
 other-word (x ∷ xs) kept word = cc
 
--- no more than 12 are kept
-too-long : (all : List ℕ) → kept_words all ≡ 2 ∷ replicate 12 0 → ⊥
-too-long all kept = let few = length-take {A = ℕ} 12 all in let long = ap length kept in omega (arith, few, long)
+-- no more than 76 are kept
+too-long : (all : List ℕ) → kept_words all ≡ 2 ∷ replicate 76 0 → ⊥
+too-long all kept = let few = length-take {A = ℕ} 76 all in let long = ap length kept in omega (arith, few, long)
 
 pub returns : goal.returns
 returns c = record {
@@ -20,7 +20,7 @@ returns c = record {
   not_its_own = λ all. let e = all.0 in cc;
   done = (2 ∷ 9 ∷ [], refl, (refl, refl), refl);
   done_with_other_words = λ held. other-word held.0 held.1 held.3;
-  thirteen_words = λ held. too-long held.0 held.1;
+  a_77th_word = λ held. too-long held.0 held.1;
   no_submit = λ all. all;
   no_job = λ all. all;
 }
