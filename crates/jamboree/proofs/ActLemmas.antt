@@ -1,5 +1,5 @@
 -- Acts and their windows.
-use Rattle.std.specs.Prelude.{◌≡◌, ℕ, ◌<◌, ◌^◌, ◌==◌, ◌&&◌, nat_lt, nat_le, Bool, true, false, ℤ, pos, negsuc, neg_ℤ, ◌+ℤ◌, ◌-ℤ◌, ◌≤ℤ◌, List, length, slice_index, slice_index_or, slice_get, unwrap_or, Option, Some, bit_and, refl}
+use Rattle.std.specs.Prelude.{◌≡◌, ℕ, ◌+◌, ◌<◌, ◌^◌, ◌==◌, ◌&&◌, nat_lt, nat_le, Bool, true, false, ℤ, pos, negsuc, neg_ℤ, ◌+ℤ◌, ◌-ℤ◌, ◌≤ℤ◌, List, [], ◌∷◌, length, slice_index, slice_index_or, slice_get, unwrap_or, Option, Some, bit_and, refl}
 use Rattle.std.proofs.Common.{to_z, of_z, w32, sym, ◌∙◌, ap, arith}
 use Rattle.std.proofs.lemmas.Int.{ints}
 use Rattle.std.proofs.lemmas.Bool.{eq-eqb}
@@ -12,6 +12,7 @@ use Rattle.othello_moves.specs.Choices.{choices, after}
 use Rattle.sched_rules.specs.declared.act.Act.{Act}
 use Rattle.sched_rules.specs.declared.act.Then.{Then}
 use Rattle.jamboree_rules.specs.Frames.{Frame, board, choice_at, own_word, opp_word}
+use Rattle.jamboree_rules.specs.Places.{Spawned, Status, pairs_of}
 use Rattle.jamboree_rules.specs.Acts.{spawns, opening_on, first_search, tests, tests_from, act_by, act_of}
 use Rattle.jamboree_rules.proofs.BoardWords.{own-is, opp-is}
 use Rattle.jamboree.specs.declared.frame.View.{View}
@@ -57,6 +58,13 @@ spawns-by f role i low low' high high' after e el eh = e ∙ ap (λ (x : ℤ). s
 
 pub first-by : (f : Frame) (act : Act) → f.spawned ≡ 0 → act ≡ first_search true f → act ≡ first_search (f.spawned == 0) f
 first-by f act none e = e ∙ ap (λ (b : Bool). first_search b f) (sym (eq-eqb f.spawned 0 none))
+
+-- the stores of a choice that is searched again, and of one whose first search or test starts
+pub again-stores : (n j rest kept : ℕ) → n ≡ j → rest ≡ kept → pairs_of (Status n 4 rest ∷ []) ≡ pairs_of (Status j 4 kept ∷ [])
+again-stores n j rest kept e same = rw (e, same) refl
+
+pub start-stores : (n j rest kept : ℕ) → n ≡ j → rest ≡ kept → pairs_of (Spawned (n + 1) ∷ Status n 1 rest ∷ []) ≡ pairs_of (Spawned (j + 1) ∷ Status j 1 kept ∷ [])
+start-stores n j rest kept e same = rw (e, same) refl
 
 -- the acts of the tests, from their cases
 pub again-by : (f : Frame) (at : ℕ) (act : Act) → (nat_lt at (length f.statuses) && (slice_index f.statuses at == 3)) ≡ true → ((more all : Bool) → act ≡ tests true more all f at) → act ≡ tests_from f at

@@ -1,15 +1,16 @@
 -- The stores of an inlet, case by case.
 use Rattle.std.specs.Prelude.{◌≡◌, ℕ, ◌==◌, ◌-ℤ◌, ◌&&◌, Bool, true, false, ℤ, pos, neg_ℤ, int_le, int_lt, List, refl, if◌then◌else◌}
-use Rattle.std.proofs.Common.{to_z, of_z, w32, ap}
+use Rattle.std.proofs.Common.{to_z, of_z, w32, sym, ◌∙◌, ap}
 use Rattle.jamboree_rules.specs.Frames.{Frame, floor}
 use Rattle.jamboree_rules.specs.Places.{pairs_of}
-use Rattle.jamboree_rules.specs.Acts.{seen, changes_by, changes_of}
+use Rattle.othello_eval.specs.declared.bound.BoundKind.TheVariants.{Low}
+use Rattle.jamboree_rules.specs.Acts.{seen, kind_by, kind_of, changes_by, changes_of}
 use Rattle.jamboree.specs.declared.phases.Role.{Role}
 use Rattle.jamboree.specs.declared.phases.Role.TheVariants.{Root, FirstChild, Test, Again}
 use Rattle.jamboree.specs.Numbers.{role_number}
 use Rattle.jamboree.specs.declared.frame.View.{View}
 use Rattle.jamboree.specs.Views.{frame_in}
-use Rattle.jamboree.proofs.ActLemmas.{IsScore, seen-wide, floor-wide, beta-wide, negated-beta}
+use Rattle.jamboree.proofs.ActLemmas.{IsScore, seen-wide, floor-wide, beta-wide, negated-alpha, negated-beta}
 
 -- another role than a test's
 other-role : (r : Role) → (r ≡ Test → ⊥) → (role_number r == 2) ≡ false
@@ -45,6 +46,20 @@ pub by-search : (v w : View) (r m : ℤ) (stores : List (ℕ × ℕ)) (higher : 
     ((low : Bool) → stores ≡ pairs_of (changes_by false false low higher (frame_in v) (frame_in w))) → stores ≡ pairs_of (changes_of (frame_in v) (frame_in w))
 by-search v w r m stores higher score under other least h e =
     by-tests (frame_in v) (frame_in w) stores false false _ higher (reaches v r _ false score under) (other-role w.role other) refl (rw (floor-wide m _ least, seen-wide r _ score) at h) (e true)
+
+-- the tests of a child's kind, which are of numbers in 32 bits
+pub is-low : (w : View) (r s : ℤ) (low : Bool) → IsScore (pos 1000000) r s → int_le (to_z w32 (of_z w32 r)) (to_z w32 (of_z w32 (pos 0 -ℤ to_z w32 (of_z w32 w.beta)))) ≡ low → low ≡ int_le s (neg_ℤ w.beta)
+is-low w r s low score h = sym (rw (seen-wide r s score, negated-beta w) at h)
+
+pub is-high : (w : View) (r s : ℤ) (high : Bool) → IsScore (pos 1000000) r s → int_le (to_z w32 (of_z w32 (pos 0 -ℤ to_z w32 (of_z w32 w.alpha)))) (to_z w32 (of_z w32 r)) ≡ high → high ≡ int_le (neg_ℤ w.alpha) s
+is-high w r s high score h = sym (rw (seen-wide r s score, negated-alpha w) at h)
+
+-- a kind, by what they say
+pub kind-low : (lower upper s : ℤ) → true ≡ int_le s lower → Low ≡ kind_of lower upper s
+kind-low lower upper s low = ap (λ (b : Bool). kind_by b (int_le upper s)) low
+
+pub kind-other : (lower upper s : ℤ) (high : Bool) → false ≡ int_le s lower → high ≡ int_le upper s → kind_by false high ≡ kind_of lower upper s
+kind-other lower upper s high above is = ap (λ (b : Bool). kind_by b high) above ∙ ap (kind_by (int_le s lower)) is
 
 -- what follows a test that a call has told
 pub by-told : {X : Type 0} (told b t : Bool) (x one other : X) → told ≡ b → told ≡ t → x ≡ (if t then one else other) → x ≡ (if b then one else other)

@@ -6,3 +6,4 @@ pub mod InletLemmas
 pub mod SightLemmas
 pub mod ReplyLemmas
 pub mod PlyLemmas
+pub mod KnowledgeLemmas

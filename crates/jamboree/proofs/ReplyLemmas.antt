@@ -1,9 +1,9 @@
 -- What a job keeps of a returned root.
-use Rattle.std.specs.Prelude.{◌≡◌, ℕ, zero, suc, ◌<◌, ◌≤◌, ◌==◌, Bool, true, false, ℤ, List, [], ◌∷◌, length, slice_index, Option, Some, None, find, All, IfSome, cond, if◌then◌else◌, bit_and, refl}
+use Rattle.std.specs.Prelude.{◌≡◌, ℕ, zero, suc, ◌<◌, ◌≤◌, ◌==◌, Bool, true, false, ℤ, List, [], ◌∷◌, length, drop, slice_index, Option, Some, None, find, All, IfSome, cond, if◌then◌else◌, bit_and, refl}
 use Rattle.std.proofs.Common.{take, to_z, of_z, w32, sym, ◌∙◌, ap, subst, arith}
 use Rattle.std.proofs.lemmas.Int.{ints}
 use Rattle.std.proofs.lemmas.Bool.{lt-ltb}
-use Rattle.std.proofs.lemmas.List.{get_or-take, length-take}
+use Rattle.std.proofs.lemmas.List.{length-map, length-drop, take_all}
 use Rattle.std.proofs.lemmas.List.Elements.{All-head, All-tail}
 use Rattle.othello_board.specs.declared.cells.Cell.{Cell}
 use Rattle.othello_board.specs.Words.{cells_of}
@@ -14,11 +14,15 @@ use Rattle.othello_moves.proofs.AllowedLemmas.{choices_allowed}
 use Rattle.othello_eval.specs.Minimax.{minimax, best_choice, choice_value, int_equal}
 use Rattle.othello_eval.proofs.MinimaxLemmas.{best_choice-leaf, best_choice-deeper}
 use Rattle.sched_rules.specs.Laws.{HasReturned}
+use Rattle.othello_eval.specs.Tables.{entered, IsTable}
 use Rattle.jamboree_rules.specs.Frames.{Frame, board, coded}
-use Rattle.jamboree_rules.specs.Places.{score_of, frame_of}
+use Rattle.jamboree_rules.specs.Places.{score_of, rest_of, frame_of, are_entries}
+use Rattle.jamboree_rules.specs.Entries.{bounds_of}
 use Rattle.jamboree_rules.specs.Fits.{AreFitting, IsRoot, IsKeptRoot}
 use Rattle.jamboree_rules.proofs.Forms.{IsFormed, formed-told}
 use Rattle.jamboree_rules.proofs.Answers.{root-value}
+use Rattle.jamboree_rules.proofs.Rooted.{root-whole}
+use Rattle.jamboree_rules.proofs.Codes.{few-choices}
 use Rattle.jamboree.specs.Codes.{decoded}
 use Rattle.jamboree.proofs.ViewLemmas.{word-high}
 
@@ -48,32 +52,48 @@ best-allowed (suc depth) b =
 
 -- what the kept words hold
 pub record AreKept (words : List ℕ) : Type 0 where
-  pub len : length words ≡ 12
+  pub long : 12 ≤ length words
+  pub few : length words ≤ 76
   pub disjoint : bit_and (slice_index words 0) (slice_index words 1) ≡ 0
   pub shallow : slice_index words 2 ≤ 12
   pub small : slice_index words 8 ≤ 1200000
   pub value : score_of (slice_index words 8) ≡ minimax (slice_index words 2) (cells_of (slice_index words 0) (slice_index words 1))
   pub choice : decoded (slice_index words 9) ≡ best_choice (slice_index words 2) (cells_of (slice_index words 0) (slice_index words 1))
+  pub entries : are_entries (drop 12 words) ≡ true
+  pub counted : length (drop 12 words) ≡ length (entered (slice_index words 2) (cells_of (slice_index words 0) (slice_index words 1)))
+  pub table : IsTable (slice_index words 2) (cells_of (slice_index words 0) (slice_index words 1)) (bounds_of (frame_of words))
 
-whole-kept : (origin whole : List ℕ) → AreFitting whole [] HasReturned → IsRoot origin whole → AreKept (take 12 whole)
-whole-kept origin whole fits root =
+few-entered : (depth : ℕ) (b : List Cell) → length (entered depth b) ≤ 64
+few-entered zero b = omega arith
+few-entered (suc depth) b = few-choices b
+
+-- all words of a returned root are kept
+whole-held : (origin whole : List ℕ) → AreFitting whole [] HasReturned → IsRoot origin whole → AreKept whole
+whole-held origin whole fits root =
     let f : Frame = frame_of whole in
     let form : IsFormed whole = formed-told whole fits.formed in
     let phase : f.phase ≡ 4 = fits.frame.marked in
     let late = form.frame.late (omega arith) in
     let holds = root-value origin whole fits root in
-    let same : (k : ℕ) → k < 12 → slice_index (take 12 whole) k ≡ slice_index whole k = λ k below. get_or-take 12 whole k 0 below in
+    let table = root-whole origin whole fits root in
+    let counted : length (drop 12 whole) ≡ length (entered f.depth (board f)) = sym (length-map (drop 12 whole) rest_of) ∙ table.0 in
     record {
-      len = length-take 12 whole ∙ (let long : 12 ≤ length whole = omega (arith, form.places) in omega arith);
-      disjoint = rw (same 0 (omega arith), same 1 (omega arith)) form.frame.leaf.disjoint;
-      shallow = rw (same 2 (omega arith)) form.frame.leaf.shallow;
-      small = rw (same 8 (omega arith)) (word-high (slice_index whole 8) late.1);
-      value = rw (same 8 (omega arith), same 2 (omega arith), same 0 (omega arith), same 1 (omega arith)) holds.0;
-      choice = rw (same 9 (omega arith), same 2 (omega arith), same 0 (omega arith), same 1 (omega arith)) (ap decoded holds.1 ∙ decoded-coded (board f) (best_choice f.depth (board f)) (best-allowed f.depth (board f)));
+      long = omega (arith, form.places);
+      few = omega (arith, form.places, counted, length-drop 12 whole, few-entered f.depth (board f));
+      disjoint = form.frame.leaf.disjoint;
+      shallow = form.frame.leaf.shallow;
+      small = word-high (slice_index whole 8) late.1;
+      value = holds.0;
+      choice = ap decoded holds.1 ∙ decoded-coded (board f) (best_choice f.depth (board f)) (best-allowed f.depth (board f));
+      entries = form.entries;
+      counted = counted;
+      table = table.2;
     }
 
 pub kept-root : (words : List ℕ) → IsKeptRoot words → AreKept words
-kept-root words k = subst AreKept k.kept (whole-kept k.origin k.whole k.fits k.rooted)
+kept-root words k =
+    let whole : AreKept k.whole = whole-held k.origin k.whole k.fits k.rooted in
+    subst AreKept (sym (take_all 76 k.whole whole.few) ∙ k.kept) whole
 
 -- a value in 32 bits
 pub kept-value : (w : ℕ) (s v : ℤ) → s ≡ score_of w → w ≤ 1200000 → score_of w ≡ v → to_z w32 (of_z w32 s) ≡ v

@@ -28,21 +28,24 @@ by-form w f p g x other formed is e = e ∙ ap (λ (f : Frame). if p f then g f 
 pub act-under-none : (grain : ℕ) (own : List ℕ) (f : Frame) (act : Act) → is_formed own ≡ true → f ≡ frame_of own → act ≡ (if f.role == 0 then act_of grain f None else returns) → act ≡ next_act grain (own ∷ [])
 act-under-none grain own f act = by-form own f (λ g. g.role == 0) (λ g. act_of grain g None) act returns
 
--- an inlet doesn't ask for statuses
-changes-with : (cuts test low higher : Bool) (f c : Frame) (xs ys : List ℕ) → changes_by cuts test low higher f c ≡ changes_by cuts test low higher (record f { statuses = xs }) (record c { statuses = ys })
-changes-with true test low higher f c xs ys = refl
-changes-with false true true higher f c xs ys = refl
-changes-with false true false higher f c xs ys = refl
-changes-with false false low true f c xs ys = refl
-changes-with false false low false f c xs ys = refl
+-- an inlet doesn't ask for entries
+abbrev with-entries : Frame → (statuses rests : List ℕ) → Frame
+with-entries f statuses rests = record f { statuses = statuses; rests = rests }
+
+changes-with : (cuts test low higher : Bool) (f c : Frame) (xs rs ys ss : List ℕ) → changes_by cuts test low higher f c ≡ changes_by cuts test low higher (with-entries f xs rs) (with-entries c ys ss)
+changes-with true test low higher f c xs rs ys ss = refl
+changes-with false true true higher f c xs rs ys ss = refl
+changes-with false true false higher f c xs rs ys ss = refl
+changes-with false false low true f c xs rs ys ss = refl
+changes-with false false low false f c xs rs ys ss = refl
 
 abbrev an-inlet : List Change → Bool → InletAct
 an-inlet changes abort = record { stores = pairs_of changes; abort = abort; wake = true }
 
-pub inlet-with : (f c : Frame) (xs ys : List ℕ) → inlet_of f c ≡ inlet_of (record f { statuses = xs }) (record c { statuses = ys })
-inlet-with f c xs ys =
+pub inlet-with : (f c : Frame) (xs rs ys ss : List ℕ) → inlet_of f c ≡ inlet_of (with-entries f xs rs) (with-entries c ys ss)
+inlet-with f c xs rs ys ss =
     ap (λ (changes : List Change). an-inlet changes (int_le f.beta (seen c)))
-    (changes-with (int_le f.beta (seen c)) (c.role == 2) (int_le (seen c) (neg_ℤ c.beta)) (int_lt (floor f) (seen c)) f c xs ys)
+    (changes-with (int_le f.beta (seen c)) (c.role == 2) (int_le (seen c) (neg_ℤ c.beta)) (int_lt (floor f) (seen c)) f c xs rs ys ss)
 
 -- the inlet of words of the form
 pub inlet-under : (own child : List ℕ) (f : Frame) (act : InletAct) → is_formed own ≡ true → f ≡ frame_of own →

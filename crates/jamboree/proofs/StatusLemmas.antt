@@ -3,33 +3,33 @@ use Rattle.std.specs.Prelude.{◌≡◌, ℕ, zero, suc, ◌+◌, ◌-◌, ◌*�
 use Rattle.std.proofs.Common.{sym, ◌∙◌, ap, subst, arith, add-one, drop-cons, ⊎_elim}
 use Rattle.std.proofs.Math.Bool.{and_assoc}
 use Rattle.std.proofs.Math.ListN.{drop_of_length-le, get_or-map}
-use Rattle.std.proofs.lemmas.Bool.{le-leb, lt-leb, lt-ltb, le-ltb, cases_lt}
+use Rattle.std.proofs.lemmas.Bool.{lt-ltb, le-ltb, cases_lt}
 use Rattle.std.proofs.lemmas.List.{take-append-drop, drop-take, drop-drop, length-append, length-drop, length-take, length-map, map-append, get_or-drop}
 use Rattle.std.proofs.lemmas.Option.{slice_get_within, unwrap_or-slice_get, slice_get-get_or}
-use Rattle.jamboree_rules.specs.Places.{status_of, are_statuses}
+use Rattle.jamboree_rules.specs.Places.{status_of, rest_of, is_entry, are_entries}
 use Rattle.jamboree_rules.specs.Acts.{first_open}
-use Rattle.jamboree.specs.Views.{statuses_in, entries_in}
+use Rattle.jamboree.specs.Views.{statuses_in, rests_in, entries_in}
 use Rattle.jamboree.proofs.OpenLemmas.{open-early, open-later}
 
--- entries that are statuses, from a place on
-statuses-step : (xs : List ℕ) (i : ℕ) → i < length xs → are_statuses (drop i xs) ≡ (nat_le (slice_index xs i) 4 && are_statuses (drop (i + 1) xs))
-statuses-step xs i below =
-    subst (λ (n : ℕ). are_statuses (drop i xs) ≡ (nat_le (slice_index xs i) 4 && are_statuses (drop n xs))) (sym (add-one i)) (ap are_statuses (drop-cons xs i 0 below))
+-- words that are entries, from a place on
+entries-step : (xs : List ℕ) (i : ℕ) → i < length xs → are_entries (drop i xs) ≡ (is_entry (slice_index xs i) && are_entries (drop (i + 1) xs))
+entries-step xs i below =
+    subst (λ (n : ℕ). are_entries (drop i xs) ≡ (is_entry (slice_index xs i) && are_entries (drop n xs))) (sym (add-one i)) (ap are_entries (drop-cons xs i 0 below))
 
-pub statuses-good : (xs : List ℕ) (i x : ℕ) → i < length xs → x ≡ slice_index xs i → x ≤ 4 → are_statuses (drop i xs) ≡ are_statuses (drop (i + 1) xs)
-statuses-good xs i x below is small =
-    statuses-step xs i below ∙ ap (λ (b : Bool). b && are_statuses (drop (i + 1) xs)) (ap (λ (y : ℕ). nat_le y 4) (sym is) ∙ le-leb x 4 small)
+pub entries-good : (xs : List ℕ) (i x : ℕ) → i < length xs → x ≡ slice_index xs i → is_entry x ≡ true → are_entries (drop i xs) ≡ are_entries (drop (i + 1) xs)
+entries-good xs i x below is good =
+    entries-step xs i below ∙ ap (λ (b : Bool). b && are_entries (drop (i + 1) xs)) (ap is_entry (sym is) ∙ good)
 
-pub statuses-bad : (xs : List ℕ) (i x : ℕ) → i < length xs → x ≡ slice_index xs i → 4 < x → are_statuses (drop i xs) ≡ false
-statuses-bad xs i x below is big =
-    statuses-step xs i below ∙ ap (λ (b : Bool). b && are_statuses (drop (i + 1) xs)) (ap (λ (y : ℕ). nat_le y 4) (sym is) ∙ lt-leb x 4 big)
+pub entries-bad : (xs : List ℕ) (i x : ℕ) → i < length xs → x ≡ slice_index xs i → is_entry x ≡ false → are_entries (drop i xs) ≡ false
+entries-bad xs i x below is bad =
+    entries-step xs i below ∙ ap (λ (b : Bool). b && are_entries (drop (i + 1) xs)) (ap is_entry (sym is) ∙ bad)
 
-pub statuses-end : (xs : List ℕ) (i : ℕ) → length xs ≤ i → are_statuses (drop i xs) ≡ true
-statuses-end xs i past = ap are_statuses (drop_of_length-le xs past)
+pub entries-end : (xs : List ℕ) (i : ℕ) → length xs ≤ i → are_entries (drop i xs) ≡ true
+entries-end xs i past = ap are_entries (drop_of_length-le xs past)
 
-statuses-append : (xs ys : List ℕ) → are_statuses (xs ++ ys) ≡ (are_statuses xs && are_statuses ys)
-statuses-append [] ys = refl
-statuses-append (x ∷ xs) ys = ap (λ (b : Bool). nat_le x 4 && b) (statuses-append xs ys) ∙ sym (and_assoc (nat_le x 4) (are_statuses xs) (are_statuses ys))
+entries-append : (xs ys : List ℕ) → are_entries (xs ++ ys) ≡ (are_entries xs && are_entries ys)
+entries-append [] ys = refl
+entries-append (x ∷ xs) ys = ap (λ (b : Bool). is_entry x && b) (entries-append xs ys) ∙ sym (and_assoc (is_entry x) (are_entries xs) (are_entries ys))
 
 pub few-entries : (w : List ℕ) (k : ℕ) → length (entries_in w k) ≤ 16
 few-entries w zero = omega (arith, length-drop 12 (take 16 w), length-take 16 w)
@@ -60,18 +60,18 @@ length-left : (w : List ℕ) (k : ℕ) → 0 < length (left w k) → 12 ≤ leng
 length-left w zero some long = omega (arith, length-drop 12 w)
 length-left w (suc k) some long = omega (arith, length-drop (16 * suc k) w, some)
 
-pub left-good : (w entries : List ℕ) (k : ℕ) → entries ≡ entries_in w k → true ≡ are_statuses entries → are_statuses (drop 12 w) ≡ are_statuses (left w k) → are_statuses (drop 12 w) ≡ are_statuses (left w (k + 1))
+pub left-good : (w entries : List ℕ) (k : ℕ) → entries ≡ entries_in w k → true ≡ are_entries entries → are_entries (drop 12 w) ≡ are_entries (left w k) → are_entries (drop 12 w) ≡ are_entries (left w (k + 1))
 left-good w entries k is good so_far =
-    so_far ∙ ap are_statuses (left-next w k) ∙ statuses-append (entries_in w k) (left w (k + 1))
-    ∙ ap (λ (b : Bool). b && are_statuses (left w (k + 1))) (ap are_statuses (sym is) ∙ sym good)
+    so_far ∙ ap are_entries (left-next w k) ∙ entries-append (entries_in w k) (left w (k + 1))
+    ∙ ap (λ (b : Bool). b && are_entries (left w (k + 1))) (ap are_entries (sym is) ∙ sym good)
 
-pub left-bad : (w entries : List ℕ) (k : ℕ) → entries ≡ entries_in w k → false ≡ are_statuses entries → are_statuses (drop 12 w) ≡ are_statuses (left w k) → false ≡ are_statuses (drop 12 w)
+pub left-bad : (w entries : List ℕ) (k : ℕ) → entries ≡ entries_in w k → false ≡ are_entries entries → are_entries (drop 12 w) ≡ are_entries (left w k) → false ≡ are_entries (drop 12 w)
 left-bad w entries k is bad so_far =
-    sym (so_far ∙ ap are_statuses (left-next w k) ∙ statuses-append (entries_in w k) (left w (k + 1))
-    ∙ ap (λ (b : Bool). b && are_statuses (left w (k + 1))) (ap are_statuses (sym is) ∙ sym bad))
+    sym (so_far ∙ ap are_entries (left-next w k) ∙ entries-append (entries_in w k) (left w (k + 1))
+    ∙ ap (λ (b : Bool). b && are_entries (left w (k + 1))) (ap are_entries (sym is) ∙ sym bad))
 
-pub left-all : (w : List ℕ) (k : ℕ) → 0 < k → length w ≤ 16 * k → are_statuses (drop 12 w) ≡ are_statuses (left w k) → true ≡ are_statuses (drop 12 w)
-left-all w k some past so_far = sym (so_far ∙ ap are_statuses (left-none w k some past))
+pub left-all : (w : List ℕ) (k : ℕ) → 0 < k → length w ≤ 16 * k → are_entries (drop 12 w) ≡ are_entries (left w k) → true ≡ are_entries (drop 12 w)
+left-all w k some past so_far = sym (so_far ∙ ap are_entries (left-none w k some past))
 
 -- all choices before a segment are settled
 abbrev pub AreSettledBefore : List ℕ → ℕ → Type 0
@@ -129,3 +129,11 @@ entry-none w n status got =
     ⊎_elim (λ (inside : 12 + n < length w). absurd (cc (got, slice_get-get_or w (12 + n) 0 inside))) (λ (beyond : length w ≤ 12 + n). beyond) (cases_lt (12 + n) (length w))
     in
     ap (λ (b : Bool). b && (slice_index (statuses_in w) n == status)) (sym (le-ltb n (length (statuses_in w)) (omega (arith, length-map (drop 12 w) status_of, length-drop 12 w))))
+
+-- the rest of its entry, and 0 where there is no entry
+rest-is : (w : List ℕ) (n : ℕ) → rest_of (slice_index w (12 + n)) ≡ slice_index (rests_in w) n
+rest-is w n = sym (get_or-map rest_of (drop 12 w) n 0 ∙ ap rest_of (get_or-drop 12 w n 0))
+
+pub rest-read : (w : List ℕ) (n rest entry : ℕ) (got : Option ℕ) → got ≡ slice_get w (12 + n) → entry ≡ unwrap_or got 0 → rest ≡ rest_of entry → rest ≡ slice_index (rests_in w) n
+rest-read w n rest entry got is read e =
+    e ∙ ap rest_of (read ∙ ap (λ (o : Option ℕ). unwrap_or o 0) is ∙ unwrap_or-slice_get w (12 + n) 0) ∙ rest-is w n

@@ -5,7 +5,7 @@ use Rattle.std.proofs.lemmas.List.{get_or-take}
 use Rattle.std.proofs.lemmas.Int.{ints}
 use Rattle.std.proofs.lemmas.Bool.{cases_lt, and_parts, eqb-true, eq-eqb}
 use Rattle.jamboree_rules.specs.Frames.{least, greatest, unscored, is_frame}
-use Rattle.jamboree_rules.specs.Places.{score_of, status_of, frame_of, are_statuses, is_formed}
+use Rattle.jamboree_rules.specs.Places.{score_of, status_of, rest_of, frame_of, are_entries, is_formed}
 use Rattle.jamboree_rules.proofs.Forms.{IsFrame, frame-told}
 use Rattle.jamboree.specs.declared.phases.Phase.{Phase}
 use Rattle.jamboree.specs.declared.phases.Role.{Role}
@@ -63,9 +63,9 @@ pub as-wide : (w : ℕ) (s : ℤ) → s ≡ score_of w → w ≤ 1200000 → to_
 as-wide w s e small = omega (arith, ints)
 
 -- the frame of parts that stand for these words
-pub frame-same : (h : Head) (statuses : List ℕ) (role : Role) (phase : Phase) (alpha beta best : ℤ) → alpha ≡ score_of h.alpha → beta ≡ score_of h.beta → role_number role ≡ h.role → phase_number phase ≡ h.phase → best ≡ score_of h.best →
-    frame_by h.own h.opp h.depth alpha beta role h.number phase best h.choice h.count h.spawned statuses ≡ frame_from h statuses
-frame-same h statuses role phase alpha beta best ea eb er ep es = rw (ea, eb, er, ep, es) refl
+pub frame-same : (h : Head) (entries : List ℕ) (role : Role) (phase : Phase) (alpha beta best : ℤ) → alpha ≡ score_of h.alpha → beta ≡ score_of h.beta → role_number role ≡ h.role → phase_number phase ≡ h.phase → best ≡ score_of h.best →
+    frame_by h.own h.opp h.depth alpha beta role h.number phase best h.choice h.count h.spawned (map status_of entries) (map rest_of entries) ≡ frame_from h entries
+frame-same h entries role phase alpha beta best ea eb er ep es = rw (ea, eb, er, ep, es) refl
 
 -- the first words stand in the first segment
 front-word : (w front : List ℕ) → front ≡ take 16 w → (k : ℕ) → k < 16 → slice_index front k ≡ slice_index w k
@@ -95,23 +95,23 @@ and-true true = refl
 and-true false = refl
 
 -- the rest of the test of the form
-pub formed-rest : (w : List ℕ) (h : Head) → h ≡ head_of w → length w ≡ 12 + h.count → is_frame (frame_from h []) ≡ true → are_statuses (drop 12 w) ≡ is_formed w
+pub formed-rest : (w : List ℕ) (h : Head) → h ≡ head_of w → length w ≡ 12 + h.count → is_frame (frame_from h []) ≡ true → are_entries (drop 12 w) ≡ is_formed w
 formed-rest w h e places frame =
-    subst (λ (k : Head). length w ≡ 12 + k.count → is_frame (frame_from k []) ≡ true → are_statuses (drop 12 w) ≡ is_formed w) (sym e)
+    subst (λ (k : Head). length w ≡ 12 + k.count → is_frame (frame_from k []) ≡ true → are_entries (drop 12 w) ≡ is_formed w) (sym e)
     (λ at test.
-    and-true (are_statuses (drop 12 w)) ∙ ap (λ (b : Bool). are_statuses (drop 12 w) && b) (sym test)
-    ∙ ap (λ (b : Bool). b && (are_statuses (drop 12 w) && is_frame (frame_of w))) (sym (eq-eqb (length w) (12 + slice_index w 10) at)))
+    and-true (are_entries (drop 12 w)) ∙ ap (λ (b : Bool). are_entries (drop 12 w) && b) (sym test)
+    ∙ ap (λ (b : Bool). b && (are_entries (drop 12 w) && is_frame (frame_of w))) (sym (eq-eqb (length w) (12 + slice_index w 10) at)))
     places frame
 
-pub formed-parts : (w : List ℕ) (h : Head) → h ≡ head_of w → is_formed w ≡ true → ((length w ≡ 12 + h.count) × (are_statuses (drop 12 w) ≡ true)) × (is_frame (frame_from h []) ≡ true)
+pub formed-parts : (w : List ℕ) (h : Head) → h ≡ head_of w → is_formed w ≡ true → ((length w ≡ 12 + h.count) × (are_entries (drop 12 w) ≡ true)) × (is_frame (frame_from h []) ≡ true)
 formed-parts w h e formed =
-    let a = and_parts (length w == 12 + slice_index w 10) (are_statuses (drop 12 w) && is_frame (frame_of w)) formed in
-    let b = and_parts (are_statuses (drop 12 w)) (is_frame (frame_of w)) a.1 in
-    subst (λ (k : Head). ((length w ≡ 12 + k.count) × (are_statuses (drop 12 w) ≡ true)) × (is_frame (frame_from k []) ≡ true)) (sym e)
+    let a = and_parts (length w == 12 + slice_index w 10) (are_entries (drop 12 w) && is_frame (frame_of w)) formed in
+    let b = and_parts (are_entries (drop 12 w)) (is_frame (frame_of w)) a.1 in
+    subst (λ (k : Head). ((length w ≡ 12 + k.count) × (are_entries (drop 12 w) ≡ true)) × (is_frame (frame_from k []) ≡ true)) (sym e)
     ((eqb-true (length w) (12 + slice_index w 10) a.0, b.0), b.1)
 
-pub frame-is : (w : List ℕ) (h : Head) (statuses : List ℕ) → h ≡ head_of w → statuses ≡ map status_of (drop 12 w) → frame_from h statuses ≡ frame_of w
-frame-is w h statuses e s = rw (e, s) refl
+pub frame-is : (w : List ℕ) (h : Head) (entries : List ℕ) → h ≡ head_of w → entries ≡ drop 12 w → frame_from h entries ≡ frame_of w
+frame-is w h entries e s = rw (e, s) refl
 
 -- the scores of a head in 32 bits
 pub alpha-low : (h : Head) (s : ℤ) → AreRanged h → s ≡ score_of h.alpha → negsuc 199999 ≤ℤ to_z w32 (of_z w32 s)

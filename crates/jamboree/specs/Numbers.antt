@@ -32,8 +32,8 @@ status_number Failed = 3
 status_number RunsAgain = 4
 
 -- the frame of these parts
-abbrev pub frame_by : (own opp depth : ℕ) (alpha beta : ℤ) → Role → ℕ → Phase → ℤ → (choice count spawned : ℕ) → List ℕ → Frame
-frame_by own opp depth alpha beta role number phase best choice count spawned statuses = record {
+abbrev pub frame_by : (own opp depth : ℕ) (alpha beta : ℤ) → Role → ℕ → Phase → ℤ → (choice count spawned : ℕ) → (statuses rests : List ℕ) → Frame
+frame_by own opp depth alpha beta role number phase best choice count spawned statuses rests = record {
   own = own;
   opp = opp;
   depth = depth;
@@ -47,4 +47,5 @@ frame_by own opp depth alpha beta role number phase best choice count spawned st
   count = count;
   spawned = spawned;
   statuses = statuses;
+  rests = rests;
 }

@@ -22,5 +22,5 @@ act_for Computes = record { stores = []; after = Compute }
 act_for Ends = record { stores = pairs_of (Phase 4 ∷ []); after = Return }
 act_for (Computed board) = opening true board.own board.opp 0
 act_for (Counts board count) = opening false board.own board.opp count
-act_for (Starts child) = record { stores = pairs_of (Spawned (child.number + 1) ∷ Status child.number 1 ∷ []); after = spawn_of child }
-act_for (Again child) = record { stores = pairs_of (Status child.number 4 ∷ []); after = spawn_of child }
+act_for (Starts child rest) = record { stores = pairs_of (Spawned (child.number + 1) ∷ Status child.number 1 rest.word ∷ []); after = spawn_of child }
+act_for (Again child rest) = record { stores = pairs_of (Status child.number 4 rest.word ∷ []); after = spawn_of child }

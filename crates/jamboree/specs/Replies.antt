@@ -1,7 +1,11 @@
 -- Meaning: what a reply says, as words for its private parts.
-use Rattle.std.specs.Prelude.{ℕ}
+use Rattle.std.specs.Prelude.{ℕ, List, take}
 use Rattle.othello_board.specs.declared.boards.Board.{Board}
+use Rattle.othello_board.specs.Words.{cells}
+use Rattle.othello_moves.specs.Choices.{choices}
+use Rattle.othello_eval.specs.declared.bound.Bound.{Bound}
 use Rattle.jamboree.specs.declared.reply.Reply.{Reply}
+use Rattle.jamboree.specs.Knowledge.{bounds_by}
 
 -- the board that was asked, and the depth
 abbrev pub board_of : Reply → Board
@@ -9,3 +13,7 @@ board_of reply = reply.board
 
 abbrev pub depth_of : Reply → ℕ
 depth_of reply = reply.depth
+
+-- what is known of each choice, in their order
+abbrev pub table_of : Reply → List Bound
+table_of reply = bounds_by (choices (cells reply.board)) (take reply.count reply.known)

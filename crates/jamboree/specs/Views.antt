@@ -3,7 +3,7 @@ use Rattle.std.specs.Prelude.{ℕ, zero, suc, ◌*◌, List, [], map, drop, take
 use Rattle.jamboree.specs.declared.view.Head.{Head}
 use Rattle.jamboree.specs.declared.frame.View.{View}
 use Rattle.jamboree_rules.specs.Frames.{Frame}
-use Rattle.jamboree_rules.specs.Places.{score_of, status_of}
+use Rattle.jamboree_rules.specs.Places.{score_of, status_of, rest_of}
 use Rattle.jamboree.specs.Numbers.{frame_by}
 
 -- the first twelve words
@@ -23,9 +23,9 @@ head_of words = record {
   spawned = slice_index words 11;
 }
 
--- the frame of these first words, with these statuses
+-- the frame of these first words, with these entries of choices
 abbrev pub frame_from : Head → List ℕ → Frame
-frame_from head statuses = record {
+frame_from head entries = record {
   own = head.own;
   opp = head.opp;
   depth = head.depth;
@@ -38,18 +38,26 @@ frame_from head statuses = record {
   choice = head.choice;
   count = head.count;
   spawned = head.spawned;
-  statuses = statuses;
+  statuses = map status_of entries;
+  rests = map rest_of entries;
 }
 
--- the statuses of the choices in these words: one from place 12 on for each choice
+-- the entries of the choices in these words: one from place 12 on for each choice
+abbrev pub entries_of : List ℕ → List ℕ
+entries_of words = drop 12 words
+
+-- their statuses, and the rests of them
 abbrev pub statuses_in : List ℕ → List ℕ
-statuses_in words = map status_of (drop 12 words)
+statuses_in words = map status_of (entries_of words)
 
--- the frame that a view shows, of choices with these statuses
+abbrev pub rests_in : List ℕ → List ℕ
+rests_in words = map rest_of (entries_of words)
+
+-- the frame that a view shows, of choices with these entries
 abbrev pub frame_with : View → List ℕ → Frame
-frame_with v statuses = frame_by v.board.own v.board.opp v.depth v.alpha v.beta v.role v.number v.phase v.best v.choice v.count v.spawned statuses
+frame_with v entries = frame_by v.board.own v.board.opp v.depth v.alpha v.beta v.role v.number v.phase v.best v.choice v.count v.spawned (map status_of entries) (map rest_of entries)
 
--- the same where nothing asks for the statuses
+-- the same where nothing asks for the entries
 abbrev pub frame_in : View → Frame
 frame_in v = frame_with v []
 

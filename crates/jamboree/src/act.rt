@@ -1,10 +1,11 @@
 //! The act of a plan, and the inlet of an intake.
 ghost use Rattle.std.specs.Prelude.{◌≡◌, []};
-ghost use Rattle.jamboree.specs.Intakes.{inlet_for, stores_for};
+ghost use Rattle.jamboree.specs.Intakes.{inlet_for, rest_said, stores_for};
 ghost use Rattle.jamboree.specs.Plans.{act_for, spawn_of};
 
 use crate::codes::NONE;
-use crate::intake::{Finding, Intake};
+use crate::entry::Rest;
+use crate::intake::{Finding, Intake, Said};
 use crate::phases::{Phase, Status};
 use crate::plan::{NewChild, Plan};
 use crate::view::{Changes, spawn};
@@ -63,18 +64,18 @@ impl Plan {
                     after: Then::Grow(count),
                 };
             }
-            Plan::Starts(child) => {
+            Plan::Starts(child, rest) => {
                 let mut changes = Changes::new();
                 changes.spawned(child.number + 1);
-                changes.status(child.number, Status::Runs);
+                changes.status(child.number, Status::Runs, rest);
                 return Act {
                     stores: changes.stores(),
                     after: child.spawn(),
                 };
             }
-            Plan::Again(child) => {
+            Plan::Again(child, rest) => {
                 let mut changes = Changes::new();
-                changes.status(child.number, Status::RunsAgain);
+                changes.status(child.number, Status::RunsAgain, rest);
                 return Act {
                     stores: changes.stores(),
                     after: child.spawn(),
@@ -95,6 +96,16 @@ fn without_stores(after: Then) -> Act
     }
 }
 
+impl Said {
+    /// The rest of the choice's entry then.
+    #[inline(always)]
+    fn rest(&self) -> Rest
+        ensures { result.word ≡ rest_said self.now }
+    {
+        Rest::saying(self.known)
+    }
+}
+
 impl Finding {
     /// What is stored of it.
     #[inline(always)]
@@ -105,27 +116,27 @@ impl Finding {
         match self {
             Finding::Nothing => {}
             Finding::Ended(told, code) => {
-                changes.best(told.score);
+                changes.best(told.best);
                 changes.chosen(code);
-                changes.status(told.number, Status::Settled);
+                changes.status(told.said.number, Status::Settled, told.said.rest());
                 changes.phase(Phase::Done);
             }
             Finding::Low(told) => {
-                changes.best(told.score);
-                changes.status(told.number, Status::Settled);
+                changes.best(told.best);
+                changes.status(told.said.number, Status::Settled, told.said.rest());
             }
-            Finding::Failed(number) => {
-                changes.status(usize::from(number), Status::Failed);
+            Finding::Failed(said) => {
+                changes.status(said.number, Status::Failed, said.rest());
             }
             Finding::Raised(told, code) => {
-                changes.best(told.score);
+                changes.best(told.best);
                 changes.chosen(code);
-                changes.status(told.number, Status::Settled);
+                changes.status(told.said.number, Status::Settled, told.said.rest());
                 changes.phase(Phase::Tests);
             }
             Finding::Kept(told) => {
-                changes.best(told.score);
-                changes.status(told.number, Status::Settled);
+                changes.best(told.best);
+                changes.status(told.said.number, Status::Settled, told.said.rest());
                 changes.phase(Phase::Tests);
             }
         }

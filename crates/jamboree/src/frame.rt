@@ -30,7 +30,7 @@ pub(crate) struct View {
     pub(crate) count: usize,
     /// How many of them were spawned.
     pub(crate) spawned: usize,
-    ghost form: { is_frame (frame_by board.own board.opp depth alpha beta role number phase best choice count spawned []) ≡ true },
+    ghost form: { is_frame (frame_by board.own board.opp depth alpha beta role number phase best choice count spawned [] []) ≡ true },
     ghost few: { count ≤ 116 },
     ghost least: { negsuc 199999 ≤ℤ alpha },
     ghost window: { alpha <ℤ beta },

@@ -5,15 +5,17 @@ ghost use Rattle.othello_board.specs.Words.{cells};
 ghost use Rattle.othello_moves.specs.Choices.{choices};
 ghost use Rattle.jamboree_rules.specs.Frames.{floor, may_be_child};
 ghost use Rattle.jamboree_rules.specs.Places.{pairs_of};
-ghost use Rattle.jamboree_rules.specs.Acts.{seen, changes_by, changes_of, wakes, inlet_of};
-ghost use Rattle.jamboree.specs.Intakes.{inlet_for, stores_for};
+ghost use Rattle.jamboree_rules.specs.Acts.{seen, kind_of, found_of, changes_by, changes_of, wakes, inlet_of};
+ghost use Rattle.jamboree.specs.Intakes.{inlet_for, stores_for, rest_said};
 ghost use Rattle.jamboree.specs.Views.{frame_in};
 
 use crate::codes::code_at;
+use crate::entry::Known;
 use crate::frame::View;
-use crate::intake::{Finding, Intake, Told};
+use crate::intake::{Finding, Intake, Said, Told};
 use crate::next::floor;
 use crate::phases::Role;
+use othello_eval::BoundKind;
 
 /// To wake the parent and no more.
 #[inline(always)]
@@ -34,6 +36,22 @@ fn seen(child: &View) -> i32
     ensures high { result ≤ℤ pos 1000000 }
 {
     -child.best
+}
+
+/// What the score says of the choice, by the child's window as the parent sees it: at most its lower
+/// end the value is no more, at least its upper end no less, and between the two it is the score.
+#[inline(always)]
+fn kind_of(child: &View) -> BoundKind
+    ensures { result ≡ kind_of (neg_ℤ child.now.beta) (neg_ℤ child.now.alpha) (seen (frame_in child.now)) }
+{
+    let score = seen(child);
+    if score <= -child.beta {
+        return BoundKind::Low;
+    }
+    if -child.alpha <= score {
+        return BoundKind::High;
+    }
+    BoundKind::Exact
 }
 
 /// The greater of the best score and the child's.
@@ -104,22 +122,41 @@ fn ended(frame: &View, child: &View) -> Finding
     requires { may_be_child (frame_in frame.now) (frame_in child.now) ≡ true }
     ensures { (test low higher : Bool) → stores_for result ≡ pairs_of (changes_by true test low higher (frame_in frame.now) (frame_in child.now)) }
 {
-    let number = number_of(frame, child);
-    let code = code_at(frame.board, number);
-    let score = seen(child);
-    Finding::Ended(Told { score, number }, code)
+    let said = said(frame, child);
+    let code = code_at(frame.board, said.number);
+    let best = seen(child);
+    Finding::Ended(Told { best, said }, code)
 }
 
-/// The greater of the best score and the child's, for its choice.
+/// What the child says of its choice.
+#[inline(always)]
+fn said(frame: &View, child: &View) -> Said
+    requires { may_be_child (frame_in frame.now) (frame_in child.now) ≡ true }
+    ensures number { result.number ≡ child.now.number }
+    ensures inside { result.number < length (choices (cells frame.now.board)) }
+    ensures rest { rest_said result ≡ found_of (frame_in child.now) }
+{
+    let number = number_of(frame, child);
+    let score = seen(child);
+    let kind = kind_of(child);
+    Said {
+        number,
+        known: Known { score, kind },
+    }
+}
+
+/// The greater of the best score and the child's, beside what the child says of its choice.
 #[inline(always)]
 fn told(frame: &View, child: &View) -> Told
     requires { may_be_child (frame_in frame.now) (frame_in child.now) ≡ true }
-    ensures score { result.score ≡ int_max frame.now.best (seen (frame_in child.now)) }
-    ensures number { result.number ≡ child.now.number }
+    ensures best { result.best ≡ int_max frame.now.best (seen (frame_in child.now)) }
+    ensures number { result.said.number ≡ child.now.number }
+    ensures inside { result.said.number < length (choices (cells frame.now.board)) }
+    ensures rest { rest_said result.said ≡ found_of (frame_in child.now) }
 {
-    let number = number_of(frame, child);
-    let score = best_of(frame, child);
-    Told { score, number }
+    let said = said(frame, child);
+    let best = best_of(frame, child);
+    Told { best, said }
 }
 
 /// A test that isn't above its window settles its choice.
@@ -137,8 +174,7 @@ fn failed(frame: &View, child: &View) -> Finding
     requires { may_be_child (frame_in frame.now) (frame_in child.now) ≡ true }
     ensures { (higher : Bool) → stores_for result ≡ pairs_of (changes_by false true false higher (frame_in frame.now) (frame_in child.now)) }
 {
-    let number = number_of(frame, child);
-    Finding::Failed(number as u8)
+    Finding::Failed(said(frame, child))
 }
 
 /// A search in full that is above the floor gives the best score and its choice.
@@ -148,7 +184,7 @@ fn raised(frame: &View, child: &View) -> Finding
     ensures { (low : Bool) → stores_for result ≡ pairs_of (changes_by false false low true (frame_in frame.now) (frame_in child.now)) }
 {
     let told = told(frame, child);
-    let code = code_at(frame.board, told.number);
+    let code = code_at(frame.board, told.said.number);
     Finding::Raised(told, code)
 }
 

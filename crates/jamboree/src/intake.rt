@@ -1,14 +1,25 @@
 //! What an inlet does, in few words: it is made of them once, at the end.
 ghost use Rattle.std.specs.Prelude.{◌≤◌, ◌≤ℤ◌, pos, negsuc};
 
-/// The best score of a frame then, and the number of the choice that is settled.
+use crate::entry::Known;
+
+/// What a child says of its choice: the number of the choice, and what is known of it now.
+#[derive(Drop)]
+pub(crate) struct Said {
+    pub(crate) number: usize,
+    pub(crate) known: Known,
+    ghost few: { number ≤ 64 },
+    ghost low: { negsuc 199999 ≤ℤ known.score },
+    ghost high: { known.score ≤ℤ pos 1000000 },
+}
+
+/// What it says of a choice that is settled, and the best score of the frame then.
 #[derive(Drop)]
 pub(crate) struct Told {
-    pub(crate) score: i32,
-    pub(crate) number: usize,
-    ghost low: { negsuc 199999 ≤ℤ score },
-    ghost high: { score ≤ℤ pos 1000000 },
-    ghost few: { number ≤ 64 },
+    pub(crate) best: i32,
+    pub(crate) said: Said,
+    ghost low: { negsuc 199999 ≤ℤ best },
+    ghost high: { best ≤ℤ pos 1000000 },
 }
 
 /// What a child's score says of its choice. A word beside it is the choice's code.
@@ -20,8 +31,8 @@ pub(crate) enum Finding {
     Ended(Told, u64),
     /// The test was low.
     Low(Told),
-    /// The test of the choice of this number has failed.
-    Failed(u8),
+    /// The test of the choice has failed.
+    Failed(Said),
     /// The search in full is above the floor.
     Raised(Told, u64),
     /// The search in full isn't.

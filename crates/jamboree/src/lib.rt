@@ -4,28 +4,32 @@
 //! [`root_words`]; [`Jamboree`] says of each frame what it does next, what its inlet does about a
 //! child that has returned, what it is computed from near the leaves ([`LeafAnswer::compute`], which
 //! is called outside the scheduler's lock), and what it stores of the answer. What these acts are is
-//! written in `jamboree_rules`, over a frame's board, window, phase and statuses; the code reads a
-//! frame's words once into a typed view (`view`, the one module that knows places), decides by it on a
-//! plan or an intake (`plan`, `intake`), and answers with just these acts, each made once (`act`).
+//! written in `jamboree_rules`, over a frame's board, window, phase and entries; the code reads a
+//! frame's words once into a typed view (`view`, the one module that knows places; `entry` takes the
+//! entry of a choice apart), decides by it on a plan or an intake (`plan`, `intake`), and answers with
+//! just these acts, each made once (`act`).
 //! Words that have not the form of a frame return, and their inlet only wakes; of frames that are
 //! known to fit the form isn't tested.
 //!
 //! `Jamboree` is a lawful procedure: whatever the order of spawns, steals, inlets and aborts, each
 //! frame fits its children (`AreFitting`), and the words that a job keeps of its returned root give a
-//! [`Reply`], whose value is the minimax value and whose choice is the best choice of its board.
+//! [`Reply`], whose value is the minimax value and whose choice is the best choice of its board. At
+//! depth 1 and more it also has what is known of each choice ([`Reply::bound`]): every entry is true,
+//! and the best choice's is exact; which kind another has depends on what was spawned when.
 //!
 //! ```text
-//! // the opening to depth 1, near the leaves: the root is computed by one worker
+//! // the opening to depth 0: the root is computed by one worker; a deeper one has a place for each choice
 //! let jamboree = Jamboree::new(2)?;
-//! let root = stack.open(None, &root_words(&position, 1), 12)?;
+//! let root = stack.open(None, &root_words(&position, 0), 12)?;
 //! matches!(jamboree.next(&stack.sight(root)).after, Then::Compute);
 //! let answer = LeafAnswer::compute(jamboree.input(&stack.own(root)));
-//! jamboree.accept(&stack.own(root), &answer).as_slice() == [(8, 999_997), (9, 19), (7, 4)]
+//! jamboree.accept(&stack.own(root), &answer).as_slice() == [(8, 1_000_000), (9, 65), (7, 4)]
 //! ```
 #![tactic(auto)]
 
 mod act;
 mod codes;
+mod entry;
 mod frame;
 mod inlet;
 mod intake;
@@ -40,6 +44,7 @@ mod statuses;
 mod view;
 
 pub use jamboree_rules::{Leaf, LeafAnswer};
+pub use othello_eval::{Bound, BoundKind};
 pub use procedure::Jamboree;
 pub use reply::Reply;
 pub use view::root_words;

@@ -2,16 +2,17 @@
 ghost use Rattle.std.specs.Prelude.{◌≡◌, ◌≢◌, ◌+◌, ◌<◌, ◌≤◌, ◌≤ℤ◌, pos, negsuc, ◌==◌, ℕ, Bool, true, false, Option, Some, None, List, [], ◌∷◌, length};
 ghost use Rattle.othello_board.specs.Words.{cells};
 ghost use Rattle.othello_moves.specs.Choices.{choices, plies};
-ghost use Rattle.jamboree_rules.specs.Frames.{Frame, choice_at, floor, may_be_child};
+ghost use Rattle.jamboree_rules.specs.Frames.{Frame, choice_at, rest_at, floor, may_be_child};
 ghost use Rattle.jamboree_rules.specs.Acts.{spawns, opening_on, first_search, first_open, tests, tests_from, act_of};
 ghost use Rattle.jamboree.specs.Numbers.{role_number};
 ghost use Rattle.jamboree.specs.Plans.{act_for, spawn_of};
-ghost use Rattle.jamboree.specs.Views.{frame_in, frame_with, statuses_in};
+ghost use Rattle.jamboree.specs.Views.{frame_in, frame_with, entries_of, statuses_in};
 
+use crate::entry::Rest;
 use crate::frame::View;
 use crate::phases::{Phase, Role};
 use crate::plan::{NewChild, Plan};
-use crate::statuses::{first_open, has_failed};
+use crate::statuses::{first_open, has_failed, rest_at};
 use cactus_stack::Words;
 use othello_board::Board;
 use othello_moves::{after, choice, choice_count, plies};
@@ -80,16 +81,17 @@ fn child(frame: &View, role: Role, number: usize, alpha: i32, beta: i32) -> NewC
 /// What is next while the first choice is searched: its child is opened with the whole window, and
 /// awaited.
 #[inline(always)]
-fn first_search(frame: &View) -> Plan
+fn first_search(frame: &View, words: &Words) -> Plan
     requires deep { 0 < frame.now.depth }
     requires choices { frame.now.count ≡ length (choices (cells frame.now.board)) }
     requires some { 0 < frame.now.count }
-    ensures { act_for result ≡ first_search ((frame_in frame.now).spawned == 0) (frame_in frame.now) }
+    ensures { act_for result ≡ first_search (frame.now.spawned == 0) (frame_with frame.now (entries_of words.now)) }
 {
     if frame.spawned != 0 {
         return Plan::Waits;
     }
-    Plan::Starts(child(frame, Role::FirstChild, 0, -frame.beta, -frame.alpha))
+    let child = child(frame, Role::FirstChild, 0, -frame.beta, -frame.alpha);
+    Plan::Starts(child, rest_at(words, 0))
 }
 
 /// What is next while choices are tested: the first choice that isn't settled is searched again,
@@ -99,14 +101,14 @@ fn tests(frame: &View, words: &Words) -> Plan
     requires deep { 0 < frame.now.depth }
     requires choices { frame.now.count ≡ length (choices (cells frame.now.board)) }
     requires entries { length words.now ≡ 12 + frame.now.count }
-    ensures { act_for result ≡ tests_from (frame_with frame.now (statuses_in words.now)) (first_open (statuses_in words.now)) }
+    ensures { act_for result ≡ tests_from (frame_with frame.now (entries_of words.now)) (first_open (statuses_in words.now)) }
 {
     let open = first_open(words);
     if has_failed(words, open) {
-        return search_again(frame, open);
+        return search_again(frame, open, rest_at(words, open));
     }
     if frame.spawned < frame.count {
-        return test(frame, frame.spawned);
+        return test(frame, frame.spawned, rest_at(words, frame.spawned));
     }
     if frame.count <= open {
         return Plan::Ends;
@@ -114,28 +116,32 @@ fn tests(frame: &View, words: &Words) -> Plan
     Plan::Waits
 }
 
-/// To search a choice again, above the greater of alpha and the best score.
+/// To search a choice again, above the greater of alpha and the best score. What is known of it
+/// stays.
 #[inline(always)]
-fn search_again(frame: &View, number: usize) -> Plan
+fn search_again(frame: &View, number: usize, rest: Rest) -> Plan
     requires deep { 0 < frame.now.depth }
     requires choices { frame.now.count ≡ length (choices (cells frame.now.board)) }
     requires inside { number < frame.now.count }
-    ensures { (more all : Bool) (statuses : List ℕ) → act_for result ≡ tests true more all (frame_with frame.now statuses) number }
+    ensures { (more all : Bool) (entries : List ℕ) → rest.word ≡ rest_at (frame_with frame.now entries) number → act_for result ≡ tests true more all (frame_with frame.now entries) number }
 {
-    Plan::Again(child(frame, Role::Again, number, -frame.beta, -floor(frame)))
+    let child = child(frame, Role::Again, number, -frame.beta, -floor(frame));
+    Plan::Again(child, rest)
 }
 
-/// To test the next choice, just above the greater of alpha and the best score.
+/// To test the next choice, just above the greater of alpha and the best score. What is known of it
+/// stays.
 #[inline(always)]
-fn test(frame: &View, number: usize) -> Plan
+fn test(frame: &View, number: usize, rest: Rest) -> Plan
     requires deep { 0 < frame.now.depth }
     requires choices { frame.now.count ≡ length (choices (cells frame.now.board)) }
     requires next { number ≡ (frame_in frame.now).spawned }
     requires inside { number < frame.now.count }
-    ensures { (all : Bool) (statuses : List ℕ) (first : ℕ) → act_for result ≡ tests false true all (frame_with frame.now statuses) first }
+    ensures { (all : Bool) (entries : List ℕ) (first : ℕ) → rest.word ≡ rest_at (frame_with frame.now entries) number → act_for result ≡ tests false true all (frame_with frame.now entries) first }
 {
     let floor = floor(frame);
-    Plan::Starts(child(frame, Role::Test, number, -(floor + 1), -floor))
+    let child = child(frame, Role::Test, number, -(floor + 1), -floor);
+    Plan::Starts(child, rest)
 }
 
 /// What a frame does next that knows its board, in these words.
@@ -143,24 +149,25 @@ fn test(frame: &View, number: usize) -> Plan
 pub(crate) fn later(frame: &View, words: &Words) -> Plan
     requires later { (frame_in frame.now).phase ≢ 0 }
     requires entries { length words.now ≡ 12 + frame.now.count }
-    ensures { (grain : ℕ) (parent : Option Frame) → act_for result ≡ act_of grain (frame_with frame.now (statuses_in words.now)) parent }
+    ensures { (grain : ℕ) (parent : Option Frame) → act_for result ≡ act_of grain (frame_with frame.now (entries_of words.now)) parent }
 {
     match frame.phase {
         Phase::Computing => Plan::Computes,
-        Phase::First => first_search(frame),
+        Phase::First => first_search(frame, words),
         Phase::Tests => tests(frame, words),
         Phase::New | Phase::Done => Plan::Returns,
     }
 }
 
-/// What a root does next in these words.
+/// What a root does next in these words. Whatever the grain, it is computed outside only at depth 0 and
+/// where the game is over: else it has an entry for each choice.
 #[inline(always)]
 pub(crate) fn of_root(grain: u8, frame: &View, words: &Words) -> Plan
     requires { length words.now ≡ 12 + frame.now.count }
-    ensures { act_for result ≡ act_of grain (frame_with frame.now (statuses_in words.now)) None }
+    ensures { act_for result ≡ act_of grain (frame_with frame.now (entries_of words.now)) None }
 {
     match frame.phase {
-        Phase::New => opening(grain, frame, frame.board),
+        Phase::New => opening(0, frame, frame.board),
         _ => later(frame, words),
     }
 }
@@ -169,8 +176,8 @@ pub(crate) fn of_root(grain: u8, frame: &View, words: &Words) -> Plan
 #[inline(always)]
 pub(crate) fn board_under(frame: &View, parent: &View) -> Board
     requires { may_be_child (frame_in parent.now) (frame_in frame.now) ≡ true }
-    ensures { (grain : ℕ) (others statuses : List ℕ) → (frame_in frame.now).phase ≡ 0 →
-        opening_on grain (frame_with frame.now statuses) result.own result.opp ≡ act_of grain (frame_with frame.now statuses) (Some (frame_with parent.now others)) }
+    ensures { (grain : ℕ) (others entries : List ℕ) → (frame_in frame.now).phase ≡ 0 →
+        opening_on grain (frame_with frame.now entries) result.own result.opp ≡ act_of grain (frame_with frame.now entries) (Some (frame_with parent.now others)) }
 {
     let chosen = choice(parent.board, frame.number as usize);
     after(parent.board, chosen)

@@ -3,6 +3,7 @@
 //! An act is a large value, so what decides answers a plan, and the act is made of it once, at the end.
 ghost use Rattle.std.specs.Prelude.{◌≤◌, ◌≤ℤ◌, pos, negsuc};
 
+use crate::entry::Rest;
 use crate::phases::Role;
 use othello_board::Board;
 
@@ -40,8 +41,8 @@ pub(crate) enum Plan {
     Computed(Board),
     /// It has this board, and so many choices to search.
     Counts(Board, usize),
-    /// The first search of a choice, or its test, starts.
-    Starts(NewChild),
-    /// A choice is searched again.
-    Again(NewChild),
+    /// The first search of a choice, or its test, starts. What is known of the choice stays.
+    Starts(NewChild, Rest),
+    /// A choice is searched again. What is known of it stays.
+    Again(NewChild, Rest),
 }

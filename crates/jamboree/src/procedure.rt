@@ -11,7 +11,7 @@ ghost use Rattle.sched_rules.specs.Laws.{AllFit};
 ghost use Rattle.jamboree.specs.Intakes.{inlet_for};
 ghost use Rattle.jamboree.specs.Levels.{above_of};
 ghost use Rattle.jamboree.specs.Plans.{act_for};
-ghost use Rattle.jamboree.specs.Views.{frame_in, frame_with, statuses_in};
+ghost use Rattle.jamboree.specs.Views.{frame_in, frame_with, entries_of};
 
 use crate::codes::coded;
 use crate::frame::View;
@@ -27,7 +27,7 @@ use othello_moves::choice_count;
 use sched_rules::{Act, InletAct, Procedure, Stores};
 
 /// Jamboree search: frames of a remaining depth of at most `grain` are searched serially by one
-/// worker.
+/// worker; a root only at depth 0 and in a finished game, so that each of its choices has an entry.
 #[derive(Clone, Copy, Debug, PartialEq, Eq)]
 pub struct Jamboree {
     /// The greatest depth that one worker searches by itself, 0 to 6.
@@ -79,7 +79,7 @@ impl View {
 #[inline(always)]
 fn plan_alone(grain: u8, frame: &View, own: &Words) -> Plan
     requires { length own.now ≡ 12 + frame.now.count }
-    ensures { act_for result ≡ (if (frame_in frame.now).role == 0 then act_of grain (frame_with frame.now (statuses_in own.now)) None else returns) }
+    ensures { act_for result ≡ (if (frame_in frame.now).role == 0 then act_of grain (frame_with frame.now (entries_of own.now)) None else returns) }
 {
     match frame.role {
         Role::Root => of_root(grain, frame, own),
@@ -91,7 +91,7 @@ fn plan_alone(grain: u8, frame: &View, own: &Words) -> Plan
 #[inline(always)]
 fn plan_under(grain: u8, frame: &View, own: &Words, parent: &View) -> Plan
     requires { length own.now ≡ 12 + frame.now.count }
-    ensures { (others : List ℕ) → act_for result ≡ (if may_be_child (frame_with parent.now others) (frame_in frame.now) then act_of grain (frame_with frame.now (statuses_in own.now)) (Some (frame_with parent.now others)) else returns) }
+    ensures { (others : List ℕ) → act_for result ≡ (if may_be_child (frame_with parent.now others) (frame_in frame.now) then act_of grain (frame_with frame.now (entries_of own.now)) (Some (frame_with parent.now others)) else returns) }
 {
     if !frame.may_be_under(parent) {
         return Plan::Returns;
@@ -105,7 +105,7 @@ fn plan_under(grain: u8, frame: &View, own: &Words, parent: &View) -> Plan
 /// What a frame in these words does next under a parent in those: only a child of it does something.
 fn plan_below(grain: u8, frame: &View, own: &Words, above: &Words) -> Plan
     requires { length own.now ≡ 12 + frame.now.count }
-    ensures { act_for result ≡ (if is_formed above.now && may_be_child (frame_of above.now) (frame_in frame.now) then act_of grain (frame_with frame.now (statuses_in own.now)) (Some (frame_of above.now)) else returns) }
+    ensures { act_for result ≡ (if is_formed above.now && may_be_child (frame_of above.now) (frame_in frame.now) then act_of grain (frame_with frame.now (entries_of own.now)) (Some (frame_of above.now)) else returns) }
 {
     if !is_formed(above) {
         return Plan::Returns;
@@ -169,7 +169,7 @@ fn plan_of(grain: u8, fitting: bool, sight: &Sight) -> Plan
 
 /// What a frame takes in of a child of these words.
 fn intake_at(frame: &View, words: &Words) -> Intake
-    ensures { (statuses : List ℕ) → inlet_for result ≡ (if is_formed words.now && may_be_child (frame_with frame.now statuses) (frame_of words.now) then inlet_of (frame_with frame.now statuses) (frame_of words.now) else wakes) }
+    ensures { (entries : List ℕ) → inlet_for result ≡ (if is_formed words.now && may_be_child (frame_with frame.now entries) (frame_of words.now) then inlet_of (frame_with frame.now entries) (frame_of words.now) else wakes) }
 {
     if !is_formed(words) {
         return wakes();

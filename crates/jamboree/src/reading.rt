@@ -1,18 +1,55 @@
 //! Replies, read and shown.
-ghost use Rattle.std.specs.Prelude.{◌≡◌, ◌≤◌, slice_index};
+ghost use Rattle.std.specs.Prelude.{◌≡◌, ◌≤◌, ◌<◌, ◌↔◌, true, Some, IsSome, IfSome, length, map, slice_get, slice_index, take};
+ghost use Rattle.jamboree_rules.specs.Places.{frame_of, rest_of, are_entries};
+ghost use Rattle.jamboree_rules.specs.Entries.{bounds_of};
+ghost use Rattle.jamboree.specs.Knowledge.{known_of, bound_by};
 
 use crate::codes::decoded;
-use crate::reply::Reply;
+use crate::entry::{Known, Rest};
+use crate::reply::{MOST, Reply};
 use crate::score::score_of_word;
-use crate::view::read_kept;
+use crate::view::{kept_entries, read_kept};
 use othello_board::Board;
-use othello_moves::Choice;
+use othello_eval::{Bound, BoundKind};
+use othello_moves::{Choice, choice};
+
+/// What is known of the choices with these entries, in their order.
+fn known_in(entries: &[u64]) -> [Known; MOST]
+    requires few { length entries.now ≤ 64 }
+    requires entries { are_entries entries.now ≡ true }
+    ensures { take (length entries.now) result ≡ map known_of (map rest_of entries.now) }
+{
+    let nothing = Known {
+        score: 0,
+        kind: BoundKind::Low,
+    };
+    let mut known = [nothing; MOST];
+    for (number, entry) in entries.iter().enumerate() {
+        known[number] = Rest::of(*entry).known();
+    }
+    known
+}
+
+impl Known {
+    /// The entry of a choice of which this is known.
+    fn of(self, choice: Choice) -> Bound
+        ensures { result ≡ bound_by choice self }
+    {
+        Bound {
+            choice,
+            score: self.score,
+            kind: self.kind,
+        }
+    }
+}
 
 impl Reply {
     ghost use Rattle.othello_board.specs.Words.{cells};
+    ghost use Rattle.othello_moves.specs.Choices.{choices};
     ghost use Rattle.othello_eval.specs.Minimax.{minimax, best_choice};
+    ghost use Rattle.othello_eval.specs.Tables.{entered, IsTrueBound, IsExactIfBest, IsTable};
     ghost use Rattle.jamboree_rules.specs.Fits.{IsKeptRoot};
-    ghost use Rattle.jamboree.specs.Replies.{board_of, depth_of};
+    ghost use Rattle.jamboree.specs.Replies.{board_of, depth_of, table_of};
 
     /// The reply in the words that a job kept of its returned root.
     pub fn read(words: &[u64]) -> Reply
@@ -20,8 +57,10 @@ impl Reply {
         ensures own { (board_of result).own ≡ slice_index words.now 0 }
         ensures opp { (board_of result).opp ≡ slice_index words.now 1 }
         ensures depth { depth_of result ≡ slice_index words.now 2 }
+        ensures table { table_of result ≡ bounds_of (frame_of words.now) }
     {
         let kept = read_kept(words);
+        let entries = kept_entries(words);
         Reply {
             board: Board {
                 own: kept.own,
@@ -30,6 +69,8 @@ impl Reply {
             depth: kept.depth as u8,
             value: score_of_word(kept.best),
             choice: decoded(kept.choice),
+            count: entries.len(),
+            known: known_in(entries),
         }
     }
 
@@ -60,5 +101,32 @@ impl Reply {
         ensures { result ≡ best_choice (depth_of self.now) (cells (board_of self.now)) }
     {
         self.choice
+    }
+
+    /// How many choices have an entry: at depth 1 and more all choices of the board, at most 64, and
+    /// none at depth 0. A finished game has no choice.
+    pub fn bound_count(&self) -> usize
+        ensures value { result ≡ length (entered (depth_of self.now) (cells (board_of self.now))) }
+        ensures few { result ≤ 64 }
+        ensures entries { result ≡ length (table_of self.now) }
+        ensures table { IsTable (depth_of self.now) (cells (board_of self.now)) (table_of self.now) }
+    {
+        self.count
+    }
+
+    /// What is known of the choice with this number, from 0, in the order of the choices; None from the
+    /// count on. It is true of the minimax value of the choice, and the best choice's is exact.
+    pub fn bound(&self, number: usize) -> Option<Bound>
+        ensures value { result ≡ slice_get (table_of self.now) number }
+        ensures there { IsSome result ↔ (number < length (entered (depth_of self.now) (cells (board_of self.now)))) }
+        ensures choice { IfSome result (λ bound. slice_get (choices (cells (board_of self.now))) number ≡ Some bound.choice) }
+        ensures holds { IfSome result (IsTrueBound (depth_of self.now) (cells (board_of self.now))) }
+        ensures best { IfSome result (IsExactIfBest (best_choice (depth_of self.now) (cells (board_of self.now)))) }
+    {
+        if self.count <= number {
+            return None;
+        }
+        let known = self.known[number];
+        Some(known.of(choice(self.board, number)))
     }
 }

@@ -1,21 +1,36 @@
 //! The reply to a job.
-ghost use Rattle.std.specs.Prelude.{◌≡◌, ◌≤◌};
+ghost use Rattle.std.specs.Prelude.{◌≡◌, ◌≤◌, length, take};
 ghost use Rattle.std.proofs.Props.{props};
 ghost use Rattle.othello_board.specs.Words.{cells};
+ghost use Rattle.othello_moves.specs.Choices.{choices};
 ghost use Rattle.othello_eval.specs.Minimax.{minimax, best_choice};
+ghost use Rattle.othello_eval.specs.Tables.{entered, IsTable};
+ghost use Rattle.othello_eval.proofs.TableProps.{table-prop};
+ghost use Rattle.jamboree.specs.Knowledge.{bounds_by};
 
+use crate::entry::Known;
 use othello_board::Board;
 use othello_moves::Choice;
 
-/// The minimax value and the best choice of a board to a depth. Only the reading of what a job kept
-/// of its returned root makes one.
+/// The most choices of a board.
+pub(crate) const MOST: usize = 64;
+
+/// The minimax value and the best choice of a board to a depth, and what is known of each choice. Only
+/// the reading of what a job kept of its returned root makes one.
 #[derive(Clone, Copy, Debug, PartialEq, Eq)]
 pub struct Reply {
     pub(crate) board: Board,
     pub(crate) depth: u8,
     pub(crate) value: i32,
     pub(crate) choice: Option<Choice>,
+    /// How many choices have an entry.
+    pub(crate) count: usize,
+    /// What is known of these, in their order. The places behind them hold anything.
+    pub(crate) known: [Known; MOST],
     ghost shallow: { depth ≤ 12 },
     ghost is_value: { value ≡ minimax depth (cells board) } by { Prim.hlevel props },
     ghost is_best: { choice ≡ best_choice depth (cells board) } by { Prim.hlevel props },
+    ghost counted: { count ≡ length (entered depth (cells board)) },
+    ghost few: { count ≤ 64 },
+    ghost table: { IsTable depth (cells board) (bounds_by (choices (cells board)) (take count known)) } by { table-prop _ _ _ },
 }

@@ -1,47 +1,37 @@
 //! How the choices of a frame stand: the entries behind its first twelve words, segment by segment.
 ghost use Rattle.std.specs.Prelude.{◌≡◌, ◌≤◌, ◌==◌, ◌&&◌, nat_lt, drop, length, map, slice_index};
-ghost use Rattle.jamboree_rules.specs.Places.{status_of, are_statuses};
+ghost use Rattle.jamboree_rules.specs.Places.{status_of, are_entries};
 ghost use Rattle.jamboree_rules.specs.Acts.{first_open};
-ghost use Rattle.jamboree.specs.Numbers.{status_number};
-ghost use Rattle.jamboree.specs.Views.{statuses_in};
+ghost use Rattle.jamboree.specs.Views.{statuses_in, rests_in};
 
+use crate::entry::{Rest, is_entry, is_entry_of};
 use crate::phases::Status;
 use crate::view::{SIZE, entries, entry, first_number};
 use cactus_stack::{Words, charge};
 
-/// The greatest number of a status.
-const LAST: u64 = 4;
-
-/// Whether each of these entries is a status.
-fn all_are_statuses(entries: &[u64]) -> bool
-    ensures { result ≡ are_statuses entries.now }
+/// Whether each of these words is an entry.
+fn all_are_entries(entries: &[u64]) -> bool
+    ensures { result ≡ are_entries entries.now }
 {
     for entry in entries {
-        if *entry > LAST {
+        if !is_entry(*entry) {
             return false;
         }
     }
     true
 }
 
-/// Whether each entry of a frame's words is a status, 0 to 4.
-pub(crate) fn are_statuses(words: &Words) -> bool
+/// Whether each word behind the first twelve of a frame is an entry.
+pub(crate) fn are_entries(words: &Words) -> bool
     requires { 12 ≤ length words.now }
-    ensures { result ≡ are_statuses (drop 12 words.now) }
+    ensures { result ≡ are_entries (drop 12 words.now) }
 {
     for number in 0..charge(words.len()) {
-        if !all_are_statuses(entries(words, number)) {
+        if !all_are_entries(entries(words, number)) {
             return false;
         }
     }
     true
-}
-
-/// Whether this is the entry of a choice that stands so.
-fn is_entry_of(entry: u64, status: Status) -> bool
-    ensures { result ≡ (status_of entry == status_number status) }
-{
-    entry % 8 == status.number()
 }
 
 /// The place of the first of these entries that isn't settled, or how many there are.
@@ -81,4 +71,12 @@ pub(crate) fn has_failed(words: &Words, number: usize) -> bool
         Some(entry) => is_entry_of(entry, Status::Failed),
         None => false,
     }
+}
+
+/// The rest of the entry of this number: what is known of the choice.
+pub(crate) fn rest_at(words: &Words, number: usize) -> Rest
+    requires { number ≤ 128 }
+    ensures { result.word ≡ slice_index (rests_in words.now) number }
+{
+    Rest::of(entry(words, number).unwrap_or(0))
 }

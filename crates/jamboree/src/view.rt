@@ -5,19 +5,20 @@
 //! frame in words that have it.
 ghost use Rattle.std.specs.Prelude.{◌≡◌, ◌<◌, ◌≤◌, ◌+◌, ◌++◌, ◌∷◌, [], ◌↔◌, ◌==◌, ◌&&◌, true, IsSome, IfSome, List, ℕ, ◌*◌, ◌-◌, bit_and, drop, length, map, slice_get, slice_index, ◌≤ℤ◌, pos, negsuc};
 ghost use Rattle.jamboree_rules.specs.Frames.{is_leaf, is_frame, is_in_phase, counts_choices, least, greatest};
-ghost use Rattle.jamboree_rules.specs.Places.{score_of, status_of, frame_of, are_statuses, is_formed, pair_of, OwnBits, OppBits, Phase as ToPhase, Best, Chosen, Count, Spawned, Status as ToStatus, given_words, root_words, frame_size};
+ghost use Rattle.jamboree_rules.specs.Places.{score_of, frame_of, is_formed, pair_of, OwnBits, OppBits, Phase as ToPhase, Best, Chosen, Count, Spawned, Status as ToStatus, given_words, root_words, frame_size};
 ghost use Rattle.jamboree_rules.specs.Fits.{AreFitting, IsRoot};
 ghost use Rattle.cactus_stack.specs.Nodes.{padded};
 ghost use Rattle.sched_rules.specs.Laws.{Neither};
 ghost use Rattle.sched_rules.specs.declared.act.Then.TheVariants.{Spawn};
 ghost use Rattle.jamboree_rules.specs.Leaves.{any_leaf, leaf_in, leaf_from};
 ghost use Rattle.jamboree.specs.Numbers.{role_number, phase_number, status_number};
-ghost use Rattle.jamboree.specs.Views.{head_of, frame_from, frame_with, statuses_in, entries_in};
+ghost use Rattle.jamboree.specs.Views.{head_of, frame_from, frame_with, entries_of, entries_in};
 
+use crate::entry::Rest;
 use crate::frame::View;
 use crate::phases::{Phase, Role, Status};
 use crate::score::{score_of_word, word_of_score};
-use crate::statuses::are_statuses;
+use crate::statuses::are_entries;
 use cactus_stack::Words;
 use jamboree_rules::Leaf;
 use jamboree_rules::leaf_search::INF;
@@ -216,7 +217,7 @@ impl Head {
         requires form { is_frame (frame_from self []) ≡ true }
         requires few { count ≤ 116 }
         requires counted { count ≡ self.count }
-        ensures frame { (statuses : List ℕ) → frame_with result statuses ≡ frame_from self statuses }
+        ensures frame { (entries : List ℕ) → frame_with result entries ≡ frame_from self entries }
         ensures count { result.count ≡ count }
     {
         View {
@@ -253,14 +254,14 @@ pub(crate) fn is_formed(words: &Words) -> bool
     if !head.is_frame() {
         return false;
     }
-    are_statuses(words)
+    are_entries(words)
 }
 
 /// The frame in words that have the form of one.
 #[inline(always)]
 pub(crate) fn view(words: &Words) -> View
     requires { is_formed words.now ≡ true }
-    ensures frame { frame_with result (statuses_in words.now) ≡ frame_of words.now }
+    ensures frame { frame_with result (entries_of words.now) ≡ frame_of words.now }
     ensures entries { length words.now ≡ 12 + result.count }
 {
     let count = words.len() - SIZE;
@@ -385,14 +386,14 @@ impl Changes {
         self.stores.push(11, count as u64);
     }
 
-    /// The status of a choice, too.
+    /// The status of a choice, too, and what is known of it.
     #[inline(always)]
-    pub(crate) fn status(&mut self, number: usize, status: Status)
+    pub(crate) fn status(&mut self, number: usize, status: Status, rest: Rest)
         requires room { length self.old < 8 }
         requires small { number ≤ 255 }
-        ensures { self.new ≡ self.old ++ pair_of (ToStatus number (status_number status)) ∷ [] }
+        ensures { self.new ≡ self.old ++ pair_of (ToStatus number (status_number status) rest.word) ∷ [] }
     {
-        self.stores.push(12 + number, status.number());
+        self.stores.push(SIZE + number, rest.entry(status));
     }
 }
 
@@ -418,7 +419,7 @@ pub(crate) fn spawn(depth: u8, alpha: i32, beta: i32, role: Role, number: usize)
     Then::Spawn(GivenWords::eight(words), SIZE)
 }
 
-/// What a job keeps of its returned root, by name: the first twelve words.
+/// What a job keeps of its returned root, by name: of the first twelve words.
 #[derive(Clone, Copy)]
 pub(crate) struct Kept {
     pub(crate) own: u64,
@@ -428,9 +429,9 @@ pub(crate) struct Kept {
     pub(crate) choice: u64,
 }
 
-/// What a job keeps of its returned root.
+/// What a job keeps of the first twelve words of its returned root.
 pub(crate) fn read_kept(words: &[u64]) -> Kept
-    requires { length words.now ≡ 12 }
+    requires { 12 ≤ length words.now }
     ensures { result ≡ record { own = slice_index words.now 0; opp = slice_index words.now 1; depth = slice_index words.now 2; best = slice_index words.now 8; choice = slice_index words.now 9 } }
 {
     Kept {
@@ -440,6 +441,14 @@ pub(crate) fn read_kept(words: &[u64]) -> Kept
         best: words[8],
         choice: words[9],
     }
+}
+
+/// The entries that a job keeps of its returned root, which stand behind the twelve words.
+pub(crate) fn kept_entries(words: &[u64]) -> &[u64]
+    requires { 12 ≤ length words.now }
+    ensures { result.now ≡ entries_of words.now }
+{
+    &words[SIZE..]
 }
 
 /// The words of a root: a board to a depth with the full window.

@@ -10,9 +10,18 @@ use Rattle.sched_rules.specs.Views.{job_of}
 use Rattle.sched_core.specs.sched_laws.Fitted.{JobsFit, JobFits}
 use Rattle.jamboree_laws.specs.jamboree_rules.Fits.{AreFitting, IsRoot}
 use Rattle.jamboree_laws.specs.Replies.{HoldsReply, AreReplies}
+use Rattle.sched_rules.specs.declared.step.StepOf.{StepOf}
+use Rattle.jamboree.specs.declared.reply.Reply.{Reply}
+use Rattle.jamboree.specs.Replies.{table_of}
+use Rattle.jamboree_laws.specs.jamboree_rules.declared.leaf.LeafAnswer.{LeafAnswer}
+use Rattle.jamboree_laws.specs.jamboree_rules.Places.{frame_of}
+use Rattle.jamboree_laws.specs.jamboree_rules.Entries.{bounds_of}
+use Rattle.jamboree_laws.specs.jamboree_rules.Procedure.{jamboree}
 use Rattle.jamboree_core.specs.declared.outcomes.Outcome.{Outcome}
+use Rattle.jamboree_core.specs.declared.outcomes.Outcome.TheVariants.{Pending, Done as DoneWith, Spent, Cancelled}
+use Rattle.jamboree_core.specs.Journals.{IsJournalOf}
 use Rattle.jamboree_core.specs.Searching.{TenantSearches, ServesSearches, origin_at}
-use Rattle.jamboree_core.specs.Outcomes.{IsOfSearch, IsReplyOn, IsOutcomeOf, IsTo, AnswersTo}
+use Rattle.jamboree_core.specs.Outcomes.{IsOfSearch, IsReplyOn, IsOutcomeOf, IsOutcomeIn, IsTo, AnswersTo}
 use Rattle.jamboree_core.proofs.Serving.{tenant-replies}
 
 -- a job of a tenant of searches is one
@@ -59,7 +68,7 @@ none-at (origin ∷ origins) (first ∷ jobs) number are is = elim (cases_Bool (
 is-to : (origin : List ℕ) (job : Job) (outcome : Outcome) → HoldsReply origin job → IsOutcomeOf job outcome → IsTo origin outcome
 is-to origin (Live root) outcome holds is = subst (IsTo origin) (sym is) tt
 is-to origin (Done words) outcome holds is =
-    let to : IsReplyOn origin is.0 = record { own = is.2.own ∙ holds.own; opp = is.2.opp ∙ holds.opp; depth = is.2.depth ∙ holds.depth } in
+    let to : IsReplyOn origin is.0 = record { own = is.2.on.own ∙ holds.own; opp = is.2.on.opp ∙ holds.opp; depth = is.2.on.depth ∙ holds.depth } in
     subst (IsTo origin) (sym is.1) to
 is-to origin SpentJob outcome holds is = subst (IsTo origin) (sym is) tt
 is-to origin CancelledJob outcome holds is = subst (IsTo origin) (sym is) tt
@@ -76,3 +85,30 @@ pub none-asked : (shared : Shared) (tenant number : ℕ) (origins : List (List �
 none-asked shared tenant number origins owner there searches at =
     let found : job_at owner.jobs number ≡ None = sym (ap (λ (o : Option Tenant). option_and_then (λ (t : Tenant). job_at t.jobs number) o) there) ∙ at in
     rw (none-at origins owner.jobs number (tenant-replies origins owner searches) found) tt
+
+-- the reply of a done job is in the words that it kept
+reply-in : Reply → Outcome → Reply
+reply-in other Pending = other
+reply-in other (DoneWith reply) = reply
+reply-in other Spent = other
+reply-in other Cancelled = other
+
+same-table : (job : Job) (first second : Reply) → IsOutcomeOf job (DoneWith first) → IsOutcomeOf job (DoneWith second) → table_of first ≡ table_of second
+unfolding reply-in
+same-table (Live root) first second a b = absurd cc
+same-table (Done words) first second a b =
+    ap (λ (o : Outcome). table_of (reply-in first o)) a.1 ∙ a.2.table ∙ sym b.2.table ∙ sym (ap (λ (o : Outcome). table_of (reply-in first o)) b.1)
+same-table SpentJob first second a b = absurd cc
+same-table CancelledJob first second a b = absurd cc
+
+same-in : (job : Option Job) (first second : Reply) → IsOutcomeIn job (Some (DoneWith first)) → IsOutcomeIn job (Some (DoneWith second)) → table_of first ≡ table_of second
+same-in None first second a b = absurd cc
+same-in (Some job) first second a b = same-table job first second a b
+
+-- what a tenant's job has come to is a function of the tenant's own taken steps
+pub own-table : (grain : ℕ) (journal : List (StepOf LeafAnswer)) (one other : Tenant) (number : ℕ) (first second : Reply) → IsJournalOf (jamboree grain) journal one → IsJournalOf (jamboree grain) journal other →
+    IsOutcomeIn (job_at one.jobs number) (Some (DoneWith first)) → IsOutcomeIn (job_at other.jobs number) (Some (DoneWith second)) → table_of first ≡ table_of second
+own-table grain journal one other number first second is is_other a b =
+    let both : Some one ≡ Some other = sym is.comes ∙ is_other.comes in
+    let same : one ≡ other = cc in
+    same-in (job_at other.jobs number) first second (subst (λ (t : Tenant). IsOutcomeIn (job_at t.jobs number) (Some (DoneWith first))) same a) b

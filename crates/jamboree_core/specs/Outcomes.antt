@@ -4,7 +4,9 @@ use Rattle.sched_rules.specs.declared.job.Job.{Job}
 use Rattle.sched_rules.specs.declared.job.Job.TheVariants.{Live, Done, Spent as SpentJob, Cancelled as CancelledJob}
 use Rattle.jamboree_laws.specs.jamboree_rules.Fits.{IsKeptRoot}
 use Rattle.jamboree.specs.declared.reply.Reply.{Reply}
-use Rattle.jamboree.specs.Replies.{board_of, depth_of}
+use Rattle.jamboree_laws.specs.jamboree_rules.Places.{frame_of}
+use Rattle.jamboree_laws.specs.jamboree_rules.Entries.{bounds_of}
+use Rattle.jamboree.specs.Replies.{board_of, depth_of, table_of}
 use Rattle.jamboree_core.specs.declared.outcomes.Outcome.{Outcome}
 use Rattle.jamboree_core.specs.declared.outcomes.Outcome.TheVariants.{Pending, Done as DoneWith, Spent, Cancelled}
 
@@ -21,10 +23,16 @@ pub record IsReplyOn (words : List ℕ) (reply : Reply) : Type 0 where
   pub opp : (board_of reply).opp ≡ slice_index words 1
   pub depth : depth_of reply ≡ slice_index words 2
 
--- what has become of a job: a live one is pending, and a done one is done with a reply on its words
+-- a reply is the one in the words that a job kept: to the board and the depth there, and what is known of each choice is what its
+-- entry there says
+pub record IsReplyOf (words : List ℕ) (reply : Reply) : Type 0 where
+  pub on : IsReplyOn words reply
+  pub table : table_of reply ≡ bounds_of (frame_of words)
+
+-- what has become of a job: a live one is pending, and a done one is done with the reply in its words
 abbrev pub IsOutcomeOf : Job → Outcome → Type 0
 IsOutcomeOf (Live root) outcome = outcome ≡ Pending
-IsOutcomeOf (Done words) outcome = (reply : Reply) × (outcome ≡ DoneWith reply) × IsReplyOn words reply
+IsOutcomeOf (Done words) outcome = (reply : Reply) × (outcome ≡ DoneWith reply) × IsReplyOf words reply
 IsOutcomeOf SpentJob outcome = outcome ≡ Spent
 IsOutcomeOf CancelledJob outcome = outcome ≡ Cancelled
 

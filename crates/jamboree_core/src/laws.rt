@@ -5,7 +5,7 @@ ghost use Rattle.sched_rules.specs.declared.refusal.Refusal.{Refusal};
 ghost use Rattle.sched_rules.specs.declared.step.StepOf.{StepOf};
 ghost use Rattle.sched_rules.specs.declared.step.StepOf.TheVariants.{Admit};
 ghost use Rattle.sched_rules.specs.declared.step.DidOf.{DidOf};
-ghost use Rattle.sched_rules.specs.Trees.{Tenant, admitted_with};
+ghost use Rattle.sched_rules.specs.Trees.{Tenant, admitted_with, job_at};
 ghost use Rattle.sched_rules.specs.Runs.{tenant_of};
 ghost use Rattle.sched_rules.specs.Cores.{Shared, shared_by_nobody, tenant_in};
 ghost use Rattle.sched_rules.specs.Headline.{IsOneStep, IsKnown};
@@ -15,6 +15,10 @@ ghost use Rattle.jamboree_laws.specs.jamboree_rules.declared.leaf.LeafAnswer.{Le
 ghost use Rattle.jamboree_laws.specs.jamboree_rules.Procedure.{jamboree};
 ghost use Rattle.jamboree_laws.specs.Replies.{AreSearches, AreReplies, AreAllSound};
 ghost use Rattle.jamboree_core.specs.Searching.{TenantSearches, ServesSearches, CoreSearches, HoldsReplies};
+ghost use Rattle.jamboree.specs.declared.reply.Reply.{Reply};
+ghost use Rattle.jamboree.specs.Replies.{table_of};
+ghost use Rattle.jamboree_core.specs.declared.outcomes.Outcome.TheVariants.{Done};
+ghost use Rattle.jamboree_core.specs.Outcomes.{IsOutcomeIn};
 ghost use Rattle.jamboree_core.specs.Journals.{IsJournalOf};
 
 /// A new core's jobs are searches: it has none.
@@ -48,6 +52,14 @@ pub fn a_journal_of_searches()
         IsJournalOf (jamboree grain) journal tenant → AreSearches journal → TenantSearches (origins_of journal) tenant }
     ensures replies { (grain : ℕ) (journal : List (StepOf LeafAnswer)) (tenant : Tenant) →
         IsJournalOf (jamboree grain) journal tenant → AreSearches journal → AreReplies (origins_of journal) tenant.jobs }
+{}
+
+/// What is known of each choice, where a job is done, is a function of its tenant's own taken steps: so of
+/// all that others did nothing shows in it.
+pub fn a_table_is_of_its_tenants_own_steps()
+    ensures { (grain : ℕ) (journal : List (StepOf LeafAnswer)) (one other : Tenant) (number : ℕ) (first second : Reply) →
+        IsJournalOf (jamboree grain) journal one → IsJournalOf (jamboree grain) journal other →
+        IsOutcomeIn (job_at one.jobs number) (Some (Done first)) → IsOutcomeIn (job_at other.jobs number) (Some (Done second)) → table_of first ≡ table_of second }
 {}
 
 /// Journals along the steps of a core: an admission begins its tenant's; a taken step of a tenant that

@@ -19,10 +19,10 @@
 //! its journal, the list of its own steps that were taken (`specs/Journals.antt`).
 //!
 //! ```text
-//! // the opening to depth 2, computed by worker 3: seven steps, all taken, and word 8 is that of -4
+//! // the opening to depth 0, computed by worker 3: seven steps, all taken, and word 8 is that of 0
 //! let steps = [
 //!     StepOf::Admit(7, reserve),
-//!     submit(7, &position, 2),
+//!     submit(7, &position, 0),
 //!     StepOf::Steal(worker, 0, root),
 //!     StepOf::Advance(worker, root),
 //!     StepOf::Answer(worker, root, LeafAnswer::compute(leaf)),

@@ -4,7 +4,7 @@ ghost use Rattle.jamboree_laws.specs.Replies.{AreSearches};
 use super::*;
 use driver::{Searched, drive};
 use frame_table::FrameId;
-use jamboree::{Jamboree, Leaf, LeafAnswer, Reply};
+use jamboree::{Bound, BoundKind, Jamboree, Leaf, LeafAnswer, Reply};
 use jamboree_laws::leaf_search::{INF, search_full};
 use orders::{Crew, Draw};
 use othello_board::Board;
@@ -87,6 +87,37 @@ fn told(outcome: Option<Outcome>) -> Option<(Board, u8, i32, Option<Choice>)> {
         )),
         _ => None,
     }
+}
+
+/// What a reply says of the choice with this number: its square, the score and its kind.
+fn entry(outcome: Option<Outcome>, number: usize) -> Option<Bound> {
+    match outcome {
+        Some(Outcome::Done(reply)) => reply.bound(number),
+        _ => None,
+    }
+}
+
+/// All four moves of the opening are worth -3: d3 just that, and the others at most that.
+#[test]
+fn a_table_of_the_opening(rt: HostRuntime) -> Result<(), Fail> {
+    let reserve = Reserve::new(8, 8).ok_or("a reservation")?;
+    let mut searched = Searched::new(rt.alloc(), 6)?;
+    search_out(&rt, rt.alloc(), &mut searched, 1, reserve, 1)?;
+    let outcome = searched.outcome(1, 1);
+    let mut number = 0usize;
+    for (square, kind) in [
+        (19, BoundKind::Exact),
+        (26, BoundKind::Low),
+        (37, BoundKind::Low),
+        (44, BoundKind::Low),
+    ] {
+        let choice = Choice::Square(square);
+        let score = -3;
+        assert_eq!(rt; entry(outcome, number), Some(Bound { choice, score, kind }));
+        number = number.wrapping_add(1);
+    }
+    assert_eq!(rt; entry(outcome, 4), None);
+    Ok(())
 }
 
 /// Two more jobs of tenant 1 are asked, and the first of them is cancelled.
@@ -178,7 +209,7 @@ fn every_reservation(rt: HostRuntime) -> Result<(), Fail> {
     Ok(())
 }
 
-/// The seven steps of a search of the opening to depth 2, which worker 3 computes.
+/// The seven steps of a search of the opening to depth 0, which worker 3 computes.
 fn seven_steps(reserve: Reserve, worker: Worker, position: &Position) -> [Step<Jamboree>; 7]
     ensures { AreSearches result }
 {
@@ -188,13 +219,13 @@ fn seven_steps(reserve: Reserve, worker: Worker, position: &Position) -> [Step<J
     };
     let leaf = Leaf {
         board: position.board,
-        depth: 2,
+        depth: 0,
         alpha: -INF,
         beta: INF,
     };
     [
         StepOf::Admit(7, reserve),
-        submit(7, position, 2),
+        submit(7, position, 0),
         StepOf::Steal(worker, 0, root),
         StepOf::Advance(worker, root),
         StepOf::Answer(worker, root, LeafAnswer::compute(leaf)),
@@ -231,7 +262,7 @@ fn a_list_of_steps(rt: HostRuntime) -> Result<(), Fail> {
     let jamboree = Jamboree::new(2).ok_or("the grain")?;
     let mut core = Core::new(rt.alloc(), config, jamboree)?;
     assert_eq!(rt; run_list(rt.alloc(), &mut core)?, 7);
-    assert_eq!(rt; value_and_choice(core.job(7, 1)), Some((999_996, 19)));
+    assert_eq!(rt; value_and_choice(core.job(7, 1)), Some((1_000_000, 65)));
     Ok(())
 }
 
@@ -246,7 +277,7 @@ fn a_list_of_steps_from_a_new_core(rt: HostRuntime) -> Result<(), Fail> {
     let mut answers = Vec::new(rt.alloc());
     let core = run_from_new(rt.alloc(), config, jamboree, &steps, &mut answers)?;
     assert_eq!(rt; taken(&answers), 7);
-    assert_eq!(rt; value_and_choice(core.job(7, 1)), Some((999_996, 19)));
+    assert_eq!(rt; value_and_choice(core.job(7, 1)), Some((1_000_000, 65)));
     Ok(())
 }
 

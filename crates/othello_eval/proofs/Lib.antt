@@ -6,3 +6,4 @@ pub mod BestLemmas
 pub mod PlainLemmas
 pub mod MaskLemmas
 pub mod TableLemmas
+pub mod TableProps

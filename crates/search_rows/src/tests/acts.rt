@@ -42,7 +42,7 @@ fn leaves(rt: HostRuntime) -> Result<(), Fail> {
     Ok(())
 }
 
-/// A root of the opening near the leaves is computed, and takes in its answer: -3 by d3.
+/// A root of the opening at depth 0 is computed, and takes in its answer: 0, and no choice.
 #[test]
 fn a_root_is_computed(rt: HostRuntime) -> Result<(), Fail> {
     let jamboree = Jamboree::new(2).ok_or("no grain")?;
@@ -52,7 +52,7 @@ fn a_root_is_computed(rt: HostRuntime) -> Result<(), Fail> {
     };
     let mut stack = Stack::new(rt.alloc(), 2)?;
     let root = stack
-        .open(None, &root_words(&position, 1), 12)
+        .open(None, &root_words(&position, 0), 12)
         .expect(&rt, "there is room");
     let act = jamboree.next(&stack.sight(root));
     assert_eq!(rt;
@@ -65,7 +65,7 @@ fn a_root_is_computed(rt: HostRuntime) -> Result<(), Fail> {
         leaf,
         Leaf {
             board: position.board,
-            depth: 1,
+            depth: 0,
             alpha: -INF,
             beta: INF
         }
@@ -75,12 +75,29 @@ fn a_root_is_computed(rt: HostRuntime) -> Result<(), Fail> {
     let stores = jamboree.accept(&stack.own(root), &answer);
     assert_eq!(rt;
         stores.as_slice(),
-        [(8, 999_997), (9, 19), (7, 4)].as_slice()
+        [(8, 1_000_000), (9, 65), (7, 4)].as_slice()
     );
     Ok(())
 }
 
-/// The opening's first choice is worth -3, and its second is tested just above that.
+/// A root of the opening at depth 1 has a place for each of its four choices, whatever the grain.
+#[test]
+fn a_root_near_the_leaves_has_places(rt: HostRuntime) -> Result<(), Fail> {
+    let jamboree = Jamboree::new(6).ok_or("no grain")?;
+    let position = Position {
+        board: opening()?,
+        side: Side::Black,
+    };
+    let mut stack = Stack::new(rt.alloc(), 2)?;
+    let root = stack
+        .open(None, &root_words(&position, 1), 12)
+        .expect(&rt, "there is room");
+    let act = jamboree.next(&stack.sight(root));
+    assert!(rt; matches!(&act.after, Then::Grow(4)));
+    Ok(())
+}
+
+/// The opening's first choice is worth -3, and that is entered as exact: 2 + 8 * 3 + 32 * 999,997.
 #[test]
 fn a_first_child_returns(rt: HostRuntime) -> Result<(), Fail> {
     let jamboree = Jamboree::new(0).ok_or("no grain")?;
@@ -110,7 +127,7 @@ fn a_first_child_returns(rt: HostRuntime) -> Result<(), Fail> {
     let act = jamboree.inlet(&stack.own(parent), &stack.own(first));
     assert_eq!(rt;
         act.stores.as_slice(),
-        [(8, 999_997), (9, 19), (12, 2), (7, 3)].as_slice()
+        [(8, 999_997), (9, 19), (12, 31_999_930), (7, 3)].as_slice()
     );
     assert!(rt; act.wake && !act.abort);
     Ok(())
@@ -138,4 +155,6 @@ fn a_reply_is_read(rt: HostRuntime) {
     assert_eq!(rt; reply.depth(), 12);
     assert_eq!(rt; reply.value(), -128_000);
     assert_eq!(rt; reply.choice(), None);
+    assert_eq!(rt; reply.bound_count(), 0);
+    assert_eq!(rt; reply.bound(0), None);
 }

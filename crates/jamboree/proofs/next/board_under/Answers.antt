@@ -4,6 +4,6 @@ use Rattle.jamboree.proofs.ActLemmas.{child-opens}
 use Rattle.jamboree.proofs.next.board_under.Goals as goal
 
 pub returns : goal.returns
-returns c grain others statuses phase =
+returns c grain others entries phase =
     let b = c.after.result in
-    child-opens grain (frame_with c.args.frame.now statuses) (frame_with c.args.parent.now others) b.own b.opp c.choice-chosen.result _ refl phase c.choice-chosen.ensures.value c.after.ensures (omega arith) (omega arith) b.disjoint
+    child-opens grain (frame_with c.args.frame.now entries) (frame_with c.args.parent.now others) b.own b.opp c.choice-chosen.result _ refl phase c.choice-chosen.ensures.value c.after.ensures (omega arith) (omega arith) b.disjoint

@@ -1,15 +1,15 @@
-use Rattle.std.proofs.Common.{ℕ, ◌+◌, [], ◌∷◌, ◌∙◌, ap}
+use Rattle.std.proofs.Common.{ℕ, ◌∙◌, ap}
 use Rattle.jamboree_rules.specs.Acts.{spawns}
 use Rattle.std.specs.Prelude.{◌+ℤ◌, pos, neg_ℤ}
-use Rattle.jamboree_rules.specs.Frames.{floor}
+use Rattle.jamboree_rules.specs.Frames.{rest_at, floor}
 use Rattle.jamboree.specs.Views.{frame_with}
-use Rattle.jamboree.proofs.ActLemmas.{negated-floor, negated-more, act-by, spawns-by}
+use Rattle.jamboree.proofs.ActLemmas.{negated-floor, negated-more, act-by, spawns-by, start-stores}
 use Rattle.jamboree.proofs.next.test.Goals as goal
 
 pub returns : goal.returns
-returns c all statuses at =
-    let f = frame_with c.args.frame.now statuses in
-    act-by _ _ _ _ (ap (λ (n : ℕ). (11, n + 1) ∷ (12 + n, 1) ∷ []) (c.child.ensures.number ∙ c.requires.next))
-    (spawns-by f 2 c.args.number _ _ _ _ _ c.child.ensures.spawned
+returns c all entries at same =
+    let f = frame_with c.args.frame.now entries in
+    act-by _ _ _ _ (start-stores _ _ _ _ (c.child-child.ensures.number ∙ c.requires.next) (same ∙ ap (rest_at f) c.requires.next))
+    (spawns-by f 2 c.args.number _ _ _ _ _ c.child-child.ensures.spawned
     (negated-more c.floor-floor.result _ c.floor-floor.ensures) (negated-floor c.floor-floor.result _ c.floor-floor.ensures)
     ∙ ap (λ (n : ℕ). spawns f 2 n (neg_ℤ (floor f +ℤ pos 1)) (neg_ℤ (floor f))) c.requires.next)

@@ -1,4 +1,4 @@
-use Rattle.jamboree.specs.Views.{frame_with, statuses_in}
+use Rattle.jamboree.specs.Views.{frame_with, entries_of}
 use Rattle.jamboree.proofs.SightLemmas.{inlet-by-form}
 use Rattle.jamboree.proofs.procedure.intake_of.Goals as goal
 
@@ -6,5 +6,5 @@ pub returns : goal.returns
 returns c =
     let w = c.args.own.now in
     let d = c.args.child.now in
-    inlet-by-form w d (frame_with c.view.result (statuses_in w)) (frame_with c.view-2.result (statuses_in d)) _ (c.requires c.if-not-fitting.false).0.2.formed (c.requires c.if-not-fitting.false).1.0.2.formed c.view.ensures.frame c.view-2.ensures.frame
-    (c.intake_under.ensures (statuses_in w) (statuses_in d))
+    inlet-by-form w d (frame_with c.view.result (entries_of w)) (frame_with c.view-2.result (entries_of d)) _ (c.requires c.if-not-fitting.false).0.2.formed (c.requires c.if-not-fitting.false).1.0.2.formed c.view.ensures.frame c.view-2.ensures.frame
+    (c.intake_under.ensures (entries_of w) (entries_of d))

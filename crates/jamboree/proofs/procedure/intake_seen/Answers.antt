@@ -2,7 +2,7 @@ use Rattle.std.proofs.Common.{sym, ◌∙◌, ◌&&◌}
 use Rattle.jamboree_rules.specs.Frames.{may_be_child}
 use Rattle.jamboree_rules.specs.Places.{frame_of, is_formed}
 use Rattle.jamboree.specs.Intakes.{inlet_for}
-use Rattle.jamboree.specs.Views.{frame_with, statuses_in}
+use Rattle.jamboree.specs.Views.{frame_with, entries_of}
 use Rattle.jamboree.proofs.InletLemmas.{else-first}
 use Rattle.jamboree.proofs.SightLemmas.{inlet-under}
 use Rattle.jamboree.proofs.procedure.intake_seen.Goals as goal
@@ -15,4 +15,4 @@ returns-then-not-is_formed c =
 
 pub returns : goal.returns
 returns c =
-    inlet-under c.args.own.now c.args.child.now (frame_with c.view.result (statuses_in c.args.own.now)) (inlet_for c.intake_at.result) (sym c.is_formed.ensures ∙ c.if-not-is_formed.false) c.view.ensures.frame (c.intake_at.ensures (statuses_in c.args.own.now))
+    inlet-under c.args.own.now c.args.child.now (frame_with c.view.result (entries_of c.args.own.now)) (inlet_for c.intake_at.result) (sym c.is_formed.ensures ∙ c.if-not-is_formed.false) c.view.ensures.frame (c.intake_at.ensures (entries_of c.args.own.now))

@@ -2,7 +2,7 @@ use Rattle.std.proofs.Common.{refl, Some, sym, ◌∙◌}
 use Rattle.jamboree_rules.specs.Frames.{may_be_child}
 use Rattle.jamboree_rules.specs.Places.{frame_of, is_formed}
 use Rattle.jamboree_rules.specs.Acts.{returns as to_return, act_of}
-use Rattle.jamboree.specs.Views.{frame_in, frame_with, statuses_in}
+use Rattle.jamboree.specs.Views.{frame_in, frame_with, entries_of}
 use Rattle.jamboree.proofs.InletLemmas.{else-first}
 use Rattle.jamboree.proofs.SightLemmas.{by-form}
 use Rattle.jamboree.proofs.procedure.plan_below.Goals as goal
@@ -17,5 +17,5 @@ pub returns : goal.returns
 returns c =
     let w = c.args.above.now in
     let f = frame_in c.args.frame.now in
-    by-form w _ (λ q. may_be_child q f) (λ q. act_of c.args.grain (frame_with c.args.frame.now (statuses_in c.args.own.now)) (Some q)) _ to_return
-    (sym c.is_formed.ensures ∙ c.if-not-is_formed.false) c.view.ensures.frame (c.plan_under.ensures (statuses_in w))
+    by-form w _ (λ q. may_be_child q f) (λ q. act_of c.args.grain (frame_with c.args.frame.now (entries_of c.args.own.now)) (Some q)) _ to_return
+    (sym c.is_formed.ensures ∙ c.if-not-is_formed.false) c.view.ensures.frame (c.plan_under.ensures (entries_of w))

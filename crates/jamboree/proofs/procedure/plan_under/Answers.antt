@@ -1,7 +1,7 @@
 use Rattle.std.proofs.Common.{refl, Some, sym, ◌∙◌, ap}
 use Rattle.jamboree_rules.specs.Frames.{may_be_child}
 use Rattle.jamboree.specs.Numbers.{phase_number}
-use Rattle.jamboree.specs.Views.{frame_in, frame_with, statuses_in}
+use Rattle.jamboree.specs.Views.{frame_in, frame_with, entries_of}
 use Rattle.jamboree.proofs.InletLemmas.{by-told}
 use Rattle.jamboree.proofs.procedure.plan_under.Goals as goal
 
@@ -15,7 +15,7 @@ board_under-requires c = sym c.may_be_under.ensures ∙ c.if-not-may_be_under.fa
 pub returns-in-New : goal.returns-in-New
 returns-in-New c others =
     by-told _ (may_be_child (frame_with c.args.parent.now others) (frame_in c.args.frame.now)) _ _ _ _ c.may_be_under.ensures c.if-not-may_be_under.false
-    (c.opening.ensures ∙ c.board_under.ensures c.args.grain others (statuses_in c.args.own.now) (ap phase_number c.in-New.is))
+    (c.opening.ensures ∙ c.board_under.ensures c.args.grain others (entries_of c.args.own.now) (ap phase_number c.in-New.is))
 
 pub returns-in_default : goal.returns-in_default
 returns-in_default c others =

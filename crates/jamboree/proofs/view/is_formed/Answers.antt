@@ -18,4 +18,4 @@ pub returns : goal.returns
 returns c =
     let h = c.read_head-head.result in
     let len : length c.args.words.now ≡ 12 + h.count = omega (arith, c.len-len.ensures.value, c.if-len-lt-SIZE.false, c.if-len-head.false) in
-    c.are_statuses.ensures ∙ formed-rest c.args.words.now h c.read_head-head.ensures len (sym c.is_frame.ensures ∙ c.if-not-is_frame.false)
+    c.are_entries.ensures ∙ formed-rest c.args.words.now h c.read_head-head.ensures len (sym c.is_frame.ensures ∙ c.if-not-is_frame.false)

@@ -1,6 +1,6 @@
 use Rattle.std.proofs.Common.{◌∙◌, refl, arith}
 use Rattle.jamboree.proofs.ViewLemmas.{formed-parts, frame-is}
-use Rattle.jamboree.specs.Views.{head_of, statuses_in}
+use Rattle.jamboree.specs.Views.{head_of, entries_of}
 use Rattle.jamboree.proofs.view.view.Goals as goal
 
 pub view-requires-clause-form : goal.view-requires-clause-form
@@ -15,7 +15,7 @@ view-requires-clause-counted c =
 
 pub returns-clause-frame : goal.returns-clause-frame
 returns-clause-frame c =
-    c.view.ensures.frame (statuses_in c.args.words.now) ∙ frame-is c.args.words.now c.read_head.result (statuses_in c.args.words.now) c.read_head.ensures refl
+    c.view.ensures.frame (entries_of c.args.words.now) ∙ frame-is c.args.words.now c.read_head.result (entries_of c.args.words.now) c.read_head.ensures refl
 
 pub returns-clause-entries : goal.returns-clause-entries
 returns-clause-entries c =

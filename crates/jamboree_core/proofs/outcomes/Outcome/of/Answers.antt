@@ -1,5 +1,7 @@
 use Rattle.std.proofs.Common.{refl, ◌∙◌, ap}
 use Rattle.std.specs.Prelude.{ℕ, List, slice_index}
+use Rattle.jamboree_laws.specs.jamboree_rules.Places.{frame_of}
+use Rattle.jamboree_laws.specs.jamboree_rules.Entries.{bounds_of}
 use Rattle.jamboree_core.proofs.outcomes.Outcome.of.Goals as goal
 
 pub returns-in-Done : goal.returns-in-Done
@@ -10,8 +12,11 @@ returns-in-Done c =
       c.read.result,
       refl,
       record {
-        own = e.own ∙ ap (λ (ws : List ℕ). slice_index ws 0) same;
-        opp = e.opp ∙ ap (λ (ws : List ℕ). slice_index ws 1) same;
-        depth = e.depth ∙ ap (λ (ws : List ℕ). slice_index ws 2) same;
+        on = record {
+          own = e.own ∙ ap (λ (ws : List ℕ). slice_index ws 0) same;
+          opp = e.opp ∙ ap (λ (ws : List ℕ). slice_index ws 1) same;
+          depth = e.depth ∙ ap (λ (ws : List ℕ). slice_index ws 2) same;
+        };
+        table = e.table ∙ ap (λ (ws : List ℕ). bounds_of (frame_of ws)) same;
       },
     )

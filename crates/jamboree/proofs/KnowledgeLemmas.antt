@@ -1,0 +1,93 @@
+-- What is known of choices, from the rests of their entries.
+use Rattle.std.specs.Prelude.{◌≡◌, ℕ, zero, suc, ◌+◌, ◌<◌, ◌≤◌, ◌&&◌, nat_le, Bool, true, List, [], ◌∷◌, ◌++◌, map, take, drop, length, slice_index, slice_index_or, slice_get, slice_set, Option, Some, None, All, refl}
+use Rattle.std.proofs.Common.{sym, ◌∙◌, ap, subst, arith, add-one}
+use Rattle.std.proofs.lemmas.Bool.{and_parts}
+use Rattle.std.proofs.lemmas.List.{take_more, take_more_set, map-append, length-map, length-take}
+use Rattle.std.proofs.lemmas.List.Elements.{All-head, All-tail}
+use Rattle.othello_board.specs.declared.cells.Cell.{Cell}
+use Rattle.othello_moves.specs.declared.choices.Choice.{Choice}
+use Rattle.othello_moves.specs.Choices.{choices}
+use Rattle.othello_eval.specs.declared.bound.Bound.{Bound}
+use Rattle.othello_eval.specs.Tables.{entered, IsTable}
+use Rattle.jamboree_rules.specs.Places.{rest_of, status_of, is_rest, is_entry, are_entries}
+use Rattle.jamboree_rules.specs.Entries.{bounds_in}
+use Rattle.jamboree.specs.declared.entry.Known.{Known}
+use Rattle.jamboree.specs.Knowledge.{known_of, bound_by, bounds_by}
+
+-- each of some entries is one
+entry-at : (es : List ℕ) (i : ℕ) → are_entries es ≡ true → i < length es → is_entry (slice_index es i) ≡ true
+entry-at [] i are inside = absurd (omega arith)
+entry-at (e ∷ es) zero are inside = (and_parts (is_entry e) (are_entries es) are).0
+entry-at (e ∷ es) (suc i) are inside = entry-at es i (and_parts (is_entry e) (are_entries es) are).1 (omega arith)
+
+-- so its rest is one
+pub rest-at : (es : List ℕ) (i rest : ℕ) → are_entries es ≡ true → i < length es → rest ≡ rest_of (slice_index es i) → is_rest rest ≡ true
+rest-at es i rest are inside e =
+    ap is_rest e ∙ (and_parts (nat_le (status_of (slice_index es i)) 4) (is_rest (rest_of (slice_index es i))) (entry-at es i are inside)).1
+
+-- what the first entries say
+abbrev pub said_by : List ℕ → List Known
+said_by es = map known_of (map rest_of es)
+
+said-append : (xs ys : List ℕ) → said_by (xs ++ ys) ≡ said_by xs ++ said_by ys
+said-append xs ys = ap (map known_of) (map-append rest_of xs ys) ∙ map-append known_of (map rest_of xs) (map rest_of ys)
+
+-- one entry more
+pub said-more : (known : List Known) (es : List ℕ) (i rest : ℕ) (k : Known) → i < length es → i < length known → rest ≡ rest_of (slice_index es i) → k ≡ known_of rest →
+    take i known ≡ said_by (take i es) → take (i + 1) (slice_set known i k) ≡ said_by (take (i + 1) es)
+said-more known es i rest k inside room e is so_far =
+    take_more_set known i k room ∙ ap (λ (ks : List Known). ks ++ k ∷ []) so_far
+    ∙ ap (λ (j : Known). said_by (take i es) ++ j ∷ []) (is ∙ ap known_of e)
+    ∙ sym (ap said_by (take_more es i 0 inside) ∙ said-append (take i es) (slice_index es i ∷ []))
+
+-- the bounds of choices by what their rests say
+pub bounds-said : (cs : List Choice) (rests : List ℕ) → bounds_by cs (map known_of rests) ≡ bounds_in cs rests
+bounds-said [] rests = refl
+bounds-said (c ∷ cs) [] = refl
+bounds-said (c ∷ cs) (rest ∷ rests) = ap (λ (more : List Bound). bound_by c (known_of rest) ∷ more) (bounds-said cs rests)
+
+-- there are as many as the fewer of both
+pub bounds-many : (cs : List Choice) (ks : List Known) → length ks ≤ length cs → length (bounds_by cs ks) ≡ length ks
+bounds-many [] [] few = refl
+bounds-many [] (k ∷ ks) few = absurd (omega arith)
+bounds-many (c ∷ cs) [] few = refl
+bounds-many (c ∷ cs) (k ∷ ks) few = ap suc (bounds-many cs ks (omega arith))
+
+-- the bound with a number
+pub bound-at : (cs : List Choice) (ks : List Known) (n i : ℕ) (c : Choice) (d : Known) → slice_get cs i ≡ Some c → i < n → n ≤ length ks →
+    Some (bound_by c (slice_index_or ks i d)) ≡ slice_get (bounds_by cs (take n ks)) i
+bound-at [] ks n i c d got below few = absurd cc
+bound-at (e ∷ cs) [] n i c d got below few = absurd (omega arith)
+bound-at (e ∷ cs) (k ∷ ks) zero i c d got below few = absurd (omega arith)
+bound-at (e ∷ cs) (k ∷ ks) (suc n) zero c d got below few = cc
+bound-at (e ∷ cs) (k ∷ ks) (suc n) (suc i) c d got below few = bound-at cs ks n i c d got (omega arith) (omega arith)
+
+pub bound-none : (cs : List Choice) (ks : List Known) (n i : ℕ) → n ≤ i → slice_get (bounds_by cs (take n ks)) i ≡ None
+bound-none [] ks n i past = refl
+bound-none (c ∷ cs) ks zero i past = refl
+bound-none (c ∷ cs) [] (suc n) i past = refl
+bound-none (c ∷ cs) (k ∷ ks) (suc n) zero past = absurd (omega arith)
+bound-none (c ∷ cs) (k ∷ ks) (suc n) (suc i) past = bound-none cs ks n i (omega arith)
+
+-- what holds of each bound holds of the one with a number
+pub bound-holds : (P : Bound → Type 0) (bs : List Bound) (i : ℕ) (b : Bound) → All P bs → Some b ≡ slice_get bs i → P b
+bound-holds P [] i b all got = absurd cc
+bound-holds P (e ∷ bs) zero b all got = subst P (cc) (All-head P e bs all)
+bound-holds P (e ∷ bs) (suc i) b all got = bound-holds P bs i b (All-tail P e bs all) got
+
+-- the bounds that are read of a frame's words
+pub table-read : (cs : List Choice) (es w : List ℕ) (ks : List Known) → ks ≡ said_by es → es ≡ drop 12 w → bounds_by cs ks ≡ bounds_in cs (map rest_of (drop 12 w))
+table-read cs es w ks read is = ap (bounds_by cs) read ∙ bounds-said cs (map rest_of es) ∙ ap (λ (xs : List ℕ). bounds_in cs (map rest_of xs)) is
+
+-- there are no more bounds than is known of
+bounds-few : (cs : List Choice) (ks : List Known) → length (bounds_by cs ks) ≤ length ks
+bounds-few [] ks = omega arith
+bounds-few (c ∷ cs) [] = omega arith
+bounds-few (c ∷ cs) (k ∷ ks) = let more : length (bounds_by cs ks) ≤ length ks = bounds-few cs ks in omega (arith, more)
+
+-- where the bounds of a table are read of so many places, these are there
+pub places-held : (depth : ℕ) (b : List Cell) (ks : List Known) (n : ℕ) → IsTable depth b (bounds_by (choices b) (take n ks)) → n ≡ length (entered depth b) → n ≤ length ks
+places-held depth b ks n table counted =
+    let bs : List Bound = bounds_by (choices b) (take n ks) in
+    let many : length bs ≡ length (entered depth b) = sym (length-map bs (λ (e : Bound). e.choice)) ∙ ap (λ (cs : List Choice). length cs) table.each in
+    omega (arith, many, counted, bounds-few (choices b) (take n ks), length-take n ks)

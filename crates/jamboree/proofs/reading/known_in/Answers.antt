@@ -1,0 +1,5 @@
+use Rattle.jamboree.proofs.KnowledgeLemmas.{rest-at}
+use Rattle.jamboree.proofs.reading.known_in.Goals as goal
+
+pub known-requires : goal.known-requires
+known-requires c = rest-at c.args.entries.now c.loop-number.number c.of.result.word c.requires.entries c.loop-number-test.true c.of.ensures

@@ -1,0 +1,6 @@
+use Rattle.std.proofs.Common.{◌≡◌, drop}
+use Rattle.jamboree_rules.specs.Places.{are_entries}
+use Rattle.jamboree.proofs.statuses.all_are_entries.Given as goal
+
+abbrev pub invariant-loop-entry : goal.invariant-loop-entry
+invariant-loop-entry l = are_entries l.entries ≡ are_entries (drop l.entry-index l.entries)

@@ -1,0 +1,21 @@
+-- Meaning: what is known of choices, in their order.
+use Rattle.std.specs.Prelude.{ℕ, List, [], ◌∷◌}
+use Rattle.othello_moves.specs.declared.choices.Choice.{Choice}
+use Rattle.othello_eval.specs.declared.bound.Bound.{Bound}
+use Rattle.jamboree_rules.specs.Places.{kind_in, score_in}
+use Rattle.jamboree_rules.specs.Entries.{kind_numbered}
+use Rattle.jamboree.specs.declared.entry.Known.{Known}
+
+-- what a rest says that has a kind
+abbrev pub known_of : ℕ → Known
+known_of rest = record { score = score_in rest; kind = kind_numbered (kind_in rest) }
+
+-- the entry of a choice of which this is known
+abbrev pub bound_by : Choice → Known → Bound
+bound_by choice known = record { choice = choice; score = known.score; kind = known.kind }
+
+-- the entries of these choices, as far as something is known of them
+abbrev pub bounds_by : List Choice → List Known → List Bound
+bounds_by [] known = []
+bounds_by (c ∷ cs) [] = []
+bounds_by (c ∷ cs) (k ∷ known) = bound_by c k ∷ bounds_by cs known

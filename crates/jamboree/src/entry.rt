@@ -1,0 +1,119 @@
+//! The entry of a choice in a frame's words: how the choice stands, and what is known of it.
+//!
+//! An entry is one word, `status + 8 * kind + 32 * word(score)`: the kind is 1 low, 2 high and 3
+//! exact, and 0 where nothing is known, and then the score's part is 0 too. What stands above the
+//! status, `kind + 4 * word(score)`, is the rest of the entry. No other module takes an entry apart.
+ghost use Rattle.std.specs.Prelude.{◌≡◌, ◌≤◌, ◌≤ℤ◌, ◌==◌, ◌/◌, true, pos, negsuc};
+ghost use Rattle.jamboree_rules.specs.Places.{status_of, rest_of, entry_of, kind_number, rest_with, is_rest, is_entry};
+ghost use Rattle.jamboree_rules.specs.Entries.{kind_numbered};
+ghost use Rattle.jamboree.specs.Numbers.{status_number};
+ghost use Rattle.jamboree.specs.Knowledge.{known_of};
+
+use crate::phases::Status;
+use crate::score::{score_of_word, word_of_score};
+use othello_eval::BoundKind;
+
+/// What is known of a choice: a score, and what that says of the value of the choice.
+#[derive(Clone, Copy, Debug, PartialEq, Eq)]
+pub(crate) struct Known {
+    pub(crate) score: i32,
+    pub(crate) kind: BoundKind,
+}
+
+/// The rest of an entry as it stands there.
+#[derive(Clone, Copy)]
+pub(crate) struct Rest {
+    word: u64,
+    ghost fits: { word ≤ 2305843009213693951 },
+}
+
+impl Rest {
+    /// What stands above the status in an entry.
+    #[inline(always)]
+    pub(crate) fn of(entry: u64) -> Rest
+        ensures { result.word ≡ rest_of entry }
+    {
+        Rest { word: entry / 8 }
+    }
+
+    /// The rest that says this.
+    #[inline(always)]
+    pub(crate) fn saying(known: Known) -> Rest
+        requires low { negsuc 999999 ≤ℤ known.score }
+        requires high { known.score ≤ℤ pos 1000000 }
+        ensures { result.word ≡ rest_with known.kind known.score }
+    {
+        Rest {
+            word: kind_number(known.kind) + 4 * word_of_score(known.score),
+        }
+    }
+
+    /// What it says, where it is that of an entry and has a kind.
+    pub(crate) fn known(self) -> Known
+        requires { is_rest self.word ≡ true }
+        ensures { result ≡ known_of self.word }
+    {
+        Known {
+            score: score_of_word(self.word / 4),
+            kind: kind_of_number(self.word % 4),
+        }
+    }
+
+    /// The entry of a choice that stands so.
+    #[inline(always)]
+    pub(crate) fn entry(self, status: Status) -> u64
+        ensures { result ≡ entry_of (status_number status) self.word }
+    {
+        status.number() + 8 * self.word
+    }
+
+    /// Whether it says nothing, or its score is one from -200,000 to 200,000.
+    fn is_rest(self) -> bool
+        ensures { result ≡ is_rest self.word }
+    {
+        if self.word % 4 == 0 {
+            return self.word == 0;
+        }
+        let word = self.word / 4;
+        800_000 <= word && word <= 1_200_000
+    }
+}
+
+/// The number of a kind.
+#[inline(always)]
+fn kind_number(kind: BoundKind) -> u64
+    ensures value { result ≡ kind_number kind }
+    ensures small { result ≤ 3 }
+{
+    match kind {
+        BoundKind::Low => 1,
+        BoundKind::High => 2,
+        BoundKind::Exact => 3,
+    }
+}
+
+/// The kind of this number, 1 to 3.
+fn kind_of_number(number: u64) -> BoundKind
+    ensures { result ≡ kind_numbered number }
+{
+    match number {
+        1 => BoundKind::Low,
+        2 => BoundKind::High,
+        _ => BoundKind::Exact,
+    }
+}
+
+/// Whether this is the entry of a choice that stands so.
+#[inline(always)]
+pub(crate) fn is_entry_of(entry: u64, status: Status) -> bool
+    ensures { result ≡ (status_of entry == status_number status) }
+{
+    entry % 8 == status.number()
+}
+
+/// Whether this is an entry: a status, 0 to 4, and a rest.
+pub(crate) fn is_entry(entry: u64) -> bool
+    ensures { result ≡ is_entry entry }
+{
+    entry % 8 <= 4 && Rest::of(entry).is_rest()
+}
