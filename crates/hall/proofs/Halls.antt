@@ -6,7 +6,7 @@ use Rattle.std.proofs.lemmas.Bool.{cases_Bool, eqb-true, eqb-false, eq-eqb, true
 use Rattle.std.proofs.lemmas.Bool.Decides.{nat_tests}
 use Rattle.tenant_quota.specs.Quota.{Quota, IsWithinLimits}
 use Rattle.sched_rules.specs.declared.refusal.Refusal.{Refusal}
-use Rattle.sched_rules.specs.declared.refusal.Refusal.TheVariants.{NoTenant, OldTenant, Full, OutOfMemory, Lower}
+use Rattle.sched_rules.specs.declared.refusal.Refusal.TheVariants.{NoTenant, OldTenant, BadAct, Full, OutOfMemory, Lower}
 use Rattle.sched_rules.specs.declared.step.StepOf.{StepOf}
 use Rattle.sched_rules.specs.declared.step.StepOf.TheVariants.{Admit, AdmitMore, Submit, Take, Steal, Advance, Answer, Inlet, Finish, Spend, Cancel, Leave}
 use Rattle.sched_rules.specs.declared.step.DidOf.{DidOf}
@@ -15,6 +15,7 @@ use Rattle.sched_rules.specs.Functions.{Functions}
 use Rattle.sched_rules.specs.declared.job.Job.{Job}
 use Rattle.sched_rules.specs.Trees.{Tenant, admitted_with, job_at}
 use Rattle.jamboree_core.proofs.sched_laws_EndedJobs.{step-ended}
+use Rattle.jamboree_core.proofs.jamboree_laws_Possible.{IsOfSearches, tenant-none-bad}
 use Rattle.sched_rules.specs.Lone.{Outcome, unless, refusal_in, lone, lone_step, is_lower}
 use Rattle.sched_rules.specs.Runs.{tenant_of}
 use Rattle.sched_rules.specs.Cores.{Shared, tenant_in, judged, unless_beyond, shared_by_nobody, shared_refusal, shared_with, newest_after}
@@ -27,7 +28,7 @@ use Rattle.jamboree_core.specs.jamboree_rules.declared.leaf.LeafAnswer.{LeafAnsw
 use Rattle.jamboree_core.specs.jamboree_rules.Procedure.{jamboree}
 use Rattle.jamboree_core.specs.jamboree_laws.Replies.{IsSearch, AreSearches}
 use Rattle.sched_rules.specs.Views.{job_of}
-use Rattle.jamboree_core.specs.sched_laws.Fitted.{origins_of}
+use Rattle.jamboree_core.specs.sched_laws.Fitted.{origins_of, submits}
 use Rattle.jamboree_core.specs.declared.outcomes.Outcome.{Outcome as Outcomes}
 use Rattle.jamboree_core.specs.Searching.{TenantSearches, ServesSearches, origin_at}
 use Rattle.jamboree_core.specs.Outcomes.{IsOutcomeIn, AnswersTo}
@@ -514,3 +515,15 @@ ended-stays hall step (Ok did) after explained one number job ended stays has at
           rw (← mine, went.is) (keeps job ended has was))
       | inr stops ↦ absurd (stopped hall.grain hall.shared step did number job ended explained.known one.answered stops mine stays at)
     ]
+
+-- a step that submits nothing isn't refused by BadAct: by its journal, the jobs of its tenant are searches
+pub none-bad : (hall : HallOf) (step : Step) (answer : Result (DidOf Leaf) Refusal) (after : Shared) → IsExplained hall → submits step ≡ [] → IsOneStep (jamboree hall.grain) hall.shared step answer after → answer ≢ Err BadAct
+none-bad hall step answer after explained none one = tenant-none-bad hall.grain (origins_of journal) hall.shared step answer of_searches none one.answered
+  where
+    journal : List Step
+    journal = journal_in hall.journals (tenant_of step)
+
+    of_searches : IsOfSearches (origins_of journal) hall.shared step
+    of_searches tenant at =
+        let own = explained-some hall.grain _ tenant _ at (explained.tenants (tenant_of step)) in
+        (journal-shaped (jamboree hall.grain) journal tenant own, (journal-searches hall.grain journal tenant own (explained.searches (tenant_of step))).fits)

@@ -1,8 +1,9 @@
 //! The hall.
-ghost use Rattle.std.specs.Prelude.{◌≡◌, ◌≢◌, ◌≤◌, ◌<◌, ◌+◌, ◌^◌, vec_len, vec_capacity, true, false, length, Err, Some, None, IfOk, OnErr, OnOk};
-ghost use Rattle.sched_rules.specs.declared.refusal.Refusal.TheVariants.{OutOfMemory};
+ghost use Rattle.std.specs.Prelude.{◌≡◌, ◌≢◌, ◌≤◌, ◌<◌, ◌+◌, ◌^◌, vec_len, vec_capacity, true, false, [], length, Err, Some, None, IfOk, OnErr, OnOk};
+ghost use Rattle.sched_rules.specs.declared.refusal.Refusal.TheVariants.{BadAct, OutOfMemory};
 ghost use Rattle.sched_rules.specs.Cores.{newest_after, shared_refusal};
 ghost use Rattle.sched_rules.specs.Headline.{IsOneStep, is_admission};
+ghost use Rattle.jamboree_core.specs.sched_laws.Fitted.{submits};
 ghost use Rattle.jamboree_core.specs.jamboree_rules.Procedure.{jamboree};
 ghost use Rattle.jamboree_core.specs.jamboree_laws.Replies.{IsSearch};
 ghost use Rattle.sched_rules.specs.Runs.{tenant_of};
@@ -72,7 +73,7 @@ impl<A: Allocator> Hall<A> {
 
     /// Takes the step and adds just it to its tenant's journal, or refuses it, and then nothing
     /// changes. A Leave takes the journal with its tenant. Only an admission, of a tenant or of more for
-    /// it, takes memory.
+    /// it, takes memory, and only a Submit is refused by BadAct.
     ///
     /// A Submit is to ask for a search, with the root words of a position.
     pub fn offer(&mut self, step: &Step<Jamboree>) -> Result<Did<Jamboree>, Refusal>
@@ -83,6 +84,7 @@ impl<A: Allocator> Hall<A> {
         ensures taken { OnOk result (self.new ≡ hall_after self.old step.now self.new.shared) }
         ensures refused { OnErr result (self.new ≡ self.old) }
         ensures memory { is_admission step.now ≡ false → result ≢ Err OutOfMemory }
+        ensures bad_act { submits step.now ≡ [] → result ≢ Err BadAct }
         ensures count { OnOk result (count_of self.new ≡ count_of self.old + 1) }
         ensures newest { OnOk result (self.new.shared.newest ≡ newest_after self.old.shared.newest step.now) }
         ensures explained { IsExplained self.new }

@@ -3,12 +3,17 @@ use crate::entry::{Entry, LongEntry};
 use frame_table::FrameId;
 use linked_list_allocator::LocalHeap;
 use othello_board::Board;
+use othello_moves::Choice;
 use position_text::{Position, Side};
-use std::alloc::Allocator;
+use std::alloc::{Allocator, Global};
 use std::mem::size_of;
 use std::process::Abort;
 use std::test::Fail;
 use tenant_quota::{Left, Reserve};
+
+mod memory;
+mod reservations;
+mod turns;
 
 /// The opening, Black to move.
 fn opening() -> Result<Position, Fail> {

@@ -4,6 +4,7 @@ pub use Rattle.sched_core.proofs.sched_laws_Consequences as sched_laws_Consequen
 pub use Rattle.sched_core.proofs.sched_laws_EndedJobs as sched_laws_EndedJobs
 pub use Rattle.sched_core.proofs.sched_laws_Parts as sched_laws_Parts
 pub use Rattle.sched_core.proofs.sched_laws_Shaped as sched_laws_Shaped
+pub use Rattle.jamboree_laws.proofs.Possible as jamboree_laws_Possible
 pub mod Serving
 pub mod JournalLemmas
 pub mod OutcomeLemmas

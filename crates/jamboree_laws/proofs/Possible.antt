@@ -172,15 +172,20 @@ own-none-bad answer busy (Err refusal) told none = λ e.
 own-none-bad answer true (Ok outcome) told none = λ e. let said : ◌≡◌ {A = Result (DidOf Leaf) Refusal} (Err Busy) (Err BadAct) = sym (told.1 refl refl) ∙ e in absurd cc
 own-none-bad answer false (Ok outcome) told none = λ e. let said : ◌≡◌ {A = Result (DidOf Leaf) Refusal} (Ok outcome.1) (Err BadAct) = sym (told.2 refl refl) ∙ e in absurd cc
 
-step-none-bad : (grain : ℕ) (origins : ℕ → Lists) (before : Shared) (step : StepOf LeafAnswer) (answer : Result (DidOf Leaf) Refusal) → AreShaped before.tenants → CoreFits AreFitting IsRoot origins before → submits step ≡ [] →
+-- the tenant of a step, where it is there, has its shape, and its jobs are searches, submitted with these words
+abbrev pub IsOfSearches : Lists → Shared → StepOf LeafAnswer → Type 0
+IsOfSearches origins before step = (tenant : Tenant) → tenant_in before.tenants (tenant_of step) ≡ Some tenant → IsShaped tenant × TenantFits AreFitting IsRoot origins tenant
+
+step-none-bad : (grain : ℕ) (origins : Lists) (before : Shared) (step : StepOf LeafAnswer) (answer : Result (DidOf Leaf) Refusal) → IsOfSearches origins before step → submits step ≡ [] →
     IsAnswerToStep (jamboree grain) before step answer → answer ≢ Err BadAct
-step-none-bad grain origins before step answer shaped core none right = by (tenant_in before.tenants (tenant_of step)) refl
+step-none-bad grain origins before step answer own none right = by (tenant_in before.tenants (tenant_of step)) refl
   where
-    by : (own : Option Tenant) → tenant_in before.tenants (tenant_of step) ≡ own → answer ≢ Err BadAct
+    by : (found : Option Tenant) → tenant_in before.tenants (tenant_of step) ≡ found → answer ≢ Err BadAct
     by None at = own-none-bad answer (meets_busy step before.tenants) (lone (jamboree grain) (tenant_in before.tenants (tenant_of step)) step) (right.own_state, right.busy_worker, right.else_taken) (rw at (first-none-bad step))
     by (Some tenant) at =
+        let is = own tenant at in
         own-none-bad answer (meets_busy step before.tenants) (lone (jamboree grain) (tenant_in before.tenants (tenant_of step)) step) (right.own_state, right.busy_worker, right.else_taken)
-        (rw at (possible grain (origins (tenant_of step)) tenant (shaped-in (tenant_of step) before.tenants tenant shaped at) (core.tenants (tenant_of step) tenant at) step none))
+        (rw at (possible grain origins tenant is.0 is.1 step none))
 
 -- an admission, of which BadAct isn't judged
 admission-none-bad : (grain : ℕ) (before : Shared) (step : StepOf LeafAnswer) (answer : Result (DidOf Leaf) Refusal) → shared_refusal (jamboree grain) before step ≢ Some BadAct → IsAnswerToAdmit (jamboree grain) before step answer → answer ≢ Err BadAct
@@ -219,18 +224,24 @@ more-none-bad grain before number quota =
     own None = λ e. absurd cc
     own (Some tenant) = not-bad {X = Outcome Leaf} ((is_lower tenant.reserve quota, Lower) ∷ []) (raised tenant quota) ((λ e. absurd cc), λ n. tt)
 
+-- each step whose tenant's jobs are searches
+pub tenant-none-bad : (grain : ℕ) (origins : Lists) (before : Shared) (step : StepOf LeafAnswer) (answer : Result (DidOf Leaf) Refusal) → IsOfSearches origins before step → submits step ≡ [] →
+    IsAnswerTo (jamboree grain) before step answer → answer ≢ Err BadAct
+tenant-none-bad grain origins before (Admit number quota) answer own none right = admission-none-bad grain before (Admit number quota) answer (admit-none-bad grain before number quota) (right.0 refl)
+tenant-none-bad grain origins before (AdmitMore number quota) answer own none right = admission-none-bad grain before (AdmitMore number quota) answer (more-none-bad grain before number quota) (right.0 refl)
+tenant-none-bad grain origins before (Submit number words size) answer own none right = absurd cc
+tenant-none-bad grain origins before (Take worker name) answer own none right = step-none-bad grain origins before (Take worker name) answer own none (right.1 refl)
+tenant-none-bad grain origins before (Steal worker from name) answer own none right = step-none-bad grain origins before (Steal worker from name) answer own none (right.1 refl)
+tenant-none-bad grain origins before (Advance worker name) answer own none right = step-none-bad grain origins before (Advance worker name) answer own none (right.1 refl)
+tenant-none-bad grain origins before (Answer worker name value) answer own none right = step-none-bad grain origins before (Answer worker name value) answer own none (right.1 refl)
+tenant-none-bad grain origins before (Inlet worker name) answer own none right = step-none-bad grain origins before (Inlet worker name) answer own none (right.1 refl)
+tenant-none-bad grain origins before (Finish worker name) answer own none right = step-none-bad grain origins before (Finish worker name) answer own none (right.1 refl)
+tenant-none-bad grain origins before (Spend name) answer own none right = step-none-bad grain origins before (Spend name) answer own none (right.1 refl)
+tenant-none-bad grain origins before (Cancel number job) answer own none right = step-none-bad grain origins before (Cancel number job) answer own none (right.1 refl)
+tenant-none-bad grain origins before (Leave number) answer own none right = step-none-bad grain origins before (Leave number) answer own none (right.1 refl)
+
 -- each step of a core of searches
 pub answer-none-bad : (grain : ℕ) (origins : ℕ → Lists) (before : Shared) (step : StepOf LeafAnswer) (answer : Result (DidOf Leaf) Refusal) → AreShaped before.tenants → CoreFits AreFitting IsRoot origins before → submits step ≡ [] →
     IsAnswerTo (jamboree grain) before step answer → answer ≢ Err BadAct
-answer-none-bad grain origins before (Admit number quota) answer shaped core none right = admission-none-bad grain before (Admit number quota) answer (admit-none-bad grain before number quota) (right.0 refl)
-answer-none-bad grain origins before (AdmitMore number quota) answer shaped core none right = admission-none-bad grain before (AdmitMore number quota) answer (more-none-bad grain before number quota) (right.0 refl)
-answer-none-bad grain origins before (Submit number words size) answer shaped core none right = absurd cc
-answer-none-bad grain origins before (Take worker name) answer shaped core none right = step-none-bad grain origins before (Take worker name) answer shaped core none (right.1 refl)
-answer-none-bad grain origins before (Steal worker from name) answer shaped core none right = step-none-bad grain origins before (Steal worker from name) answer shaped core none (right.1 refl)
-answer-none-bad grain origins before (Advance worker name) answer shaped core none right = step-none-bad grain origins before (Advance worker name) answer shaped core none (right.1 refl)
-answer-none-bad grain origins before (Answer worker name value) answer shaped core none right = step-none-bad grain origins before (Answer worker name value) answer shaped core none (right.1 refl)
-answer-none-bad grain origins before (Inlet worker name) answer shaped core none right = step-none-bad grain origins before (Inlet worker name) answer shaped core none (right.1 refl)
-answer-none-bad grain origins before (Finish worker name) answer shaped core none right = step-none-bad grain origins before (Finish worker name) answer shaped core none (right.1 refl)
-answer-none-bad grain origins before (Spend name) answer shaped core none right = step-none-bad grain origins before (Spend name) answer shaped core none (right.1 refl)
-answer-none-bad grain origins before (Cancel number job) answer shaped core none right = step-none-bad grain origins before (Cancel number job) answer shaped core none (right.1 refl)
-answer-none-bad grain origins before (Leave number) answer shaped core none right = step-none-bad grain origins before (Leave number) answer shaped core none (right.1 refl)
+answer-none-bad grain origins before step answer shaped core =
+    tenant-none-bad grain (origins (tenant_of step)) before step answer (λ tenant at. (shaped-in (tenant_of step) before.tenants tenant shaped at, core.tenants (tenant_of step) tenant at))

@@ -10,7 +10,7 @@ pub struct Scored {
     /// The score, seen by the player to move, from -128,000 to 128,000: a bound of the minimax value.
     pub score: i32,
     /// A choice of the board, or none: the best choice where the score lies inside the window, so none at
-    /// depth 0 and in a finished game. Outside it the choice that was met with this score, if any was.
+    /// depth 0 and in a finished game. Outside it no more is promised than that it is one of the board's.
     pub choice: Option<Choice>,
     /// How many positions were entered, the first included; it stays at the greatest `u64`. Tests compare
     /// it; no contract of a search speaks of it.
