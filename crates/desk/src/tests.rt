@@ -54,11 +54,6 @@ fn desk_of<L: Hands>(
     Ok(Desk::new(Hall::new(alloc, config, 6)?, blank))
 }
 
-/// A reservation within the limits.
-fn reserve(segments: u32, nodes: u32) -> Result<Reserve, Fail> {
-    Ok(Reserve::new(segments, nodes).ok_or("within the limits")?)
-}
-
 /// The five steps of a worker that compute and finish the job under this root.
 fn compute<L: Hands, R: Wait>(
     rt: &R,
@@ -96,35 +91,130 @@ fn left(segments: u32, nodes: u32, steps: u32) -> Result<Left, Refusal> {
     })
 }
 
+/// A seat of a new tenant that reserves so much.
+fn seat_of<L: Hands, R: Wait + Abort>(
+    rt: &R,
+    desk: &Desk<L>,
+    segments: u32,
+    nodes: u32,
+) -> Seat<L> {
+    let reserve = Reserve::new(segments, nodes).expect(rt, "within the limits");
+    desk.admit(rt, reserve).expect(rt, "there is room")
+}
+
+/// A badge.
+fn badge_of<L: Hands, R: Wait + Abort>(rt: &R, desk: &Desk<L>) -> Badge<L> {
+    desk.badge(rt).expect(rt, "there are badges")
+}
+
+/// The root of a seat's first job.
+fn root_of<L: Hands>(seat: &Seat<L>) -> FrameId {
+    FrameId {
+        tenant: seat.tenant(),
+        serial: 1,
+    }
+}
+
+/// A seat asks for the opening to this depth, and is answered so.
+fn asks<L: Hands, R: Wait + Abort>(
+    rt: &R,
+    desk: &Desk<L>,
+    seat: &mut Seat<L>,
+    depth: u8,
+    answer: Result<u64, Refusal>,
+)
+    requires { depth ≤ 12 }
+{
+    assert_eq!(rt; desk.ask(rt, seat, &start(rt), depth), answer);
+}
+
+/// A seat cancels a job, and is answered so.
+fn cancels<L: Hands, R: Wait + Abort>(
+    rt: &R,
+    desk: &Desk<L>,
+    seat: &mut Seat<L>,
+    job: u64,
+    answer: Result<(), Refusal>,
+) {
+    assert_eq!(rt; desk.cancel(rt, seat, job), answer);
+}
+
+/// A seat gets this of a job.
+fn gets<L: Hands, R: Wait + Abort>(
+    rt: &R,
+    desk: &Desk<L>,
+    seat: &Seat<L>,
+    job: u64,
+    answer: Result<Outcome, Refusal>,
+) {
+    assert_eq!(rt; desk.get(rt, seat, job), answer);
+}
+
+/// A seat's tenant has this left.
+fn has_left<L: Hands, R: Wait + Abort>(
+    rt: &R,
+    desk: &Desk<L>,
+    seat: &Seat<L>,
+    segments: u32,
+    nodes: u32,
+    steps: u32,
+) {
+    assert_eq!(rt; desk.quota(rt, seat), left(segments, nodes, steps));
+}
+
+/// A seat's tenant has one frame of 12 words.
+fn has_one_frame<L: Hands, R: Wait + Abort>(rt: &R, desk: &Desk<L>, seat: &Seat<L>) {
+    assert_eq!(rt; desk.live(rt, seat), Ok((1, 12)));
+}
+
+/// A worker does the first job, the opening at depth 0, and the seat that waited for it has its reply.
+fn do_first<L: Hands, R: Wait + Abort>(
+    rt: &R,
+    desk: &Desk<L>,
+    seat: &Seat<L>,
+    badge: &mut Badge<L>,
+    worker: Worker,
+) {
+    let root = root_of(seat);
+    assert_eq!(rt; compute(rt, desk, badge, worker, root), Some(1));
+    assert_eq!(rt; reply_of(desk.wait(rt, seat, 1)), Some((0, None)));
+}
+
+/// The end of a desk: its hall has taken and kept so many steps, and all shares are there.
+fn has_ended<L: Hands, R: Wait + Abort>(
+    rt: &R,
+    desk: Desk<L>,
+    badge: Badge<L>,
+    count: u128,
+    kept: u128,
+)
+    requires { L.all ≡ L.parts }
+{
+    let (hall, is_whole) = desk.into_hall(badge);
+    assert_eq!(rt; (hall.count(), hall.kept(), is_whole), (count, kept, true));
+}
+
 /// A tenant's first job, which is done: its seat, and the badge of the worker of this number.
 fn work<L: Hands, R: Wait + Abort>(rt: &R, desk: &Desk<L>, number: u8) -> (Seat<L>, Badge<L>) {
     let worker = Worker::new(number).expect(rt, "a worker's number");
-    let reserve = Reserve::new(4, 8).expect(rt, "within the limits");
-    let mut seat = desk.admit(rt, reserve).expect(rt, "there is room");
-    let mut badge = desk.badge(rt).expect(rt, "there are badges");
-    let root = FrameId {
-        tenant: seat.tenant(),
-        serial: 1,
-    };
-    assert_eq!(rt; desk.ask(rt, &mut seat, &start(rt), 0), Ok(1));
-    assert_eq!(rt; compute(rt, desk, &mut badge, worker, root), Some(1));
-    assert_eq!(rt; reply_of(desk.wait(rt, &seat, 1)), Some((0, None)));
-    assert_eq!(rt; desk.quota(rt, &seat), left(4, 7, 123));
+    let mut seat = seat_of(rt, desk, 4, 8);
+    let mut badge = badge_of(rt, desk);
+    asks(rt, desk, &mut seat, 0, Ok(1));
+    do_first(rt, desk, &seat, &mut badge, worker);
+    has_left(rt, desk, &seat, 4, 7, 123);
     assert_eq!(rt; (seat.share(), badge.share()), (2, 5));
-    assert_eq!(rt; desk.cancel(rt, &mut seat, 1), Err(Refusal::NoJob));
+    cancels(rt, desk, &mut seat, 1, Err(Refusal::NoJob));
     (seat, badge)
 }
 
 /// The seat's second job, which is cancelled.
-fn cancel_second<L: Hands, R: Wait + Abort>(rt: &R, desk: &Desk<L>, seat: Seat<L>) -> Seat<L> {
-    let mut seat = seat;
-    assert_eq!(rt; desk.ask(rt, &mut seat, &start(rt), 0), Ok(2));
-    assert_eq!(rt; desk.live(rt, &seat), Ok((1, 12)));
-    assert_eq!(rt; desk.cancel(rt, &mut seat, 2), Ok(()));
-    assert_eq!(rt; desk.get(rt, &seat, 2), Ok(Outcome::Cancelled));
-    assert_eq!(rt; desk.quota(rt, &seat), left(4, 6, 123));
+fn cancel_second<L: Hands, R: Wait + Abort>(rt: &R, desk: &Desk<L>, seat: &mut Seat<L>) {
+    asks(rt, desk, seat, 0, Ok(2));
+    has_one_frame(rt, desk, seat);
+    cancels(rt, desk, seat, 2, Ok(()));
+    gets(rt, desk, seat, 2, Ok(Outcome::Cancelled));
+    has_left(rt, desk, seat, 4, 6, 123);
     assert_eq!(rt; seat.share(), 4);
-    seat
 }
 
 /// Both jobs.
@@ -133,8 +223,9 @@ fn work_twice<L: Hands, R: Wait + Abort>(
     desk: &Desk<L>,
     number: u8,
 ) -> (Seat<L>, Badge<L>) {
-    let (seat, badge) = work(rt, desk, number);
-    (cancel_second(rt, desk, seat), badge)
+    let (mut seat, badge) = work(rt, desk, number);
+    cancel_second(rt, desk, &mut seat);
+    (seat, badge)
 }
 
 /// One seat, and one badge for its worker.
@@ -143,18 +234,26 @@ fn one_stays<L: Hands, R: Wait + Abort>(rt: &R, alloc: Global, blank: Blank) -> 
     requires parts { (blank.parts ≡ L.parts) × (L.all ≡ L.parts) × (L.all ≡ 13835058055282163712) }
 {
     let desk: Desk<L> = desk_of(alloc, blank, 32, 64)?;
-    let (seat, badge) = work(rt, &desk, 1);
-    assert_eq!(rt; desk.count(rt), 7);
-    let seat = cancel_second(rt, &desk, seat);
-    assert_eq!(rt; desk.count(rt), 9);
-    desk.leave(rt, seat);
-    assert_eq!(rt; desk.count(rt), 10);
+    let badge = stay(rt, &desk);
     let (hall, is_whole) = desk.into_hall(badge);
     assert_eq!(rt;
         (hall.count(), hall.kept(), hall.gone(), is_whole),
         (10, 5, 10, true)
     );
     Ok(())
+}
+
+/// All that the seat does, until it leaves: its worker's badge.
+fn stay<L: Hands, R: Wait + Abort>(rt: &R, desk: &Desk<L>) -> Badge<L>
+    requires { L.all ≡ L.parts }
+{
+    let (mut seat, badge) = work(rt, desk, 1);
+    assert_eq!(rt; desk.count(rt), 7);
+    cancel_second(rt, desk, &mut seat);
+    assert_eq!(rt; desk.count(rt), 9);
+    desk.leave(rt, seat);
+    assert_eq!(rt; desk.count(rt), 10);
+    badge
 }
 
 #[test]
@@ -235,18 +334,23 @@ fn four_stay<L: Hands + Send + Sync, R: Wait + Abort + Threads + Sync>(
     requires parts { (blank.parts ≡ L.parts) × (L.all ≡ L.parts) × (L.all ≡ 13835058055282163712) }
 {
     let desk: Desk<L> = desk_of(alloc, blank, 32, 64)?;
-    let first = desk.badge(rt).ok_or("there are badges")?;
-    let badge = four_work(rt, alloc, &desk, first);
-    let badge = badge.ok_or("there are threads")?;
+    let first = badge_of(rt, &desk);
+    let badge = four_work(rt, alloc, &desk, first).expect(rt, "there are threads");
     assert_eq!(rt; badge.share(), 20);
-    let (hall, is_whole) = desk.into_hall(badge);
-    assert_eq!(rt; (hall.count(), hall.kept(), is_whole), (40, 20, true));
+    has_ended(rt, desk, badge, 40, 20);
     Ok(())
 }
 
 #[test]
 fn four_seats_in_four_threads(rt: HostRuntime) -> Result<(), Fail> {
     four_stay::<Brand, HostRuntime>(&rt, rt.alloc(), Blank::new(PARTS))
+}
+
+/// A frame is ready, the root of this seat's job.
+fn next_root<L: Hands, R: Wait + Abort>(rt: &R, desk: &Desk<L>, seat: &Seat<L>) -> FrameId {
+    let (root, home) = desk.next_ready(rt).expect(rt, "the root is ready");
+    assert_eq!(rt; (root.tenant, home), (seat.tenant(), 0));
+    root
 }
 
 /// A seat asks for a position; its worker, who waits until something is ready, computes it; it is read
@@ -257,49 +361,59 @@ fn ask_and_read<L: Hands, R: Wait + Abort>(
     badge: &mut Badge<L>,
     worker: Worker,
     seat: &mut Seat<L>,
-    position: Position,
+    position: &Position,
     depth: u8,
     reply: (i32, Option<Choice>),
 )
     requires { depth ≤ 12 }
 {
     let job = desk
-        .ask(rt, seat, &position, depth)
+        .ask(rt, seat, position, depth)
         .expect(rt, "there is room");
-    let (root, home) = desk.next_ready(rt).expect(rt, "the root is ready");
-    assert_eq!(rt; (root.tenant, home), (seat.tenant(), 0));
+    let root = next_root(rt, desk, seat);
     assert_eq!(rt; compute(rt, desk, badge, worker, root), Some(job));
     assert_eq!(rt; reply_of(desk.get(rt, seat, job)), Some(reply));
     assert_eq!(rt; reply_of(desk.wait(rt, seat, job)), Some(reply));
 }
 
-/// Two seats ask for three positions in turn.
-fn two_seats_ask<L: Hands, R: Wait + Abort>(rt: &R, alloc: Global, blank: Blank) -> Result<(), Fail>
-    requires name { blank.name ≡ L.name }
-    requires parts { (blank.parts ≡ L.parts) × (L.all ≡ L.parts) × (L.all ≡ 13835058055282163712) }
-{
-    let desk: Desk<L> = desk_of(alloc, blank, 8, 32)?;
-    let worker = Worker::new(7).ok_or("within the limits")?;
-    let asked = [
-        (opening()?, 1, (-3, Some(Choice::Square(19)))),
-        (position(1, 2)?, 1, (6000, Some(Choice::Square(2)))),
-        (position(0, u64::MAX)?, 12, (-128_000, None)),
-    ];
-    let mut one = desk.admit(rt, reserve(4, 8)?)?;
-    let mut other = desk.admit(rt, reserve(4, 8)?)?;
-    let mut badge = desk.badge(rt).ok_or("there are badges")?;
-    for (position, depth, reply) in asked {
+/// Two seats ask for three positions in turn, which this worker computes.
+fn ask_in_turn<L: Hands, R: Wait + Abort>(
+    rt: &R,
+    desk: &Desk<L>,
+    worker: Worker,
+    asked: [(Position, u8, (i32, Option<Choice>)); 3],
+) {
+    let mut one = seat_of(rt, desk, 4, 8);
+    let mut other = seat_of(rt, desk, 4, 8);
+    let mut badge = badge_of(rt, desk);
+    for (position, most, reply) in asked {
+        let depth = most.min(12);
         ask_and_read(
-            rt, &desk, &mut badge, worker, &mut one, position, depth, reply,
+            rt, desk, &mut badge, worker, &mut one, &position, depth, reply,
         );
         ask_and_read(
-            rt, &desk, &mut badge, worker, &mut other, position, depth, reply,
+            rt, desk, &mut badge, worker, &mut other, &position, depth, reply,
         );
     }
     assert_eq!(rt;
         (one.asked().len(), other.share(), badge.share()),
         (3, 4, 30)
     );
+}
+
+/// A desk for them.
+fn two_seats_ask<L: Hands, R: Wait + Abort>(rt: &R, alloc: Global, blank: Blank) -> Result<(), Fail>
+    requires name { blank.name ≡ L.name }
+    requires parts { (blank.parts ≡ L.parts) × (L.all ≡ L.parts) × (L.all ≡ 13835058055282163712) }
+{
+    let worker = Worker::new(7).ok_or("within the limits")?;
+    let asked = [
+        (opening()?, 1, (-3, Some(Choice::Square(19)))),
+        (position(1, 2)?, 1, (6000, Some(Choice::Square(2)))),
+        (position(0, u64::MAX)?, 12, (-128_000, None)),
+    ];
+    let desk: Desk<L> = desk_of(alloc, blank, 8, 32)?;
+    ask_in_turn(rt, &desk, worker, asked);
     Ok(())
 }
 
@@ -308,34 +422,52 @@ fn two_seats_ask_in_turn(rt: HostRuntime) -> Result<(), Fail> {
     two_seats_ask::<Brand, HostRuntime>(&rt, rt.alloc(), Blank::new(PARTS))
 }
 
+/// 256 asks, each of which is cancelled, and the 257th.
+fn ask_all<L: Hands, R: Wait + Abort>(rt: &R, desk: &Desk<L>, seat: &mut Seat<L>) {
+    for job in 1..257u64 {
+        asks(rt, desk, seat, 3, Ok(job));
+        cancels(rt, desk, seat, job, Ok(()));
+    }
+    asks(rt, desk, seat, 3, Err(Refusal::NoJobsLeft));
+    gets(rt, desk, seat, 257, Err(Refusal::NoJob));
+    assert_eq!(rt; (seat.share(), seat.asked().len()), (513, 256));
+}
+
+/// A tenant that finds no room.
+fn is_refused<L: Hands, R: Wait + Abort>(rt: &R, desk: &Desk<L>) {
+    let reserve = Reserve::new(1, 1).expect(rt, "within the limits");
+    assert_eq!(rt; desk.admit(rt, reserve).err(), Some(Refusal::Full));
+}
+
+/// At a closed desk no frame is ready, and who waits finds the job pending.
+fn wait_closed<L: Hands, R: Wait + Abort>(rt: &R, desk: &Desk<L>, seat: &Seat<L>) {
+    assert_eq!(rt; desk.next_ready(rt), None);
+    assert_eq!(rt; desk.wait(rt, seat, 1), Ok(Outcome::Pending));
+}
+
+/// A tenant of all segments asks as often as it may, and leaves.
+fn fill<L: Hands, R: Wait + Abort>(rt: &R, desk: &Desk<L>)
+    requires { L.all ≡ L.parts }
+{
+    let mut seat = seat_of(rt, desk, 8, 300);
+    ask_all(rt, desk, &mut seat);
+    is_refused(rt, desk);
+    desk.leave(rt, seat);
+}
+
 /// 256 asks and the 257th; a desk without room, and a desk that is closed.
 fn limits<L: Hands, R: Wait + Abort>(rt: &R, alloc: Global, blank: Blank) -> Result<(), Fail>
     requires name { blank.name ≡ L.name }
     requires parts { (blank.parts ≡ L.parts) × (L.all ≡ L.parts) × (L.all ≡ 13835058055282163712) }
 {
     let desk: Desk<L> = desk_of(alloc, blank, 8, 512)?;
-    let mut seat = desk.admit(rt, reserve(8, 300)?)?;
-    for job in 1..257u64 {
-        assert_eq!(rt; desk.ask(rt, &mut seat, &opening()?, 3), Ok(job));
-        assert_eq!(rt; desk.cancel(rt, &mut seat, job), Ok(()));
-    }
-    assert_eq!(rt;
-        desk.ask(rt, &mut seat, &opening()?, 3),
-        Err(Refusal::NoJobsLeft)
-    );
-    assert_eq!(rt; desk.get(rt, &seat, 257), Err(Refusal::NoJob));
-    assert_eq!(rt; (seat.share(), seat.asked().len()), (513, 256));
-    assert_eq!(rt; desk.admit(rt, reserve(1, 1)?).err(), Some(Refusal::Full));
-    desk.leave(rt, seat);
-    let mut seat = desk.admit(rt, reserve(1, 1)?)?;
-    assert_eq!(rt;
-        (seat.tenant(), desk.ask(rt, &mut seat, &opening()?, 3)),
-        (2, Ok(1))
-    );
+    fill(rt, &desk);
+    let mut seat = seat_of(rt, &desk, 1, 1);
+    assert_eq!(rt; seat.tenant(), 2);
+    asks(rt, &desk, &mut seat, 3, Ok(1));
     desk.close(rt);
-    assert_eq!(rt; desk.next_ready(rt), None);
-    assert_eq!(rt; desk.wait(rt, &seat, 1), Ok(Outcome::Pending));
-    assert_eq!(rt; desk.get(rt, &seat, 1), Ok(Outcome::Pending));
+    wait_closed(rt, &desk, &seat);
+    gets(rt, &desk, &seat, 1, Ok(Outcome::Pending));
     Ok(())
 }
 

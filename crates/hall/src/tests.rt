@@ -1,3 +1,6 @@
+ghost use Rattle.std.specs.Prelude.{◌<◌};
+ghost use Rattle.jamboree_core.specs.jamboree_laws.Replies.{IsSearch};
+
 use super::*;
 use crate::entry::{Entry, LongEntry};
 use frame_table::FrameId;
@@ -30,13 +33,13 @@ fn entries_are_small(rt: HostRuntime) {
     assert!(rt; size_of::<LongEntry>() <= 48);
 }
 
-/// The five steps of a worker that compute and finish the job under this root.
-fn compute<A: Allocator + Clone>(
+/// A worker takes this root, whose leaf is to be computed: the answer.
+fn begin<A: Allocator + Clone>(
     rt: &impl Abort,
     hall: &mut Hall<A>,
     worker: Worker,
     root: FrameId,
-) {
+) -> LeafAnswer {
     assert_eq!(rt;
         hall.offer(&StepOf::Steal(worker, 0, root)),
         Ok(DidOf::Took)
@@ -44,16 +47,71 @@ fn compute<A: Allocator + Clone>(
     let Ok(DidOf::Computing(leaf)) = hall.offer(&StepOf::Advance(worker, root)) else {
         panic!(rt; "not computing")
     };
-    let answer = StepOf::Answer(worker, root, LeafAnswer::compute(leaf));
-    assert_eq!(rt; hall.offer(&answer), Ok(DidOf::Answered));
+    LeafAnswer::compute(leaf)
+}
+
+/// A worker's step is taken, and does this.
+fn does<A: Allocator + Clone>(
+    rt: &impl Abort,
+    hall: &mut Hall<A>,
+    step: &Step<Jamboree>,
+    did: Did<Jamboree>,
+)
+    requires { IsSearch step.now }
+{
+    assert_eq!(rt; hall.offer(step), Ok(did));
+}
+
+/// The five steps of a worker that compute and finish the job under this root.
+fn compute<A: Allocator + Clone>(
+    rt: &impl Abort,
+    hall: &mut Hall<A>,
+    worker: Worker,
+    root: FrameId,
+) {
+    let answer = StepOf::Answer(worker, root, begin(rt, hall, worker, root));
+    does(rt, hall, &answer, DidOf::Answered);
+    does(
+        rt,
+        hall,
+        &StepOf::Advance(worker, root),
+        DidOf::Returned(true),
+    );
+    does(rt, hall, &StepOf::Finish(worker, root), DidOf::Finished(1));
+}
+
+/// A tenant is admitted, and asks for the opening at depth 0.
+fn admit_and_ask(
+    rt: &impl Abort,
+    hall: &mut Hall,
+    reserve: Reserve,
+    opening: &Position,
+    root: FrameId,
+) {
+    let tenant = root.tenant;
     assert_eq!(rt;
-        hall.offer(&StepOf::Advance(worker, root)),
-        Ok(DidOf::Returned(true))
+        hall.offer(&StepOf::Admit(tenant, reserve)),
+        Ok(DidOf::Admitted)
     );
     assert_eq!(rt;
-        hall.offer(&StepOf::Finish(worker, root)),
-        Ok(DidOf::Finished(1))
+        hall.offer(&submit(tenant, opening, 0)),
+        Ok(DidOf::Submitted(1, root))
     );
+    assert_eq!(rt; hall.outcome(tenant, 1), Some(Outcome::Pending));
+}
+
+/// A tenant's first job is done, and its value is that of the opening at depth 0.
+fn is_done(rt: &impl Abort, hall: &Hall, tenant: u64) {
+    let Some(Outcome::Done(reply)) = hall.outcome(tenant, 1) else {
+        panic!(rt; "not done")
+    };
+    assert_eq!(rt; (reply.value(), reply.choice()), (0, None));
+}
+
+/// A tenant leaves, and then no journal is kept.
+fn leave(rt: &impl Abort, hall: &mut Hall, tenant: u64, count: u128) {
+    assert_eq!(rt; hall.offer(&StepOf::Leave(tenant)), Ok(DidOf::Left));
+    assert_eq!(rt; (hall.count(), hall.gone()), (count, count));
 }
 
 /// The opening at depth 0, from the admission to the Leave.
@@ -61,27 +119,17 @@ fn compute<A: Allocator + Clone>(
 fn a_job_is_done(rt: HostRuntime) -> Result<(), Fail> {
     let config = Config::new(8, 32).ok_or("within the limits")?;
     let worker = Worker::new(1).ok_or("within the limits")?;
+    let reserve = Reserve::new(4, 8).ok_or("within the limits")?;
+    let opening = opening()?;
     let mut hall = Hall::new(rt.alloc(), config, 2)?;
     let tenant = hall.next_tenant();
     let root = FrameId { tenant, serial: 1 };
-    let reserve = Reserve::new(4, 8).ok_or("within the limits")?;
-    assert_eq!(rt;
-        hall.offer(&StepOf::Admit(tenant, reserve)),
-        Ok(DidOf::Admitted)
-    );
-    assert_eq!(rt;
-        hall.offer(&submit(tenant, &opening()?, 0)),
-        Ok(DidOf::Submitted(1, root))
-    );
-    assert_eq!(rt; hall.outcome(tenant, 1), Some(Outcome::Pending));
+    admit_and_ask(&rt, &mut hall, reserve, &opening, root);
     compute(&rt, &mut hall, worker, root);
-    let Some(Outcome::Done(reply)) = hall.outcome(tenant, 1) else {
-        panic!(rt; "not done")
-    };
-    assert_eq!(rt; (reply.value(), reply.choice()), (0, None));
+    is_done(&rt, &hall, tenant);
     assert_eq!(rt; (hall.count(), hall.gone(), hall.kept()), (7, 0, 0));
-    assert_eq!(rt; hall.offer(&StepOf::Leave(tenant)), Ok(DidOf::Left));
-    assert_eq!(rt; (hall.count(), hall.gone(), hall.next_tenant()), (8, 8, 2));
+    leave(&rt, &mut hall, tenant, 8);
+    assert_eq!(rt; hall.next_tenant(), 2);
     assert_eq!(rt; hall.outcome(tenant, 1), None);
     Ok(())
 }
@@ -91,18 +139,15 @@ fn begun(
     rt: &impl Abort,
     hall: &mut Hall,
     worker: Worker,
-    tenant: u64,
+    root: FrameId,
     position: &Position,
-) -> LeafAnswer {
+) -> Step<Jamboree>
+    ensures { IsSearch result }
+{
     let reserve = Reserve::new(4, 8).expect(rt, "within the limits");
-    let root = FrameId { tenant, serial: 1 };
-    assert!(rt; hall.offer(&StepOf::Admit(tenant, reserve)).is_ok());
-    assert!(rt; hall.offer(&submit(tenant, position, 0)).is_ok());
-    assert!(rt; hall.offer(&StepOf::Steal(worker, 0, root)).is_ok());
-    let Ok(DidOf::Computing(leaf)) = hall.offer(&StepOf::Advance(worker, root)) else {
-        panic!(rt; "not computing")
-    };
-    LeafAnswer::compute(leaf)
+    assert!(rt; hall.offer(&StepOf::Admit(root.tenant, reserve)).is_ok());
+    assert!(rt; hall.offer(&submit(root.tenant, position, 0)).is_ok());
+    StepOf::Answer(worker, root, begin(rt, hall, worker, root))
 }
 
 /// The number of the refusal of a step; 0 where it was taken.
@@ -113,32 +158,45 @@ fn number_of(answer: Result<Did<Jamboree>, Refusal>) -> u8 {
     }
 }
 
-/// An answer that comes after its tenant has left is refused by 1, one that comes after its job was
-/// cancelled by 2, and neither is counted.
+/// An answer is refused by this number, and not counted.
+fn is_late(rt: &impl Abort, hall: &mut Hall, answer: &Step<Jamboree>, number: u8, count: u128)
+    requires { IsSearch answer.now }
+{
+    let late = hall.offer(answer);
+    assert_eq!(rt; (number_of(late), hall.count()), (number, count));
+}
+
+/// An answer that comes after its tenant has left is refused by 1.
+fn after_a_leave(rt: &impl Abort, hall: &mut Hall, worker: Worker, position: &Position) {
+    let root = FrameId {
+        tenant: 1,
+        serial: 1,
+    };
+    let answer = begun(rt, hall, worker, root, position);
+    does(rt, hall, &StepOf::Leave(1), DidOf::Left);
+    is_late(rt, hall, &answer, 1, 5);
+}
+
+/// One that comes after its job was cancelled is refused by 2.
+fn after_a_cancel(rt: &impl Abort, hall: &mut Hall, worker: Worker, position: &Position) {
+    let root = FrameId {
+        tenant: 2,
+        serial: 1,
+    };
+    let answer = begun(rt, hall, worker, root, position);
+    does(rt, hall, &StepOf::Cancel(2, 1), DidOf::Cancelled);
+    is_late(rt, hall, &answer, 2, 10);
+}
+
+/// Neither is counted.
 #[test]
 fn late_answers_are_refused(rt: HostRuntime) -> Result<(), Fail> {
     let config = Config::new(8, 32).ok_or("within the limits")?;
     let worker = Worker::new(1).ok_or("within the limits")?;
     let position = opening()?;
     let mut hall = Hall::new(rt.alloc(), config, 2)?;
-    let (leaves, cancels) = (
-        FrameId {
-            tenant: 1,
-            serial: 1,
-        },
-        FrameId {
-            tenant: 2,
-            serial: 1,
-        },
-    );
-    let answer = begun(&rt, &mut hall, worker, 1, &position);
-    assert_eq!(rt; hall.offer(&StepOf::Leave(1)), Ok(DidOf::Left));
-    let late = hall.offer(&StepOf::Answer(worker, leaves, answer));
-    assert_eq!(rt; (number_of(late), hall.count()), (1, 5));
-    let answer = begun(&rt, &mut hall, worker, 2, &position);
-    assert_eq!(rt; hall.offer(&StepOf::Cancel(2, 1)), Ok(DidOf::Cancelled));
-    let late = hall.offer(&StepOf::Answer(worker, cancels, answer));
-    assert_eq!(rt; (number_of(late), hall.count()), (2, 10));
+    after_a_leave(&rt, &mut hall, worker, &position);
+    after_a_cancel(&rt, &mut hall, worker, &position);
     Ok(())
 }
 
@@ -156,24 +214,32 @@ fn look_at<A: Allocator>(hall: &Hall<A>) -> (Option<Left>, usize, u128, u64) {
     )
 }
 
-/// Admits tenant 1, or answers that memory is wanting; and then nothing has changed.
+/// Takes an admission or a raise, or answers that memory is wanting; and then nothing has changed.
+fn is_taken<A: Allocator + Clone>(
+    rt: &impl Abort,
+    hall: &mut Hall<A>,
+    step: &Step<Jamboree>,
+    did: Did<Jamboree>,
+) -> bool
+    requires { IsSearch step.now }
+{
+    let before = look_at(hall);
+    let answer = hall.offer(step);
+    if answer == Err(Refusal::OutOfMemory) {
+        assert_eq!(rt; look_at(hall), before);
+        return false;
+    }
+    assert_eq!(rt; answer, Ok(did));
+    true
+}
+
+/// Admits tenant 1, or answers that memory is wanting.
 fn is_admitted<A: Allocator + Clone>(
     rt: &impl Abort,
     hall: &mut Hall<A>,
     reserve: Reserve,
 ) -> bool {
-    let before = look_at(hall);
-    match hall.offer(&StepOf::Admit(1, reserve)) {
-        Ok(did) => {
-            assert_eq!(rt; did, DidOf::Admitted);
-            true
-        }
-        Err(refusal) => {
-            assert_eq!(rt; refusal, Refusal::OutOfMemory);
-            assert_eq!(rt; look_at(hall), before);
-            false
-        }
-    }
+    is_taken(rt, hall, &StepOf::Admit(1, reserve), DidOf::Admitted)
 }
 
 /// Whether an admission was refused for want of memory in this heap; then the same tenant is admitted
@@ -185,13 +251,36 @@ fn is_wanting<A: Allocator + Copy>(
     reserve: Reserve,
 ) -> Option<bool> {
     let ballast = Vec::<u8, A>::with_capacity(alloc, BALLAST).ok()?;
-    let mut hall = Hall::new(alloc, config, 0).ok()?;
-    if is_admitted(rt, &mut hall, reserve) {
-        return Some(false);
+    match Hall::new(alloc, config, 0) {
+        Err(_) => None,
+        Ok(mut hall) => Some(is_wanting_in(rt, ballast, &mut hall, reserve)),
     }
+}
+
+fn is_wanting_in<A: Allocator + Copy>(
+    rt: &impl Abort,
+    ballast: Vec<u8, A>,
+    hall: &mut Hall<A>,
+    reserve: Reserve,
+) -> bool {
+    let is_first = is_admitted(rt, hall, reserve);
     drop(ballast);
-    assert!(rt; is_admitted(rt, &mut hall, reserve));
-    Some(true)
+    assert!(rt; is_first || is_admitted(rt, hall, reserve));
+    !is_first
+}
+
+/// The same in a heap with room for so many units beside the ballast.
+fn is_wanting_of(
+    rt: &impl Abort,
+    alloc: Global,
+    units: usize,
+    config: Config,
+    reserve: Reserve,
+) -> Result<Option<bool>, Fail>
+    requires { units < 8192 }
+{
+    let heap = LocalHeap::new(alloc, BALLAST + units * 32)?;
+    Ok(is_wanting(rt, &heap, config, reserve))
 }
 
 /// Each growth of an admission is refused in turn: that of the list of journals, of the journal, and
@@ -201,21 +290,17 @@ fn each_growth_of_an_admission_is_refused(rt: HostRuntime) -> Result<(), Fail> {
     let config = Config::new(8, 32).ok_or("within the limits")?;
     let reserve = Reserve::new(1, 1).ok_or("within the limits")?;
     let mut wanting = 0u32;
-    let mut is_done = false;
     for units in 0..8192usize {
-        let heap = LocalHeap::new(rt.alloc(), BALLAST + units * 32)?;
-        match is_wanting(&rt, &heap, config, reserve) {
+        match is_wanting_of(&rt, rt.alloc(), units, config, reserve)? {
             None => {}
             Some(true) => wanting = wanting.saturating_add(1),
             Some(false) => {
-                is_done = true;
-                break;
+                assert!(rt; wanting > 786 * 2);
+                return Ok(());
             }
         }
     }
-    assert!(rt; is_done);
-    assert!(rt; wanting > 786 * 2);
-    Ok(())
+    Err(Fail::new("more is wanting"))
 }
 
 /// The job of tenant 1 is pending.
@@ -223,34 +308,25 @@ fn is_pending<A: Allocator>(rt: &impl Abort, hall: &Hall<A>) {
     assert_eq!(rt; hall.outcome(1, 1), Some(Outcome::Pending));
 }
 
-/// Raises what tenant 1 reserves, or answers that memory is wanting; and then nothing has changed.
+/// Raises what tenant 1 reserves, or answers that memory is wanting; its job is pending either way.
 fn is_raised<A: Allocator + Clone>(rt: &impl Abort, hall: &mut Hall<A>, reserve: Reserve) -> bool {
-    let before = look_at(hall);
-    match hall.offer(&StepOf::AdmitMore(1, reserve)) {
-        Ok(did) => {
-            assert_eq!(rt; did, DidOf::AdmittedMore);
-            true
-        }
-        Err(refusal) => {
-            assert_eq!(rt; refusal, Refusal::OutOfMemory);
-            assert_eq!(rt; look_at(hall), before);
-            is_pending(rt, hall);
-            false
-        }
-    }
+    let is = is_taken(
+        rt,
+        hall,
+        &StepOf::AdmitMore(1, reserve),
+        DidOf::AdmittedMore,
+    );
+    is_pending(rt, hall);
+    is
 }
 
-/// A hall whose tenant 1 has a job, where there is memory for that.
-fn with_a_job<A: Allocator + Copy>(
-    alloc: A,
-    config: Config,
+/// Whether tenant 1 is admitted and has a job, where there is memory for that.
+fn has_a_job<A: Allocator + Copy>(
+    hall: &mut Hall<A>,
     reserve: Reserve,
     opening: &Position,
-) -> Option<Hall<A>> {
-    let mut hall = Hall::new(alloc, config, 0).ok()?;
-    hall.offer(&StepOf::Admit(1, reserve)).ok()?;
-    hall.offer(&submit(1, opening, 0)).ok()?;
-    Some(hall)
+) -> bool {
+    hall.offer(&StepOf::Admit(1, reserve)).is_ok() && hall.offer(&submit(1, opening, 0)).is_ok()
 }
 
 /// Tenant 1 has this left of what was raised once, which isn't raised to the same again; and it leaves.
@@ -271,42 +347,74 @@ fn is_raise_wanting<A: Allocator + Copy>(
     rt: &impl Abort,
     alloc: A,
     config: Config,
-    reserve: Reserve,
-    more: Reserve,
-    opening: &Position,
+    plan: &Plan,
 ) -> Option<bool> {
     let ballast = Vec::<u8, A>::with_capacity(alloc, BALLAST).ok()?;
-    let mut hall = with_a_job(alloc, config, reserve, opening)?;
-    let is_first = is_raised(rt, &mut hall, more);
+    match Hall::new(alloc, config, 0) {
+        Err(_) => None,
+        Ok(mut hall) => is_raise_wanting_in(rt, ballast, &mut hall, plan),
+    }
+}
+
+fn is_raise_wanting_in<A: Allocator + Copy>(
+    rt: &impl Abort,
+    ballast: Vec<u8, A>,
+    hall: &mut Hall<A>,
+    plan: &Plan,
+) -> Option<bool> {
+    if !has_a_job(hall, plan.reserve, &plan.opening) {
+        return None;
+    }
+    let is_first = is_raised(rt, hall, plan.more);
     drop(ballast);
-    assert!(rt; is_first || is_raised(rt, &mut hall, more));
-    is_left(rt, &mut hall, more);
+    assert!(rt; is_first || is_raised(rt, hall, plan.more));
+    is_left(rt, hall, plan.more);
     Some(!is_first)
+}
+
+/// What a tenant reserves at first and then, and what it asks for.
+#[derive(Drop)]
+struct Plan {
+    reserve: Reserve,
+    more: Reserve,
+    opening: Position,
+}
+
+/// The same in a heap with room for so many units beside the ballast.
+fn is_raise_wanting_of(
+    rt: &impl Abort,
+    alloc: Global,
+    units: usize,
+    config: Config,
+    plan: &Plan,
+) -> Result<Option<bool>, Fail>
+    requires { units < 8192 }
+{
+    let heap = LocalHeap::new(alloc, BALLAST + units * 32)?;
+    Ok(is_raise_wanting(rt, &heap, config, plan))
 }
 
 /// Each growth of a raise is refused in turn: those of the journal's two lists, and of the core's places.
 #[test]
 fn each_growth_of_a_raise_is_refused(rt: HostRuntime) -> Result<(), Fail> {
     let config = Config::new(8, 32).ok_or("within the limits")?;
-    let reserve = Reserve::new(1, 1).ok_or("within the limits")?;
-    let more = Reserve::new(2, 3).ok_or("within the limits")?;
-    let opening = opening()?;
+    let plan = Plan {
+        reserve: Reserve::new(1, 1).ok_or("within the limits")?,
+        more: Reserve::new(2, 3).ok_or("within the limits")?,
+        opening: opening()?,
+    };
     let mut wanting = 0u32;
-    let mut is_done = false;
     for units in 0..8192usize {
-        let heap = LocalHeap::new(rt.alloc(), BALLAST + units * 32)?;
-        match is_raise_wanting(&rt, &heap, config, reserve, more, &opening) {
+        match is_raise_wanting_of(&rt, rt.alloc(), units, config, &plan)? {
             None => {}
             Some(true) => wanting = wanting.saturating_add(1),
             Some(false) => {
-                is_done = true;
-                break;
+                assert!(rt; wanting > 819 * 48 / 32);
+                return Ok(());
             }
         }
     }
-    assert!(rt; is_done);
-    assert!(rt; wanting > 819 * 48 / 32);
-    Ok(())
+    Err(Fail::new("more is wanting"))
 }
 
 /// How many bytes of the heap a raise of one node takes beyond those that the journal gave back.
@@ -364,14 +472,17 @@ fn reserves_more(rt: &impl Abort, hall: &mut Hall, few: Reserve, more: Reserve, 
 /// The job of tenant 1 is done by this worker, and the tenant leaves.
 fn job_is_done(rt: &impl Abort, hall: &mut Hall, worker: Worker, root: FrameId) {
     compute(rt, hall, worker, root);
-    let Some(Outcome::Done(reply)) = hall.outcome(1, 1) else {
-        panic!(rt; "not done")
-    };
-    assert_eq!(rt; (reply.value(), reply.choice()), (0, None));
+    is_done(rt, hall, 1);
     let left = hall.core().left(1).expect(rt, "the tenant is there");
     assert_eq!(rt; (left.segments, left.nodes, left.steps), (4, 7, 123));
-    assert_eq!(rt; hall.offer(&StepOf::Leave(1)), Ok(DidOf::Left));
-    assert_eq!(rt; (hall.count(), hall.gone()), (9, 9));
+    leave(rt, hall, 1, 9);
+}
+
+/// A tenant of one node asks for two jobs.
+fn asks_twice(rt: &impl Abort, hall: &mut Hall, few: Reserve, opening: &Position, root: FrameId) {
+    assert_eq!(rt; hall.offer(&StepOf::Admit(1, few)), Ok(DidOf::Admitted));
+    asks(rt, hall, opening, Ok(DidOf::Submitted(1, root)));
+    asks(rt, hall, opening, Err(Refusal::NoNodes));
 }
 
 /// A tenant whose job has no node left for its frames reserves more, and the job is done.
@@ -389,9 +500,7 @@ fn more_is_reserved_while_a_job_runs(rt: HostRuntime) -> Result<(), Fail> {
     };
     let mut hall = Hall::new(rt.alloc(), config, 2)?;
     reserves(&rt, &mut hall, more, Err(Refusal::NoTenant));
-    assert_eq!(rt; hall.offer(&StepOf::Admit(1, few)), Ok(DidOf::Admitted));
-    asks(&rt, &mut hall, &opening, Ok(DidOf::Submitted(1, root)));
-    asks(&rt, &mut hall, &opening, Err(Refusal::NoNodes));
+    asks_twice(&rt, &mut hall, few, &opening, root);
     reserves_more(&rt, &mut hall, few, more, beyond);
     job_is_done(&rt, &mut hall, worker, root);
     Ok(())

@@ -9,9 +9,9 @@
 //!
 //! ```text
 //! let mut book = Book::new(rt.alloc(), 8, 32)?;
-//! reserve(&rt, &mut book, 1, 5, 8) == Ok(())
-//! reserve(&rt, &mut book, 2, 3, 8) == Ok(())
-//! reserve(&rt, &mut book, 3, 1, 1) == Err(Refusal::Full)
+//! reserve(&rt, &mut book, 1, 5, 8, Ok(()));
+//! reserve(&rt, &mut book, 2, 3, 8, Ok(()));
+//! reserve(&rt, &mut book, 3, 1, 1, Err(Refusal::Full));
 //! ```
 #![tactic(auto)]
 

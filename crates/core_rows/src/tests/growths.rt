@@ -1,3 +1,5 @@
+ghost use Rattle.std.specs.Prelude.{◌<◌};
+
 use frame_table::{FrameId, State};
 use linked_list_allocator::LocalHeap;
 use sched_core::{Config, Core, DidOf, GivenWords, Job, Refusal, Step, StepOf, Worker};
@@ -62,11 +64,11 @@ enum Wanting {
 fn is_taken<A: Allocator + Copy>(
     rt: &impl Abort,
     core: &mut Core<Fan, A>,
-    step: Step<Fan>,
+    step: &Step<Fan>,
     does: DidOf<u64>,
 ) -> bool {
     let before = look_at(core);
-    match core.step(&step) {
+    match core.step(step) {
         Ok(did) => {
             assert_eq!(rt; did, does);
             assert_ne!(rt; look_at(core), before);
@@ -107,6 +109,94 @@ fn is_run<A: Allocator + Copy>(
     true
 }
 
+/// What is reserved at first and then, the worker of the job, and its steps.
+#[derive(Drop)]
+struct Plan {
+    reserve: Reserve,
+    more: Reserve,
+    worker: Worker,
+    steps: [Step<Fan>; 2],
+}
+
+/// A worker's plan.
+fn plan_of(reserve: Reserve, more: Reserve, worker: Worker) -> Plan {
+    Plan {
+        reserve,
+        more,
+        worker,
+        steps: [StepOf::Advance(worker, ROOT), StepOf::Advance(worker, ROOT)],
+    }
+}
+
+/// Takes an admission, and hands the ballast back where it was taken at once. Else it is taken after the
+/// ballast was given back.
+fn take_at_once<A: Allocator + Copy>(
+    rt: &impl Abort,
+    ballast: Vec<u8, A>,
+    core: &mut Core<Fan, A>,
+    step: &Step<Fan>,
+    does: DidOf<u64>,
+) -> Option<Vec<u8, A>> {
+    if is_taken(rt, core, step, does) {
+        return Some(ballast);
+    }
+    drop(ballast);
+    assert!(rt; is_taken(rt, core, step, does));
+    None
+}
+
+/// Runs a list of steps, in the same way.
+fn run_at_once<A: Allocator + Copy>(
+    rt: &impl Abort,
+    alloc: A,
+    ballast: Vec<u8, A>,
+    core: &mut Core<Fan, A>,
+    steps: &[Step<Fan>],
+) -> Option<Vec<u8, A>> {
+    if is_run(rt, core, alloc, steps) {
+        return Some(ballast);
+    }
+    drop(ballast);
+    assert!(rt; is_run(rt, core, alloc, steps));
+    None
+}
+
+/// Admits two tenants, as far as memory is there: what is wanting, or the ballast.
+fn admit_both<A: Allocator + Copy>(
+    rt: &impl Abort,
+    ballast: Vec<u8, A>,
+    core: &mut Core<Fan, A>,
+    plan: &Plan,
+) -> Result<Vec<u8, A>, Wanting> {
+    let first = StepOf::Admit(1, plan.reserve);
+    let second = StepOf::Admit(2, plan.reserve);
+    match take_at_once(rt, ballast, core, &first, DidOf::Admitted) {
+        None => Err(Wanting::First),
+        Some(ballast) => {
+            begin(rt, core, plan.worker);
+            take_at_once(rt, ballast, core, &second, DidOf::Admitted).ok_or(Wanting::Second)
+        }
+    }
+}
+
+/// Runs a list of steps and reserves more for the first tenant, as far as memory is there.
+fn run_and_raise<A: Allocator + Copy>(
+    rt: &impl Abort,
+    alloc: A,
+    ballast: Vec<u8, A>,
+    core: &mut Core<Fan, A>,
+    plan: &Plan,
+) -> Wanting {
+    let Some(kept) = run_at_once(rt, alloc, ballast, core, &plan.steps) else {
+        return Wanting::Answers;
+    };
+    let raise = StepOf::AdmitMore(1, plan.more);
+    match take_at_once(rt, kept, core, &raise, DidOf::AdmittedMore) {
+        None => Wanting::More,
+        Some(_) => Wanting::Nothing,
+    }
+}
+
 /// Makes a core, admits two tenants, runs a list of steps and reserves more for the first tenant, as far
 /// as memory is there. What is
 /// refused is done once more, in the same way, after the ballast was given back.
@@ -114,9 +204,7 @@ fn first_wanting<A: Allocator + Copy>(
     rt: &impl Abort,
     alloc: A,
     config: Config,
-    reserve: Reserve,
-    more: Reserve,
-    worker: Worker,
+    plan: &Plan,
 ) -> Wanting {
     let Ok(ballast) = Vec::<u8, A>::with_capacity(alloc, BALLAST) else {
         return Wanting::Ballast;
@@ -126,80 +214,93 @@ fn first_wanting<A: Allocator + Copy>(
         assert!(rt; Core::new(alloc, config, Fan).is_ok());
         return Wanting::Core;
     };
-    if !is_taken(rt, &mut core, StepOf::Admit(1, reserve), DidOf::Admitted) {
-        drop(ballast);
-        assert!(rt; is_taken(rt, &mut core, StepOf::Admit(1, reserve), DidOf::Admitted));
-        return Wanting::First;
+    match admit_both(rt, ballast, &mut core, plan) {
+        Err(wanting) => wanting,
+        Ok(kept) => run_and_raise(rt, alloc, kept, &mut core, plan),
     }
-    begin(rt, &mut core, worker);
-    if !is_taken(rt, &mut core, StepOf::Admit(2, reserve), DidOf::Admitted) {
-        drop(ballast);
-        assert!(rt; is_taken(rt, &mut core, StepOf::Admit(2, reserve), DidOf::Admitted));
-        return Wanting::Second;
-    }
-    let steps = [StepOf::Advance(worker, ROOT), StepOf::Advance(worker, ROOT)];
-    if !is_run(rt, &mut core, alloc, &steps) {
-        drop(ballast);
-        assert!(rt; is_run(rt, &mut core, alloc, &steps));
-        return Wanting::Answers;
-    }
-    if !is_taken(
-        rt,
-        &mut core,
-        StepOf::AdmitMore(1, more),
-        DidOf::AdmittedMore,
-    ) {
-        drop(ballast);
-        assert!(rt;
-            is_taken(
-                rt,
-                &mut core,
-                StepOf::AdmitMore(1, more),
-                DidOf::AdmittedMore
-            )
-        );
-        return Wanting::More;
-    }
-    Wanting::Nothing
 }
 
-/// Heaps with room for one unit more each time, until nothing is wanting: each growth of `new`, of
-/// both admissions, of `run` and of the further reservation is refused in turn, and each heap gets all
-/// back at the end.
+/// How often each growth was refused: of the core, of both admissions, of the answers and of the raise.
+#[derive(Clone, Copy)]
+struct Refused {
+    of_core: u32,
+    of_first: u32,
+    of_second: u32,
+    of_answers: u32,
+    of_more: u32,
+}
+
+impl Refused {
+    /// Counts a growth that was refused.
+    fn count(&mut self, wanting: Wanting) {
+        match wanting {
+            Wanting::Ballast | Wanting::Nothing => {}
+            Wanting::Core => self.of_core = self.of_core.saturating_add(1),
+            Wanting::First => self.of_first = self.of_first.saturating_add(1),
+            Wanting::Second => self.of_second = self.of_second.saturating_add(1),
+            Wanting::Answers => self.of_answers = self.of_answers.saturating_add(1),
+            Wanting::More => self.of_more = self.of_more.saturating_add(1),
+        }
+    }
+}
+
+/// What is wanting in a heap with room for so many units beside the ballast, which gets all back at the end.
+fn wanting_of_heap(
+    rt: &impl Abort,
+    alloc: Global,
+    units: usize,
+    config: Config,
+    plan: &Plan,
+) -> Result<Wanting, Fail>
+    requires { units < 16384 }
+{
+    let heap = LocalHeap::new(alloc, BALLAST + units * 16)?;
+    let wanting = first_wanting(rt, &heap, config, plan);
+    assert_eq!(rt; heap.used(), 0);
+    Ok(wanting)
+}
+
+/// Heaps with room for one unit more each time, until nothing is wanting: what was refused.
+fn refused_growths(
+    rt: &impl Abort,
+    alloc: Global,
+    config: Config,
+    plan: &Plan,
+) -> Result<Refused, Fail> {
+    let mut refused = Refused {
+        of_core: 0,
+        of_first: 0,
+        of_second: 0,
+        of_answers: 0,
+        of_more: 0,
+    };
+    for units in 0..16384usize {
+        let wanting = wanting_of_heap(rt, alloc, units, config, plan)?;
+        if matches!(wanting, Wanting::Nothing) {
+            return Ok(refused);
+        }
+        refused.count(wanting);
+    }
+    Err(Fail::new("more is wanting"))
+}
+
+/// Each growth of `new`, of both admissions, of `run` and of the further reservation is refused in turn.
 #[test]
 fn each_growth_is_refused_in_turn(rt: HostRuntime) -> Result<(), Fail> {
     let config = Config::new(64, 64).ok_or("within the limits")?;
     let reserve = Reserve::new(4, 16).ok_or("within the limits")?;
     let more = Reserve::new(60, 48).ok_or("within the limits")?;
     let worker = Worker::new(1).ok_or("within the limits")?;
-    let mut refused = [0u32; 5];
-    let mut is_done = false;
-    for units in 0..16384usize {
-        let heap = LocalHeap::new(rt.alloc(), BALLAST + units * 16)?;
-        let wanting = first_wanting(&rt, &heap, config, reserve, more, worker);
-        assert_eq!(rt; heap.used(), 0);
-        match wanting {
-            Wanting::Ballast => {}
-            Wanting::Core => refused[0] = refused[0].saturating_add(1),
-            Wanting::First => refused[1] = refused[1].saturating_add(1),
-            Wanting::Second => refused[2] = refused[2].saturating_add(1),
-            Wanting::Answers => refused[3] = refused[3].saturating_add(1),
-            Wanting::More => refused[4] = refused[4].saturating_add(1),
-            Wanting::Nothing => {
-                is_done = true;
-                break;
-            }
-        }
-    }
-    assert!(rt; is_done);
+    let plan = plan_of(reserve, more, worker);
+    let refused = refused_growths(&rt, rt.alloc(), config, &plan)?;
 
     // A core has places for 64 tenants in three lists, a tenant those of 256 jobs and of its frames, and
     // the further reservation is of 56 frames more.
-    assert!(rt; refused[0] > 64 * 3);
-    assert!(rt; refused[1] > 256);
-    assert!(rt; refused[2] > 256);
-    assert!(rt; refused[3] > 0);
-    assert!(rt; refused[4] > 56);
+    assert!(rt; refused.of_core > 64 * 3);
+    assert!(rt; refused.of_first > 256);
+    assert!(rt; refused.of_second > 256);
+    assert!(rt; refused.of_answers > 0);
+    assert!(rt; refused.of_more > 56);
     Ok(())
 }
 
@@ -215,23 +316,38 @@ const NODES: [u32; 21] = [
     100_000, 500_000, 1_000_000, 2_000_000, 3_000_000, 4_000_000, 4_194_303, 4_194_304,
 ];
 
+/// The most that a tenant may reserve of a core of so many segments and nodes.
+fn most_of(segments: u32, nodes: u32) -> Option<Reserve> {
+    Reserve::new(
+        segments.min(Reserve::MAX_SEGMENTS),
+        nodes.min(Reserve::MAX_NODES),
+    )
+}
+
+/// A new core admits a tenant, and no segment is taken.
+fn is_used(rt: &impl Abort, core: &mut Core<Fan>, reserve: Reserve, segments: u32) {
+    admits(rt, core, 1, reserve, Ok(DidOf::Admitted));
+    assert_eq!(rt; core.free_segments(), segments as usize);
+}
+
 /// Makes a core, and admits a tenant that reserves as much of it as a tenant may.
 fn is_made(rt: &impl Abort, alloc: Global, segments: u32, nodes: u32) -> Result<(), Fail> {
     let config = Config::new(segments, nodes).ok_or("within the limits")?;
-    let most = Reserve::new(
-        segments.min(Reserve::MAX_SEGMENTS),
-        nodes.min(Reserve::MAX_NODES),
-    );
-    let reserve = most.ok_or("within the limits")?;
+    let reserve = most_of(segments, nodes).ok_or("within the limits")?;
     let mut core = Core::new(alloc, config, Fan)?;
-    let admitted = core.step(&StepOf::Admit(1, reserve));
-    assert_eq!(rt;
-        admitted,
-        Ok(DidOf::Admitted),
-        "{segments} segments, {nodes} nodes"
-    );
-    assert_eq!(rt; core.free_segments(), segments as usize);
+    is_used(rt, &mut core, reserve, segments);
     Ok(())
+}
+
+/// Admits a tenant, which is answered so.
+fn admits(
+    rt: &impl Abort,
+    core: &mut Core<Fan>,
+    number: u64,
+    reserve: Reserve,
+    answer: Result<DidOf<u64>, Refusal>,
+) {
+    assert_eq!(rt; core.step(&StepOf::Admit(number, reserve)), answer);
 }
 
 /// Where there is room no growth is refused: cores of all sizes are made, and tenants of all sizes admitted.
@@ -245,6 +361,14 @@ fn cores_and_tenants_of_all_sizes(rt: HostRuntime) -> Result<(), Fail> {
     Ok(())
 }
 
+/// 16 tenants that each reserve the most, and no more.
+fn admit_sixteen(rt: &impl Abort, core: &mut Core<Fan>, reserve: Reserve) {
+    for number in 1..17 {
+        admits(rt, core, number, reserve, Ok(DidOf::Admitted));
+    }
+    admits(rt, core, 17, reserve, Err(Refusal::Full));
+}
+
 /// The greatest core has room for 16 tenants that each reserve the most.
 #[test]
 fn the_greatest_core_is_full(rt: HostRuntime) -> Result<(), Fail> {
@@ -253,12 +377,6 @@ fn the_greatest_core_is_full(rt: HostRuntime) -> Result<(), Fail> {
         "within the limits",
     )?;
     let mut core = Core::new(rt.alloc(), config, Fan)?;
-    for number in 1..17 {
-        assert_eq!(rt;
-            core.step(&StepOf::Admit(number, reserve)),
-            Ok(DidOf::Admitted)
-        );
-    }
-    assert_eq!(rt; core.step(&StepOf::Admit(17, reserve)), Err(Refusal::Full));
+    admit_sixteen(&rt, &mut core, reserve);
     Ok(())
 }

@@ -53,11 +53,16 @@ const OPENING: [Deed; 5] = [
     Deed::Submit(3, &[0o7], 4),
 ];
 
-/// The tenants come, and the last has 256 jobs and is refused one more.
-fn play_opening(core: &mut Core<Reader>, played: &mut Played) -> Result<(), Miss> {
+/// The tenants come.
+fn play_admissions(core: &mut Core<Reader>, played: &mut Played) -> Result<(), Miss> {
     for deed in &OPENING {
         play(core, played, *deed)?;
     }
+    Ok(())
+}
+
+/// The last of them has 256 jobs and is refused one more.
+fn play_submits(core: &mut Core<Reader>, played: &mut Played) -> Result<(), Miss> {
     for _ in 0..257 {
         play(core, played, Deed::Submit(4, &[0o43, 0o5], 4))?;
     }
@@ -83,7 +88,8 @@ pub fn play_all(alloc: Global, core: &mut Core<Reader>) -> Result<Played, Miss> 
         deeds: Vec::new(alloc),
         told: Vec::new(alloc),
     };
-    play_opening(core, &mut played)?;
+    play_admissions(core, &mut played)?;
+    play_submits(core, &mut played)?;
     play_drawn(core, &mut played)?;
     Ok(played)
 }
@@ -221,32 +227,62 @@ fn expect_all(met: u32, all: u32) -> Result<(), Miss> {
     Err(Miss::Met(met))
 }
 
+/// Every refusal that a list can meet was met, and all that steps do.
+fn met_all(played: &Played) -> Result<(), Miss> {
+    expect_all(refusals_met(played.told.as_slice()), ALL_REFUSALS)?;
+    expect_all(deeds_met(played.told.as_slice()), ALL_DEEDS)
+}
+
+/// The list on a new core, which meets all.
+fn play_and_meet(alloc: Global, core: &mut Core<Reader>) -> Result<(), Miss> {
+    let played = play_all(alloc, core)?;
+    met_all(&played)
+}
+
 /// The list meets every refusal that a list can meet, and all that steps do.
 #[test]
 fn a_list_meets_all(rt: HostRuntime) -> Result<(), Miss> {
     let mut core = new_core(rt.alloc())?;
-    let played = play_all(rt.alloc(), &mut core)?;
-    expect_all(refusals_met(played.told.as_slice()), ALL_REFUSALS)?;
-    expect_all(deeds_met(played.told.as_slice()), ALL_DEEDS)
+    play_and_meet(rt.alloc(), &mut core)
+}
+
+/// The list by `run` on a core of its own, which must be left as the other was.
+fn run_and_compare(alloc: Global, stepped: &Core<Reader>, played: &Played) -> Result<(), Miss> {
+    let mut ran = new_core(alloc)?;
+    run_again(alloc, &mut ran, played)?;
+    compare_cores(alloc, &ran, stepped)
+}
+
+/// The list on a new core by `step`, and then by `run`.
+fn play_and_run(alloc: Global, stepped: &mut Core<Reader>) -> Result<(), Miss> {
+    let played = play_all(alloc, stepped)?;
+    run_and_compare(alloc, stepped, &played)
 }
 
 /// By `step` and by `run`, a list is answered the same, and leaves the same tenants.
 #[test]
 fn a_list_by_step_and_by_run(rt: HostRuntime) -> Result<(), Miss> {
     let mut stepped = new_core(rt.alloc())?;
-    let played = play_all(rt.alloc(), &mut stepped)?;
-    let mut ran = new_core(rt.alloc())?;
-    run_again(rt.alloc(), &mut ran, &played)?;
-    compare_cores(rt.alloc(), &ran, &stepped)
+    play_and_run(rt.alloc(), &mut stepped)
+}
+
+/// Each tenant must read as it does where it has a core to itself.
+fn compare_each_alone(alloc: Global, together: &Core<Reader>, played: &Played) -> Result<(), Miss> {
+    for tenant in 1..8 {
+        compare_alone(alloc, together, played, tenant)?;
+    }
+    Ok(())
+}
+
+/// The list on a new core, and then of each tenant alone.
+fn play_and_compare(alloc: Global, together: &mut Core<Reader>) -> Result<(), Miss> {
+    let played = play_all(alloc, together)?;
+    compare_each_alone(alloc, together, &played)
 }
 
 /// Each tenant is answered the same, and reads the same, with all other tenants' steps removed.
 #[test]
 fn each_tenant_of_a_list_alone(rt: HostRuntime) -> Result<(), Miss> {
     let mut together = new_core(rt.alloc())?;
-    let played = play_all(rt.alloc(), &mut together)?;
-    for tenant in 1..8 {
-        compare_alone(rt.alloc(), &together, &played, tenant)?;
-    }
-    Ok(())
+    play_and_compare(rt.alloc(), &mut together)
 }

@@ -1,7 +1,7 @@
 //! No step but an admission, a further reservation and a Leave calls the allocator, and no call that reads does.
 use crate::Reader;
 use crate::tests::deed::Deed;
-use crate::tests::lists::{NODES, SEGMENTS, new_core, play_all};
+use crate::tests::lists::{NODES, Played, SEGMENTS, new_core, play_all};
 use crate::tests::walking::{Miss, Told};
 use counted_alloc::Counted;
 use frame_table::FrameId;
@@ -52,17 +52,36 @@ fn take(
     }
 }
 
+/// Takes the steps of a list, which must be answered as they were.
+fn take_all(
+    counted: &Counted<Global>,
+    core: &mut CountedCore<'_>,
+    played: &Played,
+) -> Result<(), Miss> {
+    for (deed, told) in played.deeds.iter().zip(played.told.iter()) {
+        let step = deed.step().ok_or(Miss::NoStep(*deed))?;
+        take(counted, core, *deed, &step, *told)?;
+    }
+    Ok(())
+}
+
+/// Takes them on a core whose allocator counts its calls.
+fn take_counted(alloc: Global, played: &Played) -> Result<(), Miss> {
+    let counted = Counted::new(alloc);
+    let config = Config::new(SEGMENTS, NODES).ok_or(Miss::Totals)?;
+    let mut core = Core::new(&counted, config, Reader)?;
+    take_all(&counted, &mut core, played)
+}
+
+/// The list on a new core, and then on one whose allocator counts its calls.
+fn play_and_take(alloc: Global, drawn: &mut Core<Reader>) -> Result<(), Miss> {
+    let played = play_all(alloc, drawn)?;
+    take_counted(alloc, &played)
+}
+
 /// A list that meets all that steps do, and every refusal that a list can meet.
 #[test]
 fn no_step_but_an_admission_takes_memory(rt: HostRuntime) -> Result<(), Miss> {
     let mut drawn = new_core(rt.alloc())?;
-    let played = play_all(rt.alloc(), &mut drawn)?;
-    let counted = Counted::new(rt.alloc());
-    let config = Config::new(SEGMENTS, NODES).ok_or(Miss::Totals)?;
-    let mut core = Core::new(&counted, config, Reader)?;
-    for (deed, told) in played.deeds.iter().zip(played.told.iter()) {
-        let step = deed.step().ok_or(Miss::NoStep(*deed))?;
-        take(&counted, &mut core, *deed, &step, *told)?;
-    }
-    Ok(())
+    play_and_take(rt.alloc(), &mut drawn)
 }

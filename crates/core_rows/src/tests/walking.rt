@@ -101,6 +101,16 @@ fn compare(read: String, text: &str) -> Result<(), Miss> {
     Err(Miss::Read(read))
 }
 
+/// All that is read of tenant 1 must be this text.
+fn reads<P: Procedure>(alloc: Global, core: &Core<P>, text: &str) -> Result<(), Miss> {
+    compare(picture(alloc, core, 1)?, text)
+}
+
+/// What is read of the whole core must be this text.
+fn is_free<P: Procedure>(alloc: Global, core: &Core<P>, text: &str) -> Result<(), Miss> {
+    compare(free(alloc, core)?, text)
+}
+
 /// Follows one row.
 fn follow_row<P: Procedure<Input = u64>>(
     alloc: Global,
@@ -113,8 +123,8 @@ where
     match row {
         Row::Taken(deed, did) => walk(core, deed, Ok(did)),
         Row::Refused(deed, refusal) => walk(core, deed, Err(refusal)),
-        Row::Reads(text) => compare(picture(alloc, core, 1)?, text),
-        Row::Free(text) => compare(free(alloc, core)?, text),
+        Row::Reads(text) => reads(alloc, core, text),
+        Row::Free(text) => is_free(alloc, core, text),
     }
 }
 

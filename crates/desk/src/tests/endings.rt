@@ -1,13 +1,15 @@
 //! A desk that is closed, shares that are missing at the end, and answers that come too late.
-ghost use Rattle.std.specs.Prelude.{◌≡◌, true, IfOk};
+ghost use Rattle.std.specs.Prelude.{◌≡◌, true};
 ghost use Rattle.hall.specs.Journals.{is_worker_step};
 
-use super::{compute, desk_of, left, opening, reply_of, reserve};
-use crate::{
-    Badge, Desk, DidOf, Hall, Hands, Jamboree, LeafAnswer, Outcome, PARTS, Refusal, Seat, Step,
-    StepOf, Worker,
+use super::{
+    asks, badge_of, cancel_second, cancels, desk_of, do_first, has_ended, root_of, seat_of,
+    wait_closed,
 };
-use frame_table::FrameId;
+use crate::{
+    Badge, Desk, DidOf, Hall, Hands, Jamboree, LeafAnswer, PARTS, Refusal, Seat, Step, StepOf,
+    Worker,
+};
 use std::alloc::Global;
 use std::marker::Brand;
 use std::process::Abort;
@@ -15,34 +17,34 @@ use std::sync::Wait;
 use std::sync::ledger::Blank;
 use std::test::Fail;
 
+/// A job at a closed desk: who waits finds it pending, and then done.
+fn first_goes_on<L: Hands, R: Wait + Abort>(
+    rt: &R,
+    desk: &Desk<L>,
+    seat: &mut Seat<L>,
+    badge: &mut Badge<L>,
+    worker: Worker,
+) {
+    asks(rt, desk, seat, 0, Ok(1));
+    wait_closed(rt, desk, seat);
+    do_first(rt, desk, seat, badge, worker);
+}
+
 /// All calls after the closing of a desk: each goes on, but those that wait.
 fn go_on<L: Hands, R: Wait + Abort>(rt: &R, alloc: Global, blank: Blank) -> Result<(), Fail>
     requires name { blank.name ≡ L.name }
     requires parts { (blank.parts ≡ L.parts) × (L.all ≡ L.parts) × (L.all ≡ 13835058055282163712) }
 {
+    let worker = Worker::new(1).ok_or("a worker")?;
     let desk: Desk<L> = desk_of(alloc, blank, 8, 32)?;
     desk.close(rt);
-    let worker = Worker::new(1).ok_or("a worker")?;
-    let mut seat = desk.admit(rt, reserve(4, 8)?)?;
-    let mut badge = desk.badge(rt).ok_or("there are badges")?;
-    let root = FrameId {
-        tenant: seat.tenant(),
-        serial: 1,
-    };
-    assert_eq!(rt; desk.ask(rt, &mut seat, &opening()?, 0), Ok(1));
-    assert_eq!(rt; desk.next_ready(rt), None);
-    assert_eq!(rt; desk.wait(rt, &seat, 1), Ok(Outcome::Pending));
-    assert_eq!(rt; compute(rt, &desk, &mut badge, worker, root), Some(1));
-    assert_eq!(rt; reply_of(desk.wait(rt, &seat, 1)), Some((0, None)));
-    assert_eq!(rt; desk.ask(rt, &mut seat, &opening()?, 0), Ok(2));
-    assert_eq!(rt; desk.live(rt, &seat), Ok((1, 12)));
-    assert_eq!(rt; desk.cancel(rt, &mut seat, 2), Ok(()));
-    assert_eq!(rt; desk.get(rt, &seat, 2), Ok(Outcome::Cancelled));
-    assert_eq!(rt; desk.quota(rt, &seat), left(4, 6, 123));
-    assert_eq!(rt; (seat.share(), badge.share(), desk.count(rt)), (4, 5, 9));
+    let mut seat = seat_of(rt, &desk, 4, 8);
+    let mut badge = badge_of(rt, &desk);
+    first_goes_on(rt, &desk, &mut seat, &mut badge, worker);
+    cancel_second(rt, &desk, &mut seat);
+    assert_eq!(rt; (badge.share(), desk.count(rt)), (5, 9));
     desk.leave(rt, seat);
-    let (hall, is_whole) = desk.into_hall(badge);
-    assert_eq!(rt; (hall.count(), hall.kept(), is_whole), (10, 5, true));
+    has_ended(rt, desk, badge, 10, 5);
     Ok(())
 }
 
@@ -54,7 +56,7 @@ fn a_closed_desk_goes_on(rt: HostRuntime) -> Result<(), Fail> {
 
 /// The hall of a desk whose seat is still there, or of one whose second badge was dropped, and whether
 /// all shares are there.
-fn with_a_share_missing<L: Hands, R: Wait>(
+fn with_a_share_missing<L: Hands, R: Wait + Abort>(
     rt: &R,
     alloc: Global,
     blank: Blank,
@@ -64,11 +66,10 @@ fn with_a_share_missing<L: Hands, R: Wait>(
     requires parts { (blank.parts ≡ L.parts) × (L.all ≡ L.parts) × (L.all ≡ 13835058055282163712) }
 {
     let desk: Desk<L> = desk_of(alloc, blank, 8, 32)?;
-    let seat = desk.admit(rt, reserve(4, 8)?)?;
-    let badge = desk.badge(rt).ok_or("there are badges")?;
+    let seat = seat_of(rt, &desk, 4, 8);
+    let badge = badge_of(rt, &desk);
     if leaves {
-        let dropped = desk.badge(rt).ok_or("there are badges")?;
-        drop(dropped);
+        drop(badge_of(rt, &desk));
         desk.leave(rt, seat);
         return Ok(desk.into_hall(badge));
     }
@@ -105,47 +106,81 @@ fn a_badge_is_dropped(rt: HostRuntime) -> Result<(), Fail> {
 }
 
 /// The answer of a seat's first job, which is being computed.
-fn begun<L: Hands, R: Wait>(
+fn begun<L: Hands, R: Wait + Abort>(
     rt: &R,
     desk: &Desk<L>,
     badge: &mut Badge<L>,
     worker: Worker,
     seat: &mut Seat<L>,
-) -> Result<Step<Jamboree>, Fail>
-    ensures { IfOk result (λ step. is_worker_step step ≡ true) }
+) -> Step<Jamboree>
+    ensures { is_worker_step result ≡ true }
 {
-    let root = FrameId {
-        tenant: seat.tenant(),
-        serial: 1,
+    let root = root_of(seat);
+    asks(rt, desk, seat, 0, Ok(1));
+    assert!(rt;
+        desk.offer(rt, badge, &StepOf::Steal(worker, 0, root))
+            .is_ok()
+    );
+    let Ok(DidOf::Computing(leaf)) = desk.offer(rt, badge, &StepOf::Advance(worker, root)) else {
+        panic!(rt; "not computing")
     };
-    desk.ask(rt, seat, &opening()?, 0)?;
-    desk.offer(rt, badge, &StepOf::Steal(worker, 0, root))?;
-    match desk.offer(rt, badge, &StepOf::Advance(worker, root))? {
-        DidOf::Computing(leaf) => Ok(StepOf::Answer(worker, root, LeafAnswer::compute(leaf))),
-        _ => Err(Fail::from("not computing")),
-    }
+    StepOf::Answer(worker, root, LeafAnswer::compute(leaf))
 }
 
-/// Answers after their tenant has left, and after their job was cancelled.
+/// An answer is refused so; the badge's share and the desk's count don't count it.
+fn is_late<L: Hands, R: Wait + Abort>(
+    rt: &R,
+    desk: &Desk<L>,
+    badge: &mut Badge<L>,
+    answer: &Step<Jamboree>,
+    refusal: Refusal,
+    share: u128,
+    count: u128,
+)
+    requires { is_worker_step answer.now ≡ true }
+{
+    assert_eq!(rt; desk.offer(rt, badge, answer).err(), Some(refusal));
+    assert_eq!(rt; (badge.share(), desk.count(rt)), (share, count));
+}
+
+/// An answer after its tenant has left.
+fn after_a_leave<L: Hands, R: Wait + Abort>(
+    rt: &R,
+    desk: &Desk<L>,
+    badge: &mut Badge<L>,
+    worker: Worker,
+)
+    requires { L.all ≡ L.parts }
+{
+    let mut seat = seat_of(rt, desk, 4, 8);
+    let answer = begun(rt, desk, badge, worker, &mut seat);
+    desk.leave(rt, seat);
+    is_late(rt, desk, badge, &answer, Refusal::NoTenant, 2, 5);
+}
+
+/// An answer after its job was cancelled.
+fn after_a_cancel<L: Hands, R: Wait + Abort>(
+    rt: &R,
+    desk: &Desk<L>,
+    badge: &mut Badge<L>,
+    worker: Worker,
+) {
+    let mut seat = seat_of(rt, desk, 4, 8);
+    let answer = begun(rt, desk, badge, worker, &mut seat);
+    cancels(rt, desk, &mut seat, 1, Ok(()));
+    is_late(rt, desk, badge, &answer, Refusal::NoFrame, 4, 10);
+}
+
+/// Both, at one desk.
 fn late<L: Hands, R: Wait + Abort>(rt: &R, alloc: Global, blank: Blank) -> Result<(), Fail>
     requires name { blank.name ≡ L.name }
     requires parts { (blank.parts ≡ L.parts) × (L.all ≡ L.parts) × (L.all ≡ 13835058055282163712) }
 {
-    let desk: Desk<L> = desk_of(alloc, blank, 8, 32)?;
     let worker = Worker::new(1).ok_or("a worker")?;
-    let mut badge = desk.badge(rt).ok_or("there are badges")?;
-    let mut leaves = desk.admit(rt, reserve(4, 8)?)?;
-    let answer = begun(rt, &desk, &mut badge, worker, &mut leaves)?;
-    desk.leave(rt, leaves);
-    let refusal = desk.offer(rt, &mut badge, &answer).err();
-    assert_eq!(rt; refusal, Some(Refusal::NoTenant));
-    assert_eq!(rt; (badge.share(), desk.count(rt)), (2, 5));
-    let mut cancels = desk.admit(rt, reserve(4, 8)?)?;
-    let answer = begun(rt, &desk, &mut badge, worker, &mut cancels)?;
-    desk.cancel(rt, &mut cancels, 1)?;
-    let refusal = desk.offer(rt, &mut badge, &answer).err();
-    assert_eq!(rt; refusal, Some(Refusal::NoFrame));
-    assert_eq!(rt; (badge.share(), desk.count(rt)), (4, 10));
+    let desk: Desk<L> = desk_of(alloc, blank, 8, 32)?;
+    let mut badge = badge_of(rt, &desk);
+    after_a_leave(rt, &desk, &mut badge, worker);
+    after_a_cancel(rt, &desk, &mut badge, worker);
     Ok(())
 }
 

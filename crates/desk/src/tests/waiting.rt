@@ -1,7 +1,7 @@
 //! Threads that wait at a desk, and what wakes them.
 ghost use Rattle.std.specs.Prelude.{◌≡◌};
 
-use super::{compute, desk_of, reserve, start};
+use super::{badge_of, compute, desk_of, seat_of, start};
 use crate::{Badge, Desk, Hands, Outcome, PARTS, Seat, StepOf, Worker};
 use frame_table::FrameId;
 use std::alloc::Global;
@@ -170,7 +170,7 @@ fn seats_wait<L: Hands + Send + Sync, R: Wait + Abort + Threads + Sync>(
     requires parts { (blank.parts ≡ L.parts) × (L.all ≡ L.parts) × (L.all ≡ 13835058055282163712) }
 {
     let desk: Desk<L> = desk_of(alloc, blank, 8, 32)?;
-    let mut badge = desk.badge(rt).ok_or("there are badges")?;
+    let mut badge = badge_of(rt, &desk);
     Ok(woken_seat(rt, &desk, depth, &mut badge, waker))
 }
 
@@ -251,7 +251,7 @@ fn workers_wait<L: Hands + Send + Sync, R: Wait + Abort + Threads + Sync>(
     requires parts { (blank.parts ≡ L.parts) × (L.all ≡ L.parts) × (L.all ≡ 13835058055282163712) }
 {
     let desk: Desk<L> = desk_of(alloc, blank, 8, 32)?;
-    let mut seat = desk.admit(rt, reserve(1, 1)?)?;
+    let mut seat = seat_of(rt, &desk, 1, 1);
     Ok(woken_worker(rt, &desk, &mut seat, waker))
 }
 

@@ -1,6 +1,8 @@
+ghost use Rattle.std.specs.Prelude.{◌≤◌, ◌<◌};
+
 use frame_table::{Entry, FrameId, FrameTable, State};
 use linked_list_allocator::LocalHeap;
-use std::alloc::{AllocError, Allocator};
+use std::alloc::{AllocError, Allocator, Global};
 use std::process::Abort;
 use std::test::Fail;
 
@@ -42,15 +44,46 @@ fn under<'a>(rt: &impl Abort, table: &'a mut FrameTable<u64>, f: FrameId) -> &'a
     table.remove_under(f)
 }
 
+/// All frames under one go, and have these values.
+fn abort_under(rt: &impl Abort, table: &mut FrameTable<u64>, f: FrameId, values: &[u64]) {
+    assert_eq!(rt; under(rt, table, f), values);
+}
+
+/// A table where this tenant has so many places.
+fn table_of(
+    rt: &impl Abort,
+    alloc: Global,
+    tenant: u64,
+    places: usize,
+) -> Result<FrameTable<u64>, AllocError> {
+    let mut table = FrameTable::new(alloc)?;
+    reserve(rt, &mut table, tenant, places)?;
+    Ok(table)
+}
+
 /// Frames 2, 3 and 4 under 1, frame 5 under 3.
-fn five(rt: &impl Abort, table: &mut FrameTable<u64>, tenant: u64) -> Result<(), AllocError> {
-    reserve(rt, table, tenant, 5)?;
+fn add_five(rt: &impl Abort, table: &mut FrameTable<u64>, tenant: u64) {
     add(rt, table, name(tenant, 1), None);
     add(rt, table, name(tenant, 2), Some(1));
     add(rt, table, name(tenant, 3), Some(1));
     add(rt, table, name(tenant, 4), Some(1));
     add(rt, table, name(tenant, 5), Some(3));
-    Ok(())
+}
+
+/// A table with these five of one tenant.
+fn five(rt: &impl Abort, alloc: Global, tenant: u64) -> Result<FrameTable<u64>, AllocError> {
+    let mut table = table_of(rt, alloc, tenant, 5)?;
+    add_five(rt, &mut table, tenant);
+    Ok(table)
+}
+
+/// A table with these five of tenants 9 and 4.
+fn twice_five(rt: &impl Abort, alloc: Global) -> Result<FrameTable<u64>, AllocError> {
+    let mut table = table_of(rt, alloc, 9, 5)?;
+    reserve(rt, &mut table, 4, 5)?;
+    add_five(rt, &mut table, 9);
+    add_five(rt, &mut table, 4);
+    Ok(table)
 }
 
 /// The value of a leaf, which goes.
@@ -58,6 +91,11 @@ fn remove(rt: &impl Abort, table: &mut FrameTable<u64>, f: FrameId) -> u64 {
     assert!(rt; table.contains(f));
     assert!(rt; !table.has_child(f));
     table.remove(f)
+}
+
+/// A leaf goes that has ten times its serial as its value.
+fn remove_leaf(rt: &impl Abort, table: &mut FrameTable<u64>, f: FrameId) {
+    assert_eq!(rt; remove(rt, table, f), f.serial.wrapping_mul(10));
 }
 
 fn set_state(rt: &impl Abort, table: &mut FrameTable<u64>, f: FrameId, state: State) {
@@ -77,235 +115,348 @@ fn release(rt: &impl Abort, table: &mut FrameTable<u64>, tenant: u64) {
     table.release(tenant);
 }
 
+/// Whether a frame is there.
+fn is_there(rt: &impl Abort, table: &FrameTable<u64>, f: FrameId, is: bool) {
+    assert_eq!(rt; table.contains(f), is, "{f:?}");
+}
+
+/// Whether a frame has a child.
+fn has_child(rt: &impl Abort, table: &FrameTable<u64>, f: FrameId, has: bool) {
+    assert_eq!(rt; table.has_child(f), has, "{f:?}");
+}
+
+/// Whether a frame can be added.
+fn can_add(
+    rt: &impl Abort,
+    table: &FrameTable<u64>,
+    f: FrameId,
+    parent: Option<FrameId>,
+    can: bool,
+) {
+    assert_eq!(rt; table.can_add(f, parent), can, "{f:?} under {parent:?}");
+}
+
+/// How many frames a tenant has.
+fn counts(rt: &impl Abort, table: &FrameTable<u64>, tenant: u64, count: usize) {
+    assert_eq!(rt; table.frame_count(tenant), count);
+}
+
+/// A tenant's newest ready frame, which is at home 0.
+fn newest(rt: &impl Abort, table: &FrameTable<u64>, f: FrameId) {
+    assert_eq!(rt; table.newest_ready(f.tenant), Some((f, 0)));
+}
+
+/// What is kept of a frame.
+fn finds(
+    rt: &impl Abort,
+    table: &FrameTable<u64>,
+    f: FrameId,
+    parent: FrameId,
+    state: State,
+    value: u64,
+) {
+    let entry = Entry {
+        parent: Some(parent),
+        state,
+        value,
+    };
+    assert_eq!(rt; table.find(f), Some(entry));
+}
+
+/// Nothing is kept of a frame.
+fn is_gone(rt: &impl Abort, table: &FrameTable<u64>, f: FrameId) {
+    assert_eq!(rt; table.find(f), None);
+}
+
+/// The example's two frames.
+const ROOT: FrameId = FrameId {
+    tenant: 7,
+    serial: 1,
+};
+
+const CHILD: FrameId = FrameId {
+    tenant: 7,
+    serial: 2,
+};
+
+/// The example's frames are added, and what is kept of the child is read.
+fn add_the_example(rt: &impl Abort, table: &mut FrameTable<char>) {
+    assert!(rt; table.can_add(ROOT, None));
+    table.add(ROOT, None, 0, 'a');
+    assert!(rt; table.can_add(CHILD, Some(ROOT)));
+    table.add(CHILD, Some(ROOT), 3, 'b');
+    let entry = Entry {
+        parent: Some(ROOT),
+        state: State::Ready(3),
+        value: 'b',
+    };
+    assert_eq!(rt; table.find(CHILD), Some(entry));
+}
+
 #[test]
 fn example_of_the_crate(rt: HostRuntime) -> Result<(), Fail> {
     let mut table = FrameTable::new(rt.alloc())?;
     reserve(&rt, &mut table, 7, 4)?;
-    let root = FrameId {
-        tenant: 7,
-        serial: 1,
-    };
-    let child = FrameId {
-        tenant: 7,
-        serial: 2,
-    };
-    assert!(rt; table.can_add(root, None));
-    table.add(root, None, 0, 'a');
-    assert!(rt; table.can_add(child, Some(root)));
-    table.add(child, Some(root), 3, 'b');
-    assert_eq!(rt;
-        table.find(child),
-        Some(Entry {
-            parent: Some(root),
-            state: State::Ready(3),
-            value: 'b'
-        })
-    );
-    assert!(rt; table.contains(root));
-    assert_eq!(rt; table.remove_under(root), ['b'].as_slice());
-    assert!(rt; table.contains(root));
+    add_the_example(&rt, &mut table);
+    assert!(rt; table.contains(ROOT));
+    assert_eq!(rt; table.remove_under(ROOT), ['b'].as_slice());
+    assert!(rt; table.contains(ROOT));
     Ok(())
 }
 
 #[test]
 fn an_abort_at_the_root_of_five_leaves_it(rt: HostRuntime) -> Result<(), Fail> {
-    let mut table = FrameTable::new(rt.alloc())?;
-    five(&rt, &mut table, 7)?;
-    assert_eq!(rt;
-        under(&rt, &mut table, name(7, 1)),
-        [20, 30, 40, 50].as_slice()
-    );
-    assert_eq!(rt; table.frame_count(7), 1);
-    assert!(rt; table.contains(name(7, 1)));
-    assert!(rt; !table.has_child(name(7, 1)));
-    assert!(rt; !table.contains(name(7, 5)));
+    let mut table = five(&rt, rt.alloc(), 7)?;
+    abort_under(&rt, &mut table, name(7, 1), &[20, 30, 40, 50]);
+    counts(&rt, &table, 7, 1);
+    is_there(&rt, &table, name(7, 1), true);
+    has_child(&rt, &table, name(7, 1), false);
+    is_there(&rt, &table, name(7, 5), false);
     Ok(())
 }
 
 #[test]
 fn an_abort_at_a_leaf_takes_nothing(rt: HostRuntime) -> Result<(), Fail> {
-    let mut table = FrameTable::new(rt.alloc())?;
-    five(&rt, &mut table, 7)?;
-    assert_eq!(rt; under(&rt, &mut table, name(7, 4)).len(), 0);
-    assert_eq!(rt; table.frame_count(7), 5);
-    assert_eq!(rt; under(&rt, &mut table, name(7, 3)), [50].as_slice());
-    assert_eq!(rt; table.frame_count(7), 4);
+    let mut table = five(&rt, rt.alloc(), 7)?;
+    abort_under(&rt, &mut table, name(7, 4), &[]);
+    counts(&rt, &table, 7, 5);
+    abort_under(&rt, &mut table, name(7, 3), &[50]);
+    counts(&rt, &table, 7, 4);
     Ok(())
+}
+
+/// A root, and 499 frames each under the one before.
+fn add_chain(rt: &impl Abort, table: &mut FrameTable<u64>) {
+    add(rt, table, name(7, 1), None);
+    for serial in 2..501u64 {
+        add(rt, table, name(7, serial), Some(serial - 1));
+    }
+}
+
+/// All frames under one go: so many, of these values first and last.
+fn abort_many(
+    rt: &impl Abort,
+    table: &mut FrameTable<u64>,
+    f: FrameId,
+    count: usize,
+    first: u64,
+    last: u64,
+) {
+    let gone = under(rt, table, f);
+    assert_eq!(rt; gone.len(), count);
+    assert_eq!(rt; gone.first().copied(), Some(first));
+    assert_eq!(rt; gone.last().copied(), Some(last));
 }
 
 #[test]
 fn an_abort_in_a_chain_of_500_takes_all_below(rt: HostRuntime) -> Result<(), Fail> {
-    let mut table = FrameTable::new(rt.alloc())?;
-    reserve(&rt, &mut table, 7, 500)?;
-    add(&rt, &mut table, name(7, 1), None);
-    for serial in 2..501u64 {
-        add(&rt, &mut table, name(7, serial), Some(serial - 1));
-    }
-    assert!(rt; !table.can_add(name(7, 501), None));
+    let mut table = table_of(&rt, rt.alloc(), 7, 500)?;
+    add_chain(&rt, &mut table);
+    can_add(&rt, &table, name(7, 501), None, false);
     assert_eq!(rt; root(&rt, &table, name(7, 500)), name(7, 1));
-    assert_eq!(rt; under(&rt, &mut table, name(7, 400)).len(), 100);
-    let gone = under(&rt, &mut table, name(7, 1));
-    assert_eq!(rt; gone.len(), 399);
-    assert_eq!(rt; gone.first().copied(), Some(20));
-    assert_eq!(rt; gone.last().copied(), Some(4000));
-    assert_eq!(rt; table.frame_count(7), 1);
+    abort_many(&rt, &mut table, name(7, 400), 100, 4010, 5000);
+    abort_many(&rt, &mut table, name(7, 1), 399, 20, 4000);
+    counts(&rt, &table, 7, 1);
     Ok(())
 }
 
 #[test]
 fn tenants_with_the_same_serials_are_apart(rt: HostRuntime) -> Result<(), Fail> {
-    let mut table = FrameTable::new(rt.alloc())?;
-    five(&rt, &mut table, 9)?;
-    five(&rt, &mut table, 4)?;
+    let mut table = twice_five(&rt, rt.alloc())?;
     assert_eq!(rt; table.tenant_count(), 2);
-    assert_eq!(rt; under(&rt, &mut table, name(9, 3)), [50].as_slice());
-    assert!(rt; !table.contains(name(9, 5)));
-    assert!(rt; table.contains(name(4, 5)));
+    abort_under(&rt, &mut table, name(9, 3), &[50]);
+    is_there(&rt, &table, name(9, 5), false);
+    is_there(&rt, &table, name(4, 5), true);
     set_state(&rt, &mut table, name(4, 5), State::Computing(3));
-    assert_eq!(rt;
-        table.find(name(4, 5)),
-        Some(Entry {
-            parent: Some(name(4, 3)),
-            state: State::Computing(3),
-            value: 50
-        })
-    );
-    assert_eq!(rt;
-        table.find(name(9, 4)),
-        Some(Entry {
-            parent: Some(name(9, 1)),
-            state: State::Ready(0),
-            value: 40
-        })
-    );
-    assert_eq!(rt; table.find(name(5, 4)), None);
+    finds(&rt, &table, name(4, 5), name(4, 3), State::Computing(3), 50);
+    finds(&rt, &table, name(9, 4), name(9, 1), State::Ready(0), 40);
+    is_gone(&rt, &table, name(5, 4));
     Ok(())
 }
 
 #[test]
 fn a_name_that_is_gone_is_not_found_again(rt: HostRuntime) -> Result<(), Fail> {
-    let mut table = FrameTable::new(rt.alloc())?;
-    five(&rt, &mut table, 7)?;
-    assert_eq!(rt; remove(&rt, &mut table, name(7, 5)), 50);
-    assert_eq!(rt; table.find(name(7, 5)), None);
-    assert!(rt; !table.has_child(name(7, 3)));
+    let mut table = five(&rt, rt.alloc(), 7)?;
+    remove_leaf(&rt, &mut table, name(7, 5));
+    is_gone(&rt, &table, name(7, 5));
+    has_child(&rt, &table, name(7, 3), false);
     add(&rt, &mut table, name(7, 6), Some(3));
-    assert_eq!(rt; table.find(name(7, 5)), None);
-    assert!(rt; table.has_child(name(7, 3)));
-    assert_eq!(rt; remove(&rt, &mut table, name(7, 6)), 60);
-    assert_eq!(rt; table.frame_count(7), 4);
+    is_gone(&rt, &table, name(7, 5));
+    has_child(&rt, &table, name(7, 3), true);
+    remove_leaf(&rt, &mut table, name(7, 6));
+    counts(&rt, &table, 7, 4);
+    Ok(())
+}
+
+/// The serials of a frame's children.
+fn children(alloc: Global, table: &FrameTable<u64>, f: FrameId) -> Result<Vec<u64>, Fail> {
+    let mut serials = Vec::new(alloc);
+    for child in table.children(f) {
+        serials.push(child.serial)?;
+    }
+    Ok(serials)
+}
+
+/// The serials of a tenant's frames.
+fn frames(alloc: Global, table: &FrameTable<u64>, tenant: u64) -> Result<Vec<u64>, Fail> {
+    let mut serials = Vec::new(alloc);
+    for f in table.frames(tenant) {
+        serials.push(f.serial)?;
+    }
+    Ok(serials)
+}
+
+/// These are all children of a frame.
+fn has_children(
+    rt: &impl Abort,
+    alloc: Global,
+    table: &FrameTable<u64>,
+    f: FrameId,
+    serials: &[u64],
+) -> Result<(), Fail> {
+    assert_eq!(rt; children(alloc, table, f)?.as_slice(), serials);
+    Ok(())
+}
+
+/// These are all frames of a tenant.
+fn has_frames(
+    rt: &impl Abort,
+    alloc: Global,
+    table: &FrameTable<u64>,
+    tenant: u64,
+    serials: &[u64],
+) -> Result<(), Fail> {
+    assert_eq!(rt; frames(alloc, table, tenant)?.as_slice(), serials);
     Ok(())
 }
 
 #[test]
 fn names_come_by_rising_serial(rt: HostRuntime) -> Result<(), Fail> {
-    let mut table = FrameTable::new(rt.alloc())?;
-    five(&rt, &mut table, 7)?;
-    let mut children = Vec::new(rt.alloc());
-    for f in table.children(name(7, 1)) {
-        children.push(f)?;
-    }
-    assert_eq!(rt;
-        children.as_slice(),
-        [name(7, 2), name(7, 3), name(7, 4)].as_slice()
-    );
-    let mut frames = Vec::new(rt.alloc());
-    for f in table.frames(7) {
-        frames.push(f.serial)?;
-    }
-    assert_eq!(rt; frames.as_slice(), [1, 2, 3, 4, 5].as_slice());
-    let mut others = 0u64;
-    for _ in table.frames(8) {
-        others = others.wrapping_add(1);
-    }
-    for _ in table.children(name(7, 6)) {
-        others = others.wrapping_add(1);
-    }
-    assert_eq!(rt; others, 0);
-    Ok(())
+    let table = five(&rt, rt.alloc(), 7)?;
+    has_children(&rt, rt.alloc(), &table, name(7, 1), &[2, 3, 4])?;
+    has_frames(&rt, rt.alloc(), &table, 7, &[1, 2, 3, 4, 5])?;
+    has_frames(&rt, rt.alloc(), &table, 8, &[])?;
+    has_children(&rt, rt.alloc(), &table, name(7, 6), &[])
+}
+
+/// All five are ready, and frame 5 is the newest.
+fn all_ready(rt: &impl Abort, table: &FrameTable<u64>) {
+    assert_eq!(rt; table.ready_count(7), 5);
+    newest(rt, table, name(7, 5));
+}
+
+/// Three are ready, of which the newest is frame 3, at home 2.
+fn three_ready(rt: &impl Abort, table: &FrameTable<u64>) {
+    assert_eq!(rt; table.ready_count(7), 3);
+    assert_eq!(rt; table.newest_ready(7), Some((name(7, 3), 2)));
+    assert_eq!(rt; table.any_ready(), Some((name(7, 3), 2)));
+}
+
+/// None is ready.
+fn none_ready(rt: &impl Abort, table: &FrameTable<u64>) {
+    assert_eq!(rt; table.any_ready(), None);
+    assert_eq!(rt; table.newest_ready(7), None);
 }
 
 #[test]
 fn ready_frames_are_counted(rt: HostRuntime) -> Result<(), Fail> {
-    let mut table = FrameTable::new(rt.alloc())?;
-    assert_eq!(rt; table.any_ready(), None);
-    five(&rt, &mut table, 7)?;
-    assert_eq!(rt; table.ready_count(7), 5);
-    assert_eq!(rt; table.newest_ready(7), Some((name(7, 5), 0)));
+    let mut table = table_of(&rt, rt.alloc(), 7, 5)?;
+    none_ready(&rt, &table);
+    add_five(&rt, &mut table, 7);
+    all_ready(&rt, &table);
     set_state(&rt, &mut table, name(7, 5), State::Running(2));
     set_state(&rt, &mut table, name(7, 4), State::Waiting);
     set_state(&rt, &mut table, name(7, 3), State::Ready(2));
-    assert_eq!(rt; table.ready_count(7), 3);
-    assert_eq!(rt; table.newest_ready(7), Some((name(7, 3), 2)));
-    assert_eq!(rt; table.any_ready(), Some((name(7, 3), 2)));
+    three_ready(&rt, &table);
     set_state(&rt, &mut table, name(7, 1), State::Returned);
-    assert_eq!(rt; under(&rt, &mut table, name(7, 1)).len(), 4);
-    assert_eq!(rt; table.any_ready(), None);
-    assert_eq!(rt; table.newest_ready(7), None);
+    abort_under(&rt, &mut table, name(7, 1), &[20, 30, 40, 50]);
+    none_ready(&rt, &table);
     Ok(())
+}
+
+/// How many places a tenant has, of so many tenants.
+fn has_places(
+    rt: &impl Abort,
+    table: &FrameTable<u64>,
+    tenant: u64,
+    places: usize,
+    tenants: usize,
+) {
+    assert_eq!(rt; table.places(tenant), places);
+    assert_eq!(rt; table.tenant_count(), tenants);
 }
 
 #[test]
 fn places_are_given_back(rt: HostRuntime) -> Result<(), Fail> {
-    let mut table = FrameTable::new(rt.alloc())?;
-    reserve(&rt, &mut table, 3, 2)?;
+    let mut table = table_of(&rt, rt.alloc(), 3, 2)?;
     add(&rt, &mut table, name(3, 1), None);
-    assert_eq!(rt; table.places(3), 2);
-    assert!(rt; !table.can_add(name(3, 1), None));
-    assert!(rt; !table.can_add(name(3, 2), Some(name(3, 2))));
-    assert!(rt; !table.can_add(name(3, 2), Some(name(4, 1))));
-    assert!(rt; table.can_add(name(3, 2), Some(name(3, 1))));
-    assert_eq!(rt; remove(&rt, &mut table, name(3, 1)), 10);
-    assert_eq!(rt; release(&rt, &mut table, 3), ());
-    assert_eq!(rt; table.places(3), 0);
-    assert_eq!(rt; table.tenant_count(), 0);
+    has_places(&rt, &table, 3, 2, 1);
+    can_add(&rt, &table, name(3, 1), None, false);
+    can_add(&rt, &table, name(3, 2), Some(name(3, 2)), false);
+    can_add(&rt, &table, name(3, 2), Some(name(4, 1)), false);
+    can_add(&rt, &table, name(3, 2), Some(name(3, 1)), true);
+    remove_leaf(&rt, &mut table, name(3, 1));
+    release(&rt, &mut table, 3);
+    has_places(&rt, &table, 3, 0, 0);
     Ok(())
+}
+
+/// All frames of tenant 4 go.
+fn remove_all_of_4(rt: &impl Abort, table: &mut FrameTable<u64>) {
+    assert!(rt; table.places(4) > 0);
+    assert_eq!(rt; table.remove_all(4), [10, 20, 30, 40, 50].as_slice());
 }
 
 #[test]
 fn all_frames_of_a_tenant_go_and_its_places_stay(rt: HostRuntime) -> Result<(), Fail> {
-    let mut table = FrameTable::new(rt.alloc())?;
-    five(&rt, &mut table, 9)?;
-    five(&rt, &mut table, 4)?;
-    assert!(rt; table.places(4) > 0);
-    assert_eq!(rt; table.remove_all(4), [10, 20, 30, 40, 50].as_slice());
-    assert_eq!(rt; table.frame_count(4), 0);
-    assert_eq!(rt; table.places(4), 5);
+    let mut table = twice_five(&rt, rt.alloc())?;
+    remove_all_of_4(&rt, &mut table);
+    counts(&rt, &table, 4, 0);
+    has_places(&rt, &table, 4, 5, 2);
     assert_eq!(rt; table.any_ready(), Some((name(9, 5), 0)));
     add(&rt, &mut table, name(4, 6), None);
-    assert_eq!(rt; table.find(name(4, 5)), None);
-    assert_eq!(rt; table.newest_ready(4), Some((name(4, 6), 0)));
-    assert_eq!(rt; table.frame_count(9), 5);
+    is_gone(&rt, &table, name(4, 5));
+    newest(&rt, &table, name(4, 6));
+    counts(&rt, &table, 9, 5);
     Ok(())
+}
+
+/// Two tenants that share a guess have a frame more each; of the first the frame before the last goes,
+/// and of the second the newest.
+fn come_and_go(rt: &impl Abort, table: &mut FrameTable<u64>, serial: u64)
+    requires { (2 ≤ serial) × (serial < 400) }
+{
+    add(rt, table, name(300, serial), Some(1));
+    add(rt, table, name(44, serial), Some(1));
+    if serial > 3 {
+        remove_leaf(rt, table, name(300, serial - 2));
+        remove_leaf(rt, table, name(44, serial));
+    }
+}
+
+/// What is found then.
+fn found_after(rt: &impl Abort, table: &FrameTable<u64>, serial: u64) {
+    is_there(rt, table, name(300, serial), true);
+    is_there(rt, table, name(300, 1), true);
+    is_there(rt, table, name(44, 2), true);
+    is_there(rt, table, name(44, serial), serial < 4);
+    newest(rt, table, name(300, serial));
 }
 
 /// Frames come and go far more often than there are places, the oldest first of one tenant and the newest
 /// first of another that shares its guess, so that lists move and guesses are wrong.
 #[test]
 fn names_are_found_while_many_come_and_go(rt: HostRuntime) -> Result<(), Fail> {
-    let mut table = FrameTable::new(rt.alloc())?;
-    reserve(&rt, &mut table, 300, 4)?;
+    let mut table = table_of(&rt, rt.alloc(), 300, 4)?;
     reserve(&rt, &mut table, 44, 4)?;
     add(&rt, &mut table, name(300, 1), None);
     add(&rt, &mut table, name(44, 1), None);
     for serial in 2u64..400 {
-        add(&rt, &mut table, name(300, serial), Some(1));
-        add(&rt, &mut table, name(44, serial), Some(1));
-        if serial > 3 {
-            assert_eq!(rt;
-                remove(&rt, &mut table, name(300, serial - 2)),
-                (serial - 2) * 10
-            );
-            assert_eq!(rt; remove(&rt, &mut table, name(44, serial)), serial * 10);
-        }
-        assert!(rt; table.contains(name(300, serial)));
-        assert!(rt; table.contains(name(300, 1)));
-        assert!(rt; table.contains(name(44, 2)));
-        assert_eq!(rt; table.contains(name(44, serial)), serial < 4);
-        assert_eq!(rt; table.newest_ready(300), Some((name(300, serial), 0)));
+        come_and_go(&rt, &mut table, serial);
+        found_after(&rt, &table, serial);
     }
-    assert_eq!(rt; table.frame_count(300), 3);
-    assert_eq!(rt; table.frame_count(44), 3);
+    counts(&rt, &table, 300, 3);
+    counts(&rt, &table, 44, 3);
     Ok(())
 }
 
@@ -341,21 +492,29 @@ fn each_growth_is_refused_in_turn(rt: HostRuntime) -> Result<(), Fail> {
     Ok(())
 }
 
+/// How many tenants there are, and the places of tenants 7 and 3.
+fn shows<A: Allocator>(
+    rt: &impl Abort,
+    table: &FrameTable<u64, A>,
+    tenants: usize,
+    of_seven: usize,
+    of_three: usize,
+) {
+    assert_eq!(rt; table.tenant_count(), tenants);
+    assert_eq!(rt; (table.places(7), table.places(3)), (of_seven, of_three));
+}
+
 /// Which of two reservations is refused, or 3 where none is.
 fn reservations<A: Allocator + Copy>(rt: &impl Abort, mut table: FrameTable<u64, A>) -> u32 {
     if reserve(rt, &mut table, 7, 4).is_err() {
-        assert_eq!(rt; table.tenant_count(), 0);
-        assert_eq!(rt; table.places(7), 0);
+        shows(rt, &table, 0, 0, 0);
         return 1;
     }
     if reserve(rt, &mut table, 3, 8).is_err() {
-        assert_eq!(rt; table.tenant_count(), 1);
-        assert_eq!(rt; table.places(3), 0);
-        assert_eq!(rt; table.places(7), 4);
+        shows(rt, &table, 1, 4, 0);
         return 2;
     }
-    assert_eq!(rt; table.places(3), 8);
-    assert_eq!(rt; table.places(7), 4);
+    shows(rt, &table, 2, 4, 8);
     3
 }
 
@@ -387,6 +546,35 @@ fn each_growth_of_more_places_is_refused_in_turn(rt: HostRuntime) -> Result<(), 
     Ok(())
 }
 
+/// The two frames of tenant 1 beside one place of tenant 2, whether or not the raise was taken.
+fn both_stay<A: Allocator>(rt: &impl Abort, table: &FrameTable<u64, A>) {
+    assert_eq!(rt; table.tenant_count(), 2);
+    assert_eq!(rt; (table.places(2), table.frame_count(1)), (1, 2));
+    assert_eq!(rt; table.newest_ready(1), Some((name(1, 2), 0)));
+    assert!(rt; table.has_child(name(1, 1)));
+    let child = table.find(name(1, 2)).expect(rt, "the child");
+    assert_eq!(rt; (child.parent, child.value), (Some(name(1, 1)), 20));
+}
+
+/// The places that came with a raise to 100 are filled.
+fn fill<A: Allocator>(rt: &impl Abort, table: &mut FrameTable<u64, A>) {
+    for serial in 3u64..101 {
+        add(rt, table, name(1, serial), Some(2));
+    }
+    assert!(rt; !table.can_add(name(1, 101), None));
+    assert_eq!(rt; table.frame_count(1), 100);
+    assert!(rt; table.contains(name(1, 1)));
+}
+
+/// Tenant 1 is to have 100 places in the place of 2: whether it has, and else what it had stays.
+fn is_raised<A: Allocator + Copy>(rt: &impl Abort, table: &mut FrameTable<u64, A>) -> bool {
+    let is = reserve(rt, table, 1, 100).is_ok();
+    assert_eq!(rt; table.places(1), if is { 100 } else { 2 });
+    both_stay(rt, table);
+    assert_eq!(rt; table.can_add(name(1, 3), None), is);
+    is
+}
+
 /// Whether two tenants find places (0 where not), and then whether the first finds 100 in the place of 2
 /// (2 where so).
 fn more_places<A: Allocator + Copy>(rt: &impl Abort, mut table: FrameTable<u64, A>) -> u32 {
@@ -395,25 +583,9 @@ fn more_places<A: Allocator + Copy>(rt: &impl Abort, mut table: FrameTable<u64, 
     }
     add(rt, &mut table, name(1, 1), None);
     add(rt, &mut table, name(1, 2), Some(1));
-    let raised = reserve(rt, &mut table, 1, 100).is_ok();
-    assert_eq!(rt; table.places(1), if raised { 100 } else { 2 });
-    assert_eq!(rt; table.tenant_count(), 2);
-    assert_eq!(rt; table.places(2), 1);
-    assert_eq!(rt; table.frame_count(1), 2);
-    assert_eq!(rt; table.newest_ready(1), Some((name(1, 2), 0)));
-    assert!(rt; table.has_child(name(1, 1)));
-    let child = table.find(name(1, 2)).expect(rt, "the child");
-    assert_eq!(rt; child.parent, Some(name(1, 1)));
-    assert_eq!(rt; child.value, 20);
-    if !raised {
-        assert!(rt; !table.can_add(name(1, 3), None));
+    if !is_raised(rt, &mut table) {
         return 1;
     }
-    for serial in 3u64..101 {
-        add(rt, &mut table, name(1, serial), Some(2));
-    }
-    assert!(rt; !table.can_add(name(1, 101), None));
-    assert_eq!(rt; table.frame_count(1), 100);
-    assert!(rt; table.contains(name(1, 1)));
+    fill(rt, &mut table);
     2
 }

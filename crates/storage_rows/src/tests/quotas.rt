@@ -3,54 +3,63 @@ use std::process::Abort;
 use std::test::Fail;
 use tenant_quota::{Book, Left, Refusal, Reserve, Rest};
 
-/// Reserves for a tenant that isn't there.
+/// A tenant that isn't there reserves so much, and is answered so.
 fn reserve(
     rt: &impl Abort,
     book: &mut Book,
     tenant: u64,
     segments: u32,
     nodes: u32,
-) -> Result<(), Refusal> {
+    answer: Result<(), Refusal>,
+) {
     assert!(rt; book.reserved(tenant).is_none());
     let reserve = Reserve::new(segments, nodes).expect(rt, "within the limits");
-    book.reserve(tenant, reserve)
+    assert_eq!(rt; book.reserve(tenant, reserve), answer, "tenant {tenant}");
 }
 
-/// Raises what a tenant that is there reserves.
+/// A tenant that is there raises what it reserves to so much, and is answered so.
 fn raise(
     rt: &impl Abort,
     book: &mut Book,
     tenant: u64,
     segments: u32,
     nodes: u32,
-) -> Result<(), Refusal> {
+    answer: Result<(), Refusal>,
+) {
     assert!(rt; book.left(tenant).is_some());
     let reserve = Reserve::new(segments, nodes).expect(rt, "within the limits");
-    book.raise(tenant, reserve)
+    assert_eq!(rt; book.raise(tenant, reserve), answer, "{segments}, {nodes}");
 }
 
-/// Charges a tenant that is there.
+/// Charges a tenant that is there, which is answered so.
 fn charge(
     rt: &impl Abort,
     book: &mut Book,
     tenant: u64,
     segments: u32,
     nodes: u32,
-) -> Result<(), Refusal> {
+    answer: Result<(), Refusal>,
+) {
     assert!(rt; book.left(tenant).is_some());
-    book.charge(tenant, segments, nodes)
+    assert_eq!(rt; book.charge(tenant, segments, nodes), answer);
 }
 
-/// Opens a node of a tenant that is there.
-fn open(rt: &impl Abort, book: &mut Book, tenant: u64, segments: u32) -> Result<u32, Refusal> {
+/// Opens a node of a tenant that is there, which is answered so.
+fn open(
+    rt: &impl Abort,
+    book: &mut Book,
+    tenant: u64,
+    segments: u32,
+    answer: Result<u32, Refusal>,
+) {
     assert!(rt; book.left(tenant).is_some());
-    book.open(tenant, segments)
+    assert_eq!(rt; book.open(tenant, segments), answer);
 }
 
-/// Counts a step of a tenant that is there.
-fn tick(rt: &impl Abort, book: &mut Book, tenant: u64) -> Result<(), Refusal> {
+/// Counts a step of a tenant that is there, which is answered so.
+fn tick(rt: &impl Abort, book: &mut Book, tenant: u64, answer: Result<(), Refusal>) {
     assert!(rt; book.left(tenant).is_some());
-    book.tick(tenant)
+    assert_eq!(rt; book.tick(tenant), answer);
 }
 
 /// Gives back what a tenant is charged.
@@ -68,41 +77,58 @@ fn release(rt: &impl Abort, book: &mut Book, tenant: u64) {
     book.release(tenant);
 }
 
-fn left(segments: u32, nodes: u32, steps: u32) -> Option<Left> {
-    Some(Left {
+/// A tenant has this left.
+fn has_left(rt: &impl Abort, book: &Book, tenant: u64, segments: u32, nodes: u32, steps: u32) {
+    let left = Left {
         segments,
         nodes,
         steps,
-    })
+    };
+    assert_eq!(rt; book.left(tenant), Some(left), "tenant {tenant}");
+}
+
+/// A tenant isn't there.
+fn is_gone(rt: &impl Abort, book: &Book, tenant: u64) {
+    assert_eq!(rt; book.left(tenant), None);
+}
+
+/// A tenant reserves so much.
+fn has_reserved(rt: &impl Abort, book: &Book, tenant: u64, segments: u32, nodes: u32) {
+    assert_eq!(rt; book.reserved(tenant), Reserve::new(segments, nodes));
+}
+
+/// This isn't reserved.
+fn has_rest(rt: &impl Abort, book: &Book, tenants: u32, segments: u32, nodes: u32) {
+    let rest = Rest {
+        tenants,
+        segments,
+        nodes,
+    };
+    assert_eq!(rt; book.rest(), rest);
 }
 
 #[test]
 fn two_tenants_share_a_book(rt: HostRuntime) -> Result<(), Fail> {
     let mut book = Book::new(rt.alloc(), 8, 32)?;
-    assert_eq!(rt; reserve(&rt, &mut book, 1, 5, 8), Ok(()));
-    assert_eq!(rt; reserve(&rt, &mut book, 2, 3, 8), Ok(()));
-    assert_eq!(rt; reserve(&rt, &mut book, 3, 1, 1), Err(Refusal::Full));
+    reserve(&rt, &mut book, 1, 5, 8, Ok(()));
+    reserve(&rt, &mut book, 2, 3, 8, Ok(()));
+    reserve(&rt, &mut book, 3, 1, 1, Err(Refusal::Full));
     assert_eq!(rt; Refusal::Full.number(), 1);
-    assert_eq!(rt; charge(&rt, &mut book, 1, 6, 0), Err(Refusal::Short));
+    charge(&rt, &mut book, 1, 6, 0, Err(Refusal::Short));
     assert_eq!(rt; Refusal::Short.number(), 2);
-    assert_eq!(rt; book.left(1), left(5, 8, 128));
-    assert_eq!(rt; charge(&rt, &mut book, 1, 5, 1), Ok(()));
-    assert_eq!(rt; book.left(1), left(0, 7, 128));
-    assert_eq!(rt; tick(&rt, &mut book, 1), Ok(()));
-    assert_eq!(rt; book.left(1), left(0, 7, 127));
+    has_left(&rt, &book, 1, 5, 8, 128);
+    charge(&rt, &mut book, 1, 5, 1, Ok(()));
+    has_left(&rt, &book, 1, 0, 7, 128);
+    tick(&rt, &mut book, 1, Ok(()));
+    has_left(&rt, &book, 1, 0, 7, 127);
     give_back(&rt, &mut book, 1, 5);
-    assert_eq!(rt; book.left(1), left(5, 7, 127));
-    assert_eq!(rt; book.left(2), left(3, 8, 128));
+    has_left(&rt, &book, 1, 5, 7, 127);
+    has_left(&rt, &book, 2, 3, 8, 128);
     release(&rt, &mut book, 2);
-    assert_eq!(rt; book.left(2), None);
-    assert_eq!(rt; reserve(&rt, &mut book, 3, 1, 1), Ok(()));
-    assert_eq!(rt; book.reserved(3), Reserve::new(1, 1));
-    let rest = Rest {
-        tenants: 62,
-        segments: 2,
-        nodes: 23,
-    };
-    assert_eq!(rt; book.rest(), rest);
+    is_gone(&rt, &book, 2);
+    reserve(&rt, &mut book, 3, 1, 1, Ok(()));
+    has_reserved(&rt, &book, 3, 1, 1);
+    has_rest(&rt, &book, 62, 2, 23);
     Ok(())
 }
 
@@ -112,20 +138,16 @@ fn sixty_four_tenants_and_no_more(rt: HostRuntime) -> Result<(), Fail> {
     for step in 0..64 {
         // in no order
         let tenant = (step * 37) % 64 + 1;
-        assert_eq!(rt;
-            reserve(&rt, &mut book, tenant, 2, 3),
-            Ok(()),
-            "tenant {tenant}"
-        );
+        reserve(&rt, &mut book, tenant, 2, 3, Ok(()));
     }
     assert_eq!(rt; book.rest().tenants, 0);
-    assert_eq!(rt; reserve(&rt, &mut book, 65, 1, 1), Err(Refusal::Full));
+    reserve(&rt, &mut book, 65, 1, 1, Err(Refusal::Full));
     for tenant in 1..65 {
-        assert_eq!(rt; book.left(tenant), left(2, 3, 48), "tenant {tenant}");
+        has_left(&rt, &book, tenant, 2, 3, 48);
     }
     release(&rt, &mut book, 17);
-    assert_eq!(rt; reserve(&rt, &mut book, 65, 1, 1), Ok(()));
-    assert_eq!(rt; book.left(65), left(1, 1, 16));
+    reserve(&rt, &mut book, 65, 1, 1, Ok(()));
+    has_left(&rt, &book, 65, 1, 1, 16);
     Ok(())
 }
 
@@ -134,31 +156,25 @@ fn sixty_four_tenants_and_no_more(rt: HostRuntime) -> Result<(), Fail> {
 fn a_reservation_is_raised(rt: HostRuntime) -> Result<(), Fail> {
     let mut book = Book::new(rt.alloc(), 79, 100)?;
     for tenant in 1..65 {
-        assert_eq!(rt; reserve(&rt, &mut book, tenant, 1, 1), Ok(()));
+        reserve(&rt, &mut book, tenant, 1, 1, Ok(()));
     }
-    assert_eq!(rt; open(&rt, &mut book, 9, 1), Ok(0));
-    assert_eq!(rt; tick(&rt, &mut book, 9), Ok(()));
-    assert_eq!(rt; book.left(9), left(0, 0, 15));
-    assert_eq!(rt; raise(&rt, &mut book, 9, 1, 1), Err(Refusal::Lower));
+    open(&rt, &mut book, 9, 1, Ok(0));
+    tick(&rt, &mut book, 9, Ok(()));
+    has_left(&rt, &book, 9, 0, 0, 15);
+    raise(&rt, &mut book, 9, 1, 1, Err(Refusal::Lower));
     assert_eq!(rt; Refusal::Lower.number(), 3);
-    assert_eq!(rt; raise(&rt, &mut book, 9, 10, 20), Ok(()));
-    assert_eq!(rt; book.left(9), left(9, 19, 319));
-    assert_eq!(rt; raise(&rt, &mut book, 9, 9, 30), Err(Refusal::Lower));
-    assert_eq!(rt; raise(&rt, &mut book, 9, 30, 19), Err(Refusal::Lower));
-    assert_eq!(rt; raise(&rt, &mut book, 9, 17, 20), Err(Refusal::Full));
-    assert_eq!(rt; raise(&rt, &mut book, 9, 16, 38), Err(Refusal::Full));
-    assert_eq!(rt; book.left(9), left(9, 19, 319));
-    assert_eq!(rt; raise(&rt, &mut book, 9, 16, 37), Ok(()));
-    assert_eq!(rt; book.reserved(9), Reserve::new(16, 37));
-    let rest = Rest {
-        tenants: 0,
-        segments: 0,
-        nodes: 0,
-    };
-    assert_eq!(rt; book.rest(), rest);
+    raise(&rt, &mut book, 9, 10, 20, Ok(()));
+    has_left(&rt, &book, 9, 9, 19, 319);
+    raise(&rt, &mut book, 9, 9, 30, Err(Refusal::Lower));
+    raise(&rt, &mut book, 9, 30, 19, Err(Refusal::Lower));
+    raise(&rt, &mut book, 9, 17, 20, Err(Refusal::Full));
+    raise(&rt, &mut book, 9, 16, 38, Err(Refusal::Full));
+    has_left(&rt, &book, 9, 9, 19, 319);
+    raise(&rt, &mut book, 9, 16, 37, Ok(()));
+    has_reserved(&rt, &book, 9, 16, 37);
+    has_rest(&rt, &book, 0, 0, 0);
     release(&rt, &mut book, 9);
-    assert_eq!(rt; book.rest().segments, 16);
-    assert_eq!(rt; book.rest().nodes, 37);
+    has_rest(&rt, &book, 1, 16, 37);
     Ok(())
 }
 
@@ -166,48 +182,48 @@ fn a_reservation_is_raised(rt: HostRuntime) -> Result<(), Fail> {
 fn tenants_with_one_remainder_are_told_apart(rt: HostRuntime) -> Result<(), Fail> {
     let mut book = Book::new(rt.alloc(), 64, 64)?;
     for (tenant, segments) in [(513, 3), (1, 1), (2, 4), (257, 2)] {
-        assert_eq!(rt; reserve(&rt, &mut book, tenant, segments, 1), Ok(()));
+        reserve(&rt, &mut book, tenant, segments, 1, Ok(()));
     }
     for (tenant, segments) in [(1, 1), (257, 2), (513, 3), (2, 4)] {
-        assert_eq!(rt; book.left(tenant), left(segments, 1, 16), "tenant {tenant}");
+        has_left(&rt, &book, tenant, segments, 1, 16);
     }
-    assert_eq!(rt; book.left(769), None);
+    is_gone(&rt, &book, 769);
     release(&rt, &mut book, 257);
-    assert_eq!(rt; book.left(1), left(1, 1, 16));
-    assert_eq!(rt; book.left(257), None);
-    assert_eq!(rt; book.left(513), left(3, 1, 16));
+    has_left(&rt, &book, 1, 1, 1, 16);
+    is_gone(&rt, &book, 257);
+    has_left(&rt, &book, 513, 3, 1, 16);
     Ok(())
 }
 
 #[test]
 fn steps_and_nodes_run_out(rt: HostRuntime) -> Result<(), Fail> {
     let mut book = Book::new(rt.alloc(), 4, 4)?;
-    assert_eq!(rt; reserve(&rt, &mut book, 7, 4, 1), Ok(()));
+    reserve(&rt, &mut book, 7, 4, 1, Ok(()));
     for _ in 0..16 {
-        assert_eq!(rt; tick(&rt, &mut book, 7), Ok(()));
+        tick(&rt, &mut book, 7, Ok(()));
     }
-    assert_eq!(rt; tick(&rt, &mut book, 7), Err(Refusal::Short));
-    assert_eq!(rt; charge(&rt, &mut book, 7, 1, 1), Ok(()));
-    assert_eq!(rt; charge(&rt, &mut book, 7, 1, 1), Err(Refusal::Short));
+    tick(&rt, &mut book, 7, Err(Refusal::Short));
+    charge(&rt, &mut book, 7, 1, 1, Ok(()));
+    charge(&rt, &mut book, 7, 1, 1, Err(Refusal::Short));
     give_back(&rt, &mut book, 7, 1);
-    assert_eq!(rt; book.left(7), left(4, 0, 0));
+    has_left(&rt, &book, 7, 4, 0, 0);
     Ok(())
 }
 
 #[test]
 fn each_node_is_opened_after_those_before(rt: HostRuntime) -> Result<(), Fail> {
     let mut book = Book::new(rt.alloc(), 8, 8)?;
-    assert_eq!(rt; reserve(&rt, &mut book, 5, 4, 3), Ok(()));
-    assert_eq!(rt; reserve(&rt, &mut book, 4, 4, 2), Ok(()));
-    assert_eq!(rt; open(&rt, &mut book, 5, 2), Ok(0));
-    assert_eq!(rt; open(&rt, &mut book, 5, 3), Err(Refusal::Short));
-    assert_eq!(rt; charge(&rt, &mut book, 5, 1, 0), Ok(()));
-    assert_eq!(rt; open(&rt, &mut book, 5, 1), Ok(1));
-    assert_eq!(rt; open(&rt, &mut book, 4, 4), Ok(0));
+    reserve(&rt, &mut book, 5, 4, 3, Ok(()));
+    reserve(&rt, &mut book, 4, 4, 2, Ok(()));
+    open(&rt, &mut book, 5, 2, Ok(0));
+    open(&rt, &mut book, 5, 3, Err(Refusal::Short));
+    charge(&rt, &mut book, 5, 1, 0, Ok(()));
+    open(&rt, &mut book, 5, 1, Ok(1));
+    open(&rt, &mut book, 4, 4, Ok(0));
     give_back(&rt, &mut book, 5, 4);
-    assert_eq!(rt; open(&rt, &mut book, 5, 1), Ok(2));
-    assert_eq!(rt; open(&rt, &mut book, 5, 1), Err(Refusal::Short));
-    assert_eq!(rt; book.left(5), left(3, 0, 48));
+    open(&rt, &mut book, 5, 1, Ok(2));
+    open(&rt, &mut book, 5, 1, Err(Refusal::Short));
+    has_left(&rt, &book, 5, 3, 0, 48);
     Ok(())
 }
 
