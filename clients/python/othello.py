@@ -4,12 +4,14 @@
 As a class:    with Session("127.0.0.1", 4711, segments=64, nodes=4096) as session:
                    job = session.ask(6, position)
                    print(session.wait(job))                # ("DONE", -3, "d3"), ("SPENT",) or ("CANCELLED",)
+                   print(session.table(job))               # [("d3", "=", -3), ("c4", "<", -3), ..]
 
                for answer in Client("127.0.0.1", 4711, segments=64, nodes=65536).answers(lines):
                    print(answer)                           # as above, or ("ERR", 27)
 
 As a command:  othello.py HOST PORT SEGMENTS NODES < lines   where each line is `depth position`: the answers in order,
-               each in the place of its line; at the end standard error says how many sessions it took.
+               each in the place of its line; at the end standard error says how many sessions it took. With --tables
+               each answer is followed by the board with what is known of each choice.
 """
 import argparse
 import collections
@@ -41,13 +43,15 @@ FAULTS = {
 USED_UP = (10, 11, 13)  # ASK: this session takes no more jobs, and another one may
 LATER = (14, 19)  # HELLO: it may come again
 ENDS = {"DONE": 4, "SPENT": 2, "CANCELLED": 2}
-# What each line may be answered by but ERR: the first word, and how many words there are.
+SIGNS = {"=": "is worth just", "<": "is worth at most", ">": "is worth at least"}
+# What each line may be answered by but ERR: the first word, and how many words there are; of a table as many as it has.
 ANSWERS = {
     "HELLO": {"WELCOME": 3},
     "RESERVE": {"RESERVED": 3},
     "ASK": {"JOB": 2},
     "GET": {"PENDING": 2, **ENDS},
     "WAIT": ENDS,
+    "TABLE": {"PENDING": 2, "TABLE": None, "SPENT": 2, "CANCELLED": 2},
     "CANCEL": {"CANCELLED": 2},
     "QUOTA": {"QUOTA": 4},
     "LIVE": {"LIVE": 3},
@@ -71,6 +75,29 @@ class Broken(ConnectionError):
 def tls_context(authority=None):
     """What a session over TLS needs: the host's certificate is checked, by a file of authorities where one is named."""
     return ssl.create_default_context(cafile=authority)
+
+
+def entry_of(text):
+    """An entry of a table, `d3=-3`: the move, the sign and the number."""
+    sign = next((sign for sign in SIGNS if sign in text), None)
+    if not sign:
+        raise Broken(f"an entry of a table is {text!r}")
+    move, score = text.split(sign)
+    return move, sign, int(score)
+
+
+def board_of(position, entries, best):
+    """The board of a position of 66 bytes as lines of a terminal, with what is known of each legal square in its place and
+    a star before the best one; a pass stands below it."""
+    told = {move: f"{'*' if move == best else ''}{sign}{score}" for move, sign, score in entries}
+    width = max([3, *map(len, told.values())]) + 1
+    columns, lines = "abcdefgh", []
+    for row in range(8):
+        discs = position[8 * row : 8 * row + 8].replace("-", ".").upper()
+        cells = [told.get(f"{column}{row + 1}", disc) for column, disc in zip(columns, discs)]
+        lines.append(f"{row + 1} " + "".join(cell.rjust(width) for cell in cells))
+    lines.insert(0, "  " + "".join(column.rjust(width) for column in columns))
+    return lines + [f"{move} {told[move]}" for move in told if move == "pass"]
 
 
 class Session:
@@ -111,7 +138,7 @@ class Session:
                 self.broken = None
                 raise Refused(int(answer[1]))
             again = [str(word) for word in again]
-            if ANSWERS[word].get(answer[0]) != len(answer) or answer[1 : 1 + len(again)] != again:
+            if ANSWERS[word].get(answer[0], 0) not in (len(answer), None) or answer[1 : 1 + len(again)] != again:
                 self.broken = f"{line!r} was answered by {' '.join(answer)!r}"
                 raise Broken(self.broken)
             if word == "ASK":
@@ -139,6 +166,12 @@ class Session:
     def wait(self, job):
         """How a job ended. It blocks until then."""
         return self.get(job, "WAIT")
+
+    def table(self, job):
+        """What is known of each choice of a job that is done: its move, a sign of SIGNS and a number, in the order of the
+        choices, the best one's exact; none at depth 0. None where the job isn't done."""
+        state, _, *entries = self.call("TABLE", job, again=(job,))
+        return [entry_of(text) for text in entries] if state == "TABLE" else None
 
     def cancel(self, job):
         """Ends a job that hasn't ended."""
@@ -231,6 +264,27 @@ class Client:
             if session:
                 session.close()
 
+    def tables(self, lines):
+        """Of each line `depth position`, in order: its answer as above, and its table (`Session.table`)."""
+        session = None
+        try:
+            for line in lines:
+                while True:
+                    session = session or self.open()
+                    try:
+                        job = session.ask_line(line)
+                        answer = session.wait(job)
+                    except Refused as refusal:
+                        answer = ("ERR", refusal.number)
+                    if not (answer == ("SPENT",) and session.jobs > 1 or answer[0] == "ERR" and answer[1] in USED_UP and session.jobs):
+                        break
+                    session.close()  # it is used up: a new one has a whole reservation
+                    session = None
+                yield answer, session.table(job) if answer[0] == "DONE" else None
+        finally:
+            if session:
+                session.close()
+
     def turn(self, session, window):
         """Asks ahead and waits for the oldest; or, where the session is used up, for all. Whether it can be asked more."""
         goes_on = self.ask_ahead(session, window)
@@ -273,6 +327,17 @@ def text_of(answer):
     return " ".join(map(str, answer)) + (f" {FAULTS.get(answer[1], '')}" if answer[0] == "ERR" else "")
 
 
+def tell_tables(client, lines):
+    """Writes each answer, and the board with its table; gives how many there were."""
+    lines, kept = itertools.tee(lines)
+    count = 0
+    for count, (line, (answer, entries)) in enumerate(zip(kept, client.tables(lines)), 1):
+        print(text_of(answer))
+        if entries is not None:
+            print("\n".join(board_of(line.split(" ", 1)[1], entries, answer[2])), flush=True)
+    return count
+
+
 def main():
     words = argparse.ArgumentParser(description="Answers lines `depth position` by a server of `othello serve`.")
     words.add_argument("host")
@@ -281,6 +346,7 @@ def main():
     words.add_argument("nodes", type=int)
     words.add_argument("--ahead", type=int, default=16, help="how many jobs are asked ahead of the waits (16)")
     words.add_argument("--patience", type=float, default=30, help="seconds to try for a session (30)")
+    words.add_argument("--tables", action="store_true", help="show what is known of each choice")
     words.add_argument("--tls", action="store_true", help="speak TLS, and check the host's certificate")
     words.add_argument("--authority", metavar="FILE", help="with --tls: the authorities to check it by")
     asked = words.parse_args()
@@ -288,8 +354,11 @@ def main():
     client = Client(asked.host, asked.port, asked.segments, asked.nodes, max(asked.ahead, 1), asked.patience, tls=tls)
     lines = (line.rstrip("\n").removesuffix("\r") for line in open(0, encoding="latin-1", newline="\n"))
     count, start = 0, time.monotonic()
-    for count, answer in enumerate(client.answers(lines), 1):
-        print(text_of(answer), flush=True)
+    if asked.tables:
+        count = tell_tables(client, lines)
+    else:
+        for count, answer in enumerate(client.answers(lines), 1):
+            print(text_of(answer), flush=True)
     taken = time.monotonic() - start
     print(f"{count} lines by {client.sessions} sessions, {count / taken:.0f} a second", file=sys.stderr)
 
