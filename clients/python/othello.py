@@ -209,9 +209,9 @@ class Session:
 class Question:
     """A line that was asked, or is to be asked."""
 
-    def __init__(self, line):
-        self.line = line
-        self.job = self.answer = None
+    def __init__(self, line, tabled=False):
+        self.line, self.tabled = line, tabled
+        self.job = self.answer = self.table = None
         self.alone = False  # it was spent beside others: it is asked once more, as the first job of a session
 
 
@@ -238,10 +238,18 @@ class Client:
 
     def answers(self, lines):
         """Of each line `depth position`, in order: ("DONE", value, move), ("SPENT",) or ("ERR", number)."""
-        lines, window, session, losses = iter(lines), collections.deque(), None, 0
+        return (question.answer for question in self.answered(map(Question, lines)))
+
+    def tables(self, lines):
+        """Of each line its answer and, where it is DONE, its table (`Session.table`)."""
+        return ((question.answer, question.table) for question in self.answered(Question(line, True) for line in lines))
+
+    def answered(self, questions):
+        """The questions in order, each once it has its answer."""
+        window, session, losses = collections.deque(), None, 0
         try:
             while True:
-                window.extend(map(Question, itertools.islice(lines, self.ahead - len(window))))
+                window.extend(itertools.islice(questions, self.ahead - len(window)))
                 if not window:
                     return
                 session = session or self.open()
@@ -259,28 +267,7 @@ class Client:
                         raise
                 while window and window[0].answer:
                     losses = 0
-                    yield window.popleft().answer
-        finally:
-            if session:
-                session.close()
-
-    def tables(self, lines):
-        """Of each line `depth position`, in order: its answer as above, and its table (`Session.table`)."""
-        session = None
-        try:
-            for line in lines:
-                while True:
-                    session = session or self.open()
-                    try:
-                        job = session.ask_line(line)
-                        answer = session.wait(job)
-                    except Refused as refusal:
-                        answer = ("ERR", refusal.number)
-                    if not (answer == ("SPENT",) and session.jobs > 1 or answer[0] == "ERR" and answer[1] in USED_UP and session.jobs):
-                        break
-                    session.close()  # it is used up: a new one has a whole reservation
-                    session = None
-                yield answer, session.table(job) if answer[0] == "DONE" else None
+                    yield window.popleft()
         finally:
             if session:
                 session.close()
@@ -301,6 +288,8 @@ class Client:
             if found == ("SPENT",) and session.jobs > 1:
                 question.job, question.alone = None, True
                 return False
+            if question.tabled and found[0] == "DONE":
+                question.table = session.table(question.job)
             question.answer = found
         return True
 

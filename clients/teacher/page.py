@@ -50,8 +50,8 @@ const drawn = (row) => {
     if (row.cells[at] !== "-") shape("circle", { cx: x + 25, cy: y + 25, r: 20, fill: row.cells[at] === "X" ? "#111" : "#f5f5f5" });
     const known = row.squares[square];
     if (!known || row.cells[at] !== "-") continue;
-    const best = square === row.best;
-    shape("rect", { x: x + 3, y: y + 3, width: 44, height: 44, fill: "none", "stroke-width": 3, stroke: best ? "#ffd54a" : "#ff7b6b" });
+    const stroke = square === row.best ? "#ffd54a" : square === row.move ? "#ff7b6b" : "none";
+    shape("rect", { x: x + 3, y: y + 3, width: 44, height: 44, fill: "none", "stroke-width": 3, stroke });
     const [sign, text] = known, small = text.replace(/ by (.*) discs?/, " $1");
     shape("text", { x: x + 25, y: y + 30, "text-anchor": "middle", "font-size": small.length > 5 ? 11 : 15, fill: "#fff" }, (sign === "=" ? "" : sign) + small);
   }
@@ -81,7 +81,7 @@ document.onkeydown = ({ key }) => {
 };
 const finished = () => {
   const worst = rows.reduce((most, row, at) => (row.lost > (rows[most].lost ?? 0) ? at : most), 0);
-  if (rows.length) told.textContent = rows.length + " moves; the dearest is number " + (worst + 1) + ". Yellow is best, red what was played.";
+  if (rows.length) told.textContent = rows.length + " moves; the dearest is number " + (worst + 1) + ". Yellow is best, red what was played; < and > are bounds.";
   if (rows.length) shown(worst);
 };
 const words = new URLSearchParams(location.search);

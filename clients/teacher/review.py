@@ -101,15 +101,15 @@ def loss_of(best, value):
 def review(client, moves, depth):
     """Of each move a row, as soon as it is known. `squares` has what is known of squares: of each a sign and a value."""
     lines = (line for move in moves for line in move.questions(depth))
-    answers = client.answers(lines)
-    for move, at_best, after in zip(moves, answers, answers):
+    answers = client.tables(lines)
+    for move, (at_best, table), (after, _) in zip(moves, answers, answers):
         row = {"number": move.number, "side": move.side, "move": move.move, "cells": move.before, "after": move.after}
         wrong = [text_of(answer) for answer in (at_best, after) if answer[0] != "DONE"]
         if wrong:
             yield row | {"fault": wrong[0], "squares": {}}
             continue
         best, value = at_best[1], -after[1]
-        squares = {move.move: ("=", said(value)), at_best[2]: ("=", said(best))}
+        squares = {square: (sign, said(score)) for square, sign, score in table} | {move.move: ("=", said(value))}
         words = {"said": said(value), "best": at_best[2], "best_said": said(best), "lost_said": loss_of(best, value)}
         yield row | words | {"value": value, "best_value": best, "lost": best - value, "squares": squares}
 
@@ -129,10 +129,15 @@ def board(cells, marks, colours):
 
 
 def show(row, colours):
-    """The board before a move, with what was played (!) and what is best (*), if that is another square."""
+    """The board before a move, with what was played (!) and what is best (*), if that is another square; and beside each
+    line of it what is known of its other squares."""
     marks = {row.get("best", ""): "*", row["move"]: "!"}
     print(f"\nbefore move {row['number']}, {NAMES[row['side']]} to move: ! is what was played, * what is best")
-    print(board(row["cells"], marks, colours))
+    lines = board(row["cells"], marks, colours).split("\n")
+    for square, (sign, words) in row["squares"].items():
+        if square in SQUARES:
+            lines[int(square[1])] += f"   {square} {'' if sign == '=' else sign}{words}"
+    print("\n".join(lines))
 
 
 def summary(rows):
