@@ -12,6 +12,7 @@ use crate::shares::{Badge, Hands, PARTS};
 use frame_table::FrameId;
 use hall::{Did, Hall, Jamboree, Outcome, Refusal, Step};
 use position_text::Position;
+use std::alloc::{Allocator, Global};
 use std::hint::spin_loop;
 use std::sync::ledger::Blank;
 use std::sync::{Condvar, Mutex, MutexGuard, Wait};
@@ -25,17 +26,17 @@ const LOOKS: u32 = 12;
 /// its processor.
 const PAUSES: u32 = 256;
 
-/// The lock with the hall in it.
+/// The lock with the hall in it, which may have an allocator of its own.
 #[derive(Drop)]
-pub struct Desk<L: Hands> {
-    lock: Mutex<Kept<L>>,
+pub struct Desk<L: Hands, A: Allocator = Global> {
+    lock: Mutex<Kept<L, A>>,
     ready: Condvar,
     ended: Condvar,
 }
 
-impl<L: Hands> Desk<L> {
+impl<L: Hands, A: Allocator + Clone> Desk<L, A> {
     /// A hall under a lock, with a ledger that is new.
-    pub fn new(hall: Hall, blank: Blank) -> Desk<L>
+    pub fn new(hall: Hall<A>, blank: Blank) -> Desk<L, A>
         requires name { blank.name ≡ L.name }
         requires parts { (blank.parts ≡ L.parts) × (L.all ≡ L.parts) × (L.all ≡ PARTS) }
     {
@@ -48,7 +49,7 @@ impl<L: Hands> Desk<L> {
 
     /// The hall, locked. A step holds the lock for less time than a sleep and a wake take, so a thread
     /// that finds it taken looks again a few times before it sleeps.
-    fn enter<R: Wait>(&self, rt: &R) -> MutexGuard<'_, Kept<L>> {
+    fn enter<R: Wait>(&self, rt: &R) -> MutexGuard<'_, Kept<L, A>> {
         for _ in 0..LOOKS {
             if let Some(kept) = self.lock.try_lock() {
                 return kept;
@@ -217,7 +218,7 @@ impl<L: Hands> Desk<L> {
 
     /// The hall, when no thread has the desk any more, and whether all shares are here: then all steps
     /// are those that the hall keeps and the badge's.
-    pub fn into_hall(self, badge: Badge<L>) -> (Hall, bool)
+    pub fn into_hall(self, badge: Badge<L>) -> (Hall<A>, bool)
         requires { L.all ≡ L.parts }
         ensures { result.1 ≡ true → count_of result.0 ≡ result.0.kept + badge }
     {

@@ -21,6 +21,7 @@ use arrayvec::ArrayVec;
 use frame_table::FrameId;
 use hall::{Did, DidOf, Hall, Jamboree, Outcome, Refusal, Step, StepOf, submit};
 use position_text::Position;
+use std::alloc::{Allocator, Global};
 use std::marker::Model;
 use std::sync::ledger::{Blank, Book, Share};
 use tenant_quota::{Left, Reserve};
@@ -30,8 +31,8 @@ const BADGES: u64 = 1 << 62;
 
 /// What lies under the lock.
 #[derive(Drop)]
-pub(crate) struct Kept<L: Hands> {
-    hall: Hall,
+pub(crate) struct Kept<L: Hands, A: Allocator = Global> {
+    hall: Hall<A>,
     book: Book<L>,
     spare: Share<L>,
     parts: u64,
@@ -43,7 +44,7 @@ pub(crate) struct Kept<L: Hands> {
 }
 
 // Clauses see the hall, whether the desk is closed, and how many workers sleep.
-impl<L: Hands> Model for Kept<L> {
+impl<L: Hands, A: Allocator> Model for Kept<L, A> {
     ghost use Rattle.std.specs.Prelude.{◌≡◌, ◌+◌, ◌^◌, ◌≤◌};
     ghost use Rattle.hall.specs.Halls.{count_of};
     ghost use Rattle.desk.specs.Counts.{KeptOf};
@@ -56,9 +57,9 @@ impl<L: Hands> Model for Kept<L> {
         × (L.all ≡ 13835058055282163712) × (k.parts ≤ 13835058055282163712) × (13835058055282163712 ≤ k.parts + k.badges + k.hall.shared.newest) × (k.badges ≤ 2 ^ 62) };
 }
 
-impl<L: Hands> Kept<L> {
+impl<L: Hands, A: Allocator + Clone> Kept<L, A> {
     /// A hall under a ledger that is new. The steps that it has taken are kept.
-    pub(crate) fn new(hall: Hall, blank: Blank) -> Kept<L>
+    pub(crate) fn new(hall: Hall<A>, blank: Blank) -> Kept<L, A>
         requires name { blank.name ≡ L.name }
         requires parts { (blank.parts ≡ L.parts) × (L.all ≡ L.parts) × (L.all ≡ PARTS) }
         ensures hall { result.hall ≡ record hall { kept = count_of hall } }
@@ -366,7 +367,7 @@ impl<L: Hands> Kept<L> {
     }
 
     /// The hall, and whether this badge has all that was out.
-    pub(crate) fn closed(self, badge: Badge<L>) -> (Hall, bool)
+    pub(crate) fn closed(self, badge: Badge<L>) -> (Hall<A>, bool)
         requires { L.all ≡ L.parts }
         ensures same { result.0 ≡ self.hall }
         ensures whole { result.1 ≡ true → count_of result.0 ≡ result.0.kept + badge }

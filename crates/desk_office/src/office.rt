@@ -7,21 +7,22 @@ use crate::outcomes::told_answer;
 use desk::{Desk, Hands, Refusal, Seat};
 use position_text::Position;
 use session::{Live, Office, Outcome};
+use std::alloc::{Allocator, Global};
 use std::sync::Wait;
 use tenant_quota::{Left, Reserve};
 
 /// The office of one tenant at a desk: its seat, once it has one. Without a tenant it has no job.
-pub struct DeskOffice<'a, L: Hands, R: Wait> {
+pub struct DeskOffice<'a, L: Hands, R: Wait, A: Allocator = Global> {
     rt: &'a R,
-    desk: &'a Desk<L>,
+    desk: &'a Desk<L, A>,
     seat: Option<Seat<L>>,
 }
 
-impl<'a, L: Hands, R: Wait> DeskOffice<'a, L, R> {
+impl<'a, L: Hands, R: Wait, A: Allocator> DeskOffice<'a, L, R, A> {
     ghost use Rattle.std.specs.Prelude.{◌≡◌, None};
 
     /// An office without a tenant.
-    pub fn new(rt: &'a R, desk: &'a Desk<L>) -> DeskOffice<'a, L, R>
+    pub fn new(rt: &'a R, desk: &'a Desk<L, A>) -> DeskOffice<'a, L, R, A>
         ensures { result.seat ≡ None }
     {
         DeskOffice {
@@ -41,7 +42,7 @@ impl<'a, L: Hands, R: Wait> DeskOffice<'a, L, R> {
     }
 }
 
-impl<L: Hands, R: Wait> Office for DeskOffice<'_, L, R> {
+impl<L: Hands, R: Wait, A: Allocator + Clone> Office for DeskOffice<'_, L, R, A> {
     ghost does = { λ from call reply to. KeepsAsks (asks_of from.seat) call reply (asks_of to.seat) };
 
     ghost ready = { L.all == L.parts };

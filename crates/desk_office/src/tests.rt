@@ -13,6 +13,8 @@ use std::sync::Wait;
 use std::sync::ledger::Blank;
 use std::test::Fail;
 
+mod hello;
+
 /// Gives one line a call. Before a line WAIT a worker runs the first tenant's first job to its end.
 struct Driven<'a, L: Hands, R: Wait> {
     rt: &'a R,
