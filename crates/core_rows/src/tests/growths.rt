@@ -8,7 +8,7 @@ use std::test::Fail;
 use tenant_quota::{Left, Reserve};
 
 /// How many bytes are taken before the core is made, and given back once a growth of it was refused.
-const BALLAST: usize = 65536;
+const BALLAST: usize = 262144;
 
 /// The root of tenant 1's job.
 const ROOT: FrameId = FrameId {
@@ -174,7 +174,7 @@ fn each_growth_is_refused_in_turn(rt: HostRuntime) -> Result<(), Fail> {
     let worker = Worker::new(1).ok_or("within the limits")?;
     let mut refused = [0u32; 5];
     let mut is_done = false;
-    for units in 0..16384usize {
+    for units in 0..65536usize {
         let heap = LocalHeap::new(rt.alloc(), BALLAST + units * 16)?;
         let wanting = first_wanting(&rt, &heap, config, reserve, more, worker);
         assert_eq!(rt; heap.used(), 0);
