@@ -10,7 +10,7 @@ use std::test::Fail;
 use tenant_quota::{Left, Reserve};
 
 /// How many bytes are taken before the core is made, and given back once a growth of it was refused.
-const BALLAST: usize = 65536;
+const BALLAST: usize = 262144;
 
 /// The root of tenant 1's job.
 const ROOT: FrameId = FrameId {
@@ -252,7 +252,7 @@ fn wanting_of_heap(
     config: Config,
     plan: &Plan,
 ) -> Result<Wanting, Fail>
-    requires { units < 16384 }
+    requires { units < 65536 }
 {
     let heap = LocalHeap::new(alloc, BALLAST + units * 16)?;
     let wanting = first_wanting(rt, &heap, config, plan);
@@ -274,7 +274,7 @@ fn refused_growths(
         of_answers: 0,
         of_more: 0,
     };
-    for units in 0..16384usize {
+    for units in 0..65536usize {
         let wanting = wanting_of_heap(rt, alloc, units, config, plan)?;
         if matches!(wanting, Wanting::Nothing) {
             return Ok(refused);
