@@ -1,16 +1,15 @@
 -- What a tenant of searches does can be done: none of its steps but a Submit is refused by BadAct.
-use Rattle.std.proofs.Common.{◌≡◌, ◌≢◌, ℕ, inl, inr, Bool, true, false, not, eqb, List, [], ◌∷◌, ◌++◌, Option, Some, None, Result, Ok, Err, refl, ap, sym, ◌∙◌, subst, ◌⊎◌}
+use Rattle.std.proofs.Common.{◌≡◌, ◌≢◌, ℕ, inl, inr, Bool, true, false, not, List, [], ◌∷◌, Option, Some, None, Result, Ok, Err, refl, ap, sym, ◌∙◌, subst, ◌⊎◌}
 use Rattle.std.proofs.lemmas.Bool.{cases_Bool, false≢true, not-false, eq-eqb}
 use Rattle.frame_table.specs.declared.names.State.{State}
 use Rattle.frame_table.specs.declared.names.State.TheVariants.{Ready, Running, Computing, Waiting, Returned}
-use Rattle.frame_table.specs.declared.names.FrameId.{FrameId}
-use Rattle.frame_table.specs.Frames.{frame_at, parent_of, children_of, values_of}
+use Rattle.frame_table.specs.Frames.{frame_at, parent_of, values_of}
 use Rattle.frame_table.specs.TreeLaws.{is_that}
 use Rattle.frame_table.proofs.TreeLaws.{there-found, found-serial, under-there, named-under}
 use Rattle.sched_rules.specs.declared.job.Job.{Job}
 use Rattle.sched_rules.specs.declared.job.Job.TheVariants.{Live, Done, Spent as SpentJob, Cancelled as CancelledJob}
 use Rattle.sched_rules.specs.declared.refusal.Refusal.{Refusal}
-use Rattle.sched_rules.specs.declared.refusal.Refusal.TheVariants.{NoFrame, NotReturned, NoJob, NotSpent, BadAct, Busy, OldTenant, Lower, OutOfMemory}
+use Rattle.sched_rules.specs.declared.refusal.Refusal.TheVariants.{NotSpent, BadAct, Busy, Lower, OutOfMemory}
 use Rattle.sched_rules.specs.declared.step.StepOf.{StepOf}
 use Rattle.sched_rules.specs.declared.step.StepOf.TheVariants.{Admit, AdmitMore, Submit, Take, Steal, Advance, Answer, Inlet, Finish, Spend, Cancel, Leave}
 use Rattle.sched_rules.specs.declared.step.DidOf.{DidOf}
@@ -20,14 +19,14 @@ use Rattle.sched_rules.specs.Runs.{tenant_of, answer_of}
 use Rattle.sched_rules.specs.Cores.{Shared, tenant_in, meets_busy, admit_tests, shared_refusal, reservations_in, reserved_by, is_beyond, unless_beyond, judged}
 use Rattle.sched_rules.specs.Headline.{IsAnswerTo, IsAnswerToStep, IsAnswerToAdmit}
 use Rattle.sched_rules.specs.Trees.{Tree, Tenant, admitted_with, sight, words_in, is_outside, has_child, job_at}
-use Rattle.sched_rules.specs.Laws.{Mark, Neither, Computes, HasReturned, mark_of, has_one, ParentFits}
+use Rattle.sched_rules.specs.Laws.{Mark, Neither, Computes, HasReturned, mark_of, ParentFits}
 use Rattle.sched_rules.specs.Lone.{Outcome, unless, refusal_in, lone, first_step, lone_step, is_lower, raised, at_frame, is_run_by, is_computed_by, is_returned, is_bad_act, act_of, take_tests, steal_tests, taken_by, advance_tests, advanced, answer_tests, answered, inlet_tests, inlet_under, taken_in, finish_tests, finished, is_spendable, spent, cancelled}
 use Rattle.sched_laws.specs.Shapes.{IsShaped, AreShaped}
 use Rattle.sched_laws.specs.Fitted.{TenantFits, CoreFits, submits}
 use Rattle.sched_laws.proofs.Answers.{shaped-in}
-use Rattle.sched_laws.proofs.Shaped.{run-free, returned-marked, returned-childless}
+use Rattle.sched_laws.proofs.Shaped.{run-free, returned-childless}
 use Rattle.sched_laws.proofs.Holds.{Lists, F, kids, fits-holds, found-same, among-kids}
-use Rattle.sched_laws.proofs.Levels.{KeepsAbove, kept-above, has-origin, words-found, parent-neither}
+use Rattle.sched_laws.proofs.Levels.{kept-above, has-origin, words-found, parent-neither}
 use Rattle.sched_laws.proofs.Fits.{has-one}
 use Rattle.jamboree_rules.specs.declared.leaf.Leaf.{Leaf}
 use Rattle.jamboree_rules.specs.declared.leaf.LeafAnswer.{LeafAnswer}

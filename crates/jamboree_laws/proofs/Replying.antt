@@ -1,6 +1,5 @@
 -- A done job kept a returned root, which holds what it was asked.
-use Rattle.std.proofs.Common.{◌≡◌, ℕ, ◌<◌, List, [], ◌∷◌, get_or, Some, Result, refl, ap, sym, ◌∙◌, arith}
-use Rattle.std.proofs.lemmas.List.{get_or-take}
+use Rattle.std.proofs.Common.{◌≡◌, ℕ, List, [], ◌∷◌, Some, Result, refl, sym, ◌∙◌, subst}
 use Rattle.tenant_quota.specs.Quota.{Quota}
 use Rattle.frame_table.specs.Frames.{Frame as TreeFrame, children_of, values_of}
 use Rattle.sched_rules.specs.declared.job.Job.{Job}
@@ -19,12 +18,18 @@ use Rattle.sched_laws.proofs.Levels.{IsLawful}
 use Rattle.sched_laws.proofs.FitAnswers.{run-fits, nobody-fits}
 use Rattle.jamboree_rules.specs.declared.leaf.Leaf.{Leaf}
 use Rattle.jamboree_rules.specs.declared.leaf.LeafAnswer.{LeafAnswer}
-use Rattle.jamboree_rules.specs.Places.{frame_of, score_of}
+use Rattle.othello_board.specs.Words.{cells_of}
+use Rattle.othello_eval.specs.declared.bound.Bound.{Bound}
+use Rattle.othello_eval.specs.Tables.{IsTable}
+use Rattle.jamboree_rules.specs.Frames.{Frame, board}
+use Rattle.jamboree_rules.specs.Places.{frame_of}
+use Rattle.jamboree_rules.specs.Entries.{bounds_of}
 use Rattle.jamboree_rules.specs.Fits.{AreFitting, IsRoot}
 use Rattle.jamboree_rules.specs.Procedure.{jamboree}
 use Rattle.jamboree_rules.proofs.Keeping.{next-keeps, inlet-keeps}
 use Rattle.jamboree_rules.proofs.Soundness.{fits-sound}
 use Rattle.jamboree_rules.proofs.Answers.{accept-keeps, root-fits, root-value}
+use Rattle.jamboree_rules.proofs.Rooted.{root-whole, root-kept}
 use Rattle.jamboree_laws.specs.Replies.{IsSearch, AreSearches, IsReplyTo, AreReplies, AreAllSound}
 
 -- the new root of a search fits
@@ -63,23 +68,30 @@ searched grain totals steps answers number tenant right searches at =
     (nobody-fits AreFitting IsRoot totals) right (searches-fit (taken steps answers) searches) in
     core.tenants number tenant at
 
--- the word at a place that a job keeps
-kept-at : (all words : List ℕ) (i : ℕ) → i < 12 → kept_words all ≡ words → get_or words i 0 ≡ get_or all i 0
-kept-at all words i within kept = ap (λ (ws : List ℕ). get_or ws i 0) (sym kept) ∙ get_or-take 12 all i 0 within
+same-table : (own opp depth : ℕ) (bounds : List Bound) (f : Frame) → f.own ≡ own → f.opp ≡ opp → f.depth ≡ depth → IsTable f.depth (board f) bounds → IsTable depth (cells_of own opp) bounds
+same-table own opp depth bounds f o p d table =
+    subst (λ (n : ℕ). IsTable n (cells_of own opp) bounds) d (subst (λ (w : ℕ). IsTable f.depth (cells_of own w) bounds) p (subst (λ (w : ℕ). IsTable f.depth (cells_of w f.opp) bounds) o table))
 
-reply-held : (origin words all : List ℕ) → kept_words all ≡ words → AreFitting all [] HasReturned → IsRoot origin all → IsReplyTo origin words
-reply-held origin words all kept fits root =
+-- a returned root holds the reply
+root-replies : (origin all : List ℕ) → AreFitting all [] HasReturned → IsRoot origin all → IsReplyTo origin all
+root-replies origin all fits root =
     let holds = root-value origin all fits root in
+    let table : IsTable (frame_of all).depth (board (frame_of all)) (bounds_of (frame_of all)) = (root-whole origin all fits root).2 in
     let own : (frame_of all).own ≡ (frame_of origin).own = root.own_is in
     let opp : (frame_of all).opp ≡ (frame_of origin).opp = root.opp_is in
     let depth : (frame_of all).depth ≡ (frame_of origin).depth = root.depth_is in
     record {
-      own = kept-at all words 0 (omega arith) kept ∙ own;
-      opp = kept-at all words 1 (omega arith) kept ∙ opp;
-      depth = kept-at all words 2 (omega arith) kept ∙ depth;
-      value = ap score_of (kept-at all words 8 (omega arith) kept) ∙ holds.0 ∙ (rw (depth, own, opp) refl);
-      choice = kept-at all words 9 (omega arith) kept ∙ holds.1 ∙ (rw (depth, own, opp) refl);
+      own = own;
+      opp = opp;
+      depth = depth;
+      value = holds.0 ∙ (rw (depth, own, opp) refl);
+      choice = holds.1 ∙ (rw (depth, own, opp) refl);
+      table = same-table (frame_of origin).own (frame_of origin).opp (frame_of origin).depth (bounds_of (frame_of all)) (frame_of all) own opp depth table;
     }
+
+-- so does a job, which keeps all its words
+reply-held : (origin words all : List ℕ) → kept_words all ≡ words → AreFitting all [] HasReturned → IsRoot origin all → IsReplyTo origin words
+reply-held origin words all kept fits root = subst (λ (ws : List ℕ). IsReplyTo origin ws) (sym (root-kept origin all fits root) ∙ kept) (root-replies origin all fits root)
 
 pub replies-held : (tree : Tree) (origins : List (List ℕ)) (jobs : List Job) → JobsFit AreFitting IsRoot tree origins jobs → AreReplies origins jobs
 replies-held tree [] [] fit = tt

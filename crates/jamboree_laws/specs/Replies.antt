@@ -1,8 +1,9 @@
--- What lists of searches come to: each job that is done holds the minimax value and the best choice of what was asked.
+-- What lists of searches come to: each job that is done holds the minimax value, the best choice and a table of what was asked.
 use Rattle.std.specs.Prelude.{◌≡◌, ℕ, ◌≤◌, bit_and, List, [], ◌∷◌, map, slice_index}
 use Rattle.frame_table.specs.Frames.{Frame, children_of, values_of}
 use Rattle.othello_board.specs.Words.{cells_of}
 use Rattle.othello_eval.specs.Minimax.{minimax, best_choice}
+use Rattle.othello_eval.specs.Tables.{IsTable}
 use Rattle.sched_rules.specs.declared.job.Job.{Job}
 use Rattle.sched_rules.specs.declared.job.Job.TheVariants.{Live, Done, Spent as SpentJob, Cancelled as CancelledJob}
 use Rattle.sched_rules.specs.declared.step.StepOf.{StepOf}
@@ -10,6 +11,7 @@ use Rattle.sched_rules.specs.declared.step.StepOf.TheVariants.{Admit, AdmitMore,
 use Rattle.sched_rules.specs.Trees.{Tree}
 use Rattle.jamboree_rules.specs.Frames.{coded}
 use Rattle.jamboree_rules.specs.Places.{root_words, frame_size, frame_of, score_of}
+use Rattle.jamboree_rules.specs.Entries.{bounds_of}
 use Rattle.jamboree_rules.specs.Sound.{IsSound}
 
 -- these are the words of a search: of two words with no shared bit, a board, to a depth of at most 12
@@ -41,13 +43,15 @@ abbrev pub AreSearches : {A : Type 0} → List (StepOf A) → Type 0
 AreSearches [] = Unit {0}
 AreSearches (step ∷ steps) = IsSearch step × AreSearches steps
 
--- words that a job kept answer those that it was submitted with: the same board to the same depth, its minimax value, and the code of its best choice
+-- words that a job kept answer those that it was submitted with: the same board to the same depth, its minimax value, the code of its best choice, and a
+-- table of it: an entry for each choice, each true, and the best choice's exact
 pub record IsReplyTo (origin words : List ℕ) : Type 0 where
   pub own : slice_index words 0 ≡ slice_index origin 0
   pub opp : slice_index words 1 ≡ slice_index origin 1
   pub depth : slice_index words 2 ≡ slice_index origin 2
   pub value : score_of (slice_index words 8) ≡ minimax (slice_index origin 2) (cells_of (slice_index origin 0) (slice_index origin 1))
   pub choice : slice_index words 9 ≡ coded (best_choice (slice_index origin 2) (cells_of (slice_index origin 0) (slice_index origin 1)))
+  pub table : IsTable (slice_index origin 2) (cells_of (slice_index origin 0) (slice_index origin 1)) (bounds_of (frame_of words))
 
 -- a job, where it is done, holds the reply to what it was submitted with
 abbrev pub HoldsReply : List ℕ → Job → Type 0

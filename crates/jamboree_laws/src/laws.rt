@@ -18,8 +18,8 @@ ghost use Rattle.jamboree_rules.specs.Procedure.{jamboree};
 ghost use Rattle.jamboree_laws.specs.Replies.{AreSearches, AreReplies, AreAllSound};
 
 /// After any list of steps from nobody by any workers for any tenants, whose taken Submits ask for
-/// searches: each job of a tenant that is done holds the minimax value and the best choice of the
-/// board and the depth that its Submit carried, the k-th job those of the k-th taken Submit.
+/// searches: each job of a tenant that is done holds the minimax value, the best choice and a table of
+/// the board to the depth that its Submit carried, the k-th job those of the k-th taken Submit.
 pub fn every_completed_reply_is_the_minimax_value()
     ensures { (grain : ℕ) (totals : Quota) (steps : List (StepOf LeafAnswer)) (answers : List (Result (DidOf Leaf) Refusal)) (number : ℕ) (tenant : Tenant) →
         AreAnswersTo (jamboree grain) (shared_by_nobody totals) steps answers → AreSearches (taken steps answers) →

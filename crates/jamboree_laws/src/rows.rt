@@ -4,7 +4,7 @@ ghost use Rattle.std.specs.Prelude.{ℕ, [], ◌∷◌};
 ghost use Rattle.sched_rules.specs.declared.job.Job.TheVariants.{Live, Done, Spent, Cancelled};
 ghost use Rattle.sched_rules.specs.declared.step.StepOf.TheVariants.{Submit, Leave};
 ghost use Rattle.jamboree_laws.specs.Replies.{AreRootWords, IsSearch, IsReplyTo, AreReplies};
-ghost use Rattle.jamboree_laws.specs.Rows.{asked, kept};
+ghost use Rattle.jamboree_laws.specs.Rows.{asked, kept_with, kept};
 
 /// The words of a search: a board of no shared bit, to a depth of at most 12, with the full window;
 /// its root has 12 words.
@@ -17,12 +17,15 @@ pub fn what_a_search_is_asked()
     ensures others { IsSearch {A = ℕ} (Leave 1) }
 {}
 
-/// What answers it: the same board to the same depth, with -3 in word 8 and d3 in word 9.
+/// What answers it: the same board to the same depth, with -3 in word 8, d3 in word 9, and a table in
+/// which d3 is exact (not only at least -3, kind 2) and each entry is true (d3 isn't at most -4).
 pub fn what_a_search_answers()
     ensures opening { IsReplyTo asked (kept 1 999997 19) }
     ensures better { IsReplyTo asked (kept 1 999998 19) → ⊥ }
     ensures later_equal_move { IsReplyTo asked (kept 1 999997 26) → ⊥ }
     ensures depth { IsReplyTo asked (kept 0 999997 19) → ⊥ }
+    ensures vague { IsReplyTo asked (kept_with 31999922 1 999997 19) → ⊥ }
+    ensures untrue { IsReplyTo asked (kept_with 31999882 1 999997 19) → ⊥ }
 {}
 
 /// As many jobs as Submits, each that is done with the reply to its own.

@@ -1,6 +1,7 @@
 -- What a returned root holds of each of its choices.
-use Rattle.std.specs.Prelude.{◌≡◌, ◌≢◌, ℕ, zero, suc, ◌<◌, ◌<ℤ◌, List, [], ◌∷◌, Option, Some, None, All, map, length, refl, slice_index, slice_index_or}
+use Rattle.std.specs.Prelude.{◌≡◌, ◌≢◌, ℕ, zero, suc, ◌<◌, ◌≤◌, ◌<ℤ◌, List, [], ◌∷◌, Option, Some, None, All, map, length, refl, slice_index, slice_index_or}
 use Rattle.std.proofs.Common.{sym, ◌∙◌, ap, arith}
+use Rattle.std.proofs.lemmas.List.{take_all}
 use Rattle.std.proofs.lemmas.List.Elements.{All-nil, All-cons}
 use Rattle.othello_board.specs.declared.cells.Cell.{Cell}
 use Rattle.othello_moves.specs.declared.choices.Choice.{Choice}
@@ -10,6 +11,7 @@ use Rattle.othello_eval.specs.declared.bound.Bound.{Bound}
 use Rattle.othello_eval.specs.declared.bound.BoundKind.TheVariants.{Exact}
 use Rattle.othello_eval.specs.Minimax.{best_choice}
 use Rattle.othello_eval.specs.Tables.{Says, IsTrueBound, IsExactIfBest, IsTable, entered}
+use Rattle.sched_rules.specs.Trees.{kept_words}
 use Rattle.sched_rules.specs.Laws.{HasReturned}
 use Rattle.jamboree_rules.specs.Frames.{Frame, board, choice_at, code_at, rest_at, value_at, value}
 use Rattle.jamboree_rules.specs.Places.{frame_of, kind_number, kind_in, score_in}
@@ -19,6 +21,9 @@ use Rattle.jamboree_rules.proofs.Tabling.{entered-deep}
 use Rattle.jamboree_rules.proofs.Best.{found-best}
 use Rattle.jamboree_rules.proofs.Distinct.{same-number}
 use Rattle.jamboree_rules.proofs.Answers.{root-value, root-inside}
+use Rattle.jamboree_rules.proofs.Codes.{few-choices}
+use Rattle.jamboree_rules.proofs.Forms.{IsFormed, formed-told}
+use Rattle.jamboree_rules.proofs.Steps.{status-count}
 
 -- a kind is that of its number
 numbered : (n : ℕ) → n ≢ 0 → n < 4 → n ≡ kind_number (kind_numbered n)
@@ -114,3 +119,17 @@ root-whole origin words fits root =
     let inside = root-inside origin words fits root in
     let w : IsWhole (frame_of words) = whole-of (frame_of words) fits.frame root.role_is inside.0 inside.1 (root-value origin words fits root).0 in
     (w.places, w.kinds, table-of (frame_of words) w)
+
+entered-few : (depth : ℕ) (b : List Cell) → length (entered depth b) ≤ 64
+entered-few zero b = omega arith
+entered-few (suc depth) b = few-choices b
+
+-- and a job keeps all its words
+pub root-kept : (origin words : List ℕ) → AreFitting words [] HasReturned → IsRoot origin words → kept_words words ≡ words
+root-kept origin words fits root =
+    let form : IsFormed words = formed-told words fits.formed in
+    let f : Frame = frame_of words in
+    let same : length f.statuses ≡ length (entered f.depth (board f)) = fits.frame.whole root.role_is (returned-known f fits.frame.marked) in
+    let few : length (entered f.depth (board f)) ≤ 64 = entered-few f.depth (board f) in
+    let count : length f.statuses ≡ f.count = status-count words form in
+    take_all 76 words (omega (arith, same, few, count, form.places))

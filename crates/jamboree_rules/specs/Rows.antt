@@ -1,9 +1,12 @@
 -- Words on which the acts are tried: the opening, Black to move, searched to depth 1 with grain 0.
 use Rattle.std.specs.Prelude.{ℕ, List, [], ◌∷◌}
 
--- the root once its four choices (d3, c4, f5, e6) are counted
+-- the root once its four choices (d3, c4, f5, e6) are counted, where d3 has this entry
+abbrev pub opened_with : ℕ → List ℕ
+opened_with entry = 34628173824 ∷ 68853694464 ∷ 1 ∷ 800000 ∷ 1200000 ∷ 0 ∷ 0 ∷ 2 ∷ 800000 ∷ 65 ∷ 4 ∷ 0 ∷ entry ∷ 0 ∷ 0 ∷ 0 ∷ []
+
 abbrev pub opened : List ℕ
-opened = 34628173824 ∷ 68853694464 ∷ 1 ∷ 800000 ∷ 1200000 ∷ 0 ∷ 0 ∷ 2 ∷ 800000 ∷ 65 ∷ 4 ∷ 0 ∷ 0 ∷ 0 ∷ 0 ∷ 0 ∷ []
+opened = opened_with 0
 
 -- the root while its first child is searched, to this depth
 abbrev pub first_runs_to : ℕ → List ℕ

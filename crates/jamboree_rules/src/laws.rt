@@ -3,7 +3,7 @@ ghost use Rattle.std.specs.Prelude.{◌≡◌, ◌≢◌, ℕ, ◌<◌, ◌≤�
 ghost use Rattle.cactus_stack.specs.Nodes.{padded};
 ghost use Rattle.othello_eval.specs.Minimax.{best_choice};
 ghost use Rattle.othello_eval.specs.Tables.{entered, IsTable};
-ghost use Rattle.sched_rules.specs.Trees.{is_outside};
+ghost use Rattle.sched_rules.specs.Trees.{is_outside, kept_words};
 ghost use Rattle.sched_rules.specs.Lone.{is_bad_act};
 ghost use Rattle.sched_rules.specs.Laws.{Mark, Neither, Computes, HasReturned, has_one, ParentFits, NextKeeps, InletKeeps, AcceptKeeps};
 ghost use Rattle.jamboree_rules.specs.declared.leaf.Leaf.{Leaf};
@@ -58,8 +58,10 @@ pub fn a_returned_root_holds_value_and_choice()
 {}
 
 /// A returned root holds a table of its board to its depth: it has a place for each choice, and none at
-/// depth 0; each place has a kind; each entry is true, and the best choice's is exact.
+/// depth 0; each place has a kind; each entry is true, and the best choice's is exact. It has at most 76
+/// words, which a job keeps.
 pub fn a_returned_root_holds_a_table()
+    ensures kept { (origin words : List ℕ) → AreFitting words [] HasReturned → IsRoot origin words → kept_words words ≡ words }
     ensures places { (origin words : List ℕ) → AreFitting words [] HasReturned → IsRoot origin words →
         length (frame_of words).rests ≡ length (entered (frame_of words).depth (board (frame_of words))) }
     ensures kinds { (origin words : List ℕ) → AreFitting words [] HasReturned → IsRoot origin words →

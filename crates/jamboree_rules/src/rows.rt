@@ -3,7 +3,7 @@
 ghost use Rattle.std.specs.Prelude.{◌≡◌, [], ◌∷◌, true, false};
 ghost use Rattle.sched_rules.specs.declared.act.Then.TheVariants.{Grow, Spawn, Wait, Compute, Return};
 ghost use Rattle.jamboree_rules.specs.Acts.{next_act, inlet_act, returns, wakes};
-ghost use Rattle.jamboree_rules.specs.Rows.{opened, first_runs, first_runs_to, d3_to, tests_with, returned};
+ghost use Rattle.jamboree_rules.specs.Rows.{opened_with, opened, first_runs, first_runs_to, d3_to, tests_with, returned};
 
 /// A new root is computed outside at depth 0, and where the game is over at any depth; else its four
 /// choices are counted, whatever the grain.
@@ -26,10 +26,12 @@ pub fn a_new_child()
 {}
 
 /// The first child is opened with the whole window; until it returns, the frame waits. Its score, -3, is
-/// exact: 2 + 8 * 3 + 32 * 999997.
+/// exact: 2 + 8 * 3 + 32 * 999997. What is said of a choice already stays where its status is stored.
 pub fn a_first_child()
     ensures opens { next_act 0 (opened ∷ []) ≡
         record { stores = (11, 1) ∷ (12, 1) ∷ []; after = Spawn (0 ∷ 0 ∷ 0 ∷ 800000 ∷ 1200000 ∷ 1 ∷ 0 ∷ 0 ∷ []) 12 } }
+    ensures keeps { next_act 0 (opened_with 31999912 ∷ []) ≡
+        record { stores = (11, 1) ∷ (12, 31999913) ∷ []; after = Spawn (0 ∷ 0 ∷ 0 ∷ 800000 ∷ 1200000 ∷ 1 ∷ 0 ∷ 0 ∷ []) 12 } }
     ensures waits { next_act 0 (first_runs ∷ []) ≡ record { stores = []; after = Wait } }
     ensures taken { inlet_act first_runs (returned 800000 1200000 1 0 1000003) ≡
         record { stores = (8, 999997) ∷ (9, 19) ∷ (12, 31999930) ∷ (7, 3) ∷ []; abort = false; wake = true } }
@@ -40,6 +42,8 @@ pub fn a_first_child()
 pub fn a_test()
     ensures opens { next_act 0 (tests_with 1 0 ∷ []) ≡
         record { stores = (11, 2) ∷ (13, 1) ∷ []; after = Spawn (0 ∷ 0 ∷ 0 ∷ 1000002 ∷ 1000003 ∷ 2 ∷ 1 ∷ 0 ∷ []) 12 } }
+    ensures keeps { next_act 0 (tests_with 1 31999912 ∷ []) ≡
+        record { stores = (11, 2) ∷ (13, 31999913) ∷ []; after = Spawn (0 ∷ 0 ∷ 0 ∷ 1000002 ∷ 1000003 ∷ 2 ∷ 1 ∷ 0 ∷ []) 12 } }
     ensures low { inlet_act (tests_with 2 1) (returned 1000002 1000003 2 1 1000003) ≡
         record { stores = (8, 999997) ∷ (13, 31999914) ∷ []; abort = false; wake = true } }
     ensures failed { inlet_act (tests_with 2 1) (returned 1000002 1000003 2 1 1000002) ≡

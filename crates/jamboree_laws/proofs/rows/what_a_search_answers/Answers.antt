@@ -1,5 +1,13 @@
-use Rattle.std.proofs.Common.{◌≡◌, negsuc, ap, ◌∙◌, arith}
+use Rattle.std.proofs.Common.{◌≡◌, ℕ, negsuc, ap, ◌∙◌, arith}
 use Rattle.std.proofs.lemmas.Int.{ints}
+use Rattle.othello_board.specs.Rules.{squares, squares_beside}
+use Rattle.othello_moves.specs.declared.choices.Choice.TheVariants.{Square}
+use Rattle.othello_moves.specs.Choices.{in_order}
+use Rattle.othello_eval.specs.declared.bound.BoundKind.{BoundKind}
+use Rattle.othello_eval.specs.declared.bound.BoundKind.TheVariants.{Low, High, Exact}
+use Rattle.othello_eval.specs.Values.{weights}
+use Rattle.othello_eval.specs.Minimax.{minimax, best_choice}
+use Rattle.othello_eval.specs.Rows.{entry}
 use Rattle.jamboree_rules.specs.Frames.{coded}
 use Rattle.jamboree_laws.proofs.Opening.{worth, best, answered}
 use Rattle.jamboree_laws.proofs.rows.what_a_search_answers.Goals as goal
@@ -15,3 +23,20 @@ returns-clause-later_equal_move c is = let e : 26 ≡ 19 = is.choice ∙ ap code
 
 pub returns-clause-depth : goal.returns-clause-depth
 returns-clause-depth c is = let e : 0 ≡ 1 = is.depth in omega (arith, e)
+
+exactness : BoundKind → ℕ
+exactness Low = 0
+exactness High = 1
+exactness Exact = 2
+
+not-exact : exactness High ≡ exactness Exact → ⊥
+unfolding exactness
+not-exact e = absurd (omega (arith, e))
+
+pub returns-clause-vague : goal.returns-clause-vague
+unfolding squares squares_beside in_order
+returns-clause-vague c is = not-exact (ap exactness (is.table.best 0 (entry (Square 19) High (negsuc 2)) (omega arith) best))
+
+pub returns-clause-untrue : goal.returns-clause-untrue
+unfolding squares squares_beside in_order weights minimax best_choice
+returns-clause-untrue c is = (is.table.holds 0 (entry (Square 19) Low (negsuc 3)) (omega arith)).le

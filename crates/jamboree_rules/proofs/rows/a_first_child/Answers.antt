@@ -5,4 +5,4 @@ use Rattle.jamboree_rules.proofs.rows.a_first_child.Goals as goal
 
 pub returns : goal.returns
 unfolding squares squares_beside in_order
-returns c = record { opens = refl; waits = refl; taken = refl }
+returns c = record { opens = refl; keeps = refl; waits = refl; taken = refl }
