@@ -143,14 +143,9 @@ fn outside(alloc: Global, missing: Missing) -> WordsFault
 fn outside_error(alloc: Global, missing: Missing) -> Result<Error, AllocError>
     ensures { IfOk result (λ error. kind_of error ≡ ValueValidation) }
 {
-    let text = text_of(alloc, missing)?;
+    let text = match missing {
+        Missing::Value(setting) => format!(in alloc; "{setting}")?,
+        Missing::Command => format!(in alloc; "one of the commands is needed: solve, serve")?,
+    };
     othello_command(alloc)?.error(ErrorKind::ValueValidation, text.as_str())
-}
-
-/// The option that has no value within its limits, and these; or that a command is needed.
-fn text_of(alloc: Global, missing: Missing) -> Result<String, AllocError> {
-    match missing {
-        Missing::Value(setting) => format!(in alloc; "{setting}"),
-        Missing::Command => format!(in alloc; "one of the commands is needed: solve, serve"),
-    }
 }
