@@ -2,7 +2,7 @@
 ghost use Rattle.std.specs.Prelude.{◌≡◌, IfOk, codes, false};
 ghost use Rattle.clap.specs.Words.{app_of, found_of, new_app, rows_of, rule_of, shape_of, with_rule};
 ghost use Rattle.clap.specs.declared.builder.command.Command.TheViews.{out-Command};
-ghost use Rattle.command_line.specs.CommandLine.{bare_program, is_set, program, serve_shape, solve_shape, visited_rule};
+ghost use Rattle.command_line.specs.CommandLine.{is_set, program, serve_shape, solve_shape};
 ghost use Rattle.command_line.specs.Settings.{number_rule};
 
 use crate::settings::{GRAIN, NODES, PORT, SEGMENTS, SESSIONS, Setting, WORKERS};
@@ -25,20 +25,14 @@ pub(crate) fn othello_command<'a>(alloc: Global) -> Result<Command<'a>, AllocErr
 {
     let solve = solve_command(alloc)?;
     let serve = serve_command(alloc)?;
-    bare_othello(alloc).subcommand(solve)?.subcommand(serve)
-}
-
-/// The program before it has commands.
-fn bare_othello<'a>(alloc: Global) -> Command<'a>
-    ensures app { app_of result ≡ bare_program }
-    ensures local { (out-Command result).has_globals ≡ false }
-{
     Command::new(alloc, "othello")
         .version(VERSION)
         .about(
             "Othello analysis: the minimax value of a position, and the first move that attains it",
         )
         .subcommand_required(true)
+        .subcommand(solve)?
+        .subcommand(serve)
 }
 
 /// The command of this name by itself, for the usage that is told of it; the program's where there is none.
@@ -75,30 +69,16 @@ fn solve_command<'a>(alloc: Global) -> Result<Command<'a>, AllocError>
     ensures shape { IfOk result (λ command. shape_of command ≡ solve_shape) }
     ensures local { IfOk result (λ command. (out-Command command).has_globals ≡ false) }
 {
-    let command = bare_solve(alloc);
-    let command = with_number(alloc, command, GRAIN, "g", false, GRAIN_HELP)?;
-    command.arg(visited_arg(alloc))
-}
-
-/// The command `solve` before it has options.
-fn bare_solve<'a>(alloc: Global) -> Command<'a>
-    ensures app { app_of result ≡ new_app (codes "solve") }
-    ensures local { (out-Command result).has_globals ≡ false }
-{
+    let grain = number_arg(alloc, GRAIN, "g", false, GRAIN_HELP);
+    let visited = Arg::new(alloc, "visited")
+        .long("visited")
+        .action(ArgAction::SetTrue)
+        .help("answers by one serial search, and adds the number of positions that it entered");
     Command::new(alloc, "solve")
         .about("answers lines `depth position` from standard input by lines `value move`")
         .after_help(SOLVE_HELP)
-}
-
-/// The flag `--visited`.
-fn visited_arg<'a>(alloc: Global) -> Arg<'a>
-    ensures rule { rule_of result ≡ visited_rule }
-    ensures local { result.global ≡ false }
-{
-    Arg::new(alloc, "visited")
-        .long("visited")
-        .action(ArgAction::SetTrue)
-        .help("answers by one serial search, and adds the number of positions that it entered")
+        .arg(grain)?
+        .arg(visited)
 }
 
 /// The command `serve`.

@@ -147,18 +147,13 @@ fn outside_error(
 ) -> Result<Error, AllocError>
     ensures { IfOk result (λ error. kind_of error ≡ ValueValidation) }
 {
-    let text = text_of(alloc, missing)?;
+    let text = match missing {
+        Missing::Value(setting) => format!(in alloc; "{setting}")?,
+        Missing::Command => format!(in alloc; "one of the commands is needed: solve, serve")?,
+    };
     let mut command = match matches.subcommand() {
         Some((name, _)) => command_of(alloc, name)?,
         None => othello_command(alloc)?,
     };
     command.error(ErrorKind::ValueValidation, text.as_str())
-}
-
-/// The option that has no value within its limits, and these; or that a command is needed.
-fn text_of(alloc: Global, missing: Missing) -> Result<String, AllocError> {
-    match missing {
-        Missing::Value(setting) => format!(in alloc; "{setting}"),
-        Missing::Command => format!(in alloc; "one of the commands is needed: solve, serve"),
-    }
 }

@@ -288,13 +288,13 @@ fn a_name_that_is_gone_is_not_found_again(rt: HostRuntime) -> Result<(), Fail> {
     Ok(())
 }
 
-/// The serials of a frame's children.
-fn children(alloc: Global, table: &FrameTable<u64>, f: FrameId) -> Result<Vec<u64>, Fail> {
-    let mut serials = Vec::new(alloc);
+/// A frame's children.
+fn children(alloc: Global, table: &FrameTable<u64>, f: FrameId) -> Result<Vec<FrameId>, Fail> {
+    let mut names = Vec::new(alloc);
     for child in table.children(f) {
-        serials.push(child.serial)?;
+        names.push(child)?;
     }
-    Ok(serials)
+    Ok(names)
 }
 
 /// The serials of a tenant's frames.
@@ -312,9 +312,9 @@ fn has_children(
     alloc: Global,
     table: &FrameTable<u64>,
     f: FrameId,
-    serials: &[u64],
+    names: &[FrameId],
 ) -> Result<(), Fail> {
-    assert_eq!(rt; children(alloc, table, f)?.as_slice(), serials);
+    assert_eq!(rt; children(alloc, table, f)?.as_slice(), names);
     Ok(())
 }
 
@@ -333,7 +333,8 @@ fn has_frames(
 #[test]
 fn names_come_by_rising_serial(rt: HostRuntime) -> Result<(), Fail> {
     let table = five(&rt, rt.alloc(), 7)?;
-    has_children(&rt, rt.alloc(), &table, name(7, 1), &[2, 3, 4])?;
+    let names = [name(7, 2), name(7, 3), name(7, 4)];
+    has_children(&rt, rt.alloc(), &table, name(7, 1), &names)?;
     has_frames(&rt, rt.alloc(), &table, 7, &[1, 2, 3, 4, 5])?;
     has_frames(&rt, rt.alloc(), &table, 8, &[])?;
     has_children(&rt, rt.alloc(), &table, name(7, 6), &[])
