@@ -1,5 +1,5 @@
 //! One line of a session: what it asks of the office, and its answer.
-ghost use Rattle.std.specs.Prelude.{◌≡◌, ◌≤◌, true, length};
+ghost use Rattle.std.specs.Prelude.{◌≡◌, ◌≤◌, Bool, true, length};
 ghost use Rattle.line_io.specs.Views.{text_of};
 ghost use Rattle.session.specs.Calls.{Hello, Reply, Welcome, reply_of};
 ghost use Rattle.session.specs.Requests.{request};
@@ -37,6 +37,36 @@ fn take_hello<O: Office>(office: &mut O, seated: &mut bool, text: &mut Text, res
     write_welcome(text, reserve, reply);
 }
 
+// What an office tells of a job is 800 bytes, which a function that holds one pays for at its entry. So each call that is
+// told so much stands in a function of its own, and other requests don't pay.
+
+/// How a job stands.
+fn tell_job<O: Office>(office: &mut O, text: &mut Text, job: u64)
+    ensures turn { (seated : Bool) → Turned O.does (request_seen (Request.Get job)) office.old seated text.new.items office.new seated }
+    ensures short { length text.new.items ≤ 1114 }
+{
+    let reply = office.get(job);
+    write_told(text, job, &reply);
+}
+
+/// The same, once the job has ended.
+fn tell_ended_job<O: Office>(office: &mut O, text: &mut Text, job: u64)
+    ensures turn { (seated : Bool) → Turned O.does (request_seen (Request.Wait job)) office.old seated text.new.items office.new seated }
+    ensures short { length text.new.items ≤ 1114 }
+{
+    let reply = office.wait(job);
+    write_told(text, job, &reply);
+}
+
+/// How a job stands, with its table where it is done.
+fn tell_table<O: Office>(office: &mut O, text: &mut Text, job: u64)
+    ensures turn { (seated : Bool) → Turned O.does (request_seen (Request.Table job)) office.old seated text.new.items office.new seated }
+    ensures short { length text.new.items ≤ 1114 }
+{
+    let reply = office.get(job);
+    write_table_reply(text, job, &reply);
+}
+
 /// The answer to a request.
 fn answer_request<O: Office>(office: &mut O, seated: &mut bool, text: &mut Text, request: Request)
     requires { O.ready ≡ true }
@@ -48,10 +78,10 @@ fn answer_request<O: Office>(office: &mut O, seated: &mut bool, text: &mut Text,
         Request::Hello(reserve) => take_hello(office, seated, text, reserve),
         Request::Reserve(reserve) => write_reserved(text, reserve, office.reserve(reserve)),
         Request::Ask(question) => write_job(text, office.ask(&question.position, question.depth)),
-        Request::Get(job) => write_told(text, job, &office.get(job)),
-        Request::Wait(job) => write_told(text, job, &office.wait(job)),
+        Request::Get(job) => tell_job(office, text, job),
+        Request::Wait(job) => tell_ended_job(office, text, job),
         Request::Cancel(job) => write_ended(text, job, office.cancel(job)),
-        Request::Table(job) => write_table_reply(text, job, &office.get(job)),
+        Request::Table(job) => tell_table(office, text, job),
         Request::Quota => write_quota(text, office.quota()),
         Request::Live => write_live(text, office.live()),
         Request::Bye => {
