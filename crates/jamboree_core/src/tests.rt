@@ -113,7 +113,14 @@ fn a_table_of_the_opening(rt: HostRuntime) -> Result<(), Fail> {
     ] {
         let choice = Choice::Square(square);
         let score = -3;
-        assert_eq!(rt; entry(outcome, number), Some(Bound { choice, score, kind }));
+        assert_eq!(rt;
+            entry(outcome, number),
+            Some(Bound {
+                choice,
+                score,
+                kind
+            })
+        );
         number = number.wrapping_add(1);
     }
     assert_eq!(rt; entry(outcome, 4), None);
