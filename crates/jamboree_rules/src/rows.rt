@@ -38,7 +38,8 @@ pub fn a_first_child()
 {}
 
 /// The next choice is tested just above the best score, -3; a test at most that settles it, and bounds
-/// it from above (kind 1); one above it has failed, and bounds it from below (kind 2), here by -2.
+/// it from above (kind 1), here by -3 or by -10; one above it has failed, and bounds it from below
+/// (kind 2), here by -2.
 pub fn a_test()
     ensures opens { next_act 0 (tests_with 1 0 ∷ []) ≡
         record { stores = (11, 2) ∷ (13, 1) ∷ []; after = Spawn (0 ∷ 0 ∷ 0 ∷ 1000002 ∷ 1000003 ∷ 2 ∷ 1 ∷ 0 ∷ []) 12 } }
@@ -46,6 +47,8 @@ pub fn a_test()
         record { stores = (11, 2) ∷ (13, 31999913) ∷ []; after = Spawn (0 ∷ 0 ∷ 0 ∷ 1000002 ∷ 1000003 ∷ 2 ∷ 1 ∷ 0 ∷ []) 12 } }
     ensures low { inlet_act (tests_with 2 1) (returned 1000002 1000003 2 1 1000003) ≡
         record { stores = (8, 999997) ∷ (13, 31999914) ∷ []; abort = false; wake = true } }
+    ensures lower { inlet_act (tests_with 2 1) (returned 1000002 1000003 2 1 1000010) ≡
+        record { stores = (8, 999997) ∷ (13, 31999690) ∷ []; abort = false; wake = true } }
     ensures failed { inlet_act (tests_with 2 1) (returned 1000002 1000003 2 1 1000002) ≡
         record { stores = (13, 31999955) ∷ []; abort = false; wake = true } }
 {}

@@ -5,4 +5,4 @@ use Rattle.jamboree_rules.proofs.rows.a_test.Goals as goal
 
 pub returns : goal.returns
 unfolding squares squares_beside in_order
-returns c = record { opens = refl; keeps = refl; low = refl; failed = refl }
+returns c = record { opens = refl; keeps = refl; low = refl; lower = refl; failed = refl }
