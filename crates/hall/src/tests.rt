@@ -201,7 +201,7 @@ fn late_answers_are_refused(rt: HostRuntime) -> Result<(), Fail> {
 }
 
 /// How many bytes are taken before the hall is made, and given back once an admission was refused.
-const BALLAST: usize = 131072;
+const BALLAST: usize = 262_144;
 
 /// What the hall shows of its first tenant and of its storage.
 fn look_at<A: Allocator>(hall: &Hall<A>) -> (Option<Left>, usize, u128, u64) {
@@ -277,7 +277,7 @@ fn is_wanting_of(
     config: Config,
     reserve: Reserve,
 ) -> Result<Option<bool>, Fail>
-    requires { units < 8192 }
+    requires { units < 16384 }
 {
     let heap = LocalHeap::new(alloc, BALLAST + units * 32)?;
     Ok(is_wanting(rt, &heap, config, reserve))
@@ -290,7 +290,7 @@ fn each_growth_of_an_admission_is_refused(rt: HostRuntime) -> Result<(), Fail> {
     let config = Config::new(8, 32).ok_or("within the limits")?;
     let reserve = Reserve::new(1, 1).ok_or("within the limits")?;
     let mut wanting = 0u32;
-    for units in 0..8192usize {
+    for units in 0..16384usize {
         match is_wanting_of(&rt, rt.alloc(), units, config, reserve)? {
             None => {}
             Some(true) => wanting = wanting.saturating_add(1),
@@ -388,7 +388,7 @@ fn is_raise_wanting_of(
     config: Config,
     plan: &Plan,
 ) -> Result<Option<bool>, Fail>
-    requires { units < 8192 }
+    requires { units < 16384 }
 {
     let heap = LocalHeap::new(alloc, BALLAST + units * 32)?;
     Ok(is_raise_wanting(rt, &heap, config, plan))
@@ -404,7 +404,7 @@ fn each_growth_of_a_raise_is_refused(rt: HostRuntime) -> Result<(), Fail> {
         opening: opening()?,
     };
     let mut wanting = 0u32;
-    for units in 0..8192usize {
+    for units in 0..16384usize {
         match is_raise_wanting_of(&rt, rt.alloc(), units, config, &plan)? {
             None => {}
             Some(true) => wanting = wanting.saturating_add(1),

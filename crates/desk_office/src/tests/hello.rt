@@ -5,7 +5,7 @@ use super::*;
 use linked_list_allocator::LocalHeap;
 
 /// How many bytes are taken before the hall is made, and given back after the first HELLO.
-const BALLAST: usize = 131_072;
+const BALLAST: usize = 262_144;
 
 /// Gives one line a call, and gives the ballast back before the second.
 struct Ballasted<'a> {
@@ -97,7 +97,7 @@ fn told_in<L: Hands, R: Wait>(
 fn a_refused_hello_is_taken_later(rt: HostRuntime) -> Result<(), Fail> {
     let mut refused = 0u32;
     let mut is_taken = false;
-    for units in 0..8192usize {
+    for units in 0..16384usize {
         let heap = LocalHeap::new(rt.alloc(), BALLAST + units * 32)?;
         let told = told_in::<Brand, HostRuntime>(&rt, rt.alloc(), &heap, Blank::new(PARTS));
         assert_eq!(rt; heap.used(), 0);
