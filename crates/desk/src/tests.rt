@@ -408,8 +408,8 @@ fn two_seats_ask<L: Hands, R: Wait + Abort>(rt: &R, alloc: Global, blank: Blank)
 {
     let worker = Worker::new(7).ok_or("within the limits")?;
     let asked = [
-        (opening()?, 1, (-3, Some(Choice::Square(19)))),
-        (position(1, 2)?, 1, (6000, Some(Choice::Square(2)))),
+        (opening()?, 0, (0, None)),
+        (position(1, 2)?, 0, (124, None)),
         (position(0, u64::MAX)?, 12, (-128_000, None)),
     ];
     let desk: Desk<L> = desk_of(alloc, blank, 8, 32)?;
