@@ -3,6 +3,7 @@
 ghost use Rattle.std.specs.Prelude.{◌≡◌};
 
 mod reserving;
+mod tables;
 
 use crate::door::Door;
 use crate::server::{Sessions, serve_beside};
