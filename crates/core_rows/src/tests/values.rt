@@ -22,9 +22,7 @@ fn a_job_keeps_all_20_words(rt: HostRuntime) -> Result<(), Fail> {
 #[test]
 fn a_job_keeps_76_words(rt: HostRuntime) -> Result<(), Fail> {
     let mut stack = Stack::new(rt.alloc(), 5)?;
-    let node = stack
-        .open(None, &[1], 77)
-        .expect(&rt, "the stack has room");
+    let node = stack.open(None, &[1], 77).expect(&rt, "the stack has room");
     stack.store(node, 75, 7);
     stack.store(node, 76, 8);
     let kept = JobWords::of(&stack.own(node));
