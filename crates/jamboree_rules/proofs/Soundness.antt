@@ -19,15 +19,16 @@ window-of f c (Again r) = AgainWindow r.role r.low r.high r.earlier
 goals-of : (f : Frame) (cs : List Frame) → ((f.phase ≡ 2) ⊎ (f.phase ≡ 3) → IsSearchingFrame f) → AreChildren f cs → HaveGoals f cs
 goals-of f [] searching kin = tt
 goals-of f (c ∷ cs) searching kin =
-    let searches = in-search f c kin.0.in_role in
-    (record {
-       searches = searches;
-       inside = omega (arith, kin.0.inside, (searching searches).places);
-       board = kin.0.known;
-       depth = kin.0.shallower;
-       window = window-of f c kin.0.in_role;
-     },
-     goals-of f cs searching kin.1)
+    let searches = in-search f c kin.0.in_role in (
+      record {
+        searches = searches;
+        inside = omega (arith, kin.0.inside, (searching searches).places);
+        board = kin.0.known;
+        depth = kin.0.shallower;
+        window = window-of f c kin.0.in_role;
+      },
+      goals-of f cs searching kin.1,
+    )
 
 -- a settled choice is one of the choices
 settled-inside : (f : Frame) (i : ℕ) → IsSettled f i → i < length f.statuses
