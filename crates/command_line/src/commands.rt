@@ -165,6 +165,8 @@ A connection is a session. Each line is answered by one line, in order:
   ASK d position    JOB k           asks for a position, d plies deep (`othello solve --help`)
   GET k             PENDING k, DONE k value move, SPENT k or CANCELLED k
   WAIT k            as GET, once the job has ended
+  TABLE k           TABLE k and each move with its value: d3=-3, or at most c4<-3, or at
+                    least f5>2; as GET where the job isn't done
   CANCEL k          CANCELLED k     ends a job
   QUOTA             QUOTA s n t     the segments, nodes and steps that are left
   LIVE              LIVE f w        the frames that are open, and their words
