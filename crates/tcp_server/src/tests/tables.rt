@@ -1,5 +1,5 @@
 //! Tables of jobs, over TCP.
-ghost use Rattle.std.specs.Prelude.{◌≡◌, ◌≤◌};
+ghost use Rattle.std.specs.Prelude.{◌≡◌};
 
 use super::{Row, are_answered};
 use crate::{ServeFault, serve};
@@ -52,17 +52,17 @@ fn are_tabled<L, R>(
     alloc: Global,
     blank: Blank,
     grain: u8,
-    workers: Worker,
+    workers: u8,
 ) -> Result<bool, Fail>
 where
     L: Hands + Send + Sync,
     R: Net<Listener = TcpListener, Stream = TcpStream> + Threads + Wait + Sync,
     requires name { blank.name ≡ L.name }
     requires parts { (blank.parts ≡ L.parts) × (L.all ≡ L.parts) × (L.all ≡ PARTS) }
-    requires fine { grain ≤ 6 }
 {
     let config = Config::new(64, 64).ok_or("the limits")?;
-    let desk: Desk<L> = Desk::new(Hall::new(alloc, config, grain)?, blank);
+    let workers = Worker::new(workers).ok_or("the limits")?;
+    let desk: Desk<L> = Desk::new(Hall::new(alloc, config, grain.min(6))?, blank);
     let listener = TcpListener::bind(rt, "127.0.0.1:0")?;
     let stream = TcpStream::connect(rt, listener.local_addr()?)?;
     let (told, served) = thread::join(
@@ -95,18 +95,15 @@ where
 
 #[test]
 fn tables_are_told_at_each_grain(rt: HostRuntime) -> Result<(), Fail> {
-    for grain in [0, 2, 6] {
-        for workers in [1, 8] {
-            let workers = Worker::new(workers).ok_or("within the limits")?;
-            let told = are_tabled::<Brand, HostRuntime>(
-                &rt,
-                rt.alloc(),
-                Blank::new(PARTS),
-                grain,
-                workers,
-            )?;
-            assert!(rt; told, "grain {grain}");
-        }
+    for (grain, workers) in [(0, 1), (0, 8), (2, 1), (2, 8), (6, 1), (6, 8)] {
+        let told = are_tabled::<Brand, HostRuntime>(
+            &rt,
+            rt.alloc(),
+            Blank::new(PARTS),
+            grain,
+            workers,
+        )?;
+        assert!(rt; told, "grain {grain}, {workers} workers");
     }
     Ok(())
 }
