@@ -6,7 +6,7 @@ use Rattle.std.proofs.lemmas.List.Sums.{sum_by-set, sum_by-cons}
 use Rattle.segment_region.specs.Segments.{Segments, taken_count}
 use Rattle.cactus_stack.specs.Nodes.{charge}
 use Rattle.cactus_stack.specs.Chains.{content, AreApart, AgreesOn}
-use Rattle.cactus_stack.specs.Lists.{Lists, list_at, list_in, lists_from, list_charge, segments_of, IsSoundList, IsSound}
+use Rattle.cactus_stack.specs.Lists.{Lists, list_at, list_in, lists_from, list_charge, segments_of, IsSoundList, AreSoundLists}
 use Rattle.cactus_stack.proofs.Numbers.{eq-or-ne, apart-sym}
 use Rattle.cactus_stack.proofs.Follow.{chain-agrees, content-agrees, blocks-agrees}
 use Rattle.cactus_stack.proofs.Sound.{list_charge-list_in}
@@ -37,7 +37,7 @@ charges-from region n (len ∷ lens) sound =
     rw (sum_by-cons list_charge (list_in region n len) (lists_from region (suc n) lens), sum_by-cons charge len lens)
     (omega (arith, list_charge-list_in region n len first, charges-from region (suc n) lens next))
 
-pub charges-lists_from : (region : Segments) (lens : List ℕ) → IsSound region lens → sum_by list_charge (lists_from region 0 lens) ≡ sum_by charge lens
+pub charges-lists_from : (region : Segments) (lens : List ℕ) → AreSoundLists region lens → sum_by list_charge (lists_from region 0 lens) ≡ sum_by charge lens
 charges-lists_from region lens sound =
     charges-from region 0 lens (λ i. (let same : 0 + i ≡ i = omega arith in rw same (sound.sound i)))
 
@@ -90,7 +90,7 @@ changed old new lens n len change =
           (list_in-agrees old new i (get_or lens i 0) (change.agrees i other) ∙ sym (list_at-lists_from old i lens))
     ])
 
-pub still_sound : (old new : Segments) (lens : List ℕ) (n len : ℕ) → IsSound old lens → IsChange old new lens n len → IsSound new (set lens n len)
+pub still_sound : (old new : Segments) (lens : List ℕ) (n len : ℕ) → AreSoundLists old lens → IsChange old new lens n len → AreSoundLists new (set lens n len)
 still_sound old new lens n len sound change =
     let same : (m : ℕ) → m ≢ n → segments_of new m (get_or lens m 0) ≡ segments_of old m (get_or lens m 0) = λ m other. chain-agrees (charge (get_or lens m 0)) old new (Some m) (change.agrees m other) in
     let here : get_or (set lens n len) n 0 ≡ len = get_or-set_same lens n len 0 change.within in

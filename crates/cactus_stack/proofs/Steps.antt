@@ -9,7 +9,7 @@ use Rattle.segment_region.specs.Segments.{Segment, Segments, segment_at, words_a
 use Rattle.segment_region.proofs.Counts.{taken_count-write, taken_count-replicate}
 use Rattle.cactus_stack.specs.Nodes.{charge, padded}
 use Rattle.cactus_stack.specs.Chains.{chain, content, AreApart, AllBlocks, AllFree, IsFreshChain, IsGrownChain, IsGivenBack}
-use Rattle.cactus_stack.specs.Lists.{Lists, list_at, list_in, lists_from, list_charge, words_in, words_of_list, segments_of, IsSoundList, IsSound}
+use Rattle.cactus_stack.specs.Lists.{Lists, list_at, list_in, lists_from, list_charge, words_in, words_of_list, segments_of, IsSoundList, AreSoundLists}
 use Rattle.cactus_stack.proofs.Numbers.{apart-sym, apart-append, apart-get_or}
 use Rattle.cactus_stack.proofs.Follow.{agrees-apart, agrees-taken, agrees-set, apart-free}
 use Rattle.cactus_stack.proofs.Content.{content-write, chain-write, blocks-write, blocks-get_or}
@@ -26,10 +26,10 @@ pub read_len : (lens : List ℕ) (at n len : ℕ) → at ≡ n → len ≡ get_o
 read_len lens at n len is read below = rw is at read ∙ get_or_default_zero lens n len below
 
 -- all that is charged is taken
-pub charges-are-taken : (region : Segments) (lens : List ℕ) (lists : Lists) → IsSound region lens → lists_from region 0 lens ≡ lists → sum_by list_charge lists ≡ taken_count region
+pub charges-are-taken : (region : Segments) (lens : List ℕ) (lists : Lists) → AreSoundLists region lens → lists_from region 0 lens ≡ lists → sum_by list_charge lists ≡ taken_count region
 charges-are-taken region lens lists sound view = rw (← view) (charges-lists_from region lens sound ∙ sym sound.counted)
 
-pub places-are-segments : (region : Segments) (lens : List ℕ) (lists : Lists) → IsSound region lens → lists_from region 0 lens ≡ lists → length lists ≡ length region
+pub places-are-segments : (region : Segments) (lens : List ℕ) (lists : Lists) → AreSoundLists region lens → lists_from region 0 lens ≡ lists → length lists ≡ length region
 places-are-segments region lens lists sound view = rw (← view) (length-lists_from region 0 lens ∙ sound.places)
 
 -- what is known of a list that is there
@@ -40,7 +40,7 @@ pub record IsListed (region : Segments) (lens : List ℕ) (lists : Lists) (n : �
   pub len : length (words_of_list (list_at lists n)) ≡ get_or lens n 0
   pub sound : IsSoundList region n (get_or lens n 0)
 
-pub listed : (region : Segments) (lens : List ℕ) (lists : Lists) (n : ℕ) → IsSound region lens → lists_from region 0 lens ≡ lists → IsSome (list_at lists n) → IsListed region lens lists n
+pub listed : (region : Segments) (lens : List ℕ) (lists : Lists) (n : ℕ) → AreSoundLists region lens → lists_from region 0 lens ≡ lists → IsSome (list_at lists n) → IsListed region lens lists n
 listed region lens lists n sound view is_there =
     let entry : list_at lists n ≡ list_in region n (get_or lens n 0) = rw (← view) (list_at-lists_from region n lens) in
     let there : IsSome (list_in region n (get_or lens n 0)) = rw entry at is_there in
@@ -69,7 +69,7 @@ cut-zeros content words zeros more is h = (
 
 -- a store
 
-pub store_change : (region : Segments) (lens : List ℕ) (n at word s : ℕ) → IsSound region lens → at < get_or lens n 0 → s ≡ get_or (segments_of region n (get_or lens n 0)) (at / 16) 0 →
+pub store_change : (region : Segments) (lens : List ℕ) (n at word s : ℕ) → AreSoundLists region lens → at < get_or lens n 0 → s ≡ get_or (segments_of region n (get_or lens n 0)) (at / 16) 0 →
     IsChange region (with_words region s (set (words_at region s) (at % 16) word)) lens n (get_or lens n 0)
     × (words_in (with_words region s (set (words_at region s) (at % 16) word)) n (get_or lens n 0) ≡ set (words_in region n (get_or lens n 0)) at word)
 store_change region lens n at word s sound below is =
@@ -106,7 +106,7 @@ store_change region lens n at word s sound below is =
 apart-nil : (xs : List ℕ) → AreApart xs []
 apart-nil xs = apart-sym [] xs tt
 
-pub close_change : (region new : Segments) (lens : List ℕ) (n : ℕ) → IsSound region lens → 0 < get_or lens n 0 → IsGivenBack region new (segments_of region n (get_or lens n 0)) → IsChange region new lens n 0
+pub close_change : (region new : Segments) (lens : List ℕ) (n : ℕ) → AreSoundLists region lens → 0 < get_or lens n 0 → IsGivenBack region new (segments_of region n (get_or lens n 0)) → IsChange region new lens n 0
 close_change region new lens n sound some given =
     let own : IsSoundList region n (get_or lens n 0) = sound.sound n in
     record {
@@ -120,7 +120,7 @@ close_change region new lens n sound some given =
 
 -- a growth
 
-pub grow_change : (region new : Segments) (lens : List ℕ) (n more added : ℕ) → IsSound region lens → 0 < get_or lens n 0 → get_or lens n 0 + more ≤ 128 → charge (get_or lens n 0) + added ≡ charge (get_or lens n 0 + more) →
+pub grow_change : (region new : Segments) (lens : List ℕ) (n more added : ℕ) → AreSoundLists region lens → 0 < get_or lens n 0 → get_or lens n 0 + more ≤ 128 → charge (get_or lens n 0) + added ≡ charge (get_or lens n 0 + more) →
     IsGrownChain region new (segments_of region n (get_or lens n 0)) (segments_of new n (get_or lens n 0 + more)) added →
     IsChange region new lens n (get_or lens n 0 + more) × (words_in new n (get_or lens n 0 + more) ≡ words_in region n (get_or lens n 0) ++ replicate more 0)
 grow_change region new lens n more added sound some limit charges grown =
@@ -171,12 +171,12 @@ unused region n (suc len) sound free =
     absurd (cc (taken, is_none))
 
 -- the first of the new segments was no list's number
-pub was_unused : (region new : Segments) (lens : List ℕ) (n size : ℕ) (words : List ℕ) → IsSound region lens → 0 < size → IsFreshChain region new (segments_of new n size) words (charge size) → (n < length lens) × (get_or lens n 0 ≡ 0)
+pub was_unused : (region new : Segments) (lens : List ℕ) (n size : ℕ) (words : List ℕ) → AreSoundLists region lens → 0 < size → IsFreshChain region new (segments_of new n size) words (charge size) → (n < length lens) × (get_or lens n 0 ≡ 0)
 was_unused region new lens n size words sound some fresh =
     let free : IsFree region n = head-free region new n (charge size) (charge-some size some) fresh.were_free in
     (rw sound.places free.0, unused region n (get_or lens n 0) (sound.sound n) free)
 
-pub open_change : (region new : Segments) (lens : List ℕ) (n size : ℕ) (words : List ℕ) → IsSound region lens → 0 < size → size ≤ 128 → length words ≤ size → IsFreshChain region new (segments_of new n size) words (charge size) →
+pub open_change : (region new : Segments) (lens : List ℕ) (n size : ℕ) (words : List ℕ) → AreSoundLists region lens → 0 < size → size ≤ 128 → length words ≤ size → IsFreshChain region new (segments_of new n size) words (charge size) →
     IsChange region new lens n size × (words_in new n size ≡ padded words size)
 open_change region new lens n size words sound some limit room fresh =
     let xs : List ℕ = segments_of new n size in
@@ -201,7 +201,7 @@ open_change region new lens n size words sound some limit room fresh =
       ap (λ (k : ℕ). take k (content new xs)) (sym at_size) ∙ cut.0,
     )
 
-pub grow_step : (region new : Segments) (lens : List ℕ) (n first len count wide more : ℕ) → IsSound region lens → first ≡ n → len ≡ get_or lens n 0 → count ≡ charge len → wide ≡ charge (len + more) → 0 < get_or lens n 0 → len + more ≤ 128 →
+pub grow_step : (region new : Segments) (lens : List ℕ) (n first len count wide more : ℕ) → AreSoundLists region lens → first ≡ n → len ≡ get_or lens n 0 → count ≡ charge len → wide ≡ charge (len + more) → 0 < get_or lens n 0 → len + more ≤ 128 →
     IsGrownChain region new (chain count region (Some first)) (chain (count + (wide - count)) new (Some first)) (wide - count) →
     IsChange region new lens n (len + more) × (words_in new n (len + more) ≡ words_in region n (get_or lens n 0) ++ replicate more 0)
 grow_step region new lens n first len count wide more sound is_first is_len is_count is_wide some limit grown =
@@ -213,7 +213,7 @@ grow_step region new lens n first len count wide more sound is_first is_len is_c
     let P : ℕ → Type 0 = λ k. IsGrownChain region new (chain k region (Some n)) (segments_of new n (get_or lens n 0 + more)) (wide - count) in
     rw is_len (grow_change region new lens n more (wide - count) sound some (rw is_len at limit) segments (subst P own named))
 
-pub open_step : (region new : Segments) (lens : List ℕ) (n size count : ℕ) (words : List ℕ) → IsSound region lens → 0 < size → size ≤ 128 → length words ≤ size → count ≡ charge size → IsFreshChain region new (chain count new (Some n)) words count →
+pub open_step : (region new : Segments) (lens : List ℕ) (n size count : ℕ) (words : List ℕ) → AreSoundLists region lens → 0 < size → size ≤ 128 → length words ≤ size → count ≡ charge size → IsFreshChain region new (chain count new (Some n)) words count →
     (n < length lens) × (get_or lens n 0 ≡ 0) × IsChange region new lens n size × (words_in new n size ≡ padded words size)
 open_step region new lens n size count words sound some limit room is_count fresh =
     let named : IsFreshChain region new (segments_of new n size) words (charge size) = rw is_count at fresh in
@@ -239,7 +239,7 @@ sum_by-zeros (suc count) = omega (arith, sum_by-cons charge 0 (replicate count 0
 none_listed : (region : Segments) (n : ℕ) → IsSoundList region n 0
 none_listed region n = record { at_most = omega arith; is_chain = record { blocks = tt; whole = refl; once = tt }; zeros = refl }
 
-pub sound_at_first : (count : ℕ) → IsSound (replicate count None) (replicate count 0)
+pub sound_at_first : (count : ℕ) → AreSoundLists (replicate count None) (replicate count 0)
 sound_at_first count =
     record {
       places = length-replicate {A = ℕ} count 0 ∙ sym (length-replicate {A = Option Segment} count None);

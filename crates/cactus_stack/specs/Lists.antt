@@ -47,7 +47,7 @@ pub record IsSoundList (region : Segments) (number len : ℕ) : Type 0 where
   pub zeros : drop len (content region (segments_of region number len)) ≡ replicate (16 * charge len - len) 0
 
 -- each list is sound, no segment is of two lists, and none is taken but for a list
-pub record IsSound (region : Segments) (lens : List ℕ) : Type 0 where
+pub record AreSoundLists (region : Segments) (lens : List ℕ) : Type 0 where
   pub places : length lens ≡ length region
   pub counted : taken_count region ≡ sum_by charge lens
   pub sound : (n : ℕ) → IsSoundList region n (slice_index lens n)

@@ -24,11 +24,11 @@ impl<A: Allocator> Model for Lists<A> {
 
     ghost Value = { Value_of_lists };
 
-    ghost use Rattle.cactus_stack.specs.Lists.{lists_from, IsSound};
+    ghost use Rattle.cactus_stack.specs.Lists.{lists_from, AreSoundLists};
 
     ghost view = { λ lists. lists_from lists.region 0 lists.lens.items };
 
-    ghost invariant = { λ lists. IsSound lists.region lists.lens.items };
+    ghost invariant = { λ lists. AreSoundLists lists.region lists.lens.items };
 }
 
 impl<A: Allocator> Lists<A> {

@@ -1,7 +1,7 @@
 //! What is read of a stack through a `&` to it, whatever allocator it has.
 ghost use Rattle.std.specs.Prelude.{◌≡◌, Some, IsSome};
 ghost use Rattle.cactus_stack.specs.Nodes.{IsOpen, node_words, node_parent};
-ghost use Rattle.cactus_stack.specs.Lists.{list_at, lists_from, IsSound};
+ghost use Rattle.cactus_stack.specs.Lists.{list_at, lists_from, AreSoundLists};
 ghost use Rattle.cactus_stack.specs.Trees.{nodes_of, IsTree};
 
 use crate::node::NodeNo;
@@ -22,17 +22,17 @@ impl<'a> Model for ListsView<'a> {
 
     ghost Value = { Value_of_lists };
 
-    ghost use Rattle.cactus_stack.specs.Lists.{lists_from, IsSound};
+    ghost use Rattle.cactus_stack.specs.Lists.{lists_from, AreSoundLists};
 
     ghost view = { λ lists. lists_from lists.region 0 lists.lens.now };
 
-    ghost invariant = { λ lists. IsSound lists.region lists.lens.now };
+    ghost invariant = { λ lists. AreSoundLists lists.region lists.lens.now };
 }
 
 impl<'a> ListsView<'a> {
     /// The lists of these lengths in a region.
     pub fn of(region: RegionView<'a>, lens: &'a [u8]) -> ListsView<'a>
-        requires { IsSound region lens.now }
+        requires { AreSoundLists region lens.now }
         ensures { result ≡ lists_from region.entry 0 lens.now }
     {
         ListsView { region, lens }

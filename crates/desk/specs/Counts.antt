@@ -17,8 +17,8 @@ use Rattle.hall.specs.jamboree_rules.declared.leaf.LeafAnswer.{LeafAnswer}
 use Rattle.hall.specs.jamboree_rules.Procedure.{jamboree}
 use Rattle.hall.specs.Halls.{HallOf, hall_after}
 use Rattle.desk.specs.Seats.{SeatOf}
-use Rattle.desk.specs.declared.ends.Ends.{Ends}
-use Rattle.desk.specs.declared.ends.Ends.TheVariants.{Nothing, InReady, Job as InJob}
+use Rattle.desk.specs.declared.change.Change.{Change}
+use Rattle.desk.specs.declared.change.Change.TheVariants.{Nothing, InReady, Job as InJob}
 
 -- the hall, whether the desk is closed, and how many workers sleep until a frame is ready, by the remainder at division by 2^32
 pub record KeptOf : Type 0 where
@@ -78,7 +78,7 @@ IsNext kept (Some ready) = (kept.closed ≡ false) × IsReadyAt (named kept.hall
 
 -- what somebody may wait for that a worker's step changed: a frame became ready where a child was opened or a parent woken, and a
 -- job ended where it was finished or spent
-abbrev pub ends_of : Result (DidOf Leaf) Refusal → Ends
+abbrev pub ends_of : Result (DidOf Leaf) Refusal → Change
 ends_of (Err refusal) = Nothing
 ends_of (Ok Admitted) = Nothing
 ends_of (Ok AdmittedMore) = Nothing

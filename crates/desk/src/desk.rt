@@ -5,7 +5,7 @@ ghost use Rattle.hall.specs.Journals.{is_worker_step};
 ghost use Rattle.hall.specs.Halls.{count_of};
 ghost use Rattle.desk.specs.Seats.{admit_refusals, reserve_refusals, ask_refusals, cancel_refusals, stepped, asked_at, IsAsked, IsShown};
 
-use crate::ends::Ends;
+use crate::change::Change;
 use crate::kept::Kept;
 use crate::seat::Seat;
 use crate::shares::{Badge, Hands, PARTS};
@@ -183,10 +183,10 @@ impl<L: Hands, A: Allocator + Clone> Desk<L, A> {
         let answer = kept.offer(badge, step);
         let has_sleepers = kept.has_sleepers();
         drop(kept);
-        match Ends::of(&answer) {
-            Ends::InReady if has_sleepers => self.ready.notify_one(),
-            Ends::InReady | Ends::Nothing => {}
-            Ends::Job => self.ended.notify_all(),
+        match Change::of(&answer) {
+            Change::InReady if has_sleepers => self.ready.notify_one(),
+            Change::InReady | Change::Nothing => {}
+            Change::Job => self.ended.notify_all(),
         }
         answer
     }

@@ -36,7 +36,7 @@
 pub use hall::jamboree;
 
 mod desk;
-mod ends;
+mod change;
 mod kept;
 pub mod rows;
 mod seat;

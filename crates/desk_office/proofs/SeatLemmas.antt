@@ -13,7 +13,7 @@ use Rattle.desk.specs.jamboree_core.declared.outcomes.Outcome.{Outcome}
 use Rattle.desk.specs.jamboree_core.declared.outcomes.Outcome.TheVariants.{Pending, Done, Spent, Cancelled}
 use Rattle.sched_rules.specs.declared.refusal.Refusal.{Refusal}
 use Rattle.sched_rules.specs.declared.refusal.Refusal.TheVariants.{NoJob}
-use Rattle.sched_rules.specs.Refusals.{number_of}
+use Rattle.sched_rules.specs.Refusals.{refusal_number}
 use Rattle.tenant_quota.specs.Quota.{Quota}
 use Rattle.session.specs.Calls.{Call, Cancel, Reserve, Reserved, Ended, Told as ToldOf, Refused, reply_of}
 use Rattle.session.specs.Asks.{Asked as SessionAsked, asked_at, asks_after, IsFound, IsToldOf, KeepsAsks, SaysTrue, ShowsFound}
@@ -55,7 +55,7 @@ shown_found asks job Cancelled h = tt
 -- how a job stands is told where something was asked under its number, and else refused
 told_of : (job : ℕ) (o : Option Asked) (answer : Result Outcome Refusal) → IsShown o answer → IsToldOf job (option_map ask_of o) (reply_of (ToldOf job) (told_answer answer))
 told_of job None (Ok outcome) h = absurd (cc h)
-told_of job None (Err refusal) h = let is : refusal ≡ NoJob = cc h in ap (λ r. Refused (number_of r)) is
+told_of job None (Err refusal) h = let is : refusal ≡ NoJob = cc h in ap (λ r. Refused (refusal_number r)) is
 told_of job (Some asked) (Ok outcome) h = (told outcome, refl)
 told_of job (Some asked) (Err refusal) h = absurd h
 
@@ -79,8 +79,8 @@ seat_shows here seat job answer said is shown says_so =
     (subst (λ t. SaysTrue (map ask_of seat.asked) (reply_of (ToldOf job) t) × IsToldOf job (asked_at (map ask_of seat.asked) job) (reply_of (ToldOf job) t)) (sym says_so) (says seat.asked job answer shown, tells))
 
 -- the numbers of refusals
-refused_by : (refusals : List Refusal) (refusal : Refusal) → Contains refusals refusal → Contains (map number_of refusals) (number_of refusal)
-refused_by refusals refusal h = (h.0, subst (λ n. h.0 < n) (sym (length-map refusals number_of)) h.1, get_or-map number_of refusals h.0 refusal ∙ ap number_of h.2)
+refused_by : (refusals : List Refusal) (refusal : Refusal) → Contains refusals refusal → Contains (map refusal_number refusals) (refusal_number refusal)
+refused_by refusals refusal h = (h.0, subst (λ n. h.0 < n) (sym (length-map refusals refusal_number)) h.1, get_or-map refusal_number refusals h.0 refusal ∙ ap refusal_number h.2)
 
 -- nothing is asked under a number where the seat has nothing
 unasked : (o : Option Asked) → option_map ask_of o ≡ None → o ≡ None
@@ -94,7 +94,7 @@ cancels before after job (Ok done) share none refused =
     (ap (λ s. map ask_of s.asked) share, tt, (tt, λ h. absurd (cc (none (unasked (seat_asked_at before.asked job) (sym (asked_at-map before.asked job) ∙ h))))))
 cancels before after job (Err refusal) share none refused =
     let missing : seat_asked_at before.asked job ≡ None → refusal ≡ NoJob = λ h. cc (none h) in
-    (ap (λ s. map ask_of s.asked) share, tt, (refused_by cancel_refusals refusal refused, λ h. ap (λ r. Refused (number_of r)) (missing (unasked (seat_asked_at before.asked job) (sym (asked_at-map before.asked job) ∙ h)))))
+    (ap (λ s. map ask_of s.asked) share, tt, (refused_by cancel_refusals refusal refused, λ h. ap (λ r. Refused (refusal_number r)) (missing (unasked (seat_asked_at before.asked job) (sym (asked_at-map before.asked job) ∙ h)))))
 
 -- what becomes of the asks by it
 pub seat_cancels : (here : Option SeatOf) (before after : SeatOf) (job : ℕ) (answer : Result (Unit {0}) Refusal) → here ≡ Some before → MatchResult answer (λ _. after ≡ stepped before) (λ _. after ≡ before)

@@ -29,15 +29,9 @@ abbrev pub is_long_step : {A : Type 0} → StepOf A → Bool
 is_long_step (Admit number quota) = true
 is_long_step (AdmitMore number quota) = true
 is_long_step (Submit number words size) = true
-is_long_step (Take worker name) = false
-is_long_step (Steal worker from name) = false
-is_long_step (Advance worker name) = false
 is_long_step (Answer worker name answer) = true
-is_long_step (Inlet worker name) = false
-is_long_step (Finish worker name) = false
-is_long_step (Spend name) = false
 is_long_step (Cancel number job) = true
-is_long_step (Leave number) = false
+is_long_step _ = false
 
 -- the tenant's step that a short entry was made of, alone in a list; none of the entry that stands for a long one
 abbrev pub short_steps : ℕ → Entry → List (StepOf LeafAnswer)
@@ -71,9 +65,6 @@ long_count (entry ∷ entries) = (if is_long entry then 1 else 0) + long_count e
 
 -- the serial of the frame that a step names, and 0 where it names none
 abbrev pub serial_in : {A : Type 0} → StepOf A → ℕ
-serial_in (Admit number quota) = 0
-serial_in (AdmitMore number quota) = 0
-serial_in (Submit number words size) = 0
 serial_in (Take worker name) = name.serial
 serial_in (Steal worker from name) = name.serial
 serial_in (Advance worker name) = name.serial
@@ -81,5 +72,4 @@ serial_in (Answer worker name answer) = name.serial
 serial_in (Inlet worker name) = name.serial
 serial_in (Finish worker name) = name.serial
 serial_in (Spend name) = name.serial
-serial_in (Cancel number job) = 0
-serial_in (Leave number) = 0
+serial_in _ = 0

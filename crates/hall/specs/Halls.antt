@@ -65,18 +65,8 @@ pub record IsHall (hall : HallOf) (latest count : ℕ) : Type 0 where
 
 -- whether a step is a Leave of this tenant
 abbrev pub lets_go : {A : Type 0} → ℕ → StepOf A → Bool
-lets_go number (Admit other quota) = false
-lets_go number (AdmitMore other quota) = false
-lets_go number (Submit other words size) = false
-lets_go number (Take worker name) = false
-lets_go number (Steal worker from name) = false
-lets_go number (Advance worker name) = false
-lets_go number (Answer worker name answer) = false
-lets_go number (Inlet worker name) = false
-lets_go number (Finish worker name) = false
-lets_go number (Spend name) = false
-lets_go number (Cancel other job) = false
 lets_go number (Leave other) = other == number
+lets_go number _ = false
 
 -- but for a Leave of its tenant, a job that has ended stays as it is
 abbrev pub KeepsEndedJobs : Shared → StepOf LeafAnswer → Shared → Type 0

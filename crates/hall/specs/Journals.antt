@@ -3,6 +3,7 @@ use Rattle.std.specs.Prelude.{◌≡◌, ℕ, ◌+◌, ◌*◌, ◌<◌, ◌≤�
 use Rattle.tenant_quota.specs.Quota.{Quota}
 use Rattle.sched_rules.specs.declared.step.StepOf.{StepOf}
 use Rattle.sched_rules.specs.declared.step.StepOf.TheVariants.{Admit, AdmitMore, Submit, Take, Steal, Advance, Answer, Inlet, Finish, Spend, Cancel, Leave}
+use Rattle.sched_rules.specs.Runs.{tenant_of}
 use Rattle.jamboree_core.specs.jamboree_rules.declared.leaf.LeafAnswer.{LeafAnswer}
 
 -- a tenant's number, how many steps its journal has places for, and the steps
@@ -103,62 +104,28 @@ admitted_journal number quota = record { tenant = number; places = places_for qu
 -- the journals after a taken step: an Admit begins one, a Leave ends one, and any other step is added to its tenant's
 abbrev pub journals_after : StepOf LeafAnswer → List JournalOf → List JournalOf
 journals_after (Admit number quota) journals = journals ++ admitted_journal number quota ∷ []
-journals_after (AdmitMore number quota) journals = with_step number (AdmitMore number quota) journals
-journals_after (Submit number words size) journals = with_step number (Submit number words size) journals
-journals_after (Take worker name) journals = with_step name.tenant (Take worker name) journals
-journals_after (Steal worker from name) journals = with_step name.tenant (Steal worker from name) journals
-journals_after (Advance worker name) journals = with_step name.tenant (Advance worker name) journals
-journals_after (Answer worker name answer) journals = with_step name.tenant (Answer worker name answer) journals
-journals_after (Inlet worker name) journals = with_step name.tenant (Inlet worker name) journals
-journals_after (Finish worker name) journals = with_step name.tenant (Finish worker name) journals
-journals_after (Spend name) journals = with_step name.tenant (Spend name) journals
-journals_after (Cancel number job) journals = with_step number (Cancel number job) journals
 journals_after (Leave number) journals = without_journal number journals
+journals_after step journals = with_step (tenant_of step) step journals
 
 -- how many steps went with their tenant by a taken step: those of its journal, and the Leave itself
 abbrev pub gone_by : StepOf LeafAnswer → List JournalOf → ℕ
-gone_by (Admit number quota) journals = 0
-gone_by (AdmitMore number quota) journals = 0
-gone_by (Submit number words size) journals = 0
-gone_by (Take worker name) journals = 0
-gone_by (Steal worker from name) journals = 0
-gone_by (Advance worker name) journals = 0
-gone_by (Answer worker name answer) journals = 0
-gone_by (Inlet worker name) journals = 0
-gone_by (Finish worker name) journals = 0
-gone_by (Spend name) journals = 0
-gone_by (Cancel number job) journals = 0
 gone_by (Leave number) journals = length (journal_in journals number) + 1
+gone_by _ journals = 0
 
 -- whether a step neither admits a tenant nor lets it go
 abbrev pub goes_on : {A : Type 0} → StepOf A → Bool
 goes_on (Admit number quota) = false
-goes_on (AdmitMore number quota) = true
-goes_on (Submit number words size) = true
-goes_on (Take worker name) = true
-goes_on (Steal worker from name) = true
-goes_on (Advance worker name) = true
-goes_on (Answer worker name answer) = true
-goes_on (Inlet worker name) = true
-goes_on (Finish worker name) = true
-goes_on (Spend name) = true
-goes_on (Cancel number job) = true
 goes_on (Leave number) = false
+goes_on _ = true
 
 -- whether a step is a worker's: neither an admission, a Submit, a Cancel nor a Leave, which are its tenant's
 abbrev pub is_worker_step : {A : Type 0} → StepOf A → Bool
 is_worker_step (Admit number quota) = false
 is_worker_step (AdmitMore number quota) = false
 is_worker_step (Submit number words size) = false
-is_worker_step (Take worker name) = true
-is_worker_step (Steal worker from name) = true
-is_worker_step (Advance worker name) = true
-is_worker_step (Answer worker name answer) = true
-is_worker_step (Inlet worker name) = true
-is_worker_step (Finish worker name) = true
-is_worker_step (Spend name) = true
 is_worker_step (Cancel number job) = false
 is_worker_step (Leave number) = false
+is_worker_step _ = true
 
 -- each of these journals is of a tenant above this number
 abbrev pub AreAbove : ℕ → List JournalOf → Type 0

@@ -41,18 +41,8 @@ pub record CoreFits (fits : Fitting) (rooted : Rooting) (origins : ℕ → List 
 
 -- the words that a step submits a job with, if it submits one
 abbrev pub submits : {A : Type 0} → StepOf A → List (List ℕ)
-submits (Admit number quota) = []
-submits (AdmitMore number quota) = []
 submits (Submit number words size) = words ∷ []
-submits (Take worker name) = []
-submits (Steal worker from name) = []
-submits (Advance worker name) = []
-submits (Answer worker name answer) = []
-submits (Inlet worker name) = []
-submits (Finish worker name) = []
-submits (Spend name) = []
-submits (Cancel number job) = []
-submits (Leave number) = []
+submits _ = []
 
 -- the words of the Submits of a list, in order
 abbrev pub origins_of : {A : Type 0} → List (StepOf A) → List (List ℕ)
@@ -61,18 +51,8 @@ origins_of (step ∷ steps) = submits step ++ origins_of steps
 
 -- the new root of a step, if it submits one, fits and belongs to the words of the step
 abbrev pub RootFits : {A : Type 0} → Fitting → Rooting → StepOf A → Type 0
-RootFits fits rooted (Admit number quota) = Unit {0}
-RootFits fits rooted (AdmitMore number quota) = Unit {0}
 RootFits fits rooted (Submit number words size) = fits (padded words size) [] Neither × rooted words (padded words size)
-RootFits fits rooted (Take worker name) = Unit {0}
-RootFits fits rooted (Steal worker from name) = Unit {0}
-RootFits fits rooted (Advance worker name) = Unit {0}
-RootFits fits rooted (Answer worker name answer) = Unit {0}
-RootFits fits rooted (Inlet worker name) = Unit {0}
-RootFits fits rooted (Finish worker name) = Unit {0}
-RootFits fits rooted (Spend name) = Unit {0}
-RootFits fits rooted (Cancel number job) = Unit {0}
-RootFits fits rooted (Leave number) = Unit {0}
+RootFits fits rooted _ = Unit {0}
 
 -- so does that of each step of a list
 abbrev pub RootsFit : {A : Type 0} → Fitting → Rooting → List (StepOf A) → Type 0

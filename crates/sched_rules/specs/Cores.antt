@@ -61,18 +61,11 @@ IsBusyElsewhere worker number entries = IsTrue (is_busy_elsewhere worker number 
 
 -- the steps that ask for a free worker: Take, Steal, Inlet and Finish; whether theirs is busy elsewhere
 abbrev pub meets_busy : {A : Type 0} → StepOf A → List (ℕ × Tenant) → Bool
-meets_busy (Admit number quota) entries = false
-meets_busy (AdmitMore number quota) entries = false
-meets_busy (Submit number words size) entries = false
 meets_busy (Take worker name) entries = is_busy_elsewhere worker name.tenant entries
 meets_busy (Steal worker from name) entries = is_busy_elsewhere worker name.tenant entries
-meets_busy (Advance worker name) entries = false
-meets_busy (Answer worker name answer) entries = false
 meets_busy (Inlet worker name) entries = is_busy_elsewhere worker name.tenant entries
 meets_busy (Finish worker name) entries = is_busy_elsewhere worker name.tenant entries
-meets_busy (Spend name) entries = false
-meets_busy (Cancel number job) entries = false
-meets_busy (Leave number) entries = false
+meets_busy _ entries = false
 
 -- the accounts of all tenants
 abbrev pub accounts_in : List (ℕ × Tenant) → List (ℕ × Account)
@@ -129,31 +122,12 @@ judged functions shared (Admit number quota) = unless (admit_tests shared number
 judged functions shared (AdmitMore number quota) =
     unless_beyond (is_beyond (reservations_in shared) (reserved_by (tenant_in shared.tenants number)) quota)
     (lone functions (tenant_in shared.tenants number) (AdmitMore number quota))
-judged functions shared (Submit number words size) = step_among functions shared (Submit number words size)
-judged functions shared (Take worker name) = step_among functions shared (Take worker name)
-judged functions shared (Steal worker from name) = step_among functions shared (Steal worker from name)
-judged functions shared (Advance worker name) = step_among functions shared (Advance worker name)
-judged functions shared (Answer worker name answer) = step_among functions shared (Answer worker name answer)
-judged functions shared (Inlet worker name) = step_among functions shared (Inlet worker name)
-judged functions shared (Finish worker name) = step_among functions shared (Finish worker name)
-judged functions shared (Spend name) = step_among functions shared (Spend name)
-judged functions shared (Cancel number job) = step_among functions shared (Cancel number job)
-judged functions shared (Leave number) = step_among functions shared (Leave number)
+judged functions shared step = step_among functions shared step
 
 -- the greatest number of a tenant so far, after a taken step
 abbrev pub newest_after : {A : Type 0} → ℕ → StepOf A → ℕ
 newest_after newest (Admit number quota) = number
-newest_after newest (AdmitMore number quota) = newest
-newest_after newest (Submit number words size) = newest
-newest_after newest (Take worker name) = newest
-newest_after newest (Steal worker from name) = newest
-newest_after newest (Advance worker name) = newest
-newest_after newest (Answer worker name answer) = newest
-newest_after newest (Inlet worker name) = newest
-newest_after newest (Finish worker name) = newest
-newest_after newest (Spend name) = newest
-newest_after newest (Cancel number job) = newest
-newest_after newest (Leave number) = newest
+newest_after newest _ = newest
 
 -- the core after its tenant came to this
 abbrev pub shared_with : {A : Type 0} → Shared → StepOf A → Option Tenant → Shared

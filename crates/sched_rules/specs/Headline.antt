@@ -44,16 +44,7 @@ pub record IsAnswerToAdmit {I A : Type 0} (functions : Functions I A) (before : 
 abbrev pub is_admission : {A : Type 0} → StepOf A → Bool
 is_admission (Admit number quota) = true
 is_admission (AdmitMore number quota) = true
-is_admission (Submit number words size) = false
-is_admission (Take worker name) = false
-is_admission (Steal worker from name) = false
-is_admission (Advance worker name) = false
-is_admission (Answer worker name answer) = false
-is_admission (Inlet worker name) = false
-is_admission (Finish worker name) = false
-is_admission (Spend name) = false
-is_admission (Cancel number job) = false
-is_admission (Leave number) = false
+is_admission _ = false
 
 -- the answer to a step among several tenants is right
 abbrev pub IsAnswerTo : {I A : Type 0} → Functions I A → Shared → StepOf A → Result (DidOf I) Refusal → Type 0

@@ -366,17 +366,7 @@ lone_step functions tenant (Leave number) = Ok (None, Left)
 -- a step from nothing: an admission is taken, and nothing else
 abbrev pub first_step : {I A : Type 0} → StepOf A → Result (Outcome I) Refusal
 first_step (Admit number quota) = Ok (Some (admitted_with quota), Admitted)
-first_step (AdmitMore number quota) = Err NoTenant
-first_step (Submit number words size) = Err NoTenant
-first_step (Take worker name) = Err NoTenant
-first_step (Steal worker from name) = Err NoTenant
-first_step (Advance worker name) = Err NoTenant
-first_step (Answer worker name answer) = Err NoTenant
-first_step (Inlet worker name) = Err NoTenant
-first_step (Finish worker name) = Err NoTenant
-first_step (Spend name) = Err NoTenant
-first_step (Cancel number job) = Err NoTenant
-first_step (Leave number) = Err NoTenant
+first_step _ = Err NoTenant
 
 -- one step of a tenant that has the core to itself: what comes of it with what it did, or one refusal
 abbrev pub lone : {I A : Type 0} → Functions I A → Option Tenant → StepOf A → Result (Outcome I) Refusal

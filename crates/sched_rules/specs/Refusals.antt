@@ -4,24 +4,24 @@ use Rattle.sched_rules.specs.declared.refusal.Refusal.{Refusal}
 use Rattle.sched_rules.specs.declared.refusal.Refusal.TheVariants.{NoTenant, NoFrame, NotReady, NotHere, Busy, NotRunning, NotComputing, Mismatch, NotReturned, NoSegments, NoNodes, NoSteps, NoJobsLeft, Full, BadAct, NotSpent, NoJob, OldTenant, OutOfMemory, Lower}
 
 -- the number of each refusal
-abbrev pub number_of : Refusal → ℕ
-number_of NoTenant = 1
-number_of NoFrame = 2
-number_of NotReady = 3
-number_of NotHere = 4
-number_of Busy = 5
-number_of NotRunning = 6
-number_of NotComputing = 7
-number_of Mismatch = 8
-number_of NotReturned = 9
-number_of NoSegments = 10
-number_of NoNodes = 11
-number_of NoSteps = 12
-number_of NoJobsLeft = 13
-number_of Full = 14
-number_of BadAct = 15
-number_of NotSpent = 16
-number_of NoJob = 17
-number_of OldTenant = 18
-number_of OutOfMemory = 19
-number_of Lower = 20
+abbrev pub refusal_number : Refusal → ℕ
+refusal_number NoTenant = 1
+refusal_number NoFrame = 2
+refusal_number NotReady = 3
+refusal_number NotHere = 4
+refusal_number Busy = 5
+refusal_number NotRunning = 6
+refusal_number NotComputing = 7
+refusal_number Mismatch = 8
+refusal_number NotReturned = 9
+refusal_number NoSegments = 10
+refusal_number NoNodes = 11
+refusal_number NoSteps = 12
+refusal_number NoJobsLeft = 13
+refusal_number Full = 14
+refusal_number BadAct = 15
+refusal_number NotSpent = 16
+refusal_number NoJob = 17
+refusal_number OldTenant = 18
+refusal_number OutOfMemory = 19
+refusal_number Lower = 20

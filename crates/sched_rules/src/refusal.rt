@@ -68,11 +68,11 @@ pub enum Refusal {
 
 impl Refusal {
     ghost use Rattle.std.specs.Prelude.{◌≡◌};
-    ghost use Rattle.sched_rules.specs.Refusals.{number_of};
+    ghost use Rattle.sched_rules.specs.Refusals.{refusal_number};
 
     /// The number of the refusal, 1 to 20.
     pub fn number(&self) -> u8
-        ensures { result ≡ number_of self.now }
+        ensures { result ≡ refusal_number self.now }
     {
         match self {
             Refusal::NoTenant => 1,

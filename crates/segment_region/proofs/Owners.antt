@@ -1,4 +1,4 @@
--- The machine values of the owners: a base is one pointer, and the cells and the deed take no bytes.
+-- The machine values of the owners: a base is one pointer, and the cells and the title take no bytes.
 use mathlib.Core.Path.{◌≡◌, refl, subst}
 use mathlib.Core.List.{List, [], ◌∷◌, ◌++◌}
 use seplogic.Ra.Ura.{Ura}
@@ -27,7 +27,7 @@ module _ (E : El) where
   abbrev pub CellsRow : RattleType
   CellsRow = CellsType.the_row (R E)
 
-  -- what the fields of the cells, or of a deed, own: nothing
+  -- what the fields of the cells, or of a title, own: nothing
   abbrev pub MarkRow : RattleType
   MarkRow = Struct (shape (CellsType.the_type (R E)))
 

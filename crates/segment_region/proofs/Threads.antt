@@ -12,7 +12,7 @@ use Rattle.core.specs.declared.alloc.Allocator.{Ghosts}
 use Rattle.std_alloc.proofs.SendSync.{FreesAnywhere, quiet}
 use Rattle.segment_region.specs.Ownership.{row_owned, row_lent, places_owned, places_lent}
 use Rattle.segment_region.specs.contracts.cells.Cells as CellsType
-use Rattle.segment_region.specs.contracts.cells.Deed as DeedType
+use Rattle.segment_region.specs.contracts.cells.Title as TitleType
 
 module _ (R : RattleType) (send : IsSend R) where
   row-moves : (block byte : ℕ) (places : List (Option R.Denot)) → Keyless (row_owned R block byte places)
@@ -45,12 +45,12 @@ module _ (R : RattleType) (sync : IsSync R) where
       record { shared = λ cells block byte κ. ((struct_sync (shape type) (search sendable, tt)).shared (to type cells) block byte κ, places-show cells.at cells.slots κ) }
 
 module _ (R A : RattleType) (g : Ghosts A.Denot) where
-  pub deed-moves : FreesAnywhere A.Denot g → IsSend (DeedType.the_row R A g)
-  deed-moves anywhere =
-      let type = DeedType.the_type R A g in let all : AllSend (fields type) = (search sendable, tt) in
-      owning_send type all (λ deed. anywhere.frees deed.alloc _ deed.at) (λ k. quiet (to type) (exits_of k (fields type)) ((struct_send (shape type) all).leaving k))
+  pub title-moves : FreesAnywhere A.Denot g → IsSend (TitleType.the_row R A g)
+  title-moves anywhere =
+      let type = TitleType.the_type R A g in let all : AllSend (fields type) = (search sendable, tt) in
+      owning_send type all (λ title. anywhere.frees title.alloc _ title.at) (λ k. quiet (to type) (exits_of k (fields type)) ((struct_send (shape type) all).leaving k))
 
-  pub deed-shows : IsSync (DeedType.the_row R A g)
-  deed-shows =
-      let type = DeedType.the_type R A g in
-      record { shared = λ deed block byte κ. ((struct_sync (shape type) (search sendable, tt)).shared (to type deed) block byte κ, tt) }
+  pub title-shows : IsSync (TitleType.the_row R A g)
+  title-shows =
+      let type = TitleType.the_type R A g in
+      record { shared = λ title block byte κ. ((struct_sync (shape type) (search sendable, tt)).shared (to type title) block byte κ, tt) }

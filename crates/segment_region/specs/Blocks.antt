@@ -5,7 +5,7 @@ use Rattle.segment_region.specs.declared.block.Link.{Link}
 use Rattle.segment_region.specs.declared.block.Block.{Block}
 use Rattle.segment_region.specs.declared.cells.Base.{Base}
 use Rattle.segment_region.specs.declared.cells.Cells.{Cells}
-use Rattle.segment_region.specs.declared.cells.Deed.{Deed}
+use Rattle.segment_region.specs.declared.cells.Title.{Title}
 
 -- a block of sixteen words
 abbrev pub WordBlock : Type 0
@@ -59,8 +59,8 @@ pub record IsWhole (places : List (Option WordBlock)) (count mark : ℕ) (free :
   pub chain : IsFreeList mark places (next_of free) listed
 
 -- the places, and the right to free them, are those of one allocation of count blocks
-abbrev pub IsOneAllocation : {A : Type 0} → Base WordBlock → Cells WordBlock → Deed WordBlock A → ℕ → A → Type 0
-IsOneAllocation base cells deed count alloc = (cells.at ≡ base.ptr) × (deed.at ≡ base.ptr) × (deed.len ≡ count) × (deed.alloc ≡ alloc)
+abbrev pub IsOneAllocation : {A : Type 0} → Base WordBlock → Cells WordBlock → Title WordBlock A → ℕ → A → Type 0
+IsOneAllocation base cells title count alloc = (cells.at ≡ base.ptr) × (title.at ≡ base.ptr) × (title.len ≡ count) × (title.alloc ≡ alloc)
 
 -- the cells begin at the base
 abbrev pub IsReadable : Base WordBlock → Cells WordBlock → Type 0

@@ -44,5 +44,5 @@ module _ (R : RattleType) where
   places_lent null_ptr places = said ffalse
 
   -- the allocator's token for so many places
-  abbrev pub deed_owned : (Ty → Ptr → Fml) → Ptr → ℕ → Fml
-  deed_owned token at count = token (raw (ty_array (lone R.mir) count)) at
+  abbrev pub title_owned : (Ty → Ptr → Fml) → Ptr → ℕ → Fml
+  title_owned token at count = token (raw (ty_array (lone R.mir) count)) at

@@ -2,7 +2,7 @@
 //!
 //! Who owns what: a [`Base`] is where the places begin, and owns nothing. A [`Cells`] owns the places
 //! and what lies in them, and a `&` or a `&mut` to it is the right to read or to write there. A
-//! [`Deed`] is the right to give the allocation back. [`allocate`] makes all three, [`deallocate`]
+//! [`Title`] is the right to give the allocation back. [`allocate`] makes all three, [`deallocate`]
 //! takes them, and no other function of the crate holds a pointer than those of this file.
 ghost use Rattle.std.specs.Prelude.{◌≡◌, ℕ, ◌<◌, List, Option, Some, None, length, replicate, slice_index_or, slice_set, IfOk, ⊤};
 ghost use Rattle.std.specs.Borrow.{sem};
@@ -10,7 +10,7 @@ ghost use Rattle.std.specs.Vec.Ownership.{FitsInBlock};
 ghost use base.Fml.{ftrue};
 ghost use denote.RawPtr.{Ptr};
 ghost use Rattle.segment_region.specs.Places.{IsFilled};
-ghost use Rattle.segment_region.specs.Ownership.{places_owned, places_lent, deed_owned};
+ghost use Rattle.segment_region.specs.Ownership.{places_owned, places_lent, title_owned};
 
 use std::alloc::{AllocError, Allocator};
 use std::marker::{Model, PhantomData, Send, Sync};
@@ -57,29 +57,29 @@ unsafe impl<T: Send> Send for Cells<T> {}
 unsafe impl<T: Sync> Sync for Cells<T> {}
 
 /// The right to give the allocation of `len` places at `at` back to `alloc`.
-pub struct Deed<T, A: Allocator> {
+pub struct Title<T, A: Allocator> {
     mark: PhantomData<*const (T, A)>,
     ghost at: { Ptr },
     ghost len: { ℕ },
     ghost alloc: { A },
 }
 
-impl<T, A: Allocator> Model for Deed<T, A> {
-    ghost also_owns = { λ deed. deed_owned T.row (A.dealloc_token deed.alloc) deed.at deed.len };
+impl<T, A: Allocator> Model for Title<T, A> {
+    ghost also_owns = { λ title. title_owned T.row (A.dealloc_token title.alloc) title.at title.len };
 
     ghost also_shares = { λ _ _ _. ftrue };
 }
 
-unsafe impl<T, A: Allocator + Send> Send for Deed<T, A> {}
+unsafe impl<T, A: Allocator + Send> Send for Title<T, A> {}
 
 // A `&` to it is no right at all.
-unsafe impl<T, A: Allocator> Sync for Deed<T, A> {}
+unsafe impl<T, A: Allocator> Sync for Title<T, A> {}
 
 /// One allocation with so many empty places.
 pub(crate) fn allocate<T, A: Allocator>(
     alloc: &A,
     len: usize,
-) -> Result<(Base<T>, Cells<T>, Deed<T, A>), AllocError>
+) -> Result<(Base<T>, Cells<T>, Title<T, A>), AllocError>
     requires { FitsInBlock T.row len }
     ensures { IfOk result (λ r. (r.1.at ≡ r.0.ptr) × (r.1.slots ≡ replicate len None) × (r.2.at ≡ r.0.ptr) × (r.2.len ≡ len) × (r.2.alloc ≡ alloc.now)) }
 {
@@ -91,7 +91,7 @@ pub(crate) fn allocate<T, A: Allocator>(
             Ok((
                 base,
                 Cells { mark: PhantomData },
-                Deed { mark: PhantomData },
+                Title { mark: PhantomData },
             ))
         }
         Err(error) => Err(error),
@@ -104,12 +104,12 @@ pub(crate) fn deallocate<T, A: Allocator>(
     base: Base<T>,
     len: usize,
     cells: Cells<T>,
-    deed: Deed<T, A>,
+    title: Title<T, A>,
 )
-    requires { (cells.at ≡ base.ptr) × (length cells.slots ≡ len) × (deed.at ≡ base.ptr) × (deed.len ≡ len) × (deed.alloc ≡ alloc.now) }
+    requires { (cells.at ≡ base.ptr) × (length cells.slots ≡ len) × (title.at ≡ base.ptr) × (title.len ≡ len) × (title.alloc ≡ alloc.now) }
 {
     let Cells { mark: _ } = cells;
-    let Deed { mark: _ } = deed;
+    let Title { mark: _ } = title;
     unsafe {
         alloc.deallocate(base.ptr as *mut u8, len * size_of::<T>(), align_of::<T>());
     }

@@ -6,7 +6,7 @@ ghost use Rattle.segment_region.specs.Lending.{LendsWords};
 ghost use Rattle.segment_region.specs.Blocks.{entries_of, IsWhole};
 
 use crate::block::{Link, WordBlock, zeros};
-use crate::cells::{Base, Cells, Deed, allocate, deallocate};
+use crate::cells::{Base, Cells, Title, allocate, deallocate};
 use crate::slot::SegNo;
 use crate::view::RegionView;
 use std::alloc::{AllocError, Allocator, Global};
@@ -18,7 +18,7 @@ pub struct Region<A: Allocator = Global> {
     base: Base<WordBlock>,
     count: usize,
     cells: Cells<WordBlock>,
-    deed: Deed<WordBlock, A>,
+    title: Title<WordBlock, A>,
     alloc: A,
     // The blocks from the mark on are free, and nothing is read of them.
     mark: usize,
@@ -37,7 +37,7 @@ impl<A: Allocator> Model for Region<A> {
 
     ghost view = { λ region. entries_of region.mark region.cells.slots };
 
-    ghost invariant = { λ region. IsOneAllocation region.base region.cells region.deed region.count region.alloc × IsWhole region.cells.slots region.count region.mark region.free region.listed };
+    ghost invariant = { λ region. IsOneAllocation region.base region.cells region.title region.count region.alloc × IsWhole region.cells.slots region.count region.mark region.free region.listed };
 }
 
 // The allocation goes, with the blocks in it.
@@ -47,13 +47,13 @@ impl<A: Allocator> Drop for Region<A> {
             base,
             count,
             cells,
-            deed,
+            title,
             alloc,
             mark: _,
             free: _,
             listed: _,
         } = self;
-        deallocate(&alloc, base, count, cells, deed);
+        deallocate(&alloc, base, count, cells, title);
     }
 }
 
@@ -64,12 +64,12 @@ impl<A: Allocator> Region<A> {
         requires in_limits { count ≤ 65536 }
         ensures { IfOk result (λ region. region ≡ replicate count None) }
     {
-        let (base, cells, deed) = allocate(&alloc, count)?;
+        let (base, cells, title) = allocate(&alloc, count)?;
         Ok(Region {
             base,
             count,
             cells,
-            deed,
+            title,
             alloc,
             mark: 0,
             free: Link::end(false),

@@ -5,7 +5,7 @@ use Rattle.position_text.specs.declared.positions.Side.{Side}
 use Rattle.tenant_quota.specs.Quota.{Quota}
 use Rattle.tenant_quota.specs.declared.account.Left.{Left}
 use Rattle.sched_rules.specs.declared.refusal.Refusal.{Refusal}
-use Rattle.sched_rules.specs.Refusals.{number_of}
+use Rattle.sched_rules.specs.Refusals.{refusal_number}
 use Rattle.session.specs.declared.outcome.Outcome.{Outcome}
 use Rattle.session.specs.declared.outcome.Live.{Live}
 
@@ -37,4 +37,4 @@ pub data Reply : Type 0 where
 -- the reply that a call's result is
 abbrev pub reply_of : {X : Type 0} → (X → Reply) → Result X Refusal → Reply
 reply_of said (Ok x) = said x
-reply_of said (Err refusal) = Refused (number_of refusal)
+reply_of said (Err refusal) = Refused (refusal_number refusal)

@@ -5,7 +5,7 @@ ghost use Rattle.steal_pool.specs.Works.{IsPushed};
 
 use sched_rules::Worker;
 use std::sync::{Mutex, Wait};
-use task_deques::Ends;
+use task_deques::DequeEnds;
 use task_deques::pool_rules::{Computations, Task};
 
 /// What the workers of a pool share beside their deques: the count of computations, under a lock of
@@ -24,7 +24,7 @@ impl Shared {
     }
 
     /// The tasks of a worker that has these ends of the deques.
-    pub fn tasks(&self, ends: Ends) -> Tasks<'_>
+    pub fn tasks(&self, ends: DequeEnds) -> Tasks<'_>
         ensures { result.ends ≡ ends }
     {
         Tasks { ends, shared: self }
@@ -36,7 +36,7 @@ impl Shared {
 #[derive(Drop)]
 pub struct Tasks<'s> {
     /// The worker's ends of the deques.
-    pub ends: Ends,
+    pub ends: DequeEnds,
     shared: &'s Shared,
 }
 

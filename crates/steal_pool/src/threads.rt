@@ -18,24 +18,24 @@ use std::alloc::{AllocError, Global};
 use std::snapshot::Snapshot;
 use std::sync::Wait;
 use std::thread::{Promise, PromisedHandle, Scope, Threads};
-use task_deques::{Ends, Returned, deal};
+use task_deques::{DequeEnds, Returned, deal};
 
 /// That a worker's ends come back at the same deques.
 #[derive(Drop)]
-pub(crate) struct SameEnds(Snapshot<Ends>);
+pub(crate) struct SameEnds(Snapshot<DequeEnds>);
 
-impl<L: Hands> Promise<(Badge<L>, Ends)> for SameEnds {
+impl<L: Hands> Promise<(Badge<L>, DequeEnds)> for SameEnds {
     ghost kept_by = { λ promise came. posts came.1 ≡ posts promise.0.value };
 }
 
 /// A worker in its thread.
-type Handle<L> = PromisedHandle<(Badge<L>, Ends), SameEnds>;
+type Handle<L> = PromisedHandle<(Badge<L>, DequeEnds), SameEnds>;
 
 /// All that a pool takes at its start: the ends of its workers, the room for those that come back, and
 /// the room for the threads.
 #[derive(Drop)]
 pub(crate) struct Stock<L: Hands> {
-    dealt: Vec<Ends>,
+    dealt: Vec<DequeEnds>,
     back: Returned,
     handles: Vec<Handle<L>>,
     ghost whole: { IsWhole (map posts dealt.items) },
@@ -118,7 +118,7 @@ pub(crate) fn run_all<'s, E, L: Hands + Send + Sync, G: Gate + Sync, R: Threads 
 /// Starts a worker for each of the ends, from 1 on, as far as it can.
 fn start_all<'s, E, L: Hands + Send + Sync, G: Gate + Sync, R: Wait + Sync>(
     site: &Site<'s, E, L, G, R>,
-    dealt: Vec<Ends>,
+    dealt: Vec<DequeEnds>,
     handles: &mut Vec<Handle<L>>,
 ) -> Result<(), PoolFault>
     requires none { vec_len handles.old ≡ 0 }
@@ -143,7 +143,7 @@ fn start_all<'s, E, L: Hands + Send + Sync, G: Gate + Sync, R: Wait + Sync>(
 fn start<'s, E, L: Hands + Send + Sync, G: Gate + Sync, R: Wait + Sync>(
     site: &Site<'s, E, L, G, R>,
     worker: Worker,
-    ends: Ends,
+    ends: DequeEnds,
 ) -> Result<Handle<L>, PoolFault>
     ensures { IfOk result (λ handle. posts handle.promise.0.value ≡ posts ends) }
 {
@@ -180,9 +180,9 @@ fn work<L: Hands, G: Gate, R: Wait>(
     worker: Worker,
     badge: Badge<L>,
     shared: &Shared,
-    ends: Ends,
+    ends: DequeEnds,
     gate: &G,
-) -> (Badge<L>, Ends)
+) -> (Badge<L>, DequeEnds)
     ensures { posts result.1 ≡ posts ends }
 {
     let (badge, tasks) = run_worker(rt, desk, worker, badge, shared.tasks(ends), gate);

@@ -3,15 +3,15 @@ use Rattle.std.specs.Prelude.{◌≡◌, ℕ, ◌+◌, ◌-◌, ◌⊎◌, List,
 use Rattle.pool_rules.specs.declared.task.Task.{Task}
 use Rattle.task_deques.specs.declared.owner.Owner.{Owner}
 use Rattle.task_deques.specs.declared.thief.Thief.{Thief}
-use Rattle.task_deques.specs.declared.ends.Ends.{Ends}
+use Rattle.task_deques.specs.declared.ends.DequeEnds.{DequeEnds}
 use Rattle.task_deques.specs.declared.returned.Returned.{Returned}
 use Rattle.task_deques.specs.Tallies.{tally, weigh}
-use Rattle.task_deques.specs.Seats.{Deque, Seat, owner_seat, owner_room, thief_seat, with_taken, new_thief, joined}
+use Rattle.task_deques.specs.Seats.{Deque, DequeSeat, owner_seat, owner_room, thief_seat, with_taken, new_thief, joined}
 
 -- a worker's seats: the owner's at its own deque, and a thief's at each worker's deque, in the order of the workers' numbers
 pub record WorkerSeats : Type 0 where
-  pub own : Seat
-  pub thieves : List Seat
+  pub own : DequeSeat
+  pub thieves : List DequeSeat
 
 -- which deques these seats are at, and how many parts the owner's has
 pub record Posts : Type 0 where
@@ -19,32 +19,32 @@ pub record Posts : Type 0 where
   pub parts : ℕ
   pub thieves : List Deque
 
-abbrev pub owner_seats : List Owner → List Seat
+abbrev pub owner_seats : List Owner → List DequeSeat
 owner_seats owners = map owner_seat owners
 
-abbrev pub thief_seats : List Thief → List Seat
+abbrev pub thief_seats : List Thief → List DequeSeat
 thief_seats thieves = map thief_seat thieves
 
-abbrev pub deques : List Seat → List Deque
+abbrev pub deques : List DequeSeat → List Deque
 deques seats = map (λ seat. seat.deque) seats
 
 -- the seats of a worker's ends
-abbrev pub worker_seats : Ends → WorkerSeats
+abbrev pub worker_seats : DequeEnds → WorkerSeats
 worker_seats ends = record { own = owner_seat ends.own; thieves = thief_seats ends.thieves.items }
 
 -- how many tasks there is room for in its own deque
-abbrev pub worker_room : Ends → ℕ
+abbrev pub worker_room : DequeEnds → ℕ
 worker_room ends = owner_room ends.own
 
 abbrev pub posts_of : WorkerSeats → Posts
 posts_of seats = record { own = seats.own.deque; parts = seats.own.tally.parts; thieves = deques seats.thieves }
 
-abbrev pub posts : Ends → Posts
+abbrev pub posts : DequeEnds → Posts
 posts ends = posts_of (worker_seats ends)
 
 -- just one of the thieves' seats has taken one task more
-abbrev pub IsStolen : Task → List Seat → List Seat → Type 0
-IsStolen task before after = (front : List Seat) × (seat : Seat) × (back : List Seat) × (before ≡ front ++ seat ∷ back) × (after ≡ front ++ with_taken task seat ∷ back)
+abbrev pub IsStolen : Task → List DequeSeat → List DequeSeat → Type 0
+IsStolen task before after = (front : List DequeSeat) × (seat : DequeSeat) × (back : List DequeSeat) × (before ≡ front ++ seat ∷ back) × (after ≡ front ++ with_taken task seat ∷ back)
 
 -- just one of a worker's seats has taken one task more
 abbrev pub IsTaken : Task → WorkerSeats → WorkerSeats → Type 0
@@ -56,11 +56,11 @@ abbrev pub IsDealt : List WorkerSeats → Type 0
 IsDealt all = All (λ seats. (seats.own.tally ≡ tally (64 - length all) [] []) × (seats.thieves ≡ map (λ other. new_thief other.own) all)) all
 
 -- a seat of a new deque's owner, with so many parts left
-abbrev pub fresh_with : ℕ → Seat → Seat
+abbrev pub fresh_with : ℕ → DequeSeat → DequeSeat
 fresh_with parts seat = record seat { tally = tally parts [] [] }
 
 -- an owner's seat beside the same thieves' seats
-abbrev pub beside : List Seat → Seat → WorkerSeats
+abbrev pub beside : List DequeSeat → DequeSeat → WorkerSeats
 beside thieves own = record { own = own; thieves = thieves }
 
 -- all seats of all deques are there: each worker's thieves are at all workers' deques, and the parts of each deque add up to all
@@ -68,26 +68,26 @@ abbrev pub IsWhole : List Posts → Type 0
 IsWhole all = All (λ its. (its.thieves ≡ map (λ other. other.own) all) × (its.parts + length all ≡ 64)) all
 
 -- each owner's seat, with the seat of one thief at the same place joined to it
-abbrev pub with_row : List Seat → List Seat → List Seat
+abbrev pub with_row : List DequeSeat → List DequeSeat → List DequeSeat
 with_row [] row = []
 with_row (owner ∷ owners) [] = owner ∷ owners
 with_row (owner ∷ owners) (thief ∷ row) = joined owner thief ∷ with_row owners row
 
 -- the same with the thieves of several workers
-abbrev pub with_rows : List Seat → List (List Seat) → List Seat
+abbrev pub with_rows : List DequeSeat → List (List DequeSeat) → List DequeSeat
 with_rows owners [] = owners
 with_rows owners (row ∷ rows) = with_rows (with_row owners row) rows
 
 -- each deque, with what all its seats pushed and took
-abbrev pub whole_deques : List WorkerSeats → List Seat
+abbrev pub whole_deques : List WorkerSeats → List DequeSeat
 whole_deques all = with_rows (map (λ seats. seats.own) all) (map (λ seats. seats.thieves) all)
 
 -- what was pushed on a deque is what was taken and what is left, each task as often
-abbrev pub IsAccounted : Seat → Type 0
+abbrev pub IsAccounted : DequeSeat → Type 0
 IsAccounted seat = (left : List Task) × ((h : Task → ℕ) → weigh h seat.tally.pushed ≡ weigh h seat.tally.taken + weigh h left)
 
 -- owners and rows of thieves, put together again
-abbrev pub zip_seats : List Seat → List (List Seat) → List WorkerSeats
+abbrev pub zip_seats : List DequeSeat → List (List DequeSeat) → List WorkerSeats
 zip_seats [] rows = []
 zip_seats (own ∷ owners) [] = []
 zip_seats (own ∷ owners) (row ∷ rows) = record { own = own; thieves = row } ∷ zip_seats owners rows

@@ -2,7 +2,7 @@
 use Rattle.std.specs.Prelude.{ℕ, List, [], ◌∷◌}
 use Rattle.pool_rules.specs.declared.task.Task.{Task}
 use Rattle.task_deques.specs.Tallies.{tally}
-use Rattle.task_deques.specs.Seats.{Deque, Seat}
+use Rattle.task_deques.specs.Seats.{Deque, DequeSeat}
 use Rattle.task_deques.specs.Deals.{WorkerSeats}
 
 -- the task of a frame that worker 1 made ready
@@ -10,15 +10,15 @@ abbrev pub task : ℕ → Task
 task serial = record { frame = record { tenant = 1; serial = serial }; home = 1 }
 
 -- a seat at a deque, with so many parts, which has pushed and taken these tasks
-abbrev pub seat : Deque → ℕ → List Task → List Task → Seat
+abbrev pub seat : Deque → ℕ → List Task → List Task → DequeSeat
 seat deque parts pushed taken = record { deque = deque; tally = tally parts pushed taken }
 
 -- new seats of thieves at two deques
-abbrev pub two_thieves : Deque → Deque → List Seat
+abbrev pub two_thieves : Deque → Deque → List DequeSeat
 two_thieves one two = seat one 1 [] [] ∷ seat two 1 [] [] ∷ []
 
 -- a worker with so many parts of a new deque of its own, and these thieves' seats
-abbrev pub new_worker : ℕ → Deque → List Seat → WorkerSeats
+abbrev pub new_worker : ℕ → Deque → List DequeSeat → WorkerSeats
 new_worker parts deque thieves = record { own = seat deque parts [] []; thieves = thieves }
 
 -- two workers, each with so many parts and a thief's seat at each deque

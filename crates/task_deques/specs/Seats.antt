@@ -14,12 +14,12 @@ abbrev pub Deque : Type 0
 Deque = RowsId × Global
 
 -- a seat at a deque
-pub record Seat : Type 0 where
+pub record DequeSeat : Type 0 where
   pub deque : Deque
   pub tally : Tally
 
 -- the owner's
-abbrev pub owner_seat : Owner → Seat
+abbrev pub owner_seat : Owner → DequeSeat
 owner_seat owner = record { deque = worker_deque owner.worker; tally = worker_view owner.worker }
 
 -- how many tasks there is room for in its deque
@@ -27,25 +27,25 @@ abbrev pub owner_room : Owner → ℕ
 owner_room owner = owner.room
 
 -- a thief's
-abbrev pub thief_seat : Thief → Seat
+abbrev pub thief_seat : Thief → DequeSeat
 thief_seat thief = record { deque = stealer_deque thief.stealer; tally = view thief.pass }
 
 -- one task more was pushed
-abbrev pub with_pushed : Task → Seat → Seat
+abbrev pub with_pushed : Task → DequeSeat → DequeSeat
 with_pushed task seat = record seat { tally = tally seat.tally.parts (seat.tally.pushed ++ task ∷ []) seat.tally.taken }
 
 -- one task more was taken
-abbrev pub with_taken : Task → Seat → Seat
+abbrev pub with_taken : Task → DequeSeat → DequeSeat
 with_taken task seat = record seat { tally = tally seat.tally.parts seat.tally.pushed (seat.tally.taken ++ task ∷ []) }
 
 -- one part was cut off
-abbrev pub with_part_cut : Seat → Seat
+abbrev pub with_part_cut : DequeSeat → DequeSeat
 with_part_cut seat = record seat { tally = tally (seat.tally.parts - 1) seat.tally.pushed seat.tally.taken }
 
 -- the new seat of a thief at the same deque
-abbrev pub new_thief : Seat → Seat
+abbrev pub new_thief : DequeSeat → DequeSeat
 new_thief seat = record seat { tally = tally 1 [] [] }
 
 -- another seat's parts and tasks were joined to it
-abbrev pub joined : Seat → Seat → Seat
+abbrev pub joined : DequeSeat → DequeSeat → DequeSeat
 joined seat other = record seat { tally = tally (seat.tally.parts + other.tally.parts) (seat.tally.pushed ++ other.tally.pushed) (seat.tally.taken ++ other.tally.taken) }

@@ -7,7 +7,7 @@ ghost use Rattle.task_deques.specs.Tallies.{tally};
 ghost use Rattle.task_deques.specs.Seats.{owner_seat, owner_room, with_part_cut, new_thief};
 ghost use Rattle.task_deques.specs.Deals.{worker_seats, worker_room, posts, owner_seats, thief_seats, beside, fresh_with, IsDealt, IsWhole};
 
-use crate::ends::Ends;
+use crate::ends::DequeEnds;
 use crate::owner::Owner;
 use crate::thief::Thief;
 use sched_rules::Worker;
@@ -15,7 +15,7 @@ use std::alloc::{AllocError, Global};
 
 /// The ends of as many workers as the number of the last, in the order of their numbers, with room for
 /// so many tasks in each deque. It fails only where memory is refused.
-pub fn deal(alloc: Global, last: Worker, room: usize) -> Result<Vec<Ends>, AllocError>
+pub fn deal(alloc: Global, last: Worker, room: usize) -> Result<Vec<DequeEnds>, AllocError>
     ensures count { IfOk result (λ all. vec_len all ≡ last) }
     ensures dealt { IfOk result (λ all. IsDealt (map worker_seats all.items)) }
     ensures whole { IfOk result (λ all. IsWhole (map posts all.items)) }
@@ -72,7 +72,7 @@ fn row(alloc: Global, owners: &mut Vec<Owner>) -> Result<Vec<Thief>, AllocError>
 }
 
 /// Each owner with one row of thieves.
-fn paired(alloc: Global, owners: Vec<Owner>, rows: Vec<Vec<Thief>>) -> Result<Vec<Ends>, AllocError>
+fn paired(alloc: Global, owners: Vec<Owner>, rows: Vec<Vec<Thief>>) -> Result<Vec<DequeEnds>, AllocError>
     requires count { vec_len rows ≡ vec_len owners }
     requires rows { All (λ row. thief_seats row.items ≡ map new_thief (owner_seats owners.items)) rows.items }
     ensures count { IfOk result (λ all. vec_len all ≡ vec_len owners) }
@@ -85,7 +85,7 @@ fn paired(alloc: Global, owners: Vec<Owner>, rows: Vec<Vec<Thief>>) -> Result<Ve
         let Some(thieves) = rows.pop() else {
             unreachable!()
         };
-        all.push_reserved(Ends { own, thieves });
+        all.push_reserved(DequeEnds { own, thieves });
     }
     Ok(all)
 }

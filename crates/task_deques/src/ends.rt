@@ -11,12 +11,12 @@ use sched_rules::Worker;
 /// A worker's own deque, and a thief's end of each worker's deque, in the order of the workers'
 /// numbers. The thief's end of its own deque is there for the order's sake, and isn't used.
 #[derive(Drop)]
-pub struct Ends {
+pub struct DequeEnds {
     pub(crate) own: Owner,
     pub(crate) thieves: Vec<Thief>,
 }
 
-impl Ends {
+impl DequeEnds {
     ghost use Rattle.task_deques.specs.Deals.{worker_seats, worker_room, posts, IsTaken};
 
     /// Pushes a task on the worker's own deque, or hands it back as [`Owner::push`] does.

@@ -2,7 +2,7 @@
 //!
 //! A worker pushes its tasks on a deque of its own and takes the newest without waiting for anybody. A
 //! worker that has none steals the oldest of another's. [`deal`] makes all deques and deals their
-//! [`Ends`] to the workers before any thread starts: each gets the owner's end of one deque and a thief's
+//! [`DequeEnds`] to the workers before any thread starts: each gets the owner's end of one deque and a thief's
 //! end of each. When the threads have ended, the ends come back ([`Returned`]), and what was pushed on
 //! each deque is what was taken from it and what is left, each task as often ([`Returned::sums`]).
 //!
@@ -41,7 +41,7 @@ mod sums;
 mod thief;
 
 pub use dealing::deal;
-pub use ends::Ends;
+pub use ends::DequeEnds;
 pub use owner::Owner;
 pub use pool_rules::Task;
 pub use returned::Returned;

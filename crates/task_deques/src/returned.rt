@@ -1,7 +1,7 @@
 //! The ends of a pool's workers after their threads ended: what was pushed is what was taken and left.
 ghost use Rattle.std.specs.Prelude.{◌≡◌, ◌<◌, ◌≤◌, [], ◌∷◌, ◌++◌, map, length, sum_by, vec_len, vec_capacity, All, IfOk};
 
-use crate::ends::Ends;
+use crate::ends::DequeEnds;
 use crate::joining::{added, joined};
 use crate::owner::Owner;
 use crate::sums::Sums;
@@ -39,12 +39,12 @@ impl Returned {
     }
 
     /// Puts a worker's ends after those that are there.
-    pub fn put(&mut self, ends: Ends)
+    pub fn put(&mut self, ends: DequeEnds)
         requires { length (returned self.old) < returned_room self.old }
         ensures ends { returned self.new ≡ returned self.old ++ worker_seats ends ∷ [] }
         ensures room { returned_room self.new ≡ returned_room self.old }
     {
-        let Ends { own, thieves } = ends;
+        let DequeEnds { own, thieves } = ends;
         self.owners.push_reserved(own);
         self.rows.push_reserved(thieves);
     }

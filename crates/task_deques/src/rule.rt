@@ -94,4 +94,4 @@ pub(crate) type OwnerEnd = Worker<Task, Global, Tally, EachOnce>;
 pub(crate) type ThiefEnd = Stealer<Task, Global, Tally, EachOnce>;
 
 /// A thief's seat.
-pub(crate) type Seat = Pass<Task, Tally>;
+pub(crate) type DequeSeat = Pass<Task, Tally>;

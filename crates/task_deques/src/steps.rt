@@ -4,7 +4,7 @@ ghost use Rattle.pool_rules.specs.declared.task.Task.{Task};
 ghost use Rattle.crossbeam_deque.specs.Handles.{view, IsPassOf, worker_deque, stealer_deque, worker_flavor, worker_view};
 ghost use Rattle.task_deques.specs.Tallies.{tally, weigh, IsEmptied};
 
-use crate::rule::{OwnerEnd, Part, Popped, Pushed, Seat, Taken, ThiefEnd, Whole};
+use crate::rule::{OwnerEnd, Part, Popped, Pushed, DequeSeat, Taken, ThiefEnd, Whole};
 use crossbeam_deque::Steal;
 use pool_rules::Task;
 use std::alloc::{AllocError, Global};
@@ -42,7 +42,7 @@ pub(crate) fn pop(owner: &mut OwnerEnd) -> Option<Task>
 }
 
 /// Takes the oldest task of another's deque. Nothing is learned where none came.
-pub(crate) fn steal(thief: &ThiefEnd, seat: &mut Seat) -> Option<Task>
+pub(crate) fn steal(thief: &ThiefEnd, seat: &mut DequeSeat) -> Option<Task>
     requires deque { IsPassOf (stealer_deque thief.now) seat.old }
     requires part { 0 < (view seat.old).parts }
     ensures same { IsPassOf (stealer_deque thief.now) seat.new }
@@ -57,7 +57,7 @@ pub(crate) fn steal(thief: &ThiefEnd, seat: &mut Seat) -> Option<Task>
 }
 
 /// A seat for a thief, with one part of the owner's.
-pub(crate) fn seat(owner: &mut OwnerEnd) -> Seat
+pub(crate) fn seat(owner: &mut OwnerEnd) -> DequeSeat
     requires { 1 < (worker_view owner.old).parts }
     ensures same { (worker_deque owner.new ≡ worker_deque owner.old) × (worker_flavor owner.new ≡ worker_flavor owner.old) }
     ensures deque { IsPassOf (worker_deque owner.old) result }
@@ -68,7 +68,7 @@ pub(crate) fn seat(owner: &mut OwnerEnd) -> Seat
 }
 
 /// Joins a thief's seat to the owner's.
-pub(crate) fn join(owner: &mut OwnerEnd, seat: Seat)
+pub(crate) fn join(owner: &mut OwnerEnd, seat: DequeSeat)
     requires deque { IsPassOf (worker_deque owner.old) seat }
     requires part { 0 < (worker_view owner.old).parts }
     ensures same { (worker_deque owner.new ≡ worker_deque owner.old) × (worker_flavor owner.new ≡ worker_flavor owner.old) }

@@ -26,7 +26,7 @@ fn serial(taken: Option<Task>) -> u64 {
 }
 
 /// A worker pushes a task; false where it is handed back.
-fn pushes(all: &mut Vec<Ends>, worker: Worker, serial: u64) -> bool
+fn pushes(all: &mut Vec<DequeEnds>, worker: Worker, serial: u64) -> bool
     ensures posts { map posts all.new.items ≡ map posts all.old.items }
     ensures len { vec_len all.new ≡ vec_len all.old }
 {
@@ -38,7 +38,7 @@ fn pushes(all: &mut Vec<Ends>, worker: Worker, serial: u64) -> bool
 }
 
 /// A worker takes a task.
-fn takes(all: &mut Vec<Ends>, worker: Worker) -> u64
+fn takes(all: &mut Vec<DequeEnds>, worker: Worker) -> u64
     ensures posts { map posts all.new.items ≡ map posts all.old.items }
     ensures len { vec_len all.new ≡ vec_len all.old }
 {
@@ -50,7 +50,7 @@ fn takes(all: &mut Vec<Ends>, worker: Worker) -> u64
 }
 
 /// The sums of all deques, once their ends are put back.
-fn sums(alloc: Global, last: Worker, all: Vec<Ends>) -> Result<Sums, AllocError>
+fn sums(alloc: Global, last: Worker, all: Vec<DequeEnds>) -> Result<Sums, AllocError>
     requires whole { IsWhole (map posts all.items) }
     requires count { vec_len all ≡ last }
 {

@@ -3,7 +3,7 @@ ghost use Rattle.std.specs.Prelude.{◌≡◌, ◌+◌, [], length, IfOk, IfNone
 ghost use Rattle.crossbeam_deque.specs.Handles.{view, IsPassOf, worker_deque, stealer_deque};
 ghost use Rattle.task_deques.specs.Tallies.{tally};
 
-use crate::rule::{OwnerEnd, Seat, ThiefEnd};
+use crate::rule::{OwnerEnd, DequeSeat, ThiefEnd};
 use crate::steps;
 use pool_rules::Task;
 use std::alloc::AllocError;
@@ -12,7 +12,7 @@ use std::alloc::AllocError;
 #[derive(Drop)]
 pub struct Thief {
     stealer: ThiefEnd,
-    pass: Seat,
+    pass: DequeSeat,
     stolen: u64,
     ghost deque: { IsPassOf (stealer_deque stealer) pass },
     ghost part: { (view pass).parts ≡ 1 },
@@ -24,7 +24,7 @@ impl Thief {
     ghost use Rattle.task_deques.specs.Seats.{thief_seat, with_taken};
 
     /// A thief with a new seat at a deque. It fails only where memory is refused.
-    pub(crate) fn at(worker: &OwnerEnd, pass: Seat) -> Result<Thief, AllocError>
+    pub(crate) fn at(worker: &OwnerEnd, pass: DequeSeat) -> Result<Thief, AllocError>
         requires deque { IsPassOf (worker_deque worker.now) pass }
         requires tally { view pass ≡ tally 1 [] [] }
         ensures deque { IfOk result (λ thief. (thief_seat thief).deque ≡ worker_deque worker.now) }
@@ -58,7 +58,7 @@ impl Thief {
     }
 
     /// Its seat, and how many tasks it stole.
-    pub(crate) fn left(self) -> (Seat, u64)
+    pub(crate) fn left(self) -> (DequeSeat, u64)
         ensures deque { IsPassOf (thief_seat self).deque result.0 }
         ensures tally { view result.0 ≡ (thief_seat self).tally }
         ensures part { (view result.0).parts ≡ 1 }

@@ -59,7 +59,7 @@ use Rattle.std_alloc.proofs.RcSteps.{Good, word, word-Good, first_Good}
 use Rattle.segment_region.specs.Ownership.{row_owned}
 use Rattle.segment_region.proofs.Memory.{place_size, emptied}
 use Rattle.segment_region.proofs.Owners.{BaseRow, CellsRow, MarkRow, mark, mark_made, base_made, three, three_made}
-use Rattle.segment_region.specs.contracts.cells.Deed as DeedType
+use Rattle.segment_region.specs.contracts.cells.Title as TitleType
 use Rattle.segment_region.specs.contracts.cells.allocate as its
 use Rattle.segment_region.proofs.cells.allocate.Statement.{statement}
 use Rattle.segment_region.proofs.cells.allocate.Code as code
@@ -71,11 +71,11 @@ module _ (E : El) (Z : Al) where
   abbrev stayed : Stays (its.ended E.row Z.row Z.g Z.d Z.drops).signature.params (its.ended E.row Z.row Z.g Z.d Z.drops).kept
   stayed = (stay_dropped _ _, (stay_dropped _ _, tt))
 
-  abbrev DeedRow : RattleType
-  DeedRow = DeedType.the_row (R E) (P E Z) Z.g
+  abbrev TitleRow : RattleType
+  TitleRow = TitleType.the_row (R E) (P E Z) Z.g
 
   abbrev Parts : RattleType
-  Parts = Tuple (BaseRow E ∷ CellsRow E ∷ DeedRow ∷ [])
+  Parts = Tuple (BaseRow E ∷ CellsRow E ∷ TitleRow ∷ [])
 
   abbrev Answer : RattleType
   Answer = ResultType.the_row Parts AllocErrorType.the_row
@@ -127,7 +127,7 @@ module _ (E : El) (Z : Al) {M : Type 1} {𝓤 : Ura M} (𝓛 : Logic 𝓤) (at_m
       let p : Ptr = block_ptr b o in
       let start : (BaseRow E).Denot = record { ptr = p } in
       let cells : (CellsRow E).Denot = record { mark = record {}; at = p; slots = replicate len None } in
-      let deed : (DeedRow E Z).Denot = record { mark = record {}; at = p; len = len; alloc = alloc.now } in
+      let title : (TitleRow E Z).Denot = record { mark = record {}; at = p; len = len; alloc = alloc.now } in
       let made : Val = three (word p) mark mark in
       let typed : Good (layout (Parts E Z)) made = (tt, ((tt, tt), ((tt, tt), ((tt, tt), tt)))) in
       let ok = first_Good (layout (Parts E Z)) made typed in
@@ -144,9 +144,9 @@ module _ (E : El) (Z : Al) {M : Type 1} {𝓤 : Ura M} (𝓛 : Logic 𝓤) (at_m
       as_written ! (ty_array (elτ E) len) b o $ use1 𝓛 (‵ (row_owned (R E) b o cells.slots)) (emptied E 𝓛 b len o) $
       flt_i ! (length cells.slots * size) (2 ^ 63) (subst (λ k. k * size < 2 ^ 63) (sym (length-replicate len None)) asked.0) $ fjoin ! $
       use0 𝓛 (‵ ((MarkRow E).own_val (tt, tt) (mark ∷ []))) (mark_made E 𝓛) $ fjoin ! $ base_made E ! start $
-      use3 𝓛 (‵ ((Parts E Z).own_val (start, cells, deed) (made ∷ []))) (three_made 𝓛 (BaseRow E) (CellsRow E) (DeedRow E Z) start cells deed (word p) mark mark) $
-      use1 𝓛 (‵ ((Answer E Z).own_val (Ok (start, cells, deed)) (live 0 (vcons made vnil) ∷ []))) (ok_of 𝓛 (Parts E Z) AllocErrorType.the_row (start, cells, deed) made) $
-      returns ! (look_at ! 0 refl) $ free_all ! refl $ keep ! (0 ∷ 1 ∷ 2 ∷ []) $ by ! (exits (Ok (start, cells, deed)) (live 0 (vcons made vnil)) (refl, refl, refl, refl, refl)))
+      use3 𝓛 (‵ ((Parts E Z).own_val (start, cells, title) (made ∷ []))) (three_made 𝓛 (BaseRow E) (CellsRow E) (TitleRow E Z) start cells title (word p) mark mark) $
+      use1 𝓛 (‵ ((Answer E Z).own_val (Ok (start, cells, title)) (live 0 (vcons made vnil) ∷ []))) (ok_of 𝓛 (Parts E Z) AllocErrorType.the_row (start, cells, title) made) $
+      returns ! (look_at ! 0 refl) $ free_all ! refl $ keep ! (0 ∷ 1 ∷ 2 ∷ []) $ by ! (exits (Ok (start, cells, title)) (live 0 (vcons made vnil)) (refl, refl, refl, refl, refl)))
       -- none: the refusal goes on
       (λ e.
       let Refusal : RattleType = Struct (Declared.shape AllocErrorType.the_type) in

@@ -43,10 +43,10 @@ use Rattle.core.proofs.slots.Leases.{uncapped, block_ty, block_size, block_align
 use Rattle.std_alloc.proofs.RawLayout.{as_raw}
 use Rattle.std_alloc.proofs.VecSteps.Shapes.{after}
 use Rattle.std_alloc.proofs.RcSteps.{word, word-Good}
-use Rattle.segment_region.specs.Ownership.{places_owned, deed_owned}
+use Rattle.segment_region.specs.Ownership.{places_owned, title_owned}
 use Rattle.segment_region.proofs.Memory.{place_size, freed}
 use Rattle.segment_region.proofs.Owners.{BaseRow, CellsRow, mark, mark_had, base_had}
-use Rattle.segment_region.specs.contracts.cells.Deed as DeedType
+use Rattle.segment_region.specs.contracts.cells.Title as TitleType
 use Rattle.segment_region.specs.contracts.cells.deallocate as its
 use Rattle.segment_region.proofs.cells.deallocate.Statement.{statement}
 use Rattle.segment_region.proofs.cells.deallocate.Code as code
@@ -58,11 +58,11 @@ module _ (E : El) (Z : Al) where
   abbrev stayed : Stays (its.ended E.row Z.row Z.g Z.d Z.drops).signature.params (its.ended E.row Z.row Z.g Z.d Z.drops).kept
   stayed = (stay_dropped _ _, (stay_dropped _ _, (stay_dropped _ _, (stay_dropped _ _, (stay_dropped _ _, tt)))))
 
-  abbrev DeedRow : RattleType
-  DeedRow = DeedType.the_row (R E) (P E Z) Z.g
+  abbrev TitleRow : RattleType
+  TitleRow = TitleType.the_row (R E) (P E Z) Z.g
 
-  abbrev Asked : Z.row.Denot → (BaseRow E).Denot → ℕ → (CellsRow E).Denot → DeedRow.Denot → Type 0
-  Asked alloc start len cells deed = (cells.at ≡ start.ptr) × (length cells.slots ≡ len) × (deed.at ≡ start.ptr) × (deed.len ≡ len) × (deed.alloc ≡ alloc)
+  abbrev Asked : Z.row.Denot → (BaseRow E).Denot → ℕ → (CellsRow E).Denot → TitleRow.Denot → Type 0
+  Asked alloc start len cells title = (cells.at ≡ start.ptr) × (length cells.slots ≡ len) × (title.at ≡ start.ptr) × (title.len ≡ len) × (title.alloc ≡ alloc)
 
 module _ (E : El) (Z : Al) {M : Type 1} {𝓤 : Ura M} (𝓛 : Logic 𝓤) (at_mem : Memory → SProp 𝓤) (run : Routine → Fun 𝓤) (C : Calls 𝓤 𝓛.H) (Λ : Loops 𝓤 𝓛.H) (frames : FmC 𝓤 𝓛.H 𝓛.laws C)
     (gives : Triple 𝓤 (C (gives_key Z)) (Gives Z 𝓛 at_mem run)) (y : (walk_of 𝓛 (its.ended E.row Z.row Z.g Z.d Z.drops) (stayed E Z) (its.clauses E.row Z.row Z.g Z.d Z.drops 𝓛 at_mem run)).Ghost) where
@@ -83,8 +83,8 @@ module _ (E : El) (Z : Al) {M : Type 1} {𝓤 : Ura M} (𝓛 : Logic 𝓤) (at_m
   abbrev cells : (CellsRow E).Denot
   cells = y.0.3.1.1.1.0
 
-  abbrev deed : (DeedRow E Z).Denot
-  deed = y.0.3.1.1.1.1.0
+  abbrev title : (TitleRow E Z).Denot
+  title = y.0.3.1.1.1.1.0
 
   abbrev tokens : List (Item 𝓤)
   tokens = ‵ (flft κ y.0.1.0) ∷ (‵ (flft y.0.0.1.0 y.0.1.1.0) ⊛ (‵ (flft y.0.0.1.1.0 y.0.1.1.1.0) ⊛ ‵ ftrue)) ∷ []
@@ -100,9 +100,9 @@ module _ (E : El) (Z : Al) {M : Type 1} {𝓤 : Ura M} (𝓛 : Logic 𝓤) (at_m
       move ! (1 ∷ 0 ∷ []) $ join ! $ nothing ! $ move ! (1 ∷ 0 ∷ []) $ done !
 
   abbrev Had : List (Item 𝓤)
-  Had = ‵ (places_owned (R E) cells.at cells.slots) ∷ ‵ (deed_owned (R E) (token Z deed.alloc) deed.at deed.len) ∷ ‵ (hidden_shr (P E Z) κ alloc.now alloc.ref_ptr.0 alloc.ref_ptr.1) ∷ tokens
+  Had = ‵ (places_owned (R E) cells.at cells.slots) ∷ ‵ (title_owned (R E) (token Z title.alloc) title.at title.len) ∷ ‵ (hidden_shr (P E Z) κ alloc.now alloc.ref_ptr.0 alloc.ref_ptr.1) ∷ tokens
 
-  walk : y.0.0.1.1.0 ⊑ Z.row.lives → Asked E Z alloc.now start len cells deed → len < 2 ^ 64
+  walk : y.0.0.1.1.0 ⊑ Z.row.lives → Asked E Z alloc.now start len cells title → len < 2 ^ 64
       → ent 𝓤 (⋆ 𝓛 Had) (WpFn 𝓤 H C Λ (function E Z) (vptr alloc.ref_ptr.0 alloc.ref_ptr.1 ∷ word start.ptr ∷ vint w64 len ∷ mark ∷ mark ∷ []) Post)
   walk lives asked fits =
       let size = place_size E in let al : ℕ = capped (align (elτ E)) in
@@ -112,7 +112,7 @@ module _ (E : El) (Z : Al) {M : Type 1} {𝓤 : Ura M} (𝓛 : Logic 𝓤) (at_m
       let bytes : len * size < 2 ^ 64 = let below : len * size < 2 ^ 63 = subst (λ k. k * size < 2 ^ 63) asked.1 small in omega arith in
       let call : (Gives Z 𝓛 at_mem run).Ghost = at_gives Z 𝓛 at_mem run κ y.0.1.0 alloc.ref_ptr alloc.now b o (len * size) al (block_ty E len) in
       -- [the row; the allocator's token; the allocator; the lifetimes' tokens; the locals]
-      rewrite ! 1 (λ (d : Z.row.Denot × Ptr × ℕ). ‵ (deed_owned (R E) (token Z d.0) d.1 d.2)) (λ i. (asked.4 i, (asked.2 ∙ e) i, asked.3 i)) refl $
+      rewrite ! 1 (λ (d : Z.row.Denot × Ptr × ℕ). ‵ (title_owned (R E) (token Z d.0) d.1 d.2)) (λ i. (asked.4 i, (asked.2 ∙ e) i, asked.3 i)) refl $
       use1 𝓛 (‵ (froom (ty_array (elτ E) (length cells.slots)) b o)) (freed E 𝓛 b cells.slots o) $
       rewrite ! 0 (λ (k : ℕ). ‵ (froom (ty_array (elτ E) k) b o)) asked.1 refl $ as_raw ! (ty_array (elτ E) len) b o $
       first ! $ blocks ! $
@@ -129,17 +129,17 @@ module _ (E : El) (Z : Al) {M : Type 1} {𝓤 : Ura M} (𝓛 : Logic 𝓤) (at_m
       (WpFn 𝓤 H C Λ (function E Z) (y.0.4.0 ++ (y.0.4.1.0 ++ (y.0.4.1.1.0 ++ (y.0.4.1.1.1.0 ++ (y.0.4.1.1.1.1.0 ++ []))))) Post)
   entry =
       qed 𝓛 (((‵ (flft κ y.0.1.0) ⊛ (‵ (flft y.0.0.1.0 y.0.1.1.0) ⊛ (‵ (flft y.0.0.1.1.0 y.0.1.1.1.0) ⊛ ‵ ftrue))) ⊛ ‵ (owns (types_at (its.ended E.row Z.row Z.g Z.d Z.drops).signature.params y.0.0) y.0.3 y.0.4))
-      ∷ (raw (fact 𝓤 (y.0.0.1.0 ⊑ E.row.lives)) ⊛ (raw (fact 𝓤 (y.0.0.1.1.0 ⊑ Z.row.lives)) ⊛ raw (fact 𝓤 (Asked E Z alloc.now start len cells deed)))) ∷ []) ∵
+      ∷ (raw (fact 𝓤 (y.0.0.1.0 ⊑ E.row.lives)) ⊛ (raw (fact 𝓤 (y.0.0.1.1.0 ⊑ Z.row.lives)) ⊛ raw (fact 𝓤 (Asked E Z alloc.now start len cells title)))) ∷ []) ∵
       move ! (1 ∷ []) $ split ! $ drop ! $ split ! $ heard ! _ (λ lives. heard ! _ (λ asked.
       split ! $ split ! $ move ! (2 ∷ []) $ fsplit ! $ fsplit ! $ feq_l ! (λ is_alloc.
       move ! (1 ∷ []) $ fsplit ! $ base_had E ! start y.0.4.1.0 (λ is_start.
       fsplit ! $ fsplit ! $ feq_l ! (λ is_len. flt_l ! (λ fits.
       fsplit ! $ fsplit ! $ mark_had E ! y.0.4.1.1.1.0 (λ is_cells.
-      move ! (1 ∷ []) $ fsplit ! $ fsplit ! $ mark_had E ! y.0.4.1.1.1.1.0 (λ is_deed.
-      -- [what the deed owns; nothing; what the cells own; the allocator; the lifetimes' tokens]
+      move ! (1 ∷ []) $ fsplit ! $ fsplit ! $ mark_had E ! y.0.4.1.1.1.1.0 (λ is_title.
+      -- [what the title owns; nothing; what the cells own; the allocator; the lifetimes' tokens]
       keep ! (2 ∷ 0 ∷ 3 ∷ 4 ∷ 5 ∷ []) $
       by ! (subst (λ (ws : List Val × List Val × List Val × List Val × List Val). ent 𝓤 (⋆ 𝓛 Had) (WpFn 𝓤 H C Λ (function E Z) (ws.0 ++ (ws.1 ++ (ws.2 ++ (ws.3 ++ (ws.4 ++ []))))) Post))
-      (λ j. (sym is_alloc j, sym is_start j, sym is_len j, sym is_cells j, sym is_deed j)) (walk lives asked fits))))))))))
+      (λ j. (sym is_alloc j, sym is_start j, sym is_len j, sym is_cells j, sym is_title j)) (walk lives asked fits))))))))))
 
 pub deallocate_spec : {M : Type 1} → statement M
 deallocate_spec 𝓤 𝓛 𝓜 𝓡 wired T A of_T of_A g d drops met dropped =
@@ -149,7 +149,7 @@ deallocate_spec 𝓤 𝓛 𝓜 𝓡 wired T A of_T of_A g d drops met dropped =
       Goes-dropped 𝓛 3 (RefOf (0 ∷ []) tt (plain (λ _. P E Z)) (λ _. tt)) yes (λ κs x f. refl),
       (
         Goes-dropped 𝓛 3 (plain (λ _. BaseRow E)) no (λ κs x f. refl),
-        (Goes-dropped 𝓛 3 (plain (λ _. usize)) yes (λ κs x f. refl), (Goes-blank 𝓛 3 (plain (λ _. CellsRow E)) no (λ κs x f. tt), (Goes-blank 𝓛 3 (plain (λ _. DeedRow E Z)) no (λ κs x f. tt), tt))),
+        (Goes-dropped 𝓛 3 (plain (λ _. usize)) yes (λ κs x f. refl), (Goes-blank 𝓛 3 (plain (λ _. CellsRow E)) no (λ κs x f. tt), (Goes-blank 𝓛 3 (plain (λ _. TitleRow E Z)) no (λ κs x f. tt), tt))),
       ),
     )
     (its.Key.name (args E Z)) (function E Z) (code.unfolded 𝓤 𝓛.H 𝓜 𝓡 wired (T, (A, tt)) d drops)

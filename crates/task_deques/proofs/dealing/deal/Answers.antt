@@ -1,6 +1,6 @@
 use Rattle.std.proofs.Common.{◌≡◌, All, ◌-◌, ◌<◌, List, map, sym, ap, ◌∙◌, arith, vec_len}
 use Rattle.std.proofs.lemmas.Result.{IfOk-weaker}
-use Rattle.task_deques.specs.Seats.{Seat, new_thief}
+use Rattle.task_deques.specs.Seats.{DequeSeat, new_thief}
 use Rattle.task_deques.specs.Deals.{owner_seats, worker_seats, worker_room, posts, IsDealt, IsWhole}
 use Rattle.task_deques.proofs.SeatLemmas.{new_of_fresh, ends_dealt, room_dealt}
 use Rattle.task_deques.proofs.dealing.deal.Goals as goal
@@ -8,7 +8,7 @@ use Rattle.task_deques.proofs.dealing.deal.Goals as goal
 pub paired-requires-clause-rows : goal.paired-requires-clause-rows
 paired-requires-clause-rows c =
     let made = c.in_ok-owners.owners in
-    λ k d inside. c.in_ok-rows.ensures.rows k d inside ∙ sym (ap (λ (l : List Seat). map new_thief l) c.in_ok-rows.ensures.owners ∙ new_of_fresh (64 - vec_len made) (owner_seats made.items))
+    λ k d inside. c.in_ok-rows.ensures.rows k d inside ∙ sym (ap (λ (l : List DequeSeat). map new_thief l) c.in_ok-rows.ensures.owners ∙ new_of_fresh (64 - vec_len made) (owner_seats made.items))
 
 pub returns-clause-dealt : goal.returns-clause-dealt
 returns-clause-dealt c =

@@ -1,6 +1,6 @@
 use Rattle.std.proofs.Common.{◌<◌, List, length, ap, ◌∙◌, arith, rules}
 use Rattle.std.proofs.Math.Seq.{map-set_same}
-use Rattle.task_deques.specs.Seats.{Seat, owner_seat, owner_room, with_part_cut, new_thief}
+use Rattle.task_deques.specs.Seats.{DequeSeat, owner_seat, owner_room, with_part_cut, new_thief}
 use Rattle.task_deques.specs.Deals.{owner_seats}
 use Rattle.task_deques.proofs.SeatLemmas.{owner_at, owner_gives, cut_at, row_push}
 use Rattle.task_deques.proofs.dealing.row.Goals as goal
@@ -18,7 +18,7 @@ loop-place-preserved c =
     let x = c.index_mut.result.now in
     let at = c.loop-place in
     let thief = c.in_ok-thief.field-0 in
-    let before : List Seat = owner_seats c.args.owners.now.items in
+    let before : List DequeSeat = owner_seats c.args.owners.now.items in
     let inside : at.place < length at.owners.items = omega (arith, at.owners.ok.0, c.loop-place.invariant.4) in
     let within : at.place < length before = omega (arith, c.loop-place.invariant.5) in
     let here = owner_at with_part_cut at.owners.items before at.place x inside c.index_mut.ensures.value c.loop-place.invariant.0 in (

@@ -2,14 +2,14 @@ use Rattle.std.proofs.Common.{◌≡◌, [], List, sym, subst, refl, arith}
 use Rattle.std.proofs.lemmas.List.{nil_from_length}
 use Rattle.std.specs.Vec.Iter.{into_iter_items}
 use Rattle.task_deques.specs.declared.thief.Thief.{Thief}
-use Rattle.task_deques.specs.Seats.{Seat}
+use Rattle.task_deques.specs.Seats.{DequeSeat}
 use Rattle.task_deques.specs.Deals.{owner_seats, thief_seats, with_row}
 use Rattle.task_deques.proofs.JoinLemmas.{IsTurn, turn_inside, joins_here, joined_here, joined_all}
 use Rattle.task_deques.proofs.joining.join_row.Goals as goal
 
 pub loop-thief-init : goal.loop-thief-init
 loop-thief-init c =
-    let owners : List Seat = owner_seats c.args.owners.now.items in
+    let owners : List DequeSeat = owner_seats c.args.owners.now.items in
     let row = c.args.row.items in
     subst (λ (l : List Thief). IsTurn owners 0 (thief_seats l) (with_row owners (thief_seats row))) (sym c.into_iter-thief-iterator.ensures.into_iter_gives.0)
     (record { comes_to = refl; same = c.requires.deques; parts = c.requires.parts })
@@ -34,7 +34,7 @@ loop-thief-preserved c =
 pub returns : goal.returns
 returns c =
     let at = c.loop-thief in
-    let owners : List Seat = owner_seats at.owners.items in
-    let total : List Seat = with_row (owner_seats c.args.owners.now.items) (thief_seats c.args.row.items) in
+    let owners : List DequeSeat = owner_seats at.owners.items in
+    let total : List DequeSeat = with_row (owner_seats c.args.owners.now.items) (thief_seats c.args.row.items) in
     let none : into_iter_items at.thief-iterator ≡ [] = nil_from_length (into_iter_items at.thief-iterator) (omega (arith, c.in-None.ensures.steps.0, at.thief-iterator.rest.ok.0)) in
     joined_all owners at.place total (subst (λ (l : List Thief). IsTurn owners at.place (thief_seats l) total) none c.loop-thief.invariant)

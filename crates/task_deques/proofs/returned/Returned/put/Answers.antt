@@ -1,6 +1,6 @@
 use Rattle.std.proofs.Common.{◌∷◌, ◌++◌, [], List, map, ap, ◌∙◌, arith}
 use Rattle.std.proofs.lemmas.List.{map_push}
-use Rattle.task_deques.specs.Seats.{Seat, owner_seat}
+use Rattle.task_deques.specs.Seats.{DequeSeat, owner_seat}
 use Rattle.task_deques.specs.Deals.{owner_seats, thief_seats, zip_seats}
 use Rattle.task_deques.proofs.JoinLemmas.{row_each, length_back, zip_push}
 use Rattle.task_deques.proofs.returned.Returned.put.Goals as goal
@@ -15,10 +15,10 @@ pub returns-clause-ends : goal.returns-clause-ends
 returns-clause-ends c =
     let back = c.args.self.now in
     let ends = c.args.ends in
-    let owners : List Seat = owner_seats back.owners.items in
-    let rows : List (List Seat) = map (λ row. thief_seats row.items) back.rows.items in
+    let owners : List DequeSeat = owner_seats back.owners.items in
+    let rows : List (List DequeSeat) = map (λ row. thief_seats row.items) back.rows.items in
     ap (λ l. zip_seats (owner_seats l) (map (λ row. thief_seats row.items) c.push_reserved-2.new.self.items)) c.push_reserved.ensures.items
     ∙ ap (λ l. zip_seats (owner_seats (back.owners.items ++ ends.own ∷ [])) (map (λ row. thief_seats row.items) l)) c.push_reserved-2.ensures.items
-    ∙ ap (λ (l : List Seat). zip_seats l (map (λ row. thief_seats row.items) (back.rows.items ++ ends.thieves ∷ []))) (map_push owner_seat back.owners.items ends.own)
-    ∙ ap (λ (l : List (List Seat)). zip_seats (owners ++ owner_seat ends.own ∷ []) l) (map_push (λ row. thief_seats row.items) back.rows.items ends.thieves)
+    ∙ ap (λ (l : List DequeSeat). zip_seats l (map (λ row. thief_seats row.items) (back.rows.items ++ ends.thieves ∷ []))) (map_push owner_seat back.owners.items ends.own)
+    ∙ ap (λ (l : List (List DequeSeat)). zip_seats (owners ++ owner_seat ends.own ∷ []) l) (map_push (λ row. thief_seats row.items) back.rows.items ends.thieves)
     ∙ zip_push owners rows (owner_seat ends.own) (thief_seats ends.thieves.items) (row_each back)

@@ -1,5 +1,5 @@
 use Rattle.std.proofs.Common.{All, length, sum_by, ap, sym, subst, ◌∙◌, arith}
-use Rattle.task_deques.specs.Seats.{Seat}
+use Rattle.task_deques.specs.Seats.{DequeSeat}
 use Rattle.task_deques.specs.Deals.{IsAccounted}
 use Rattle.task_deques.proofs.JoinLemmas.{whole_back, rows_back, parts_back, few_back}
 use Rattle.task_deques.proofs.returned.Returned.sums.Goals as goal
@@ -14,10 +14,10 @@ pub added-requires-clause-few : goal.added-requires-clause-few
 added-requires-clause-few c = omega (arith, few_back c.args.self c.requires, c.joined.ensures.count)
 
 pub returns-clause-pushed : goal.returns-clause-pushed
-returns-clause-pushed c = c.added.ensures.pushed ∙ ap (sum_by (λ (deque : Seat). length deque.tally.pushed)) (c.joined.ensures.seats ∙ sym (whole_back c.args.self))
+returns-clause-pushed c = c.added.ensures.pushed ∙ ap (sum_by (λ (deque : DequeSeat). length deque.tally.pushed)) (c.joined.ensures.seats ∙ sym (whole_back c.args.self))
 
 pub returns-clause-taken : goal.returns-clause-taken
-returns-clause-taken c = c.added.ensures.taken ∙ ap (sum_by (λ (deque : Seat). length deque.tally.taken)) (c.joined.ensures.seats ∙ sym (whole_back c.args.self))
+returns-clause-taken c = c.added.ensures.taken ∙ ap (sum_by (λ (deque : DequeSeat). length deque.tally.taken)) (c.joined.ensures.seats ∙ sym (whole_back c.args.self))
 
 pub returns-clause-each_once : goal.returns-clause-each_once
 returns-clause-each_once c = subst (All IsAccounted) (c.joined.ensures.seats ∙ sym (whole_back c.args.self)) c.added.ensures.each_once

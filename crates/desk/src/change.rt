@@ -6,7 +6,7 @@ use hall::{Did, DidOf, Jamboree, Refusal};
 
 /// What a step changed that somebody may wait for.
 #[derive(Clone, Copy, Debug, PartialEq, Eq)]
-pub(crate) enum Ends {
+pub(crate) enum Change {
     /// Nothing.
     Nothing,
     /// A frame became ready.
@@ -15,15 +15,15 @@ pub(crate) enum Ends {
     Job,
 }
 
-impl Ends {
+impl Change {
     /// What a worker's step changed that was answered so.
-    pub(crate) fn of(answer: &Result<Did<Jamboree>, Refusal>) -> Ends
+    pub(crate) fn of(answer: &Result<Did<Jamboree>, Refusal>) -> Change
         ensures { result ≡ ends_of answer.now }
     {
         match answer {
-            Ok(DidOf::Spawned(_)) | Ok(DidOf::TakenIn(Some(_), _)) => Ends::InReady,
-            Ok(DidOf::Finished(_)) | Ok(DidOf::Spent(_)) => Ends::Job,
-            _ => Ends::Nothing,
+            Ok(DidOf::Spawned(_)) | Ok(DidOf::TakenIn(Some(_), _)) => Change::InReady,
+            Ok(DidOf::Finished(_)) | Ok(DidOf::Spent(_)) => Change::Job,
+            _ => Change::Nothing,
         }
     }
 }

@@ -1,8 +1,8 @@
 use denote.RattleType.{RattleType}
 use denote.Param.Send.{IsSend, Frees}
 use Rattle.core.specs.declared.alloc.Allocator.{Ghosts}
-use Rattle.segment_region.proofs.Threads.{deed-moves}
-use Rattle.segment_region.specs.contracts.cells.Deed.{the_row}
+use Rattle.segment_region.proofs.Threads.{title-moves}
+use Rattle.segment_region.specs.contracts.cells.Title.{the_row}
 
 pub send : (T A : RattleType) (g : Ghosts A.Denot) → IsSend A → Frees g g.dealloc_token → IsSend (the_row T A g)
-send T A g is anywhere = deed-moves T A g anywhere
+send T A g is anywhere = title-moves T A g anywhere

@@ -1,4 +1,4 @@
--- A `&` to a deed holds nothing.
+-- A `&` to a title holds nothing.
 use denote.RattleType.{RattleType}
 use denote.RawPtr.{RawPtr}
 use denote.Param.Laws.{Laws}
@@ -8,11 +8,11 @@ use denote.Struct.Laws.{field_copy}
 use denote.Struct.Lending.{of_Lends, Lends-nothing}
 use Rattle.core.specs.declared.alloc.Allocator.{Ghosts}
 use Rattle.core.specs.contracts.marker.PhantomData as mark
-use Rattle.segment_region.specs.contracts.cells.Deed as deed
-use Rattle.segment_region.proofs.cells.Deed.TheLaw.Statement.{statement}
+use Rattle.segment_region.specs.contracts.cells.Title as title
+use Rattle.segment_region.proofs.cells.Title.TheLaw.Statement.{statement}
 
 pub shares : (T A : RattleType) (g : Ghosts A.Denot) (of_T : Laws T) (of_A : Laws A) → statement T A g of_T of_A
 shares T A g of_T of_A =
-    of_Lends (deed.struct T A g) (deed.the_codes T.Denot A.Denot T.coded A.coded (mark.the_row RawPtr).coded) (deed.the_heap T A g) (deed.the_lent T A g)
+    of_Lends (title.struct T A g) (title.the_codes T.Denot A.Denot T.coded A.coded (mark.the_row RawPtr).coded) (title.the_heap T A g) (title.the_lent T A g)
     (λ d place. nothing_shr_laws) (copy_shared (mark.the_field RawPtr) (field_copy (mark.the_type RawPtr) tt), tt)
-    (λ M 𝓤 𝓛 d place. Lends-nothing 𝓛 (deed.the_heap T A g d) (deed.the_row T A g).lives)
+    (λ M 𝓤 𝓛 d place. Lends-nothing 𝓛 (title.the_heap T A g d) (title.the_row T A g).lives)
