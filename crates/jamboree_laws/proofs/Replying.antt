@@ -1,7 +1,7 @@
 -- A done job kept a returned root, which holds what it was asked.
 use Rattle.std.proofs.Common.{◌≡◌, ℕ, List, [], ◌∷◌, Some, Result, refl, sym, ◌∙◌, subst}
 use Rattle.tenant_quota.specs.Quota.{Quota}
-use Rattle.frame_table.specs.Frames.{Frame as TreeFrame, children_of, values_of}
+use Rattle.frame_tree.specs.Frames.{Frame as TreeFrame, children_of, values_of}
 use Rattle.sched_rules.specs.declared.job.Job.{Job}
 use Rattle.sched_rules.specs.declared.job.Job.TheVariants.{Live, Done, Spent as SpentJob, Cancelled as CancelledJob}
 use Rattle.sched_rules.specs.declared.refusal.Refusal.{Refusal}
