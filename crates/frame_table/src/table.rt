@@ -185,10 +185,10 @@ impl<T: Copy, A: Allocator> FrameTable<T, A> {
     pub fn children(&self, f: FrameId) -> Children<'_, T, A>
         ensures { result ≡ names_of f.tenant (children_of (frames_of self.now f.tenant) f.serial) }
     {
-        match find_tree(self.trees.as_slice(), &self.guesses, f.tenant) {
-            Some(tree) => tree.children(f.serial),
-            None => Children::none(),
-        }
+        Children::of(
+            f,
+            find_tree(self.trees.as_slice(), &self.guesses, f.tenant),
+        )
     }
 
     /// The names of a tenant's frames, by rising serial.
@@ -196,10 +196,10 @@ impl<T: Copy, A: Allocator> FrameTable<T, A> {
         ensures names { result ≡ names_of tenant (frames_of self.now tenant) }
         ensures tree { IsTree (frames_of self.now tenant) }
     {
-        match find_tree(self.trees.as_slice(), &self.guesses, tenant) {
-            Some(tree) => tree.frames(),
-            None => Frames::none(),
-        }
+        Frames::of(
+            tenant,
+            find_tree(self.trees.as_slice(), &self.guesses, tenant),
+        )
     }
 
     /// A tenant's ready frame of the greatest serial, with its home.

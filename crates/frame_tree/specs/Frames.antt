@@ -1,6 +1,7 @@
 -- Meaning: the tree of one tenant: a finite map from serials to frames, as the list of them by rising serial.
 -- (Cilk 5.4 Reference Manual: spawn, abort, cactus stack.)
 use Rattle.std.specs.Prelude.{◌≡◌, ℕ, ◌<◌, Bool, true, false, not, ◌||◌, ◌&&◌, ◌==◌, List, [], ◌∷◌, ◌++◌, Option, Some, None, if◌then◌else◌, filter, map}
+use Rattle.std.specs.Borrow.{Bor}
 use Rattle.frame_tree.specs.declared.names.FrameId.{FrameId}
 use Rattle.frame_tree.specs.declared.names.Entry.{Entry}
 use Rattle.frame_tree.specs.declared.names.State.{State}
@@ -47,6 +48,11 @@ path_under frames (Some parent) serial = path_in frames parent ++ serial ∷ []
 -- a frame as it is added: ready at its home, one step further than its parent
 abbrev pub new_frame : {T : Type 0} → List (Frame T) → ℕ → Option ℕ → ℕ → T → Frame T
 new_frame frames serial parent home value = record { serial = serial; path = path_under frames parent serial; state = Ready home; value = value }
+
+-- the frames of a tree, and none where there is no tree
+abbrev pub frames_in : {T : Type 0} → Option (Bor (TenantTree T)) → List (Frame T)
+frames_in None = []
+frames_in (Some tree) = tree.now.frames
 
 -- the first serial of a path: the root's
 abbrev pub root_of : List ℕ → ℕ

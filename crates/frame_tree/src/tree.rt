@@ -5,14 +5,14 @@
 //! the counts of children are those of the slots, and so are the serials and the ready frames that are
 //! listed beside them.
 ghost use Rattle.std.specs.Prelude.{◌≡◌, ◌+◌, ◌<◌, ◌≤◌, ◌↔◌, ◌++◌, [], ◌∷◌, true, false, length, vec_len, vec_capacity, IsTrue, IfOk, OnOk, OnErr, IfSome};
-ghost use Rattle.frame_tree.specs.Frames.{frame_at, has_frame, path_in, root_of, children_of, aborted, frames_under, frames_without, values_of, with_state, ready_frames, AllBelow, entry_of, newest_ready_of, names_of, new_frame, one_if_ready, HasValue, has_parent, IsReadyAt, IsTree};
+ghost use Rattle.frame_tree.specs.Slots.{frames_from, IsLinked};
+ghost use Rattle.frame_tree.specs.Frames.{frame_at, has_frame, path_in, root_of, children_of, aborted, frames_under, frames_without, values_of, with_state, ready_frames, AllBelow, entry_of, newest_ready_of, new_frame, one_if_ready, HasValue, has_parent, IsReadyAt, IsTree};
 
 use crate::names::{Entry, FrameId, State};
 use crate::ready::ReadyFrames;
 use crate::serials::Serials;
 use crate::shelf::Shelf;
 use crate::slot::Slot;
-use crate::walk::{Children, Frames};
 use std::alloc::{AllocError, Allocator, Global};
 use std::marker::Model;
 
@@ -97,20 +97,12 @@ impl<T: Copy, A: Allocator> TenantFrames<T, A> {
         self.ready.len()
     }
 
-    /// The names of the frames, by rising serial.
-    pub fn frames(&self) -> Frames<'_, T, A>
-        ensures names { result ≡ names_of self.now.tenant self.now.frames }
-        ensures tree { IsTree self.now.frames }
+    /// The slots.
+    pub(crate) fn shelf(&self) -> &Shelf<T, A>
+        ensures frames { frames_from [] result.now.slots ≡ self.now.frames }
+        ensures linked { IsLinked [] result.now.slots }
     {
-        Frames::new(self.tenant, Some(&self.shelf))
-    }
-
-    /// The names of a frame's children, by rising serial.
-    pub fn children(&self, serial: u64) -> Children<'_, T, A>
-        ensures { result ≡ names_of self.now.tenant (children_of self.now.frames serial) }
-    {
-        let tenant = self.tenant;
-        Children::new(FrameId { tenant, serial }, Some(&self.shelf))
+        &self.shelf
     }
 
     /// The parent, state and value of a frame; `None` where there is no such frame.

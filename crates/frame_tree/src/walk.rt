@@ -1,11 +1,13 @@
 //! The iterators over names.
-ghost use Rattle.std.specs.Prelude.{◌≡◌, List, [], drop};
+ghost use Rattle.std.specs.Prelude.{◌≡◌, List, drop};
 ghost use Rattle.std.specs.Iterator.{YieldsFirst, item_count};
+ghost use Rattle.frame_tree.specs.Frames.{names_of, children_of, frames_in, IsTree};
 ghost use Rattle.frame_tree.specs.Slots.{names_in, child_slots, SplitsChild};
 ghost use Rattle.frame_tree.specs.Shelves.{slots_after};
 
 use crate::names::FrameId;
 use crate::shelf::Shelf;
+use crate::tree::TenantFrames;
 use std::alloc::{Allocator, Global};
 use std::marker::Model;
 
@@ -29,15 +31,21 @@ impl<'a, T, A: Allocator> Model for Frames<'a, T, A> {
 }
 
 impl<'a, T, A: Allocator> Frames<'a, T, A> {
-    /// No names: those of a tenant that has no tree.
-    pub fn none() -> Self
-        ensures { result ≡ [] }
+    /// The names of the frames of a tenant's tree, and none where it has no tree.
+    pub fn of(tenant: u64, tree: Option<&'a TenantFrames<T, A>>) -> Self
+    where
+        T: Copy,
+        ensures names { result ≡ names_of tenant (frames_in tree.entry) }
+        ensures tree { IsTree (frames_in tree.entry) }
     {
-        Frames::new(0, None)
+        match tree {
+            Some(tree) => Frames::new(tenant, Some(tree.shelf())),
+            None => Frames::new(tenant, None),
+        }
     }
 
-    /// The names of the frames on this shelf.
-    pub(crate) fn new(tenant: u64, shelf: Option<&'a Shelf<T, A>>) -> Self
+    /// The names of the frames on a shelf.
+    fn new(tenant: u64, shelf: Option<&'a Shelf<T, A>>) -> Self
         ensures { result ≡ names_in tenant (slots_after 0 shelf.entry) }
     {
         Frames {
@@ -88,16 +96,20 @@ impl<'a, T, A: Allocator> Model for Children<'a, T, A> {
 }
 
 impl<'a, T, A: Allocator> Children<'a, T, A> {
-    /// No names: those of a frame whose tenant has no tree.
-    pub fn none() -> Self
-        ensures { result ≡ [] }
+    /// The names of a frame's children in its tenant's tree, and none where it has no tree.
+    pub fn of(parent: FrameId, tree: Option<&'a TenantFrames<T, A>>) -> Self
+    where
+        T: Copy,
+        ensures { result ≡ names_of parent.tenant (children_of (frames_in tree.entry) parent.serial) }
     {
-        let (tenant, serial) = (0, 0);
-        Children::new(FrameId { tenant, serial }, None)
+        match tree {
+            Some(tree) => Children::new(parent, Some(tree.shelf())),
+            None => Children::new(parent, None),
+        }
     }
 
-    /// The names of a frame's children on this shelf.
-    pub(crate) fn new(parent: FrameId, shelf: Option<&'a Shelf<T, A>>) -> Self
+    /// The names of a frame's children on a shelf.
+    fn new(parent: FrameId, shelf: Option<&'a Shelf<T, A>>) -> Self
         ensures { result ≡ names_in parent.tenant (child_slots parent.serial (slots_after 0 shelf.entry)) }
     {
         Children {
