@@ -19,8 +19,8 @@ use Rattle.sched_laws.proofs.FitAnswers.{run-fits, nobody-fits}
 use Rattle.jamboree_rules.specs.declared.leaf.Leaf.{Leaf}
 use Rattle.jamboree_rules.specs.declared.leaf.LeafAnswer.{LeafAnswer}
 use Rattle.othello_board.specs.Words.{cells_of}
-use Rattle.othello_eval.specs.declared.bound.Bound.{Bound}
-use Rattle.othello_eval.specs.Tables.{IsTable}
+use Rattle.jamboree_rules.specs.othello_eval.declared.bound.Bound.{Bound}
+use Rattle.jamboree_rules.specs.othello_eval.Tables.{IsTable}
 use Rattle.jamboree_rules.specs.Frames.{Frame, board}
 use Rattle.jamboree_rules.specs.Places.{frame_of}
 use Rattle.jamboree_rules.specs.Entries.{bounds_of}

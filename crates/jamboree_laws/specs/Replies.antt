@@ -2,8 +2,8 @@
 use Rattle.std.specs.Prelude.{◌≡◌, ℕ, ◌≤◌, bit_and, List, [], ◌∷◌, map, slice_index}
 use Rattle.frame_tree.specs.Frames.{Frame, children_of, values_of}
 use Rattle.othello_board.specs.Words.{cells_of}
-use Rattle.othello_eval.specs.Minimax.{minimax, best_choice}
-use Rattle.othello_eval.specs.Tables.{IsTable}
+use Rattle.jamboree_rules.specs.othello_eval.Minimax.{minimax, best_choice}
+use Rattle.jamboree_rules.specs.othello_eval.Tables.{IsTable}
 use Rattle.sched_rules.specs.declared.job.Job.{Job}
 use Rattle.sched_rules.specs.declared.job.Job.TheVariants.{Live, Done, Spent as SpentJob, Cancelled as CancelledJob}
 use Rattle.sched_rules.specs.declared.step.StepOf.{StepOf}

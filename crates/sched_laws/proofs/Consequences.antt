@@ -2,7 +2,7 @@
 use Rattle.std.proofs.Common.{◌≡◌, ℕ, suc, ◌+◌, ◌-◌, ◌≤◌, inl, inr, true, eqb, List, [], ◌∷◌, Option, Some, length, refl, ap, sym, ◌∙◌, subst, arith}
 use Rattle.std.proofs.lemmas.Bool.{cases_Bool, false≢true, eqb-true, ne_eqb}
 use Rattle.std.proofs.lemmas.List.Sums.{sum_by-cons}
-use Rattle.cactus_stack.specs.Nodes.{charge}
+use Rattle.sched_rules.specs.cactus_stack.Nodes.{charge}
 use Rattle.tenant_quota.specs.Quota.{IsWithinLimits}
 use Rattle.tenant_quota.specs.Accounts.{IsWithinReserve}
 use Rattle.frame_tree.specs.declared.names.State.TheVariants.{Computing, Returned}

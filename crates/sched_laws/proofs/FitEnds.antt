@@ -1,7 +1,7 @@
 -- Every step of a tenant leaves its frames fitting, and its jobs holding what they were asked: Inlet, Finish, Spend, Cancel and Submit.
 use Rattle.std.proofs.Common.{◌≡◌, ◌≢◌, ℕ, ◌+◌, ◌<◌, inl, inr, Bool, true, false, not, eqb, List, [], ◌∷◌, ◌++◌, Option, Some, None, length, refl, ap, sym, ◌∙◌, subst, arith}
 use Rattle.std.proofs.lemmas.Bool.{cases_Bool, false≢true, eq-eqb, eqb-true}
-use Rattle.cactus_stack.specs.Nodes.{padded}
+use Rattle.sched_rules.specs.cactus_stack.Nodes.{padded}
 use Rattle.frame_tree.specs.Frames.{frame_at, path_in, parent_of, goes_under, children_under, children_of, aborted, frames_without, values_of, IsTree, new_frame}
 use Rattle.frame_tree.specs.TreeLaws.{is_that, is_child_of}
 use Rattle.frame_tree.proofs.Forest.{has_frame-above}

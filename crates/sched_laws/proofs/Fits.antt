@@ -2,7 +2,7 @@
 use Rattle.std.proofs.Common.{◌≡◌, ◌≢◌, ℕ, suc, ◌+◌, inl, inr, Bool, true, false, eqb, ltb, List, [], ◌∷◌, ◌++◌, Option, Some, None, length, refl, ap, sym, ◌∙◌, subst, arith}
 use Rattle.std.specs.List.{filter}
 use Rattle.std.proofs.lemmas.Bool.{cases_Bool, cases_eq, false≢true, eq-eqb, ne_eqb, eqb-true}
-use Rattle.cactus_stack.specs.Nodes.{padded}
+use Rattle.sched_rules.specs.cactus_stack.Nodes.{padded}
 use Rattle.frame_tree.specs.declared.names.State.{State}
 use Rattle.frame_tree.specs.Frames.{frame_at, has_frame, path_in, AllBelow, parent_of, children_under, children_of, with_state, values_of, IsNextFrame, IsTree, new_frame}
 use Rattle.frame_tree.specs.TreeLaws.{is_that, is_child_of, Each}

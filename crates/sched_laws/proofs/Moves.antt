@@ -3,7 +3,7 @@ use Rattle.std.proofs.Common.{◌≡◌, ◌≢◌, ℕ, ◌+◌, ◌-◌, ◌*�
 use Rattle.std.specs.List.{filter}
 use Rattle.std.proofs.lemmas.List.{length-replicate}
 use Rattle.std.proofs.lemmas.Bool.{cases_Bool, false≢true, eq-eqb, ne_eqb, not_from_false}
-use Rattle.cactus_stack.specs.Nodes.{charge, padded}
+use Rattle.sched_rules.specs.cactus_stack.Nodes.{charge, padded}
 use Rattle.frame_tree.specs.declared.names.State.{State}
 use Rattle.frame_tree.specs.Frames.{Frame, frame_at, has_frame, path_in, AllBelow, parent_of, goes_under, aborted, frames_without, with_state, children_of, IsTree, new_frame}
 use Rattle.frame_tree.proofs.Forest.{EndsIn, AllBelow-append, has_frame-above, path_in-left, path_in-right}
