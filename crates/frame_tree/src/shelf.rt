@@ -338,7 +338,11 @@ fn guessed_key<T: Copy, A: Allocator>(
 /// The key of the slot with a serial that is there, wherever it was guessed.
 #[cold]
 #[inline(never)]
-fn search_key<A: Allocator>(order: &ListWindow<usize, A>, serials: &Serials<A>, serial: u64) -> usize
+fn search_key<A: Allocator>(
+    order: &ListWindow<usize, A>,
+    serials: &Serials<A>,
+    serial: u64,
+) -> usize
     requires rise { RisesBy (λ n. n) serials.now.serials }
     requires there { has_number serials.now.serials serial ≡ true }
     requires long { length serials.now.serials ≡ length order.now.list }
@@ -428,7 +432,11 @@ fn disown<T: Copy, A: Allocator>(
 
 /// Puts the slot under a key into another state, and gives the one that it was in.
 #[inline(always)]
-fn put_state<T: Copy, A: Allocator>(slab: &mut Slab<KeptSlot<T>, A>, key: usize, state: State) -> State
+fn put_state<T: Copy, A: Allocator>(
+    slab: &mut Slab<KeptSlot<T>, A>,
+    key: usize,
+    state: State,
+) -> State
     requires { ContainsKey slab.old key }
     ensures put { (kept : KeptSlot T) → get slab.old key ≡ Some kept → Updates slab.old slab.new key (Some (record kept { slot = record kept.slot { state = state } })) }
     ensures was { (kept : KeptSlot T) → get slab.old key ≡ Some kept → result ≡ kept.slot.state }

@@ -22,9 +22,9 @@ use crate::phases::{Phase, Role};
 use crate::plan::Plan;
 use crate::view::{Changes, SIZE, are_root_words, is_formed, read_leaf, view};
 use cactus_stack::{Sight, Words};
+use jamboree_rules::sched_rules::{Act, InletAct, Procedure, Stores};
 use jamboree_rules::{Leaf, LeafAnswer};
 use othello_moves::choice_count;
-use jamboree_rules::sched_rules::{Act, InletAct, Procedure, Stores};
 
 /// Jamboree search: frames of a remaining depth of at most `grain` are searched serially by one
 /// worker; a root only at depth 0 and in a finished game, so that each of its choices has an entry.

@@ -9,8 +9,8 @@ use crate::entry::{Known, Rest};
 use crate::reply::{MOST, Reply};
 use crate::score::score_of_word;
 use crate::view::{kept_entries, read_kept};
-use othello_board::Board;
 use jamboree_rules::othello_eval::{Bound, BoundKind};
+use othello_board::Board;
 use othello_moves::{Choice, choice};
 
 /// What is known of the choices with these entries, in their order.

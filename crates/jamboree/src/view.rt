@@ -22,10 +22,10 @@ use crate::statuses::are_entries;
 use cactus_stack::Words;
 use jamboree_rules::Leaf;
 use jamboree_rules::leaf_search::INF;
+use jamboree_rules::sched_rules::{GivenWords, Stores, Then};
 use othello_board::Board;
 use othello_moves::choice_count;
 use position_text::Position;
-use jamboree_rules::sched_rules::{GivenWords, Stores, Then};
 use std::marker::Model;
 
 /// The size of a new frame in words, behind which the entries of its choices stand.

@@ -9,8 +9,8 @@ ghost use Rattle.leaf_search.specs.Bounds.{IsBound};
 use super::scored::Scored;
 use super::window::{INF, Window};
 use othello_board::Board;
-use othello_eval::{eval_by_mobility, final_value};
 use othello_eval::othello_moves::{Choices, Mobility, after, plies};
+use othello_eval::{eval_by_mobility, final_value};
 
 /// Searches a board to a depth of 0 to 12 plies through a window (fail-soft alpha-beta: Fishburn 1983).
 ///
