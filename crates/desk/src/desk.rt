@@ -9,7 +9,7 @@ use crate::change::Change;
 use crate::kept::Kept;
 use crate::seat::Seat;
 use crate::shares::{Badge, Hands, PARTS};
-use frame_table::FrameId;
+use frame_tree::FrameId;
 use hall::{Did, Hall, Jamboree, Outcome, Refusal, Step};
 use position_text::Position;
 use std::alloc::{Allocator, Global};

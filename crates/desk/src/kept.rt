@@ -18,7 +18,7 @@ ghost use Rattle.desk.specs.Counts.{IsOffered, IsLeft, IsAsOpen, IsNext, with_ke
 use crate::seat::{Asked, JOBS, Seat};
 use crate::shares::{Badge, Hands, PARTS};
 use arrayvec::ArrayVec;
-use frame_table::FrameId;
+use frame_tree::FrameId;
 use hall::{Did, DidOf, Hall, Jamboree, Outcome, Refusal, Step, StepOf, submit};
 use position_text::Position;
 use std::alloc::{Allocator, Global};

@@ -5,7 +5,7 @@ mod reserving;
 mod waiting;
 
 use super::*;
-use frame_table::FrameId;
+use frame_tree::FrameId;
 use othello_board::Board;
 use othello_moves::Choice;
 use position_text::{Position, Side};

@@ -4,7 +4,7 @@ ghost use Rattle.std.specs.Prelude.{◌≡◌, ◌≤◌};
 
 use crate::serve_desk;
 use desk::{Badge, Config, Desk, DidOf, Hall, Hands, LeafAnswer, PARTS, StepOf, Worker};
-use frame_table::FrameId;
+use frame_tree::FrameId;
 use line_io::{FromReader, FromWriter, ReadFailed, Source};
 use session::{End, SessionFault};
 use std::alloc::Global;

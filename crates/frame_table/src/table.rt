@@ -6,14 +6,11 @@
 //! room for as many as any tenant has places, and the count of ready frames is that of all trees.
 ghost use Rattle.std.specs.Prelude.{◌≡◌, ◌≢◌, ℕ, ◌+◌, ◌<◌, ◌≤◌, ◌↔◌, ◌++◌, [], ◌∷◌, true, false, length, IsTrue, IsNone, IfOk, IfSome, IfNone, OnOk, OnErr};
 ghost use Rattle.std.specs.Borrow.{sem};
-ghost use Rattle.frame_table.specs.Frames.{frame_at, has_frame, path_in, root_of, children_of, frames_under, frames_without, values_of, with_state, ready_frames, AllBelow, entry_of, newest_ready_of, names_of, HasValue, IsTree, IsReadyAt};
-ghost use Rattle.frame_table.specs.Tables.{frames_of, places_of, tenant_count, KeepsOthers, KeepsOtherTenants, serial_of, IsParentIn, new_frame, has_tenant, IsAt, IsTreeOf, HasNoTree, AreApart, first_ready_of};
-ghost use Rattle.frame_table.specs.Places.{RisesBy, IsPlaceFor};
-ghost use Rattle.frame_table.specs.Readies.{one_if_ready};
+ghost use Rattle.frame_tree.specs.Frames.{frame_at, has_frame, path_in, root_of, children_of, frames_under, frames_without, values_of, with_state, ready_frames, AllBelow, entry_of, newest_ready_of, names_of, new_frame, one_if_ready, HasValue, IsTree, IsReadyAt};
+ghost use Rattle.frame_table.specs.Tables.{frames_of, places_of, tenant_count, KeepsOthers, KeepsOtherTenants, serial_of, IsParentIn, has_tenant, IsAt, IsTreeOf, HasNoTree, AreApartTrees, first_ready_of};
+ghost use Rattle.frame_tree.specs.Places.{RisesBy, IsPlaceFor};
 
-use crate::names::{Entry, FrameId, State};
-use crate::tree::TenantFrames;
-use crate::walk::{Children, Frames};
+use frame_tree::{Children, Entry, FrameId, Frames, State, TenantFrames};
 use guesses::Guesses;
 use std::alloc::{AllocError, Allocator, Global};
 use std::marker::Model;
@@ -39,9 +36,10 @@ pub struct FrameTable<T, A: Allocator = Global> {
 
 impl<T, A: Allocator> Model for FrameTable<T, A> {
     ghost use Rattle.std.specs.Prelude.{◌≤◌, List, vec_capacity};
-    ghost use Rattle.frame_table.specs.Tables.{Tree, IsSoundTable};
+    ghost use Rattle.frame_tree.specs.Frames.{TenantTree};
+    ghost use Rattle.frame_table.specs.Tables.{IsSoundTable};
 
-    ghost Value = { List (Tree T) };
+    ghost Value = { List (TenantTree T) };
 
     ghost view = { λ t. t.trees.items };
 
@@ -187,10 +185,7 @@ impl<T: Copy, A: Allocator> FrameTable<T, A> {
     pub fn children(&self, f: FrameId) -> Children<'_, T, A>
         ensures { result ≡ names_of f.tenant (children_of (frames_of self.now f.tenant) f.serial) }
     {
-        match find_tree(self.trees.as_slice(), &self.guesses, f.tenant) {
-            Some(tree) => Children::new(f, Some(tree.shelf())),
-            None => Children::new(f, None),
-        }
+        Children::of(f, find_tree(self.trees.as_slice(), &self.guesses, f.tenant))
     }
 
     /// The names of a tenant's frames, by rising serial.
@@ -198,10 +193,10 @@ impl<T: Copy, A: Allocator> FrameTable<T, A> {
         ensures names { result ≡ names_of tenant (frames_of self.now tenant) }
         ensures tree { IsTree (frames_of self.now tenant) }
     {
-        match find_tree(self.trees.as_slice(), &self.guesses, tenant) {
-            Some(tree) => Frames::new(tenant, Some(tree.shelf())),
-            None => Frames::new(tenant, None),
-        }
+        Frames::of(
+            tenant,
+            find_tree(self.trees.as_slice(), &self.guesses, tenant),
+        )
     }
 
     /// A tenant's ready frame of the greatest serial, with its home.
@@ -387,9 +382,9 @@ impl<T: Copy, A: Allocator> FrameTable<T, A> {
     {
         let at = known_tenant(self.trees.as_slice(), &self.guesses, f.tenant);
         let tree = &mut self.trees[at];
-        let gone = tree.remove(f.serial);
-        self.ready = recount(self.ready, gone.state, State::Returned);
-        gone.value
+        let (was, value) = tree.remove(f.serial);
+        self.ready = recount(self.ready, was, State::Returned);
+        value
     }
 }
 
@@ -619,7 +614,7 @@ fn search_known<T: Copy, A: Allocator>(trees: &[TenantFrames<T, A>], tenant: u64
 
 /// The newest ready frame of the first tenant that has one.
 fn first_ready<T: Copy, A: Allocator>(trees: &[TenantFrames<T, A>]) -> Option<(FrameId, u8)>
-    requires { AreApart trees.now }
+    requires { AreApartTrees trees.now }
     ensures value { result ≡ first_ready_of trees.now }
     ensures found { IfSome result (λ ready. IsReadyAt (frame_at (frames_of trees.now ready.0.tenant) ready.0.serial) ready.1) }
 {

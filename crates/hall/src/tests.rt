@@ -3,7 +3,7 @@ ghost use Rattle.jamboree_core.specs.jamboree_laws.Replies.{IsSearch};
 
 use super::*;
 use crate::entry::{Entry, LongEntry};
-use frame_table::FrameId;
+use frame_tree::FrameId;
 use linked_list_allocator::LocalHeap;
 use othello_board::Board;
 use othello_moves::Choice;

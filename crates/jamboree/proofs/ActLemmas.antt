@@ -9,8 +9,8 @@ use Rattle.othello_board.specs.Words.{cells_of}
 use Rattle.othello_moves.specs.declared.choices.Choice.{Choice}
 use Rattle.othello_moves.specs.declared.choices.Choice.TheVariants.{Pass}
 use Rattle.othello_moves.specs.Choices.{choices, after}
-use Rattle.sched_rules.specs.declared.act.Act.{Act}
-use Rattle.sched_rules.specs.declared.act.Then.{Then}
+use Rattle.jamboree_rules.specs.sched_rules.declared.act.Act.{Act}
+use Rattle.jamboree_rules.specs.sched_rules.declared.act.Then.{Then}
 use Rattle.jamboree_rules.specs.Frames.{Frame, board, choice_at, own_word, opp_word}
 use Rattle.jamboree_rules.specs.Places.{Spawned, Status, pairs_of}
 use Rattle.jamboree_rules.specs.Acts.{spawns, opening_on, first_search, tests, tests_from, act_by, act_of}

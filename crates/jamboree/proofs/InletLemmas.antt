@@ -3,7 +3,7 @@ use Rattle.std.specs.Prelude.{◌≡◌, ℕ, ◌==◌, ◌-ℤ◌, ◌&&◌, Bo
 use Rattle.std.proofs.Common.{to_z, of_z, w32, sym, ◌∙◌, ap}
 use Rattle.jamboree_rules.specs.Frames.{Frame, floor}
 use Rattle.jamboree_rules.specs.Places.{pairs_of}
-use Rattle.othello_eval.specs.declared.bound.BoundKind.TheVariants.{Low}
+use Rattle.jamboree_rules.specs.othello_eval.declared.bound.BoundKind.TheVariants.{Low}
 use Rattle.jamboree_rules.specs.Acts.{seen, kind_by, kind_of, changes_by, changes_of}
 use Rattle.jamboree.specs.declared.phases.Role.{Role}
 use Rattle.jamboree.specs.declared.phases.Role.TheVariants.{Root, FirstChild, Test, Again}

@@ -7,8 +7,8 @@ use Rattle.std.proofs.lemmas.List.Elements.{All-head, All-tail}
 use Rattle.othello_board.specs.declared.cells.Cell.{Cell}
 use Rattle.othello_moves.specs.declared.choices.Choice.{Choice}
 use Rattle.othello_moves.specs.Choices.{choices}
-use Rattle.othello_eval.specs.declared.bound.Bound.{Bound}
-use Rattle.othello_eval.specs.Tables.{entered, IsTable}
+use Rattle.jamboree_rules.specs.othello_eval.declared.bound.Bound.{Bound}
+use Rattle.jamboree_rules.specs.othello_eval.Tables.{entered, IsTable}
 use Rattle.jamboree_rules.specs.Places.{rest_of, status_of, is_rest, is_entry, are_entries}
 use Rattle.jamboree_rules.specs.Entries.{bounds_in}
 use Rattle.jamboree.specs.declared.entry.Known.{Known}

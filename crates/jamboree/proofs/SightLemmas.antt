@@ -1,11 +1,11 @@
 -- What a frame sees, level by level.
 use Rattle.std.specs.Prelude.{◌≡◌, ℕ, Bool, true, false, ◌==◌, ◌&&◌, neg_ℤ, int_le, int_lt, List, [], ◌∷◌, Option, Some, None, IfSome, slice_get, unwrap_or, refl, if◌then◌else◌}
 use Rattle.std.proofs.Common.{sym, ◌∙◌, ap, subst}
-use Rattle.sched_rules.specs.declared.act.Act.{Act}
-use Rattle.sched_rules.specs.declared.act.InletAct.{InletAct}
+use Rattle.jamboree_rules.specs.sched_rules.declared.act.Act.{Act}
+use Rattle.jamboree_rules.specs.sched_rules.declared.act.InletAct.{InletAct}
 use Rattle.jamboree_rules.specs.Frames.{Frame, floor, may_be_child}
 use Rattle.jamboree_rules.specs.Places.{frame_of, is_formed, Change, pairs_of}
-use Rattle.sched_rules.specs.Laws.{AllFit}
+use Rattle.jamboree_rules.specs.sched_rules.Laws.{AllFit}
 use Rattle.jamboree_rules.specs.Fits.{AreFitting}
 use Rattle.jamboree_rules.specs.Acts.{returns, act_of, next_act, wakes, seen, changes_by, inlet_of, inlet_act}
 use Rattle.jamboree.specs.Levels.{above_of}

@@ -1,6 +1,6 @@
 -- Representation: the inlet that an intake stands for.
 use Rattle.std.specs.Prelude.{ℕ, List, [], ◌∷◌, true}
-use Rattle.sched_rules.specs.declared.act.InletAct.{InletAct}
+use Rattle.jamboree_rules.specs.sched_rules.declared.act.InletAct.{InletAct}
 use Rattle.jamboree_rules.specs.Places.{Best, Chosen, Phase, Status, rest_with, pairs_of}
 use Rattle.jamboree.specs.declared.intake.Intake.{Intake}
 use Rattle.jamboree.specs.declared.intake.Said.{Said}

@@ -1,7 +1,7 @@
 -- Meaning: what is known of choices, in their order.
 use Rattle.std.specs.Prelude.{ℕ, List, [], ◌∷◌}
 use Rattle.othello_moves.specs.declared.choices.Choice.{Choice}
-use Rattle.othello_eval.specs.declared.bound.Bound.{Bound}
+use Rattle.jamboree_rules.specs.othello_eval.declared.bound.Bound.{Bound}
 use Rattle.jamboree_rules.specs.Places.{kind_in, score_in}
 use Rattle.jamboree_rules.specs.Entries.{kind_numbered}
 use Rattle.jamboree.specs.declared.entry.Known.{Known}

@@ -1,8 +1,8 @@
 -- Representation: the act that a plan stands for.
 use Rattle.std.specs.Prelude.{◌+◌, [], ◌∷◌, true, false}
-use Rattle.sched_rules.specs.declared.act.Act.{Act}
-use Rattle.sched_rules.specs.declared.act.Then.{Then}
-use Rattle.sched_rules.specs.declared.act.Then.TheVariants.{Spawn, Wait, Compute, Return}
+use Rattle.jamboree_rules.specs.sched_rules.declared.act.Act.{Act}
+use Rattle.jamboree_rules.specs.sched_rules.declared.act.Then.{Then}
+use Rattle.jamboree_rules.specs.sched_rules.declared.act.Then.TheVariants.{Spawn, Wait, Compute, Return}
 use Rattle.jamboree_rules.specs.Acts.{returns, opening}
 use Rattle.jamboree_rules.specs.Places.{Phase, Spawned, Status, pairs_of, given_words, frame_size}
 use Rattle.jamboree.specs.declared.plan.NewChild.{NewChild}

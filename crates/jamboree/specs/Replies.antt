@@ -3,7 +3,7 @@ use Rattle.std.specs.Prelude.{ℕ, List, take}
 use Rattle.othello_board.specs.declared.boards.Board.{Board}
 use Rattle.othello_board.specs.Words.{cells}
 use Rattle.othello_moves.specs.Choices.{choices}
-use Rattle.othello_eval.specs.declared.bound.Bound.{Bound}
+use Rattle.jamboree_rules.specs.othello_eval.declared.bound.Bound.{Bound}
 use Rattle.jamboree.specs.declared.reply.Reply.{Reply}
 use Rattle.jamboree.specs.Knowledge.{bounds_by}
 

@@ -10,7 +10,7 @@ use crate::phases::{Phase, Status};
 use crate::plan::{NewChild, Plan};
 use crate::view::{Changes, spawn};
 use jamboree_rules::leaf_search::INF;
-use sched_rules::{Act, InletAct, Stores, Then};
+use jamboree_rules::sched_rules::{Act, InletAct, Stores, Then};
 
 impl NewChild {
     /// To open it.

@@ -11,7 +11,7 @@ ghost use Rattle.jamboree.specs.Knowledge.{known_of};
 
 use crate::phases::Status;
 use crate::score::{score_of_word, word_of_score};
-use othello_eval::BoundKind;
+use jamboree_rules::othello_eval::BoundKind;
 
 /// What is known of a choice: a score, and what that says of the value of the choice.
 #[derive(Clone, Copy, Debug, PartialEq, Eq)]

@@ -15,7 +15,7 @@ use crate::frame::View;
 use crate::intake::{Finding, Intake, Said, Told};
 use crate::next::floor;
 use crate::phases::Role;
-use othello_eval::BoundKind;
+use jamboree_rules::othello_eval::BoundKind;
 
 /// To wake the parent and no more.
 #[inline(always)]

@@ -43,8 +43,8 @@ mod score;
 mod statuses;
 mod view;
 
+pub use jamboree_rules::othello_eval::{Bound, BoundKind};
 pub use jamboree_rules::{Leaf, LeafAnswer};
-pub use othello_eval::{Bound, BoundKind};
 pub use procedure::Jamboree;
 pub use reply::Reply;
 pub use view::root_words;

@@ -7,7 +7,7 @@ ghost use Rattle.jamboree_rules.specs.Places.{frame_of, is_formed, pairs_of};
 ghost use Rattle.jamboree_rules.specs.Acts.{returns, act_of, next_act, wakes, inlet_of, inlet_act};
 ghost use Rattle.jamboree_rules.specs.Leaves.{changes_of_answer};
 ghost use Rattle.jamboree_rules.specs.Fits.{AreFitting};
-ghost use Rattle.sched_rules.specs.Laws.{AllFit};
+ghost use Rattle.jamboree_rules.specs.sched_rules.Laws.{AllFit};
 ghost use Rattle.jamboree.specs.Intakes.{inlet_for};
 ghost use Rattle.jamboree.specs.Levels.{above_of};
 ghost use Rattle.jamboree.specs.Plans.{act_for};
@@ -22,9 +22,9 @@ use crate::phases::{Phase, Role};
 use crate::plan::Plan;
 use crate::view::{Changes, SIZE, are_root_words, is_formed, read_leaf, view};
 use cactus_stack::{Sight, Words};
+use jamboree_rules::sched_rules::{Act, InletAct, Procedure, Stores};
 use jamboree_rules::{Leaf, LeafAnswer};
 use othello_moves::choice_count;
-use sched_rules::{Act, InletAct, Procedure, Stores};
 
 /// Jamboree search: frames of a remaining depth of at most `grain` are searched serially by one
 /// worker; a root only at depth 0 and in a finished game, so that each of its choices has an entry.

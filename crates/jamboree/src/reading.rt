@@ -9,8 +9,8 @@ use crate::entry::{Known, Rest};
 use crate::reply::{MOST, Reply};
 use crate::score::score_of_word;
 use crate::view::{kept_entries, read_kept};
+use jamboree_rules::othello_eval::{Bound, BoundKind};
 use othello_board::Board;
-use othello_eval::{Bound, BoundKind};
 use othello_moves::{Choice, choice};
 
 /// What is known of the choices with these entries, in their order.
@@ -46,8 +46,8 @@ impl Known {
 impl Reply {
     ghost use Rattle.othello_board.specs.Words.{cells};
     ghost use Rattle.othello_moves.specs.Choices.{choices};
-    ghost use Rattle.othello_eval.specs.Minimax.{minimax, best_choice};
-    ghost use Rattle.othello_eval.specs.Tables.{entered, IsTrueBound, IsExactIfBest, IsTable};
+    ghost use Rattle.jamboree_rules.specs.othello_eval.Minimax.{minimax, best_choice};
+    ghost use Rattle.jamboree_rules.specs.othello_eval.Tables.{entered, IsTrueBound, IsExactIfBest, IsTable};
     ghost use Rattle.jamboree_rules.specs.Fits.{IsKeptRoot};
     ghost use Rattle.jamboree.specs.Replies.{board_of, depth_of, table_of};
 

@@ -8,8 +8,8 @@ ghost use Rattle.jamboree_rules.specs.Frames.{is_leaf, is_frame, is_in_phase, co
 ghost use Rattle.jamboree_rules.specs.Places.{score_of, frame_of, is_formed, pair_of, OwnBits, OppBits, Phase as ToPhase, Best, Chosen, Count, Spawned, Status as ToStatus, given_words, root_words, frame_size};
 ghost use Rattle.jamboree_rules.specs.Fits.{AreFitting, IsRoot};
 ghost use Rattle.cactus_stack.specs.Nodes.{padded};
-ghost use Rattle.sched_rules.specs.Laws.{Neither};
-ghost use Rattle.sched_rules.specs.declared.act.Then.TheVariants.{Spawn};
+ghost use Rattle.jamboree_rules.specs.sched_rules.Laws.{Neither};
+ghost use Rattle.jamboree_rules.specs.sched_rules.declared.act.Then.TheVariants.{Spawn};
 ghost use Rattle.jamboree_rules.specs.Leaves.{any_leaf, leaf_in, leaf_from};
 ghost use Rattle.jamboree.specs.Numbers.{role_number, phase_number, status_number};
 ghost use Rattle.jamboree.specs.Views.{head_of, frame_from, frame_with, entries_of, entries_in};
@@ -22,10 +22,10 @@ use crate::statuses::are_entries;
 use cactus_stack::Words;
 use jamboree_rules::Leaf;
 use jamboree_rules::leaf_search::INF;
+use jamboree_rules::sched_rules::{GivenWords, Stores, Then};
 use othello_board::Board;
 use othello_moves::choice_count;
 use position_text::Position;
-use sched_rules::{GivenWords, Stores, Then};
 use std::marker::Model;
 
 /// The size of a new frame in words, behind which the entries of its choices stand.

@@ -3,7 +3,7 @@ ghost use Rattle.jamboree_laws.specs.Replies.{AreSearches};
 
 use super::*;
 use driver::{Searched, drive};
-use frame_table::FrameId;
+use frame_tree::FrameId;
 use jamboree::{Bound, BoundKind, Jamboree, Leaf, LeafAnswer, Reply};
 use jamboree_laws::leaf_search::{INF, search_full};
 use orders::{Crew, Draw};

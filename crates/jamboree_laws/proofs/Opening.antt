@@ -6,11 +6,11 @@ use Rattle.othello_board.specs.Rules.{squares, squares_beside}
 use Rattle.othello_board.specs.Words.{cells_of}
 use Rattle.othello_moves.specs.declared.choices.Choice.TheVariants.{Square}
 use Rattle.othello_moves.specs.Choices.{in_order}
-use Rattle.othello_eval.specs.Values.{weights}
-use Rattle.othello_eval.specs.Minimax.{minimax, best_choice}
-use Rattle.othello_eval.specs.Tables.{IsTrueBound, IsExactIfBest, IsTable}
-use Rattle.othello_eval.specs.Rows.{equal_moves}
-use Rattle.othello_eval.proofs.TableLemmas.{apart}
+use Rattle.jamboree_rules.specs.othello_eval.Values.{weights}
+use Rattle.jamboree_rules.specs.othello_eval.Minimax.{minimax, best_choice}
+use Rattle.jamboree_rules.specs.othello_eval.Tables.{IsTrueBound, IsExactIfBest, IsTable}
+use Rattle.jamboree_rules.specs.othello_eval.Rows.{equal_moves}
+use Rattle.jamboree_rules.proofs.othello_eval_TableLemmas.{apart}
 use Rattle.jamboree_rules.specs.Places.{frame_of}
 use Rattle.jamboree_rules.specs.Entries.{bounds_of}
 use Rattle.jamboree_rules.specs.Frames.{coded}

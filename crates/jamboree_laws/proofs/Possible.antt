@@ -1,11 +1,11 @@
 -- What a tenant of searches does can be done: none of its steps but a Submit is refused by BadAct.
 use Rattle.std.proofs.Common.{◌≡◌, ◌≢◌, ℕ, inl, inr, Bool, true, false, not, List, [], ◌∷◌, Option, Some, None, Result, Ok, Err, refl, ap, sym, ◌∙◌, subst, ◌⊎◌}
 use Rattle.std.proofs.lemmas.Bool.{cases_Bool, false≢true, not-false, eq-eqb}
-use Rattle.frame_table.specs.declared.names.State.{State}
-use Rattle.frame_table.specs.declared.names.State.TheVariants.{Ready, Running, Computing, Waiting, Returned}
-use Rattle.frame_table.specs.Frames.{frame_at, parent_of, values_of}
-use Rattle.frame_table.specs.TreeLaws.{is_that}
-use Rattle.frame_table.proofs.TreeLaws.{there-found, found-serial, under-there, named-under}
+use Rattle.frame_tree.specs.declared.names.State.{State}
+use Rattle.frame_tree.specs.declared.names.State.TheVariants.{Ready, Running, Computing, Waiting, Returned}
+use Rattle.frame_tree.specs.Frames.{frame_at, parent_of, values_of}
+use Rattle.frame_tree.specs.TreeLaws.{is_that}
+use Rattle.frame_tree.proofs.TreeLaws.{there-found, found-serial, under-there, named-under}
 use Rattle.sched_rules.specs.declared.job.Job.{Job}
 use Rattle.sched_rules.specs.declared.job.Job.TheVariants.{Live, Done, Spent as SpentJob, Cancelled as CancelledJob}
 use Rattle.sched_rules.specs.declared.refusal.Refusal.{Refusal}

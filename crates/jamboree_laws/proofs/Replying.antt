@@ -1,7 +1,7 @@
 -- A done job kept a returned root, which holds what it was asked.
 use Rattle.std.proofs.Common.{◌≡◌, ℕ, List, [], ◌∷◌, Some, Result, refl, sym, ◌∙◌, subst}
 use Rattle.tenant_quota.specs.Quota.{Quota}
-use Rattle.frame_table.specs.Frames.{Frame as TreeFrame, children_of, values_of}
+use Rattle.frame_tree.specs.Frames.{Frame as TreeFrame, children_of, values_of}
 use Rattle.sched_rules.specs.declared.job.Job.{Job}
 use Rattle.sched_rules.specs.declared.job.Job.TheVariants.{Live, Done, Spent as SpentJob, Cancelled as CancelledJob}
 use Rattle.sched_rules.specs.declared.refusal.Refusal.{Refusal}
@@ -19,8 +19,8 @@ use Rattle.sched_laws.proofs.FitAnswers.{run-fits, nobody-fits}
 use Rattle.jamboree_rules.specs.declared.leaf.Leaf.{Leaf}
 use Rattle.jamboree_rules.specs.declared.leaf.LeafAnswer.{LeafAnswer}
 use Rattle.othello_board.specs.Words.{cells_of}
-use Rattle.othello_eval.specs.declared.bound.Bound.{Bound}
-use Rattle.othello_eval.specs.Tables.{IsTable}
+use Rattle.jamboree_rules.specs.othello_eval.declared.bound.Bound.{Bound}
+use Rattle.jamboree_rules.specs.othello_eval.Tables.{IsTable}
 use Rattle.jamboree_rules.specs.Frames.{Frame, board}
 use Rattle.jamboree_rules.specs.Places.{frame_of}
 use Rattle.jamboree_rules.specs.Entries.{bounds_of}

@@ -1,9 +1,9 @@
 -- Meaning: what lists of searches come to: each job that is done holds the minimax value, the best choice and a table of what was asked.
 use Rattle.std.specs.Prelude.{◌≡◌, ℕ, ◌≤◌, bit_and, List, [], ◌∷◌, map, slice_index}
-use Rattle.frame_table.specs.Frames.{Frame, children_of, values_of}
+use Rattle.frame_tree.specs.Frames.{Frame, children_of, values_of}
 use Rattle.othello_board.specs.Words.{cells_of}
-use Rattle.othello_eval.specs.Minimax.{minimax, best_choice}
-use Rattle.othello_eval.specs.Tables.{IsTable}
+use Rattle.jamboree_rules.specs.othello_eval.Minimax.{minimax, best_choice}
+use Rattle.jamboree_rules.specs.othello_eval.Tables.{IsTable}
 use Rattle.sched_rules.specs.declared.job.Job.{Job}
 use Rattle.sched_rules.specs.declared.job.Job.TheVariants.{Live, Done, Spent as SpentJob, Cancelled as CancelledJob}
 use Rattle.sched_rules.specs.declared.step.StepOf.{StepOf}

@@ -2,10 +2,10 @@
 use Rattle.std.specs.Prelude.{◌≡◌, ℕ, ◌<◌, ◌≤◌, Bool, true, false, ℤ, pos, negsuc, ◌≤ℤ◌, ◌<ℤ◌, bit_and, List, [], length, refl, if◌then◌else◌}
 use Rattle.std.proofs.Common.{sym, ◌∙◌, ap, subst, arith, ⊎_elim}
 use Rattle.std.proofs.lemmas.Int.{ints, by_lt_z}
-use Rattle.cactus_stack.specs.Nodes.{padded}
-use Rattle.othello_eval.specs.Minimax.{best_choice}
-use Rattle.othello_eval.specs.Values.{IsWithin}
-use Rattle.othello_eval.proofs.MinimaxLemmas.{minimax_within}
+use Rattle.sched_rules.specs.cactus_stack.Nodes.{padded}
+use Rattle.leaf_search.specs.othello_eval.Minimax.{best_choice}
+use Rattle.leaf_search.specs.othello_eval.Values.{IsWithin}
+use Rattle.leaf_search.proofs.othello_eval_MinimaxLemmas.{minimax_within}
 use Rattle.leaf_search.specs.Bounds.{IsBound}
 use Rattle.sched_rules.specs.Functions.{Functions}
 use Rattle.sched_rules.specs.Trees.{stored, is_outside}

@@ -8,9 +8,9 @@ use Rattle.std.proofs.lemmas.Int.{ints, clamps, by_lt_z}
 use Rattle.othello_moves.specs.Choices.{after, plies}
 use Rattle.leaf_search.specs.Bounds.{IsBound}
 use Rattle.sched_rules.specs.Laws.{Neither, HasReturned}
-use Rattle.othello_eval.specs.Minimax.{best_choice}
-use Rattle.othello_eval.specs.declared.bound.BoundKind.TheVariants.{Exact}
-use Rattle.othello_eval.specs.Tables.{entered}
+use Rattle.leaf_search.specs.othello_eval.Minimax.{best_choice}
+use Rattle.leaf_search.specs.othello_eval.declared.bound.BoundKind.TheVariants.{Exact}
+use Rattle.leaf_search.specs.othello_eval.Tables.{entered}
 use Rattle.jamboree_rules.specs.Fits.{IsSearching, IsTabled}
 use Rattle.jamboree_rules.specs.Entries.{IsOfKind, IsTrueRest}
 use Rattle.jamboree_rules.specs.Acts.{found_of}

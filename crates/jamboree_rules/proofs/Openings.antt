@@ -6,7 +6,7 @@ use Rattle.std.proofs.lemmas.Int.{ints, clamps}
 use Rattle.othello_moves.specs.Choices.{choices, plies}
 use Rattle.othello_board.specs.Words.{cells_of}
 use Rattle.othello_moves.specs.declared.choices.Choice.{Choice}
-use Rattle.othello_eval.specs.Tables.{entered}
+use Rattle.leaf_search.specs.othello_eval.Tables.{entered}
 use Rattle.sched_rules.specs.Laws.{Neither, Computes}
 use Rattle.jamboree_rules.proofs.Searching.{set_there, set_beside, set_length}
 use Rattle.jamboree_rules.specs.Frames.{Frame, choice_at, rest_at, value_at, unscored, floor}

@@ -5,8 +5,8 @@ use Rattle.std.proofs.lemmas.Bool.{and_parts, and_from, le-leb}
 use Rattle.std.proofs.lemmas.Bool.Decides.{nat_tests}
 use Rattle.std.proofs.lemmas.Int.{ints}
 use Rattle.std.proofs.lemmas.Nat.{mod-mul-add, div-mul-add}
-use Rattle.othello_eval.specs.declared.bound.BoundKind.{BoundKind}
-use Rattle.othello_eval.specs.declared.bound.BoundKind.TheVariants.{Low, High, Exact}
+use Rattle.leaf_search.specs.othello_eval.declared.bound.BoundKind.{BoundKind}
+use Rattle.leaf_search.specs.othello_eval.declared.bound.BoundKind.TheVariants.{Low, High, Exact}
 use Rattle.jamboree_rules.specs.Frames.{least, greatest, is_score}
 use Rattle.jamboree_rules.specs.Places.{score_of, word_of, status_of, rest_of, entry_of, kind_number, kind_in, score_in, rest_with, is_rest, is_entry, are_entries}
 

@@ -3,7 +3,7 @@ use Rattle.std.specs.Prelude.{◌≡◌, ◌≢◌, ℕ, ◌<◌, neg_ℤ, List,
 use Rattle.std.proofs.Common.{sym, ◌∙◌, ap, subst}
 use Rattle.othello_board.specs.declared.cells.Cell.{Cell}
 use Rattle.othello_moves.specs.Choices.{after}
-use Rattle.othello_eval.specs.Minimax.{minimax}
+use Rattle.leaf_search.specs.othello_eval.Minimax.{minimax}
 use Rattle.jamboree_rules.specs.Frames.{Frame, board, choice_at, value_at, value}
 use Rattle.jamboree_rules.specs.Fits.{IsInRole, First, Test, Again, IsChildOf}
 use Rattle.jamboree_rules.proofs.Searching.{set_beside}

@@ -7,10 +7,10 @@ use Rattle.othello_board.specs.declared.cells.Cell.{Cell}
 use Rattle.othello_moves.specs.declared.choices.Choice.{Choice}
 use Rattle.othello_moves.specs.declared.choices.Choice.TheVariants.{Pass}
 use Rattle.othello_moves.specs.Choices.{choices}
-use Rattle.othello_eval.specs.declared.bound.Bound.{Bound}
-use Rattle.othello_eval.specs.declared.bound.BoundKind.TheVariants.{Exact}
-use Rattle.othello_eval.specs.Minimax.{best_choice}
-use Rattle.othello_eval.specs.Tables.{Says, IsTrueBound, IsExactIfBest, IsTable, entered}
+use Rattle.leaf_search.specs.othello_eval.declared.bound.Bound.{Bound}
+use Rattle.leaf_search.specs.othello_eval.declared.bound.BoundKind.TheVariants.{Exact}
+use Rattle.leaf_search.specs.othello_eval.Minimax.{best_choice}
+use Rattle.leaf_search.specs.othello_eval.Tables.{Says, IsTrueBound, IsExactIfBest, IsTable, entered}
 use Rattle.sched_rules.specs.Trees.{kept_words}
 use Rattle.sched_rules.specs.Laws.{HasReturned}
 use Rattle.jamboree_rules.specs.Frames.{Frame, board, choice_at, code_at, rest_at, value_at, value}

@@ -5,7 +5,7 @@ use Rattle.std.proofs.Common.{sym, ◌∙◌, ap, subst, arith}
 use Rattle.std.proofs.lemmas.Grind.{common_steps}
 use Rattle.std.proofs.lemmas.Int.{ints, clamps}
 use Rattle.leaf_search.specs.Bounds.{IsBound}
-use Rattle.othello_eval.specs.declared.bound.BoundKind.TheVariants.{Exact}
+use Rattle.leaf_search.specs.othello_eval.declared.bound.BoundKind.TheVariants.{Exact}
 use Rattle.jamboree_rules.specs.Places.{kind_in}
 use Rattle.jamboree_rules.specs.Entries.{IsOfKind}
 use Rattle.jamboree_rules.specs.Fits.{IsFound, IsSearching}

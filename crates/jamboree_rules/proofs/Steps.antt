@@ -6,7 +6,7 @@ use Rattle.std.proofs.lemmas.Bool.{lt-leb}
 use Rattle.std.proofs.lemmas.Bool.Decides.{nat_tests}
 use Rattle.std.proofs.lemmas.Int.{ints, clamps}
 use Rattle.std.proofs.lemmas.List.{length-map, length-drop}
-use Rattle.cactus_stack.specs.Nodes.{padded}
+use Rattle.sched_rules.specs.cactus_stack.Nodes.{padded}
 use Rattle.othello_board.specs.Words.{cells_of}
 use Rattle.othello_moves.specs.Choices.{choices, plies}
 use Rattle.sched_rules.specs.declared.act.Act.{Act}
@@ -15,7 +15,7 @@ use Rattle.sched_rules.specs.declared.act.Then.TheVariants.{Grow, Wait, Compute,
 use Rattle.sched_rules.specs.Trees.{stored, is_outside}
 use Rattle.sched_rules.specs.Lone.{is_bad_then, is_bad_act}
 use Rattle.sched_rules.specs.Laws.{NewChildFits, Mark, Neither, HasReturned, grown, children_after, mark_after, has_one}
-use Rattle.othello_eval.specs.Tables.{entered}
+use Rattle.leaf_search.specs.othello_eval.Tables.{entered}
 use Rattle.leaf_search.specs.Bounds.{IsBound}
 use Rattle.jamboree_rules.specs.Frames.{Frame, code_at, rest_at, value_at, value, floor, least, greatest, choice_at}
 use Rattle.jamboree_rules.specs.Places.{word_of, status_of, frame_of, is_rest, are_entries, Change, OwnBits, OppBits, Phase, Best, Chosen, Count, Spawned, Status, pair_of, pairs_of, given_words, frame_size}

@@ -8,7 +8,7 @@ use Rattle.sched_rules.specs.Laws.{Neither, HasReturned}
 use Rattle.jamboree_rules.specs.Frames.{Frame, code_at, value_at, value, floor, least, greatest}
 use Rattle.jamboree_rules.specs.Places.{frame_of, Change, pairs_of}
 use Rattle.jamboree_rules.specs.Acts.{seen, found_of, changes_by, changes_of}
-use Rattle.othello_eval.specs.declared.bound.BoundKind.TheVariants.{Exact}
+use Rattle.leaf_search.specs.othello_eval.declared.bound.BoundKind.TheVariants.{Exact}
 use Rattle.jamboree_rules.specs.Entries.{IsOfKind, IsTrueRest}
 use Rattle.jamboree_rules.specs.Fits.{IsFirst, IsTest, IsAgain, IsInRole, First, Test, Again, IsChildOf, IsSearchingFrame, Fits}
 use Rattle.jamboree_rules.proofs.Searching.{IsSearching-low, IsSearching-higher}

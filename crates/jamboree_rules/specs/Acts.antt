@@ -5,8 +5,8 @@ use Rattle.std.specs.Int.{int_max}
 use Rattle.othello_board.specs.declared.cells.Cell.{Cell}
 use Rattle.othello_board.specs.Words.{cells_of}
 use Rattle.othello_moves.specs.Choices.{choices, after, plies}
-use Rattle.othello_eval.specs.declared.bound.BoundKind.{BoundKind}
-use Rattle.othello_eval.specs.declared.bound.BoundKind.TheVariants.{Low, High, Exact}
+use Rattle.leaf_search.specs.othello_eval.declared.bound.BoundKind.{BoundKind}
+use Rattle.leaf_search.specs.othello_eval.declared.bound.BoundKind.TheVariants.{Low, High, Exact}
 use Rattle.sched_rules.specs.declared.act.Act.{Act}
 use Rattle.sched_rules.specs.declared.act.InletAct.{InletAct}
 use Rattle.sched_rules.specs.declared.act.Then.{Then}

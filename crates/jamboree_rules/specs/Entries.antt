@@ -2,10 +2,10 @@
 use Rattle.std.specs.Prelude.{◌≡◌, ℕ, ◌==◌, ℤ, List, [], ◌∷◌, if◌then◌else◌}
 use Rattle.othello_moves.specs.declared.choices.Choice.{Choice}
 use Rattle.othello_moves.specs.Choices.{choices}
-use Rattle.othello_eval.specs.declared.bound.Bound.{Bound}
-use Rattle.othello_eval.specs.declared.bound.BoundKind.{BoundKind}
-use Rattle.othello_eval.specs.declared.bound.BoundKind.TheVariants.{Low, High, Exact}
-use Rattle.othello_eval.specs.Tables.{Says}
+use Rattle.leaf_search.specs.othello_eval.declared.bound.Bound.{Bound}
+use Rattle.leaf_search.specs.othello_eval.declared.bound.BoundKind.{BoundKind}
+use Rattle.leaf_search.specs.othello_eval.declared.bound.BoundKind.TheVariants.{Low, High, Exact}
+use Rattle.leaf_search.specs.othello_eval.Tables.{Says}
 use Rattle.jamboree_rules.specs.Frames.{Frame, board, rest_at}
 use Rattle.jamboree_rules.specs.Places.{kind_number, kind_in, score_in}
 

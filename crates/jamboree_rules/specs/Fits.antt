@@ -1,9 +1,9 @@
 -- Meaning: what is kept true of each frame: it fits its children, and they fit it.
 use Rattle.std.specs.Prelude.{◌≡◌, ◌≢◌, ℕ, ◌-◌, ◌<◌, ◌≤◌, ◌⊎◌, ◌==◌, true, ℤ, pos, neg_ℤ, ◌<ℤ◌, ◌≤ℤ◌, ◌+ℤ◌, List, [], ◌∷◌, map, length, slice_index, count_by}
 use Rattle.othello_moves.specs.Choices.{choices, after, plies}
-use Rattle.othello_eval.specs.declared.bound.BoundKind.TheVariants.{Exact}
-use Rattle.othello_eval.specs.Minimax.{best_choice}
-use Rattle.othello_eval.specs.Tables.{entered}
+use Rattle.leaf_search.specs.othello_eval.declared.bound.BoundKind.TheVariants.{Exact}
+use Rattle.leaf_search.specs.othello_eval.Minimax.{best_choice}
+use Rattle.leaf_search.specs.othello_eval.Tables.{entered}
 use Rattle.leaf_search.specs.Bounds.{IsBound}
 use Rattle.sched_rules.specs.Trees.{kept_words}
 use Rattle.sched_rules.specs.Laws.{Mark, Neither, Computes, HasReturned}

@@ -9,7 +9,7 @@ use Rattle.othello_board.specs.Words.{cells_of, bits_of}
 use Rattle.othello_moves.specs.declared.choices.Choice.{Choice}
 use Rattle.othello_moves.specs.declared.choices.Choice.TheVariants.{Square, Pass}
 use Rattle.othello_moves.specs.Choices.{choices}
-use Rattle.othello_eval.specs.Minimax.{minimax, choice_value}
+use Rattle.leaf_search.specs.othello_eval.Minimax.{minimax, choice_value}
 
 -- what a frame's words say. The phases are 0 new, 1 computing, 2 first child, 3 tests, 4 done; the roles 0 root, 1 first, 2 test,
 -- 3 again; the statuses of the choices 0 not spawned, 1 first search or test runs, 2 settled, 3 test failed, 4 search again runs

@@ -10,8 +10,8 @@
 -- | 12 + i | the entry of choice i: status + 8 * kind + 32 * the word of a score |
 -- The kinds are 1 low, 2 high, 3 exact, and 0 where nothing is found yet, with no score: then the entry is the status.
 use Rattle.std.specs.Prelude.{ℕ, ◌+◌, ◌*◌, ◌/◌, ◌%◌, ◌==◌, ◌&&◌, nat_le, Bool, true, if◌then◌else◌, ℤ, pos, ◌+ℤ◌, ◌-ℤ◌, nat_abs, List, [], ◌∷◌, map, drop, length, slice_index, slice_set}
-use Rattle.othello_eval.specs.declared.bound.BoundKind.{BoundKind}
-use Rattle.othello_eval.specs.declared.bound.BoundKind.TheVariants.{Low, High, Exact}
+use Rattle.leaf_search.specs.othello_eval.declared.bound.BoundKind.{BoundKind}
+use Rattle.leaf_search.specs.othello_eval.declared.bound.BoundKind.TheVariants.{Low, High, Exact}
 use Rattle.jamboree_rules.specs.Frames.{Frame, is_score, is_frame, may_be_child}
 
 -- the score that a word stands for, and the word of a score

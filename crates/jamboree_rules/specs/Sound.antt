@@ -1,9 +1,9 @@
 -- Meaning: that a frame is sound: what its numbers say of the minimax value of its board, and what its children search.
 use Rattle.std.specs.Prelude.{◌≡◌, ◌≢◌, ℕ, ◌-◌, ◌<◌, ◌⊎◌, ℤ, pos, neg_ℤ, ◌<ℤ◌, ◌≤ℤ◌, ◌+ℤ◌, List, [], ◌∷◌, length, slice_index}
 use Rattle.othello_moves.specs.Choices.{after, choices, plies}
-use Rattle.othello_eval.specs.declared.bound.BoundKind.{BoundKind}
-use Rattle.othello_eval.specs.Minimax.{best_choice}
-use Rattle.othello_eval.specs.Tables.{Says}
+use Rattle.leaf_search.specs.othello_eval.declared.bound.BoundKind.{BoundKind}
+use Rattle.leaf_search.specs.othello_eval.Minimax.{best_choice}
+use Rattle.leaf_search.specs.othello_eval.Tables.{Says}
 use Rattle.leaf_search.specs.Bounds.{IsBound}
 use Rattle.jamboree_rules.specs.Frames.{Frame, board, choice_at, code_at, coded, value_at, value, floor}
 use Rattle.jamboree_rules.specs.Entries.{HasKind, score_at}

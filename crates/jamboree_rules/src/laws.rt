@@ -1,8 +1,8 @@
 //! What holds of every Jamboree search: each contract is a law.
 ghost use Rattle.std.specs.Prelude.{◌≡◌, ◌≢◌, ℕ, ◌<◌, ◌≤◌, List, [], ◌∷◌, ◌++◌, true, false, bit_and, length, map};
-ghost use Rattle.cactus_stack.specs.Nodes.{padded};
-ghost use Rattle.othello_eval.specs.Minimax.{best_choice};
-ghost use Rattle.othello_eval.specs.Tables.{entered, IsTable};
+ghost use Rattle.sched_rules.specs.cactus_stack.Nodes.{padded};
+ghost use Rattle.leaf_search.specs.othello_eval.Minimax.{best_choice};
+ghost use Rattle.leaf_search.specs.othello_eval.Tables.{entered, IsTable};
 ghost use Rattle.sched_rules.specs.Trees.{is_outside, kept_words};
 ghost use Rattle.sched_rules.specs.Lone.{is_bad_act};
 ghost use Rattle.sched_rules.specs.Laws.{Mark, Neither, Computes, HasReturned, has_one, ParentFits, NextKeeps, InletKeeps, AcceptKeeps};

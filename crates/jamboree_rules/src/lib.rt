@@ -27,6 +27,8 @@
 #![tactic(auto)]
 
 pub use leaf_search;
+pub use leaf_search::othello_eval;
+pub use sched_rules;
 
 pub mod laws;
 mod leaf;

@@ -1,1 +1,2 @@
+pub use Rattle.othello_eval.specs as othello_eval
 pub mod Bounds

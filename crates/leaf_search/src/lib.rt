@@ -23,6 +23,8 @@
 //! ```
 #![tactic(auto)]
 
+pub use othello_eval;
+
 pub mod rows;
 mod scored;
 mod tree;

@@ -2,7 +2,7 @@
 ghost use Rattle.std.specs.Prelude.{◌≡◌, ◌<ℤ◌, ◌≤ℤ◌, ◌+◌, ◌-◌, ◌^◌, ℤ, neg_ℤ, min};
 ghost use Rattle.othello_eval.specs.Values.{IsWithin};
 
-use othello_moves::Choice;
+use othello_eval::othello_moves::Choice;
 
 /// What a search of a position gives, and while it runs, what it has so far.
 #[derive(Clone, Copy, Debug, PartialEq, Eq)]

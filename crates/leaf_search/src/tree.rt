@@ -1,7 +1,7 @@
 //! The search of a position and all that is entered below it.
 ghost use Rattle.std.specs.Prelude.{◌≡◌, ◌<◌, ◌≤◌, ◌<ℤ◌, ◌≤ℤ◌, IfSome, Contains, neg_ℤ, length};
 ghost use Rattle.othello_board.specs.Words.{cells};
-ghost use Rattle.othello_moves.specs.Choices.{choices};
+ghost use Rattle.othello_eval.specs.othello_moves.Choices.{choices};
 ghost use Rattle.othello_eval.specs.Values.{IsWithin};
 ghost use Rattle.othello_eval.specs.Minimax.{minimax, best_choice};
 ghost use Rattle.leaf_search.specs.Bounds.{IsBound};
@@ -9,8 +9,8 @@ ghost use Rattle.leaf_search.specs.Bounds.{IsBound};
 use super::scored::Scored;
 use super::window::{INF, Window};
 use othello_board::Board;
+use othello_eval::othello_moves::{Choices, Mobility, after, plies};
 use othello_eval::{eval_by_mobility, final_value};
-use othello_moves::{Choices, Mobility, after, plies};
 
 /// Searches a board to a depth of 0 to 12 plies through a window (fail-soft alpha-beta: Fishburn 1983).
 ///

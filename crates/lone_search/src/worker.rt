@@ -7,7 +7,7 @@
 ghost use Rattle.lone_search.specs.Asked.{IsWork, Keeps};
 
 use crate::job::TENANT;
-use frame_table::FrameId;
+use frame_tree::FrameId;
 use jamboree::{Jamboree, Leaf, LeafAnswer};
 use sched_core::{Core, Did, DidOf, Refusal, Step, StepOf, Worker};
 use std::alloc::Allocator;

@@ -1,3 +1,4 @@
+pub use Rattle.othello_moves.proofs.DescentLemmas as othello_moves_DescentLemmas
 pub mod ValueLemmas
 pub mod CodeLemmas
 pub mod GreatestLemmas

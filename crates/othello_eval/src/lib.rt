@@ -18,6 +18,8 @@
 //! The example stands as a test in `search_rows`, which has the tests of the crates that it stands on.
 #![tactic(auto)]
 
+pub use othello_moves;
+
 mod bound;
 pub mod laws;
 mod recursion;

@@ -1,13 +1,12 @@
 -- Which frames are ready after a change of a tenant's frames.
 use Rattle.std.proofs.Common.{true, ◌≡◌, ℕ, eqb, Bool, false, List, [], ◌∷◌, ◌++◌, Option, Some, None, ◌⊎◌, inl, inr, refl, sym, ap, ◌∙◌, subst, not}
 use Rattle.std.proofs.lemmas.Bool.{cases_Bool, eq-eqb, eqb-true}
-use Rattle.frame_table.specs.declared.names.State.{State}
-use Rattle.frame_table.specs.declared.names.State.TheVariants.{Ready}
-use Rattle.frame_table.specs.Frames.{Frame, frame_at, has_frame, IsReadyAt, IsTree, AllBelow, with_state, is_ready, goes_under, aborted, frames_without}
-use Rattle.frame_table.specs.Tables.{new_frame}
-use Rattle.frame_table.specs.TreeLaws.{if_kept}
-use Rattle.frame_table.proofs.TreeLaws.{frame_at-left, frame_at-right, frame_at-push}
-use Rattle.frame_table.proofs.TreeChanges.{frame_at-without, frame_at_other-without, frame_at-aborted}
+use Rattle.frame_tree.specs.declared.names.State.{State}
+use Rattle.frame_tree.specs.declared.names.State.TheVariants.{Ready}
+use Rattle.frame_tree.specs.Frames.{Frame, frame_at, has_frame, IsReadyAt, IsTree, AllBelow, with_state, is_ready, goes_under, aborted, frames_without, new_frame}
+use Rattle.frame_tree.specs.TreeLaws.{if_kept}
+use Rattle.frame_tree.proofs.TreeLaws.{frame_at-left, frame_at-right, frame_at-push}
+use Rattle.frame_tree.proofs.TreeChanges.{frame_at-without, frame_at_other-without, frame_at-aborted}
 use Rattle.sched_rules.specs.Trees.{Tree, with_words, without_job}
 use Rattle.sched_rules.specs.Lone.{does_wait}
 

@@ -1,8 +1,8 @@
 -- The task of a worker's turn is of a frame that is ready.
 use Rattle.std.proofs.Common.{◌≡◌, ℕ, ◌+◌, ◌==◌, ◌&&◌, ◌||◌, not, Bool, true, false, List, [], ◌∷◌, Option, Some, None, IfOk, if◌then◌else◌, refl, sym, subst}
-use Rattle.frame_table.specs.declared.names.FrameId.{FrameId}
-use Rattle.frame_table.specs.declared.names.State.TheVariants.{Ready, Waiting, Returned}
-use Rattle.frame_table.specs.Frames.{Frame, frame_at, parent_of, AllBelow}
+use Rattle.frame_tree.specs.declared.names.FrameId.{FrameId}
+use Rattle.frame_tree.specs.declared.names.State.TheVariants.{Ready, Waiting, Returned}
+use Rattle.frame_tree.specs.Frames.{Frame, frame_at, parent_of, AllBelow}
 use Rattle.sched_rules.specs.declared.act.InletAct.{InletAct}
 use Rattle.sched_rules.specs.declared.act.Then.{Then}
 use Rattle.sched_rules.specs.declared.act.Then.TheVariants.{Grow, Spawn, Go, Wait, Compute, Return}

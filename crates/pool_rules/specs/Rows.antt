@@ -1,6 +1,6 @@
 -- Representation: two frames, and four tasks, on which the definitions are tried.
 use Rattle.std.specs.Prelude.{ℕ, List, [], ◌∷◌}
-use Rattle.frame_table.specs.declared.names.FrameId.{FrameId}
+use Rattle.frame_tree.specs.declared.names.FrameId.{FrameId}
 use Rattle.pool_rules.specs.declared.task.Task.{Task}
 
 -- tenant 1's first frame, and its second

@@ -1,6 +1,6 @@
 //! What follows from the table of the worker's turn and the definitions of steps.
 ghost use Rattle.std.specs.Prelude.{◌≡◌, ◌+◌, ℕ, Some};
-ghost use Rattle.frame_table.specs.Frames.{AllBelow, IsTree};
+ghost use Rattle.frame_tree.specs.Frames.{AllBelow, IsTree};
 ghost use Rattle.sched_rules.specs.declared.step.StepOf.{StepOf};
 ghost use Rattle.sched_rules.specs.Functions.{Functions};
 ghost use Rattle.sched_rules.specs.Trees.{Tenant};

@@ -5,7 +5,7 @@ ghost use Rattle.pool_rules.specs.Turns.{held_after, readied, task_at, is_short,
 
 use crate::task::Task;
 use crate::turn::{Deed, Holding, Turn};
-use frame_table::FrameId;
+use frame_tree::FrameId;
 use jamboree_rules::Leaf;
 use sched_rules::{DidOf, Refusal, Worker};
 

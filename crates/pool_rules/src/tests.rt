@@ -1,5 +1,5 @@
 use super::*;
-use frame_table::FrameId;
+use frame_tree::FrameId;
 use linked_list_allocator::LocalHeap;
 use sched_rules::{DidOf, Worker};
 use std::test::Fail;

@@ -3,9 +3,9 @@ use Rattle.std.proofs.Common.{◌≡◌, ℕ, ◌+◌, ◌==◌, Bool, true, fal
 use Rattle.std.specs.Prelude.{◌||◌, length, IsSome}
 use Rattle.std.proofs.lemmas.Bool.Decides.{nat_tests}
 use Rattle.cactus_stack.specs.Nodes.{charge}
-use Rattle.frame_table.specs.declared.names.FrameId.{FrameId}
-use Rattle.frame_table.specs.Frames.{Frame, frame_at, children_of}
-use Rattle.frame_table.proofs.TreeLaws.{tree-rising}
+use Rattle.frame_tree.specs.declared.names.FrameId.{FrameId}
+use Rattle.frame_tree.specs.Frames.{Frame, frame_at, children_of}
+use Rattle.frame_tree.proofs.TreeLaws.{tree-rising}
 use Rattle.sched_rules.specs.declared.act.Act.{Act}
 use Rattle.sched_rules.specs.declared.act.Then.{Then}
 use Rattle.sched_rules.specs.declared.act.Then.TheVariants.{Grow, Spawn, Go, Wait, Compute, Return}

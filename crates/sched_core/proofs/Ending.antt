@@ -1,10 +1,10 @@
 -- A job that ends, with all its frames.
 use Rattle.std.proofs.Common.{◌≡◌, ℕ, ◌==◌, true, false, List, [], ◌∷◌, Option, Some, None, Ok, refl}
 use Rattle.std.specs.Prelude.{IsSome, not}
-use Rattle.frame_table.specs.declared.names.FrameId.{FrameId}
-use Rattle.frame_table.specs.Frames.{Frame, frame_at, has_frame, path_in, root_of, IsTree}
-use Rattle.frame_table.proofs.TreeLaws.{there-found}
-use Rattle.frame_table.proofs.TreeChanges.{aborted-leaf}
+use Rattle.frame_tree.specs.declared.names.FrameId.{FrameId}
+use Rattle.frame_tree.specs.Frames.{Frame, frame_at, has_frame, path_in, root_of, IsTree}
+use Rattle.frame_tree.proofs.TreeLaws.{there-found}
+use Rattle.frame_tree.proofs.TreeChanges.{aborted-leaf}
 use Rattle.sched_rules.specs.declared.job.Job.TheVariants.{Live, Cancelled as CancelledJob}
 use Rattle.sched_rules.specs.declared.refusal.Refusal.TheVariants.{NotSpent}
 use Rattle.sched_rules.specs.declared.step.StepOf.TheVariants.{Finish, Spend, Cancel}

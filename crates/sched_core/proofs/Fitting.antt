@@ -2,9 +2,9 @@
 use Rattle.std.proofs.Common.{◌≡◌, ℕ, Bool, true, List, [], ◌∷◌, Some, Result, refl, arith}
 use Rattle.std.specs.Prelude.{is_ok}
 use Rattle.tenant_quota.specs.Quota.{Quota}
-use Rattle.frame_table.specs.declared.names.FrameId.{FrameId}
-use Rattle.frame_table.specs.Frames.{Frame, frame_at, IsTree}
-use Rattle.frame_table.proofs.TreeLaws.{IsUnder, IsTop, tree-induction}
+use Rattle.frame_tree.specs.declared.names.FrameId.{FrameId}
+use Rattle.frame_tree.specs.Frames.{Frame, frame_at, IsTree}
+use Rattle.frame_tree.proofs.TreeLaws.{IsUnder, IsTop, tree-induction}
 use Rattle.sched_rules.specs.declared.refusal.Refusal.{Refusal}
 use Rattle.sched_rules.specs.declared.step.StepOf.{StepOf}
 use Rattle.sched_rules.specs.declared.step.DidOf.{DidOf}

@@ -3,13 +3,13 @@ use Rattle.std.proofs.Common.{◌≡◌, ◌≢◌, ℕ, ◌<◌, ◌==◌, Bool
 use Rattle.std.specs.Prelude.{◌||◌, ◌&&◌, not, IsSome, if◌then◌else◌}
 use Rattle.std.proofs.lemmas.Bool.Decides.{nat_tests}
 use Rattle.std.proofs.lemmas.Bool.{eq-eqb}
-use Rattle.frame_table.specs.declared.names.FrameId.{FrameId}
-use Rattle.frame_table.specs.declared.names.State.{State}
-use Rattle.frame_table.specs.declared.names.State.TheVariants.{Ready, Running, Computing, Waiting, Returned}
-use Rattle.frame_table.specs.Frames.{Frame, frame_at, name_of, parent_of, goes_under, aborted, frames_without, IsTree}
-use Rattle.frame_table.specs.TreeLaws.{is_child_of, Each}
-use Rattle.frame_table.proofs.TreeLaws.{tree-rising, found-each, found-serial, there-found, under-there, under-below}
-use Rattle.frame_table.proofs.TreeChanges.{child-under-parent, aborted-itself, frame_at_other-without}
+use Rattle.frame_tree.specs.declared.names.FrameId.{FrameId}
+use Rattle.frame_tree.specs.declared.names.State.{State}
+use Rattle.frame_tree.specs.declared.names.State.TheVariants.{Ready, Running, Computing, Waiting, Returned}
+use Rattle.frame_tree.specs.Frames.{Frame, frame_at, name_of, parent_of, goes_under, aborted, frames_without, IsTree}
+use Rattle.frame_tree.specs.TreeLaws.{is_child_of, Each}
+use Rattle.frame_tree.proofs.TreeLaws.{tree-rising, found-each, found-serial, there-found, under-there, under-below}
+use Rattle.frame_tree.proofs.TreeChanges.{child-under-parent, aborted-itself, frame_at_other-without}
 use Rattle.sched_rules.specs.declared.refusal.Refusal.{Refusal}
 use Rattle.sched_rules.specs.declared.refusal.Refusal.TheVariants.{NoTenant, NoFrame, NotReturned, BadAct, Busy}
 use Rattle.sched_rules.specs.declared.act.InletAct.{InletAct}

@@ -1,9 +1,9 @@
 -- The parent of a frame that is seen.
 use Rattle.std.proofs.Common.{◌≡◌, ℕ, Bool, true, List, [], ◌∷◌, Option, Some, None, Result, Ok, refl, sym, ◌∙◌, ap}
 use Rattle.std.specs.Prelude.{IsSome, not, ◌==◌}
-use Rattle.frame_table.specs.declared.names.FrameId.{FrameId}
-use Rattle.frame_table.specs.Frames.{Frame, frame_at, name_of, parent_of}
-use Rattle.frame_table.proofs.TreeLaws.{there-found, under-there}
+use Rattle.frame_tree.specs.declared.names.FrameId.{FrameId}
+use Rattle.frame_tree.specs.Frames.{Frame, frame_at, name_of, parent_of}
+use Rattle.frame_tree.proofs.TreeLaws.{there-found, under-there}
 use Rattle.sched_rules.specs.declared.refusal.Refusal.{Refusal}
 use Rattle.sched_rules.specs.declared.refusal.Refusal.TheVariants.{NotReturned, NoSteps, BadAct, Busy}
 use Rattle.sched_rules.specs.declared.act.InletAct.{InletAct}

@@ -2,9 +2,9 @@
 use Rattle.std.proofs.Common.{◌≡◌, ℕ, Option, Some, None, refl}
 use Rattle.std.specs.Prelude.{IfSome, option_map, option_and_then}
 use Rattle.tenant_quota.specs.declared.account.Left.{Left}
-use Rattle.frame_table.specs.declared.names.FrameId.{FrameId}
-use Rattle.frame_table.specs.Frames.{newest_ready_of}
-use Rattle.frame_table.proofs.TreeLaws.{tree-rising}
+use Rattle.frame_tree.specs.declared.names.FrameId.{FrameId}
+use Rattle.frame_tree.specs.Frames.{newest_ready_of}
+use Rattle.frame_tree.proofs.TreeLaws.{tree-rising}
 use Rattle.sched_rules.specs.Trees.{Tenant, left}
 use Rattle.sched_rules.specs.Cores.{Shared, tenant_in}
 use Rattle.sched_rules.specs.Views.{left_of, newest_ready_in}

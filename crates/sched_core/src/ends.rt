@@ -12,7 +12,7 @@ ghost use Rattle.sched_core.specs.Judging.{IsJudged};
 
 use crate::decide::{first_of, is_unfinished};
 use crate::engine::{Engine, look, own};
-use frame_table::FrameId;
+use frame_tree::FrameId;
 use sched_rules::{Did, DidOf, Job, JobWords, Procedure, Refusal, Worker};
 use sched_store::Store;
 use std::alloc::Allocator;

@@ -8,7 +8,7 @@ ghost use Rattle.sched_core.specs.Judging.{IsJudged};
 
 use crate::decide::{first_of_four, is_out_of_reach, is_ready_at};
 use crate::engine::{Engine, look};
-use frame_table::FrameId;
+use frame_tree::FrameId;
 use sched_rules::{Did, DidOf, Procedure, Refusal, Worker};
 use std::alloc::Allocator;
 

@@ -1,6 +1,6 @@
 //! Advance, Answer and Inlet, done: what a procedure makes of a frame is stored, and the frame goes on.
 ghost use Rattle.std.specs.Prelude.{◌≡◌, ◌||◌, ◌&&◌, not, true, ℕ, List, Some};
-ghost use Rattle.frame_table.specs.Frames.{Frame, frame_at};
+ghost use Rattle.frame_tree.specs.Frames.{Frame, frame_at};
 ghost use Rattle.sched_rules.specs.Trees.{Tenant, has_child as has_child_in, is_root as is_root_path};
 ghost use Rattle.sched_rules.specs.Lone.{does_wait, then_done, aborted_beside};
 ghost use Rattle.sched_rules.specs.Cores.{tenant_in};
@@ -15,7 +15,7 @@ ghost use Rattle.sched_core.specs.Judging.{IsJudged, IsCome, staying_with};
 use crate::acts::{may_do, may_take_in};
 use crate::decide::is_waiting;
 use crate::engine::{Engine, Found, known, own};
-use frame_table::{FrameId, State};
+use frame_tree::{FrameId, State};
 use sched_rules::{Did, DidOf, InletAct, Procedure, Refusal, Then, Worker};
 use sched_store::Store;
 use std::alloc::Allocator;

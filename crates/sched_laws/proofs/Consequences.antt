@@ -2,12 +2,12 @@
 use Rattle.std.proofs.Common.{◌≡◌, ℕ, suc, ◌+◌, ◌-◌, ◌≤◌, inl, inr, true, eqb, List, [], ◌∷◌, Option, Some, length, refl, ap, sym, ◌∙◌, subst, arith}
 use Rattle.std.proofs.lemmas.Bool.{cases_Bool, false≢true, eqb-true, ne_eqb}
 use Rattle.std.proofs.lemmas.List.Sums.{sum_by-cons}
-use Rattle.cactus_stack.specs.Nodes.{charge}
+use Rattle.sched_rules.specs.cactus_stack.Nodes.{charge}
 use Rattle.tenant_quota.specs.Quota.{IsWithinLimits}
 use Rattle.tenant_quota.specs.Accounts.{IsWithinReserve}
-use Rattle.frame_table.specs.declared.names.State.TheVariants.{Computing, Returned}
-use Rattle.frame_table.specs.Frames.{Frame, frame_at, path_in, root_of, children_of}
-use Rattle.frame_table.proofs.TreeValues.{root-there}
+use Rattle.frame_tree.specs.declared.names.State.TheVariants.{Computing, Returned}
+use Rattle.frame_tree.specs.Frames.{Frame, frame_at, path_in, root_of, children_of}
+use Rattle.frame_tree.proofs.TreeValues.{root-there}
 use Rattle.sched_rules.specs.declared.job.Job.{Job}
 use Rattle.sched_rules.specs.declared.job.Job.TheVariants.{Live, Done, Spent, Cancelled}
 use Rattle.sched_rules.specs.Trees.{Tree, Tenant, account_in, charged_for, is_root, job_at, is_live_at, number_from, job_under}

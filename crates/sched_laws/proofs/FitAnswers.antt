@@ -3,7 +3,7 @@ use Rattle.std.proofs.Common.{◌≡◌, ◌≢◌, ℕ, ◌<◌, ◌≤◌, ◌
 use Rattle.std.specs.Prelude.{is_ok}
 use Rattle.std.proofs.lemmas.Bool.{cases_Bool, cases_eq, false≢true, eq-eqb, ne_eqb, or_parts}
 use Rattle.tenant_quota.specs.Quota.{Quota}
-use Rattle.frame_table.specs.Frames.{frame_at, parent_of, root_of}
+use Rattle.frame_tree.specs.Frames.{frame_at, parent_of, root_of}
 use Rattle.sched_rules.specs.declared.job.Job.TheVariants.{Spent as SpentJob}
 use Rattle.sched_rules.specs.declared.refusal.Refusal.{Refusal}
 use Rattle.sched_rules.specs.declared.refusal.Refusal.TheVariants.{NotReturned, NotSpent, OldTenant, Lower}
@@ -15,7 +15,7 @@ use Rattle.sched_rules.specs.Functions.{Functions}
 use Rattle.sched_rules.specs.Trees.{Tenant, admitted_with, words_in}
 use Rattle.sched_rules.specs.Laws.{Fitting, Rooting}
 use Rattle.sched_rules.specs.Lone.{Outcome, unless, lone, lone_step, is_lower, raised, submit_tests, submitted, take_tests, steal_tests, taken_by, act_of, advance_tests, advanced, answer_tests, answered, inlet_tests, taken_in, inlet_under, finish_tests, finished, is_spendable, spent}
-use Rattle.frame_table.specs.Frames.{is_ready}
+use Rattle.frame_tree.specs.Frames.{is_ready}
 use Rattle.sched_rules.specs.Runs.{tenant_of, only}
 use Rattle.sched_rules.specs.Cores.{Shared, shared_by_nobody, tenant_in, with_outcome, meets_busy, admit_tests, judged, newest_after, shared_with}
 use Rattle.sched_rules.specs.Headline.{is_admission, IsAnswerTo, AreAnswersTo, after_answer, after_answers, taken, IsKnown}

@@ -1,14 +1,13 @@
 -- Every step of a tenant leaves its frames fitting, and its jobs holding what they were asked: Inlet, Finish, Spend, Cancel and Submit.
 use Rattle.std.proofs.Common.{◌≡◌, ◌≢◌, ℕ, ◌+◌, ◌<◌, inl, inr, Bool, true, false, not, eqb, List, [], ◌∷◌, ◌++◌, Option, Some, None, length, refl, ap, sym, ◌∙◌, subst, arith}
 use Rattle.std.proofs.lemmas.Bool.{cases_Bool, false≢true, eq-eqb, eqb-true}
-use Rattle.cactus_stack.specs.Nodes.{padded}
-use Rattle.frame_table.specs.Frames.{frame_at, path_in, parent_of, goes_under, children_under, children_of, aborted, frames_without, values_of, IsTree}
-use Rattle.frame_table.specs.Tables.{new_frame}
-use Rattle.frame_table.specs.TreeLaws.{is_that, is_child_of}
-use Rattle.frame_table.proofs.Forest.{has_frame-above}
-use Rattle.frame_table.proofs.TreeLaws.{there-found, found-serial, found-path, missing, frame_at-left, frame_at-push, tree-rising, IsUnder, top-path}
-use Rattle.frame_table.proofs.TreeChanges.{frame_at-stays, frame_at_other-without, tree-aborted, tree-without, tree-without_job}
-use Rattle.frame_table.proofs.TreeValues.{tree-new_frame, new-frame-next, path_in-alike}
+use Rattle.sched_rules.specs.cactus_stack.Nodes.{padded}
+use Rattle.frame_tree.specs.Frames.{frame_at, path_in, parent_of, goes_under, children_under, children_of, aborted, frames_without, values_of, IsTree, new_frame}
+use Rattle.frame_tree.specs.TreeLaws.{is_that, is_child_of}
+use Rattle.frame_tree.proofs.Forest.{has_frame-above}
+use Rattle.frame_tree.proofs.TreeLaws.{there-found, found-serial, found-path, missing, frame_at-left, frame_at-push, tree-rising, IsUnder, top-path}
+use Rattle.frame_tree.proofs.TreeChanges.{frame_at-stays, frame_at_other-without, tree-aborted, tree-without, tree-without_job}
+use Rattle.frame_tree.proofs.TreeValues.{tree-new_frame, new-frame-next, path_in-alike}
 use Rattle.sched_rules.specs.declared.job.Job.{Job}
 use Rattle.sched_rules.specs.declared.job.Job.TheVariants.{Live, Done}
 use Rattle.sched_rules.specs.Functions.{Functions}

@@ -1,11 +1,11 @@
 -- Every answer leaves a core fitting, and so does every list of them.
 use Rattle.std.proofs.Common.{◌≡◌, ℕ, inl, inr, Bool, true, false, not, ◌||◌, ◌&&◌, eqb, List, [], ◌∷◌, Option, Some, None, Result, Ok, Err, refl, ap, sym, ◌∙◌, subst}
 use Rattle.std.proofs.lemmas.Bool.{cases_Bool, false≢true, not-false, or_parts}
-use Rattle.frame_table.specs.declared.names.State.{State}
-use Rattle.frame_table.specs.declared.names.State.TheVariants.{Ready, Running, Computing, Waiting, Returned}
-use Rattle.frame_table.specs.declared.names.FrameId.{FrameId}
-use Rattle.frame_table.specs.Frames.{frame_at, parent_of, is_ready}
-use Rattle.frame_table.proofs.TreeLaws.{there-found, found-serial, under-there, named-under}
+use Rattle.frame_tree.specs.declared.names.State.{State}
+use Rattle.frame_tree.specs.declared.names.State.TheVariants.{Ready, Running, Computing, Waiting, Returned}
+use Rattle.frame_tree.specs.declared.names.FrameId.{FrameId}
+use Rattle.frame_tree.specs.Frames.{frame_at, parent_of, is_ready}
+use Rattle.frame_tree.proofs.TreeLaws.{there-found, found-serial, under-there, named-under}
 use Rattle.sched_rules.specs.declared.act.InletAct.{InletAct}
 use Rattle.sched_rules.specs.declared.job.Job.{Job}
 use Rattle.sched_rules.specs.declared.job.Job.TheVariants.{Live, Done, Spent as SpentJob, Cancelled as CancelledJob}

@@ -2,15 +2,14 @@
 use Rattle.std.proofs.Common.{◌≡◌, ◌≢◌, ℕ, suc, ◌+◌, inl, inr, Bool, true, false, eqb, ltb, List, [], ◌∷◌, ◌++◌, Option, Some, None, length, refl, ap, sym, ◌∙◌, subst, arith}
 use Rattle.std.specs.List.{filter}
 use Rattle.std.proofs.lemmas.Bool.{cases_Bool, cases_eq, false≢true, eq-eqb, ne_eqb, eqb-true}
-use Rattle.cactus_stack.specs.Nodes.{padded}
-use Rattle.frame_table.specs.declared.names.State.{State}
-use Rattle.frame_table.specs.Frames.{frame_at, has_frame, path_in, AllBelow, parent_of, children_under, children_of, with_state, values_of, IsNextFrame, IsTree}
-use Rattle.frame_table.specs.Tables.{new_frame}
-use Rattle.frame_table.specs.TreeLaws.{is_that, is_child_of, Each}
-use Rattle.frame_table.proofs.Forest.{has_frame-above}
-use Rattle.frame_table.proofs.TreeLaws.{found-there, there-found, found-path, below-found, missing, frame_at-left, tree-rising, found-each, children-by-paths}
-use Rattle.frame_table.proofs.TreeChanges.{rising-filter, filter-found}
-use Rattle.frame_table.proofs.TreeValues.{tree-new_frame, new-frame-next, parent_of-path_under, AllBelow-alike, path_in-alike, frame_at-with_state, frame_at_other-with_state, tree-with_state}
+use Rattle.sched_rules.specs.cactus_stack.Nodes.{padded}
+use Rattle.frame_tree.specs.declared.names.State.{State}
+use Rattle.frame_tree.specs.Frames.{frame_at, has_frame, path_in, AllBelow, parent_of, children_under, children_of, with_state, values_of, IsNextFrame, IsTree, new_frame}
+use Rattle.frame_tree.specs.TreeLaws.{is_that, is_child_of, Each}
+use Rattle.frame_tree.proofs.Forest.{has_frame-above}
+use Rattle.frame_tree.proofs.TreeLaws.{found-there, there-found, found-path, below-found, missing, frame_at-left, tree-rising, found-each, children-by-paths}
+use Rattle.frame_tree.proofs.TreeChanges.{rising-filter, filter-found}
+use Rattle.frame_tree.proofs.TreeValues.{tree-new_frame, new-frame-next, parent_of-path_under, AllBelow-alike, path_in-alike, frame_at-with_state, frame_at_other-with_state, tree-with_state}
 use Rattle.sched_rules.specs.Trees.{Tree, Tenant, words_of, words_in, with_words, has_child}
 use Rattle.sched_rules.specs.Laws.{Fitting, Rooting, Mark, Neither, mark_of, AllFit, has_one, EveryFrameFits}
 use Rattle.sched_rules.specs.Lone.{counted, in_state, holding, opened}

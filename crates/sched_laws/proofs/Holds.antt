@@ -2,12 +2,12 @@
 use Rattle.std.proofs.Common.{◌≡◌, ◌≢◌, ℕ, inl, inr, Bool, true, false, not, eqb, List, [], ◌∷◌, ◌++◌, Option, Some, None, refl, ap, sym, ◌∙◌, subst, arith, append-nil}
 use Rattle.std.specs.List.{filter}
 use Rattle.std.proofs.lemmas.Bool.{cases_Bool, cases_eq, false≢true, ne_eqb, eqb-true, not-true, not_from_false}
-use Rattle.frame_table.specs.declared.names.State.{State}
-use Rattle.frame_table.specs.Frames.{Frame, frame_at, has_frame, parent_of, goes_under, children_of, aborted, frames_without, with_state, values_of, IsNextFrame, IsTree}
-use Rattle.frame_table.specs.TreeLaws.{is_that, is_child_of, AreRising, Each, if_kept}
-use Rattle.frame_table.proofs.TreeLaws.{there-found, found-serial, missing, frame_at-push, frame_at_other-push, above-missing, tree-rising, placed, under-through, found-each, each-found, children-by-paths}
-use Rattle.frame_table.proofs.TreeChanges.{aborted-itself, rising-filter, frame_at-filter, frame_at-stays, filter-found, tree-aborted, tree-without, frame_at-without, frame_at_other-without, aborted-leaf}
-use Rattle.frame_table.proofs.TreeValues.{children_of-push, frame_at-with_state, frame_at_other-with_state, children_of-with_state, values_of-with_state}
+use Rattle.frame_tree.specs.declared.names.State.{State}
+use Rattle.frame_tree.specs.Frames.{Frame, frame_at, has_frame, parent_of, goes_under, children_of, aborted, frames_without, with_state, values_of, IsNextFrame, IsTree}
+use Rattle.frame_tree.specs.TreeLaws.{is_that, is_child_of, AreRising, Each, if_kept}
+use Rattle.frame_tree.proofs.TreeLaws.{there-found, found-serial, missing, frame_at-push, frame_at_other-push, above-missing, tree-rising, placed, under-through, found-each, each-found, children-by-paths}
+use Rattle.frame_tree.proofs.TreeChanges.{aborted-itself, rising-filter, frame_at-filter, frame_at-stays, filter-found, tree-aborted, tree-without, frame_at-without, frame_at_other-without, aborted-leaf}
+use Rattle.frame_tree.proofs.TreeValues.{children_of-push, frame_at-with_state, frame_at_other-with_state, children_of-with_state, values_of-with_state}
 use Rattle.sched_rules.specs.Trees.{Tree, with_words}
 use Rattle.sched_rules.specs.Laws.{Fitting, Mark, mark_of, EachFits, EveryFrameFits}
 use Rattle.sched_laws.proofs.Words.{frame_at-with_words, frame_at_other-with_words, children_of-with_words, with_words-missing}

@@ -3,10 +3,10 @@ use Rattle.std.proofs.Common.{◌≡◌, ◌≢◌, ℕ, ◌≤◌, inl, inr, tr
 use Rattle.std.specs.Prelude.{map, reverse}
 use Rattle.std.proofs.lemmas.List.{map-append, reverse-append}
 use Rattle.std.proofs.lemmas.Bool.{cases_Bool, false≢true, eq-eqb, eqb-true, eqb-false}
-use Rattle.frame_table.specs.Frames.{frame_at, path_in, parent_of, children_of, IsTree}
-use Rattle.frame_table.specs.TreeLaws.{is_that, is_child_of}
-use Rattle.frame_table.proofs.TreeLaws.{found-serial, tree-rising, IsUnder, IsTop, placed, children-by-paths}
-use Rattle.frame_table.proofs.TreeChanges.{frame_at-stays}
+use Rattle.frame_tree.specs.Frames.{frame_at, path_in, parent_of, children_of, IsTree}
+use Rattle.frame_tree.specs.TreeLaws.{is_that, is_child_of}
+use Rattle.frame_tree.proofs.TreeLaws.{found-serial, tree-rising, IsUnder, IsTop, placed, children-by-paths}
+use Rattle.frame_tree.proofs.TreeChanges.{frame_at-stays}
 use Rattle.sched_rules.specs.declared.job.Job.{Job}
 use Rattle.sched_rules.specs.declared.job.Job.TheVariants.{Live, Done, Spent, Cancelled}
 use Rattle.sched_rules.specs.Functions.{Functions}

@@ -3,14 +3,13 @@ use Rattle.std.proofs.Common.{◌≡◌, ◌≢◌, ℕ, ◌+◌, ◌-◌, ◌*�
 use Rattle.std.specs.List.{filter}
 use Rattle.std.proofs.lemmas.List.{length-replicate}
 use Rattle.std.proofs.lemmas.Bool.{cases_Bool, false≢true, eq-eqb, ne_eqb, not_from_false}
-use Rattle.cactus_stack.specs.Nodes.{charge, padded}
-use Rattle.frame_table.specs.declared.names.State.{State}
-use Rattle.frame_table.specs.Frames.{Frame, frame_at, has_frame, path_in, AllBelow, parent_of, goes_under, aborted, frames_without, with_state, children_of, IsTree}
-use Rattle.frame_table.specs.Tables.{new_frame}
-use Rattle.frame_table.proofs.Forest.{EndsIn, AllBelow-append, has_frame-above, path_in-left, path_in-right}
-use Rattle.frame_table.proofs.TreeLaws.{found-there, found-path, found-ends, tree-rising}
-use Rattle.frame_table.proofs.TreeChanges.{AllBelow-filter, tree-aborted, tree-without, tree-without_job}
-use Rattle.frame_table.proofs.TreeValues.{tree-new_frame, new-frame-next, parent_of-path_under, AllBelow-alike, path_in-alike, with_state-alike, tree-with_state, values_of-with_state}
+use Rattle.sched_rules.specs.cactus_stack.Nodes.{charge, padded}
+use Rattle.frame_tree.specs.declared.names.State.{State}
+use Rattle.frame_tree.specs.Frames.{Frame, frame_at, has_frame, path_in, AllBelow, parent_of, goes_under, aborted, frames_without, with_state, children_of, IsTree, new_frame}
+use Rattle.frame_tree.proofs.Forest.{EndsIn, AllBelow-append, has_frame-above, path_in-left, path_in-right}
+use Rattle.frame_tree.proofs.TreeLaws.{found-there, found-path, found-ends, tree-rising}
+use Rattle.frame_tree.proofs.TreeChanges.{AllBelow-filter, tree-aborted, tree-without, tree-without_job}
+use Rattle.frame_tree.proofs.TreeValues.{tree-new_frame, new-frame-next, parent_of-path_under, AllBelow-alike, path_in-alike, with_state-alike, tree-with_state, values_of-with_state}
 use Rattle.sched_rules.specs.declared.job.Job.{Job}
 use Rattle.sched_rules.specs.declared.job.Job.TheVariants.{Live}
 use Rattle.sched_rules.specs.Trees.{Tree, Tenant, has_child, charged_for, is_root, with_words}

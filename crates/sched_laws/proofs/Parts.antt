@@ -3,12 +3,12 @@ use Rattle.std.proofs.Common.{◌≡◌, ◌≢◌, ℕ, suc, ◌+◌, ◌≤◌
 use Rattle.std.specs.List.{filter}
 use Rattle.std.proofs.lemmas.List.Elements.{filter-append}
 use Rattle.std.proofs.lemmas.Bool.{cases_Bool, cases_eq, false≢true, true≢false, eq-eqb, ne_eqb, eqb-true, eqb-false, ltb-false}
-use Rattle.frame_table.specs.declared.names.State.{State}
-use Rattle.frame_table.specs.Frames.{Frame, frame_at, has_frame, path_in, AllBelow, parent_of, with_state, children_of, values_of, IsNextFrame, IsTree}
-use Rattle.frame_table.specs.TreeLaws.{is_that, is_child_of, Each, AreAlike}
-use Rattle.frame_table.proofs.TreeLaws.{there-found, found-serial, found-path, missing, frame_at-push, frame_at_other-push, tree-rising, each-found, found-each, children-by-paths}
-use Rattle.frame_table.proofs.TreeChanges.{filter-found, frame_at-stays}
-use Rattle.frame_table.proofs.TreeValues.{tree-push, children_of-push, tree-with_state, frame_at-with_state, frame_at_other-with_state, children_of-with_state}
+use Rattle.frame_tree.specs.declared.names.State.{State}
+use Rattle.frame_tree.specs.Frames.{Frame, frame_at, has_frame, path_in, AllBelow, parent_of, with_state, children_of, values_of, IsNextFrame, IsTree}
+use Rattle.frame_tree.specs.TreeLaws.{is_that, is_child_of, Each, AreAlike}
+use Rattle.frame_tree.proofs.TreeLaws.{there-found, found-serial, found-path, missing, frame_at-push, frame_at_other-push, tree-rising, each-found, found-each, children-by-paths}
+use Rattle.frame_tree.proofs.TreeChanges.{filter-found, frame_at-stays}
+use Rattle.frame_tree.proofs.TreeValues.{tree-push, children_of-push, tree-with_state, frame_at-with_state, frame_at_other-with_state, children_of-with_state}
 use Rattle.sched_rules.specs.declared.job.Job.{Job}
 use Rattle.sched_rules.specs.declared.job.Job.TheVariants.{Live, Done, Spent, Cancelled}
 use Rattle.sched_rules.specs.Trees.{Tree, has_child, is_root, is_live_at, with_words, with_ended}

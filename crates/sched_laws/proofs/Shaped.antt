@@ -2,14 +2,14 @@
 use Rattle.std.proofs.Common.{◌≡◌, ◌≢◌, ℕ, ◌+◌, ◌-◌, ◌*◌, ◌<◌, ◌≤◌, inl, inr, Bool, true, false, not, ◌||◌, ◌&&◌, eqb, ltb, leb, List, [], ◌∷◌, ◌++◌, Option, Some, None, Result, Ok, Err, length, replicate, refl, ap, sym, ◌∙◌, subst, arith, length-append}
 use Rattle.std.proofs.lemmas.List.{length-replicate}
 use Rattle.std.proofs.lemmas.Bool.{cases_Bool, false≢true, eqb-false, ltb-false, leb-true, leb-false, not-false, or_parts, and_parts}
-use Rattle.cactus_stack.specs.Nodes.{charge, growth_charge}
+use Rattle.sched_rules.specs.cactus_stack.Nodes.{charge, growth_charge}
 use Rattle.tenant_quota.specs.Quota.{Quota}
-use Rattle.frame_table.specs.declared.names.State.{State}
-use Rattle.frame_table.specs.declared.names.State.TheVariants.{Ready, Running, Computing, Waiting, Returned}
-use Rattle.frame_table.specs.declared.names.FrameId.{FrameId}
-use Rattle.frame_table.specs.Frames.{Frame, frame_at, parent_of, root_of, children_of}
-use Rattle.frame_table.proofs.TreeLaws.{there-found, found-serial, tree-rising, under-there, under-below}
-use Rattle.frame_table.proofs.TreeChanges.{aborted-itself, frame_at_other-without}
+use Rattle.frame_tree.specs.declared.names.State.{State}
+use Rattle.frame_tree.specs.declared.names.State.TheVariants.{Ready, Running, Computing, Waiting, Returned}
+use Rattle.frame_tree.specs.declared.names.FrameId.{FrameId}
+use Rattle.frame_tree.specs.Frames.{Frame, frame_at, parent_of, root_of, children_of}
+use Rattle.frame_tree.proofs.TreeLaws.{there-found, found-serial, tree-rising, under-there, under-below}
+use Rattle.frame_tree.proofs.TreeChanges.{aborted-itself, frame_at_other-without}
 use Rattle.sched_rules.specs.declared.act.Act.{Act}
 use Rattle.sched_rules.specs.declared.act.InletAct.{InletAct}
 use Rattle.sched_rules.specs.declared.act.Then.{Then}

@@ -4,11 +4,11 @@ use Rattle.std.specs.List.{filter}
 use Rattle.std.proofs.lemmas.List.{length-set}
 use Rattle.std.proofs.lemmas.List.Sums.{sum_by-append, sum_by-cons}
 use Rattle.std.proofs.lemmas.Bool.{cases_Bool, false≢true, eq-eqb, ne_eqb, eqb-true}
-use Rattle.cactus_stack.specs.Nodes.{charge}
-use Rattle.frame_table.specs.Frames.{Frame, frame_at, has_frame, children_of, values_of, IsTree}
-use Rattle.frame_table.specs.TreeLaws.{is_child_of, AreRising, AreAlike}
-use Rattle.frame_table.proofs.TreeLaws.{above-missing, children-by-paths}
-use Rattle.frame_table.proofs.TreeValues.{tree-alike}
+use Rattle.sched_rules.specs.cactus_stack.Nodes.{charge}
+use Rattle.frame_tree.specs.Frames.{Frame, frame_at, has_frame, children_of, values_of, IsTree}
+use Rattle.frame_tree.specs.TreeLaws.{is_child_of, AreRising, AreAlike}
+use Rattle.frame_tree.proofs.TreeLaws.{above-missing, children-by-paths}
+use Rattle.frame_tree.proofs.TreeValues.{tree-alike}
 use Rattle.sched_rules.specs.Trees.{Tree, charged_for, with_words, stored}
 
 -- stores keep the number of words

@@ -1,6 +1,6 @@
 -- Meaning: what a run keeps of a procedure's frames: that every frame fits, and that each job holds what it was asked.
 use Rattle.std.specs.Prelude.{◌≡◌, ℕ, ◌<◌, true, ◌&&◌, ◌==◌, List, [], ◌∷◌, ◌++◌, Some, Result, if◌then◌else◌, is_ok}
-use Rattle.cactus_stack.specs.Nodes.{padded}
+use Rattle.sched_rules.specs.cactus_stack.Nodes.{padded}
 use Rattle.sched_rules.specs.declared.job.Job.{Job}
 use Rattle.sched_rules.specs.declared.job.Job.TheVariants.{Live, Done, Spent as SpentJob, Cancelled as CancelledJob}
 use Rattle.sched_rules.specs.declared.refusal.Refusal.{Refusal}

@@ -1,7 +1,7 @@
 -- Representation: the ready frame of the greatest serial.
 use Rattle.std.specs.Prelude.{◌≡◌, ℕ, ◌≤◌, true, List, Some}
-use Rattle.frame_table.specs.declared.names.FrameId.{FrameId}
-use Rattle.frame_table.specs.Frames.{Frame, frame_at, is_ready, IsReadyAt}
+use Rattle.frame_tree.specs.declared.names.FrameId.{FrameId}
+use Rattle.frame_tree.specs.Frames.{Frame, frame_at, is_ready, IsReadyAt}
 use Rattle.sched_rules.specs.Trees.{Tree}
 
 -- this name is a ready frame's with its home, and no ready frame has a greater serial

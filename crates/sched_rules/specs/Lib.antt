@@ -1,3 +1,4 @@
+pub use Rattle.cactus_stack.specs as cactus_stack
 pub mod Totals
 pub mod Refusals
 pub mod Functions

@@ -2,7 +2,7 @@
 use crate::act::GivenWords;
 use crate::procedure::Procedure;
 use crate::worker::Worker;
-use frame_table::FrameId;
+use frame_tree::FrameId;
 use tenant_quota::Reserve;
 
 /// A step, for a procedure whose answers are of type A.

@@ -6,13 +6,13 @@ use Rattle.cactus_stack.proofs.LawFacts.{charge-without}
 use Rattle.tenant_quota.specs.Accounts.{account_of, credited_by, charged_segments}
 use Rattle.tenant_quota.specs.Reservations.{Reservations, IsSound, ChangesOnly, KeepsOthers as KeepsOtherAccounts, HasCharged}
 use Rattle.tenant_quota.specs.declared.account.Account.{Account}
-use Rattle.frame_table.specs.declared.names.FrameId.{FrameId}
-use Rattle.frame_table.specs.Frames.{Frame, frame_at, has_frame, goes_under, aborted, frames_under, values_of, IsTree}
-use Rattle.frame_table.specs.Tables.{Tree as TableTree, frames_of, KeepsOthers}
-use Rattle.frame_table.specs.TreeLaws.{map_value, map_values, is_child_of}
-use Rattle.frame_table.proofs.TreeLaws.{found-there}
-use Rattle.frame_table.proofs.TreeChanges.{tree-aborted, child-further-under}
-use Rattle.frame_table.proofs.TreeValues.{aborted-map_values, frames_under-map_values}
+use Rattle.frame_tree.specs.declared.names.FrameId.{FrameId}
+use Rattle.frame_tree.specs.Frames.{Frame, frame_at, has_frame, goes_under, aborted, frames_under, values_of, IsTree, TenantTree}
+use Rattle.frame_table.specs.Tables.{frames_of, KeepsOthers}
+use Rattle.frame_tree.specs.TreeLaws.{map_value, map_values, is_child_of}
+use Rattle.frame_tree.proofs.TreeLaws.{found-there}
+use Rattle.frame_tree.proofs.TreeChanges.{tree-aborted, child-further-under}
+use Rattle.frame_tree.proofs.TreeValues.{aborted-map_values, frames_under-map_values}
 use Rattle.sched_rules.specs.Trees.{Tenant}
 use Rattle.sched_rules.specs.Changes.{on_tenant, without_under}
 use Rattle.sched_rules.specs.Views.{named}
@@ -82,7 +82,7 @@ takes-under p frames tree serial parent frame above at up at_above out =
     ap not (child-further-under frames p parent serial above frame tree at_above under at child)
 
 -- the cut that an abort makes
-pub abort-cut : (parts : Parts) (trees : List (TableTree ℕ)) (name : FrameId) → IsStored parts → frames_of trees name.tenant ≡ aborted name.serial (frames_of parts.trees name.tenant) → KeepsOthers parts.trees trees name.tenant →
+pub abort-cut : (parts : Parts) (trees : List (TenantTree ℕ)) (name : FrameId) → IsStored parts → frames_of trees name.tenant ≡ aborted name.serial (frames_of parts.trees name.tenant) → KeepsOthers parts.trees trees name.tenant →
     IsCut parts.trees trees name.tenant (stays name.serial)
 abort-cut parts trees name stored frames keeps = record {
   tree = stored.forest;
@@ -108,7 +108,7 @@ abort-closes parts name numbers stored is =
     })
 
 -- what an abort was told by the table, the stack and the book
-pub record IsAborted (parts : Parts) (nodes : Nodes) (trees : List (TableTree ℕ)) (book : Reservations) (name : FrameId) (numbers : List ℕ) (before later : ℕ) : Type 0 where
+pub record IsAborted (parts : Parts) (nodes : Nodes) (trees : List (TenantTree ℕ)) (book : Reservations) (name : FrameId) (numbers : List ℕ) (before later : ℕ) : Type 0 where
   pub values : numbers ≡ values_of (frames_under name.serial (frames_of parts.trees name.tenant))
   pub closed_all : nodes ≡ without parts.nodes numbers
   pub was_free : before + total_charge parts.nodes ≡ length parts.nodes
@@ -147,7 +147,7 @@ abort-frees parts nodes name numbers before later stored some values closed_all 
       charged = can-give-back parts name.tenant (later - before) (stays name.serial) stored there.account there.there frees;
     }
 
-abort-removal : (parts : Parts) (nodes : Nodes) (trees : List (TableTree ℕ)) (book : Reservations) (name : FrameId) (numbers : List ℕ) (before later : ℕ) → IsStored parts → IsSome (named (shared_of parts) name) →
+abort-removal : (parts : Parts) (nodes : Nodes) (trees : List (TenantTree ℕ)) (book : Reservations) (name : FrameId) (numbers : List ℕ) (before later : ℕ) → IsStored parts → IsSome (named (shared_of parts) name) →
     IsAborted parts nodes trees book name numbers before later → IsRemoval parts trees book name.tenant (later - before) (stays name.serial)
 abort-removal parts nodes trees book name numbers before later stored some is =
     let there = is-there parts stored name some in
@@ -165,7 +165,7 @@ abort-removal parts nodes trees book name numbers before later stored some is =
     }
 
 -- the parts after an abort
-abbrev pub with_parts : Parts → Nodes → List (TableTree ℕ) → Reservations → Parts
+abbrev pub with_parts : Parts → Nodes → List (TenantTree ℕ) → Reservations → Parts
 with_parts parts nodes trees book = record parts { nodes = nodes; trees = trees; book = book }
 
 closed-same : (parts : Parts) (nodes : Nodes) (name : FrameId) (numbers : List ℕ) → numbers ≡ values_of (frames_under name.serial (frames_of parts.trees name.tenant)) → nodes ≡ without parts.nodes numbers →
@@ -173,14 +173,14 @@ closed-same : (parts : Parts) (nodes : Nodes) (name : FrameId) (numbers : List �
 closed-same parts nodes name numbers values closed_all =
     ap (without parts.nodes) (closing-under name.serial (frames_of parts.trees name.tenant) ∙ sym values) ∙ sym closed_all
 
-pub abort-stored : (parts : Parts) (nodes : Nodes) (trees : List (TableTree ℕ)) (book : Reservations) (name : FrameId) (numbers : List ℕ) (before later : ℕ) → IsStored parts → IsSome (named (shared_of parts) name) →
+pub abort-stored : (parts : Parts) (nodes : Nodes) (trees : List (TenantTree ℕ)) (book : Reservations) (name : FrameId) (numbers : List ℕ) (before later : ℕ) → IsStored parts → IsSome (named (shared_of parts) name) →
     IsAborted parts nodes trees book name numbers before later → IsStored (with_parts parts nodes trees book)
 abort-stored parts nodes trees book name numbers before later stored some is =
     let removal = abort-removal parts nodes trees book name numbers before later stored some is in
     subst (λ (n : Nodes). IsStored (with_parts parts n trees book)) (closed-same parts nodes name numbers is.values is.closed_all)
     (removed-stored parts trees book name.tenant (later - before) (stays name.serial) stored removal)
 
-abort-frames : (parts : Parts) (nodes : Nodes) (trees : List (TableTree ℕ)) (book : Reservations) (name : FrameId) (numbers : List ℕ) (before later : ℕ) → IsStored parts → IsSome (named (shared_of parts) name) →
+abort-frames : (parts : Parts) (nodes : Nodes) (trees : List (TenantTree ℕ)) (book : Reservations) (name : FrameId) (numbers : List ℕ) (before later : ℕ) → IsStored parts → IsSome (named (shared_of parts) name) →
     IsAborted parts nodes trees book name numbers before later →
     worded (without parts.nodes (closing parts.trees name.tenant (stays name.serial))) (frames_of trees name.tenant) ≡ aborted name.serial (worded parts.nodes (frames_of parts.trees name.tenant))
 abort-frames parts nodes trees book name numbers before later stored some is =
@@ -188,7 +188,7 @@ abort-frames parts nodes trees book name numbers before later stored some is =
     own-words parts trees book name.tenant (later - before) (stays name.serial) stored removal
     ∙ sym (aborted-map_values (node_words parts.nodes) name.serial (frames_of parts.trees name.tenant))
 
-pub abort-shared : (parts : Parts) (nodes : Nodes) (trees : List (TableTree ℕ)) (book : Reservations) (name : FrameId) (numbers : List ℕ) (before later : ℕ) → IsStored parts → IsSome (named (shared_of parts) name) →
+pub abort-shared : (parts : Parts) (nodes : Nodes) (trees : List (TenantTree ℕ)) (book : Reservations) (name : FrameId) (numbers : List ℕ) (before later : ℕ) → IsStored parts → IsSome (named (shared_of parts) name) →
     IsAborted parts nodes trees book name numbers before later → shared_of (with_parts parts nodes trees book) ≡ on_tenant name.tenant (without_under name.serial) (shared_of parts)
 abort-shared parts nodes trees book name numbers before later stored some is =
     let removal = abort-removal parts nodes trees book name numbers before later stored some is in

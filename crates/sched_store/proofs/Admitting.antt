@@ -7,8 +7,8 @@ use Rattle.tenant_quota.specs.Quota.{Quota}
 use Rattle.tenant_quota.specs.Accounts.{account_of, fresh, with_new, reserved_segments, reserved_nodes}
 use Rattle.tenant_quota.specs.Reservations.{Reservations, IsSound, HasRoom, Admits, KeepsOthers as KeepsOtherAccounts}
 use Rattle.tenant_quota.specs.declared.account.Account.{Account}
-use Rattle.frame_table.specs.Frames.{Frame, frame_at, AllBelow}
-use Rattle.frame_table.specs.Tables.{Tree as TableTree, frames_of, places_of, tenant_count, KeepsOtherTenants}
+use Rattle.frame_tree.specs.Frames.{Frame, frame_at, AllBelow, TenantTree}
+use Rattle.frame_table.specs.Tables.{frames_of, places_of, tenant_count, KeepsOtherTenants}
 use Rattle.sched_rules.specs.Trees.{Tenant, admitted_with, charged_for}
 use Rattle.sched_rules.specs.Cores.{Shared, is_full, reservations_in}
 use Rattle.sched_store.specs.Changes.{with_admitted}
@@ -84,7 +84,7 @@ can-be-admitted parts number quota stored newer not_full =
     }
 
 -- what an admission was told by the table and the book
-pub record IsAdmitted (parts : Parts) (trees : List (TableTree ℕ)) (ledger : Ledger) (book : Reservations) (number : ℕ) (quota : Quota) : Type 0 where
+pub record IsAdmitted (parts : Parts) (trees : List (TenantTree ℕ)) (ledger : Ledger) (book : Reservations) (number : ℕ) (quota : Quota) : Type 0 where
   pub newer : parts.newest < number
   pub within : number ≤ 2 ^ 62
   pub places : places_of trees number ≡ quota.segments
@@ -97,7 +97,7 @@ pub record IsAdmitted (parts : Parts) (trees : List (TableTree ℕ)) (ledger : L
   pub sound : IsSound book
 
 -- the parts after it
-abbrev pub with_one_more : Parts → List (TableTree ℕ) → Ledger → Reservations → ℕ → Parts
+abbrev pub with_one_more : Parts → List (TenantTree ℕ) → Ledger → Reservations → ℕ → Parts
 with_one_more parts trees ledger book number = record parts { trees = trees; ledgers = parts.ledgers ++ ledger ∷ []; book = book; newest = number }
 
 -- a new account that is above all stands last
@@ -108,19 +108,19 @@ new-last newest number account (entry ∷ entries) most newer =
     let below : entry.0 < number = omega (arith, low, newer) in
     rw (lt-ltb entry.0 number below) (ap (λ (rest : Entries). entry ∷ rest) (new-last newest number account entries most.1 newer))
 
-accounts-after : (parts : Parts) (trees : List (TableTree ℕ)) (ledger : Ledger) (book : Reservations) (number : ℕ) (quota : Quota) → IsStored parts → IsAdmitted parts trees ledger book number quota → book.accounts ≡ parts.book.accounts ++ (number, fresh quota) ∷ []
+accounts-after : (parts : Parts) (trees : List (TenantTree ℕ)) (ledger : Ledger) (book : Reservations) (number : ℕ) (quota : Quota) → IsStored parts → IsAdmitted parts trees ledger book number quota → book.accounts ≡ parts.book.accounts ++ (number, fresh quota) ∷ []
 accounts-after parts trees ledger book number quota stored is =
     ap (λ (b : Reservations). b.accounts) is.admits.whole ∙ new-last parts.newest number (fresh quota) parts.book.accounts stored.taken is.newer
 
 -- no tenant's frames change
-same-frames : (parts : Parts) (trees : List (TableTree ℕ)) (ledger : Ledger) (book : Reservations) (number : ℕ) (quota : Quota) → IsStored parts → IsAdmitted parts trees ledger book number quota → (other : ℕ) → frames_of trees other ≡ frames_of parts.trees other
+same-frames : (parts : Parts) (trees : List (TenantTree ℕ)) (ledger : Ledger) (book : Reservations) (number : ℕ) (quota : Quota) → IsStored parts → IsAdmitted parts trees ledger book number quota → (other : ℕ) → frames_of trees other ≡ frames_of parts.trees other
 same-frames parts trees ledger book number quota stored is other =
     elim (cases_eq other number) [
       | inl here ↦ rw here (is.frames ∙ sym (stored.nothing number (newer-missing parts.newest number parts.book.accounts stored.taken is.newer)))
       | inr differs ↦ is.kept.frames other differs
     ]
 
-pub same-belongs : (nodes : Nodes) (trees after : List (TableTree ℕ)) → ((other : ℕ) → frames_of after other ≡ frames_of trees other) → AreFramesNodes nodes trees → AreFramesNodes nodes after
+pub same-belongs : (nodes : Nodes) (trees after : List (TenantTree ℕ)) → ((other : ℕ) → frames_of after other ≡ frames_of trees other) → AreFramesNodes nodes trees → AreFramesNodes nodes after
 same-belongs nodes trees after same belong = record {
   nodes_of_frames = λ owner serial frame at. subst (λ (xs : List (Frame ℕ)). IsFrameNode nodes xs frame) (sym (same owner)) (belong.nodes_of_frames owner serial frame (sym (found owner serial) ∙ at));
   once = λ owner serial other_owner other_serial node these those. belong.once owner serial other_owner other_serial node (sym (ap node_of (found owner serial)) ∙ these) (sym (ap node_of (found other_owner other_serial)) ∙ those);
@@ -143,7 +143,7 @@ most-pushed newest number [] account most newer = (omega arith, tt)
 most-pushed newest number (entry ∷ entries) account most newer = (let low : entry.0 ≤ newest = most.0 in omega (arith, low, newer), most-pushed newest number entries account most.1 newer)
 
 -- what a store keeps true is true after it
-pub admit-stored : (parts : Parts) (trees : List (TableTree ℕ)) (ledger : Ledger) (book : Reservations) (number : ℕ) (quota : Quota) → IsStored parts → IsAdmitted parts trees ledger book number quota →
+pub admit-stored : (parts : Parts) (trees : List (TenantTree ℕ)) (ledger : Ledger) (book : Reservations) (number : ℕ) (quota : Quota) → IsStored parts → IsAdmitted parts trees ledger book number quota →
     IsStored (with_one_more parts trees ledger book number)
 admit-stored parts trees ledger book number quota stored is =
     let frames = same-frames parts trees ledger book number quota stored is in
@@ -220,7 +220,7 @@ tenants-pushed parts after newest number account (entry ∷ entries) most newer 
     rw (others entry.0 entry.1 differs, tenants-pushed parts after newest number account entries most.1 newer others) refl
 
 -- and the core is the one before with that tenant after all others
-pub admit-shared : (parts : Parts) (trees : List (TableTree ℕ)) (ledger : Ledger) (book : Reservations) (number : ℕ) (quota : Quota) → IsStored parts → IsAdmitted parts trees ledger book number quota →
+pub admit-shared : (parts : Parts) (trees : List (TenantTree ℕ)) (ledger : Ledger) (book : Reservations) (number : ℕ) (quota : Quota) → IsStored parts → IsAdmitted parts trees ledger book number quota →
     shared_of (with_one_more parts trees ledger book number) ≡ with_admitted number quota (shared_of parts)
 admit-shared parts trees ledger book number quota stored is =
     let after = with_one_more parts trees ledger book number in

@@ -7,12 +7,12 @@ use Rattle.std.proofs.lemmas.List.Kept.{AllPairs-cons}
 use Rattle.std.proofs.lemmas.List.Sums.{sum_by-cons}
 use Rattle.cactus_stack.specs.Nodes.{Nodes, Node, IsOpen, charge, charge_of, node_at, node_words, node_parent, words_of, parent_of as parent_at, without, total_charge, HasAllChildren}
 use Rattle.cactus_stack.proofs.LawFacts.{charge-without}
-use Rattle.frame_table.specs.Frames.{Frame, frame_at, parent_of, IsTree}
-use Rattle.frame_table.specs.Tables.{Tree as TableTree, frames_of}
-use Rattle.frame_table.specs.TreeLaws.{AreRising, AllAboveSerial, Each}
-use Rattle.frame_table.proofs.TreeLaws.{tree-rising, found-each, found-serial}
+use Rattle.frame_tree.specs.Frames.{Frame, frame_at, parent_of, IsTree, TenantTree}
+use Rattle.frame_table.specs.Tables.{frames_of}
+use Rattle.frame_tree.specs.TreeLaws.{AreRising, AllAboveSerial, Each}
+use Rattle.frame_tree.proofs.TreeLaws.{tree-rising, found-each, found-serial}
 use Rattle.sched_rules.specs.Trees.{charged_for}
-use Rattle.frame_table.specs.TreeLaws.{map_value}
+use Rattle.frame_tree.specs.TreeLaws.{map_value}
 use Rattle.sched_store.specs.Parts.{worded}
 use Rattle.sched_store.specs.Stored.{frame_in, node_of, node_above, AreFramesNodes}
 use Rattle.sched_store.proofs.Cut.{closed, closing, listed-at, listed-goes, gone-listed, found-node}
@@ -42,14 +42,14 @@ charged-cut nodes keep (x ∷ xs) =
     ]
 
 -- the frame of a list under its serial, found in the table
-abbrev pub IsFound : List (TableTree ℕ) → ℕ → Frame ℕ → Type 0
+abbrev pub IsFound : List (TenantTree ℕ) → ℕ → Frame ℕ → Type 0
 IsFound trees number frame = (serial : ℕ) × (frame_in trees number serial ≡ Some frame)
 
 later-ones : (P : Frame ℕ → Type 0) (low : ℕ) (xs : List (Frame ℕ)) → AllAboveSerial low xs → Each P xs → Each (λ f. P f × (low < f.serial)) xs
 later-ones P low [] above each = tt
 later-ones P low (x ∷ xs) above each = ((each.0, above.0), later-ones P low xs above.1 each.1)
 
-apart : (nodes : Nodes) (trees : List (TableTree ℕ)) (number : ℕ) (keep : Frame ℕ → Bool) (x : Frame ℕ) (xs : List (Frame ℕ)) → AreFramesNodes nodes trees →
+apart : (nodes : Nodes) (trees : List (TenantTree ℕ)) (number : ℕ) (keep : Frame ℕ → Bool) (x : Frame ℕ) (xs : List (Frame ℕ)) → AreFramesNodes nodes trees →
     IsFound trees number x → Each (λ f. IsFound trees number f × (x.serial < f.serial)) xs → All (◌≢◌ x.value) (closed keep xs)
 apart nodes trees number keep x xs belong here each k d within same =
     let node = get_or (closed keep xs) k d in
@@ -65,7 +65,7 @@ apart nodes trees number keep x xs belong here each k d within same =
     let equal : here.0 ≡ found.1.0.0 = one.1 in
     absurd (omega (arith, x_serial, f_serial, low, equal))
 
-closed-once : (nodes : Nodes) (trees : List (TableTree ℕ)) (number : ℕ) (keep : Frame ℕ → Bool) (xs : List (Frame ℕ)) → AreFramesNodes nodes trees →
+closed-once : (nodes : Nodes) (trees : List (TenantTree ℕ)) (number : ℕ) (keep : Frame ℕ → Bool) (xs : List (Frame ℕ)) → AreFramesNodes nodes trees →
     AreRising xs → Each (IsFound trees number) xs → AllPairs ◌≢◌ (closed keep xs)
 closed-once nodes trees number keep [] belong rising each = λ i j d low within. absurd (omega arith)
 closed-once nodes trees number keep (x ∷ xs) belong rising each =
@@ -75,16 +75,16 @@ closed-once nodes trees number keep (x ∷ xs) belong rising each =
       | inr out ↦ rw out (AllPairs-cons ◌≢◌ x.value (closed keep xs) (apart nodes trees number keep x xs belong each.0 (later-ones (IsFound trees number) x.serial xs rising.0 each.1)) rest)
     ]
 
-all-found : (trees : List (TableTree ℕ)) (number : ℕ) → IsTree (frames_of trees number) → Each (IsFound trees number) (frames_of trees number)
+all-found : (trees : List (TenantTree ℕ)) (number : ℕ) → IsTree (frames_of trees number) → Each (IsFound trees number) (frames_of trees number)
 all-found trees number tree = found-each (IsFound trees number) (frames_of trees number) (tree-rising (frames_of trees number) tree) (λ serial frame at. (serial, at))
 
 -- no node is closed twice
-pub closing-once : (nodes : Nodes) (trees : List (TableTree ℕ)) (number : ℕ) (keep : Frame ℕ → Bool) → AreFramesNodes nodes trees → IsTree (frames_of trees number) → AllPairs ◌≢◌ (closing trees number keep)
+pub closing-once : (nodes : Nodes) (trees : List (TenantTree ℕ)) (number : ℕ) (keep : Frame ℕ → Bool) → AreFramesNodes nodes trees → IsTree (frames_of trees number) → AllPairs ◌≢◌ (closing trees number keep)
 closing-once nodes trees number keep belong tree =
     closed-once nodes trees number keep (frames_of trees number) belong (tree-rising (frames_of trees number) tree) (all-found trees number tree)
 
 -- each is open
-pub closing-open : (nodes : Nodes) (trees : List (TableTree ℕ)) (number : ℕ) (keep : Frame ℕ → Bool) → AreFramesNodes nodes trees → IsTree (frames_of trees number) → All (IsOpen nodes) (closing trees number keep)
+pub closing-open : (nodes : Nodes) (trees : List (TenantTree ℕ)) (number : ℕ) (keep : Frame ℕ → Bool) → AreFramesNodes nodes trees → IsTree (frames_of trees number) → All (IsOpen nodes) (closing trees number keep)
 closing-open nodes trees number keep belong tree k d within =
     let numbers = closing trees number keep in
     let node = get_or numbers k d in
@@ -106,7 +106,7 @@ above-found frames None node is = absurd cc
 above-found frames (Some p) node is = (let found = found-node (frame_at frames p) node is in (p, found.0, refl, found.1, found.2))
 
 -- so the children of each node are closed with it
-pub closing-children : (nodes : Nodes) (trees : List (TableTree ℕ)) (number : ℕ) (keep : Frame ℕ → Bool) → AreFramesNodes nodes trees → IsTree (frames_of trees number) →
+pub closing-children : (nodes : Nodes) (trees : List (TenantTree ℕ)) (number : ℕ) (keep : Frame ℕ → Bool) → AreFramesNodes nodes trees → IsTree (frames_of trees number) →
     TakesChildren (frames_of trees number) keep → HasAllChildren nodes (closing trees number keep)
 closing-children nodes trees number keep belong tree takes child parent up among =
     let numbers = closing trees number keep in
@@ -129,7 +129,7 @@ closing-children nodes trees number keep belong tree takes child parent up among
     subst (λ (v : ℕ). Contains numbers v) mine.2 (gone-listed keep (frames_of trees number) has.serial mine.0 child_here child_out)
 
 -- what is free after the cut is what was free and what the frames that go were charged
-pub cut-frees : (nodes : Nodes) (trees : List (TableTree ℕ)) (number : ℕ) (keep : Frame ℕ → Bool) → AreFramesNodes nodes trees → IsTree (frames_of trees number) →
+pub cut-frees : (nodes : Nodes) (trees : List (TenantTree ℕ)) (number : ℕ) (keep : Frame ℕ → Bool) → AreFramesNodes nodes trees → IsTree (frames_of trees number) →
     total_charge (without nodes (closing trees number keep)) + charged_for (worded nodes (frames_of trees number))
     ≡ total_charge nodes + charged_for (worded nodes (filter keep (frames_of trees number)))
 cut-frees nodes trees number keep belong tree =

@@ -7,12 +7,12 @@ use Rattle.tenant_quota.specs.Accounts.{account_of, IsWithinReserve}
 use Rattle.tenant_quota.specs.Reservations.{IsSound}
 use Rattle.tenant_quota.specs.declared.account.Account.{Account}
 use Rattle.tenant_quota.proofs.Edits.{AllEntries-of}
-use Rattle.frame_table.specs.declared.names.FrameId.{FrameId}
-use Rattle.frame_table.specs.Frames.{Frame, names_of, ready_frames, is_ready, IsReadyAt}
+use Rattle.frame_tree.specs.declared.names.FrameId.{FrameId}
+use Rattle.frame_tree.specs.Frames.{Frame, names_of, ready_frames, is_ready, IsReadyAt}
 use Rattle.frame_table.specs.Tables.{frames_of}
-use Rattle.frame_table.specs.TreeLaws.{map_value, Each}
-use Rattle.frame_table.proofs.Finds.{none_of_length}
-use Rattle.frame_table.proofs.TreeLaws.{tree-rising, found-each, found-serial}
+use Rattle.frame_tree.specs.TreeLaws.{map_value, Each}
+use Rattle.frame_tree.proofs.Finds.{none_of_length}
+use Rattle.frame_tree.proofs.TreeLaws.{tree-rising, found-each, found-serial}
 use Rattle.sched_rules.specs.Trees.{Tree, charged_for, words_of}
 use Rattle.sched_rules.specs.Views.{ready_count, live_of}
 use Rattle.sched_rules.specs.Cores.{tenant_in}

@@ -5,12 +5,12 @@ use Rattle.std.specs.List.{filter}
 use Rattle.std.proofs.lemmas.Bool.{cases_Bool, false≢true, true≢false, eq-eqb, eqb-true}
 use Rattle.cactus_stack.specs.Nodes.{Nodes, Node, IsOpen, node_at, node_words, words_of, parent_of as parent_at, without}
 use Rattle.cactus_stack.proofs.LawFacts.{gone, kept}
-use Rattle.frame_table.specs.declared.names.FrameId.{FrameId}
-use Rattle.frame_table.specs.Frames.{Frame, frame_at, has_frame, parent_of, values_of, IsTree}
-use Rattle.frame_table.specs.Tables.{Tree as TableTree, frames_of}
-use Rattle.frame_table.specs.TreeLaws.{AreRising, Each}
-use Rattle.frame_table.proofs.TreeLaws.{there-found, tree-rising, found-each, under-there}
-use Rattle.frame_table.proofs.TreeChanges.{frame_at-stays, filter-found}
+use Rattle.frame_tree.specs.declared.names.FrameId.{FrameId}
+use Rattle.frame_tree.specs.Frames.{Frame, frame_at, has_frame, parent_of, values_of, IsTree, TenantTree}
+use Rattle.frame_table.specs.Tables.{frames_of}
+use Rattle.frame_tree.specs.TreeLaws.{AreRising, Each}
+use Rattle.frame_tree.proofs.TreeLaws.{there-found, tree-rising, found-each, under-there}
+use Rattle.frame_tree.proofs.TreeChanges.{frame_at-stays, filter-found}
 use Rattle.sched_store.specs.Parts.{worded}
 use Rattle.sched_store.specs.Stored.{frame_in, node_of, node_above, IsFrameNode, HasFrame, AreFramesNodes, AreSized, ArePlaces}
 
@@ -96,23 +96,23 @@ found-node None node is = absurd cc
 found-node (Some f) node is = (f, refl, cc)
 
 -- what a cut leaves of the trees
-pub record IsCut (trees after : List (TableTree ℕ)) (number : ℕ) (keep : Frame ℕ → Bool) : Type 0 where
+pub record IsCut (trees after : List (TenantTree ℕ)) (number : ℕ) (keep : Frame ℕ → Bool) : Type 0 where
   pub tree : (other : ℕ) → IsTree (frames_of trees other)
   pub tree_after : IsTree (frames_of after number)
   pub cut : frames_of after number ≡ filter keep (frames_of trees number)
   pub others : (other : ℕ) → other ≢ number → frames_of after other ≡ frames_of trees other
 
 -- the nodes that are closed
-abbrev pub closing : List (TableTree ℕ) → ℕ → (Frame ℕ → Bool) → List ℕ
+abbrev pub closing : List (TenantTree ℕ) → ℕ → (Frame ℕ → Bool) → List ℕ
 closing trees number keep = closed keep (frames_of trees number)
 
 -- a frame after the cut: it was there, and its node stays open
-pub record Stays (nodes : Nodes) (trees : List (TableTree ℕ)) (number : ℕ) (keep : Frame ℕ → Bool) (owner serial : ℕ) (frame : Frame ℕ) : Type 0 where
+pub record Stays (nodes : Nodes) (trees : List (TenantTree ℕ)) (number : ℕ) (keep : Frame ℕ → Bool) (owner serial : ℕ) (frame : Frame ℕ) : Type 0 where
   pub there : frame_in trees owner serial ≡ Some frame
   pub unlisted : Contains (closing trees number keep) frame.value → ⊥
   pub node : node_at (without nodes (closing trees number keep)) frame.value ≡ node_at nodes frame.value
 
-unlisted-here : (nodes : Nodes) (trees : List (TableTree ℕ)) (number : ℕ) (keep : Frame ℕ → Bool) (owner serial : ℕ) (frame : Frame ℕ) →
+unlisted-here : (nodes : Nodes) (trees : List (TenantTree ℕ)) (number : ℕ) (keep : Frame ℕ → Bool) (owner serial : ℕ) (frame : Frame ℕ) →
     AreFramesNodes nodes trees → AreRising (frames_of trees number) → frame_in trees owner serial ≡ Some frame → ((owner ≡ number) → keep frame ≡ true) → Contains (closing trees number keep) frame.value → ⊥
 unlisted-here nodes trees number keep owner serial frame belong rising at stays among =
     let goes = listed-goes keep (frames_of trees number) frame.value rising among in
@@ -123,7 +123,7 @@ unlisted-here nodes trees number keep owner serial frame belong rising at stays 
     let e : frame ≡ goes.frame = cc in
     true≢false (sym (stays one.0) ∙ ap keep e ∙ goes.out)
 
-pub stays-after : (nodes : Nodes) (trees after : List (TableTree ℕ)) (number : ℕ) (keep : Frame ℕ → Bool) → AreFramesNodes nodes trees → IsCut trees after number keep →
+pub stays-after : (nodes : Nodes) (trees after : List (TenantTree ℕ)) (number : ℕ) (keep : Frame ℕ → Bool) → AreFramesNodes nodes trees → IsCut trees after number keep →
     (owner serial : ℕ) (frame : Frame ℕ) → frame_in after owner serial ≡ Some frame → Stays nodes trees number keep owner serial frame
 stays-after nodes trees after number keep belong is owner serial frame at =
     elim (cases_Bool (eqb owner number)) [
@@ -158,7 +158,7 @@ some-first xs keep p rising there =
     ap node_of was.0 ∙ sym (ap node_of found.1)
 
 -- the node of the parent is the same as before
-above-kept : (trees after : List (TableTree ℕ)) (number : ℕ) (keep : Frame ℕ → Bool) → IsCut trees after number keep →
+above-kept : (trees after : List (TenantTree ℕ)) (number : ℕ) (keep : Frame ℕ → Bool) → IsCut trees after number keep →
     (owner serial : ℕ) (frame : Frame ℕ) → frame_in after owner serial ≡ Some frame → (parent : Option ℕ) → parent_of frame.path ≡ parent → node_above (frames_of trees owner) parent ≡ node_above (frames_of after owner) parent
 above-kept trees after number keep is owner serial frame at None top = refl
 above-kept trees after number keep is owner serial frame at (Some p) up =
@@ -175,7 +175,7 @@ above-kept trees after number keep is owner serial frame at (Some p) up =
     ]
 
 -- a frame that was there is there, or its node is closed
-stays-or-closed : (trees after : List (TableTree ℕ)) (number : ℕ) (keep : Frame ℕ → Bool) → IsCut trees after number keep →
+stays-or-closed : (trees after : List (TenantTree ℕ)) (number : ℕ) (keep : Frame ℕ → Bool) → IsCut trees after number keep →
     (owner serial : ℕ) (frame : Frame ℕ) → frame_in trees owner serial ≡ Some frame → (frame_in after owner serial ≡ Some frame) ⊎ Contains (closing trees number keep) frame.value
 stays-or-closed trees after number keep is owner serial frame at =
     elim (cases_Bool (eqb owner number)) [
@@ -198,7 +198,7 @@ still-open nodes numbers node None at is = subst IsSome (still-none nodes number
 still-open nodes numbers node (Some found) at is = refl
 
 -- frames and open nodes still belong to one another
-pub cut-belongs : (nodes : Nodes) (trees after : List (TableTree ℕ)) (number : ℕ) (keep : Frame ℕ → Bool) → AreFramesNodes nodes trees → IsCut trees after number keep →
+pub cut-belongs : (nodes : Nodes) (trees after : List (TenantTree ℕ)) (number : ℕ) (keep : Frame ℕ → Bool) → AreFramesNodes nodes trees → IsCut trees after number keep →
     AreFramesNodes (without nodes (closing trees number keep)) after
 cut-belongs nodes trees after number keep belong is = record { nodes_of_frames = belongs; once = once; no_other = no_other }
   where
@@ -241,7 +241,7 @@ cut-sized nodes numbers sized = record {
 }
 
 -- a worker that holds a frame held it before
-pub cut-places : (nodes : Nodes) (trees after : List (TableTree ℕ)) (places : List (Option FrameId)) (number : ℕ) (keep : Frame ℕ → Bool) → AreFramesNodes nodes trees → IsCut trees after number keep →
+pub cut-places : (nodes : Nodes) (trees after : List (TenantTree ℕ)) (places : List (Option FrameId)) (number : ℕ) (keep : Frame ℕ → Bool) → AreFramesNodes nodes trees → IsCut trees after number keep →
     ArePlaces trees places → ArePlaces after places
 cut-places nodes trees after places number keep belong is held worker owner serial frame at holds =
     let stays = stays-after nodes trees after number keep belong is owner serial frame at in
@@ -253,7 +253,7 @@ worded-same nodes after [] same = refl
 worded-same nodes after (frame ∷ frames) same = rw (same.0, worded-same nodes after frames same.1) refl
 
 -- after a cut each tenant's frames have the words that they had
-pub cut-words : (nodes : Nodes) (trees after : List (TableTree ℕ)) (number : ℕ) (keep : Frame ℕ → Bool) → AreFramesNodes nodes trees → IsCut trees after number keep → (owner : ℕ) → IsTree (frames_of after owner) →
+pub cut-words : (nodes : Nodes) (trees after : List (TenantTree ℕ)) (number : ℕ) (keep : Frame ℕ → Bool) → AreFramesNodes nodes trees → IsCut trees after number keep → (owner : ℕ) → IsTree (frames_of after owner) →
     worded (without nodes (closing trees number keep)) (frames_of after owner) ≡ worded nodes (frames_of after owner)
 cut-words nodes trees after number keep belong is owner tree =
     worded-same nodes (without nodes (closing trees number keep)) (frames_of after owner)
@@ -261,7 +261,7 @@ cut-words nodes trees after number keep belong is owner tree =
     (λ serial frame at. ap words_of (Stays.node (stays-after nodes trees after number keep belong is owner serial frame at))))
 
 -- all frames of a tenant are a tree after a cut
-pub cut-trees : (trees after : List (TableTree ℕ)) (number : ℕ) (keep : Frame ℕ → Bool) → IsCut trees after number keep → (owner : ℕ) → IsTree (frames_of after owner)
+pub cut-trees : (trees after : List (TenantTree ℕ)) (number : ℕ) (keep : Frame ℕ → Bool) → IsCut trees after number keep → (owner : ℕ) → IsTree (frames_of after owner)
 cut-trees trees after number keep is owner =
     elim (cases_Bool (eqb owner number)) [
       | inl same ↦ subst (λ (n : ℕ). IsTree (frames_of after n)) (sym (eqb-true owner number same)) is.tree_after

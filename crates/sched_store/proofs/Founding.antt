@@ -6,9 +6,9 @@ use Rattle.std.proofs.lemmas.List.{length-replicate}
 use Rattle.cactus_stack.specs.Nodes.{Nodes, node_at, charge_of, total_charge}
 use Rattle.tenant_quota.specs.Reservations.{Reservations, IsSound, empty_of}
 use Rattle.tenant_quota.specs.declared.account.Account.{Account}
-use Rattle.frame_table.specs.declared.names.FrameId.{FrameId}
-use Rattle.frame_table.specs.Frames.{Frame, frame_at, IsTree}
-use Rattle.frame_table.specs.Tables.{Tree as TableTree, frames_of, places_of, tenant_count}
+use Rattle.frame_tree.specs.declared.names.FrameId.{FrameId}
+use Rattle.frame_tree.specs.Frames.{Frame, frame_at, IsTree, TenantTree}
+use Rattle.frame_table.specs.Tables.{frames_of, places_of, tenant_count}
 use Rattle.sched_store.specs.Ledgers.{Ledger, numbers_of}
 use Rattle.sched_store.specs.Stored.{IsStored, frame_in, node_of, numbers_in, AreAtMost}
 
@@ -22,7 +22,7 @@ none-charged zero = refl
 none-charged (suc count) = omega (arith, sum_by-cons charge_of None (replicate count None), none-charged count)
 
 -- the parts of a new store
-pub record AreNew (nodes : Nodes) (trees : List (TableTree ℕ)) (ledgers : List Ledger) (book : Reservations) (segments nodes_in_all : ℕ) : Type 0 where
+pub record AreNew (nodes : Nodes) (trees : List (TenantTree ℕ)) (ledgers : List Ledger) (book : Reservations) (segments nodes_in_all : ℕ) : Type 0 where
   pub stack : nodes ≡ replicate segments None
   pub empty : book ≡ empty_of segments nodes_in_all
   pub sound : IsSound book
@@ -31,7 +31,7 @@ pub record AreNew (nodes : Nodes) (trees : List (TableTree ℕ)) (ledgers : List
   pub places : (tenant : ℕ) → places_of trees tenant ≡ 0
   pub jobs : ledgers ≡ []
 
-pub new-stored : (nodes : Nodes) (trees : List (TableTree ℕ)) (ledgers : List Ledger) (book : Reservations) (places : List (Option FrameId)) (segments nodes_in_all : ℕ) → AreNew nodes trees ledgers book segments nodes_in_all → length places ≡ 33 →
+pub new-stored : (nodes : Nodes) (trees : List (TenantTree ℕ)) (ledgers : List Ledger) (book : Reservations) (places : List (Option FrameId)) (segments nodes_in_all : ℕ) → AreNew nodes trees ledgers book segments nodes_in_all → length places ≡ 33 →
     IsStored (record { nodes = nodes; book = book; trees = trees; ledgers = ledgers; places = places; newest = 0 })
 new-stored nodes trees ledgers book places segments nodes_in_all is workers =
     let no_accounts : book.accounts ≡ [] = ap (λ (b : Reservations). b.accounts) is.empty in

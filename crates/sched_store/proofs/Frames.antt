@@ -1,13 +1,13 @@
 -- What is asked of frames with words is what is asked of the table's frames.
 use Rattle.std.proofs.Common.{◌≡◌, ℕ, true, List, [], ◌∷◌, Option, Some, None, IsSome, option_map, option_and_then, refl, ap, sym, ◌∙◌}
 use Rattle.cactus_stack.specs.Nodes.{Nodes, node_words}
-use Rattle.frame_table.specs.declared.names.FrameId.{FrameId}
-use Rattle.frame_table.specs.declared.names.Entry.{Entry}
-use Rattle.frame_table.specs.Frames.{Frame, has_frame, parent_of, name_of, entry_of, ready_name, first_of_two, newest_ready_of, IsTree}
-use Rattle.frame_table.specs.TreeLaws.{map_value}
+use Rattle.frame_tree.specs.declared.names.FrameId.{FrameId}
+use Rattle.frame_tree.specs.declared.names.Entry.{Entry}
+use Rattle.frame_tree.specs.Frames.{Frame, has_frame, parent_of, name_of, entry_of, ready_name, first_of_two, newest_ready_of, IsTree}
+use Rattle.frame_tree.specs.TreeLaws.{map_value}
 use Rattle.frame_table.specs.Tables.{frames_of}
-use Rattle.frame_table.proofs.TreeLaws.{found-there}
-use Rattle.frame_table.proofs.TreeValues.{tree-map_values}
+use Rattle.frame_tree.proofs.TreeLaws.{found-there}
+use Rattle.frame_tree.proofs.TreeValues.{tree-map_values}
 use Rattle.sched_rules.specs.Trees.{Tenant}
 use Rattle.sched_rules.specs.Cores.{tenant_in}
 use Rattle.sched_rules.specs.Views.{named, frame_of, newest_ready_in}

@@ -4,17 +4,17 @@ use Rattle.std.proofs.lemmas.Bool.{cases_Bool, true≢false, false≢true, eq-eq
 use Rattle.cactus_stack.specs.Nodes.{Nodes, node_words}
 use Rattle.tenant_quota.specs.Accounts.{account_of}
 use Rattle.tenant_quota.specs.declared.account.Account.{Account}
-use Rattle.frame_table.specs.declared.names.FrameId.{FrameId}
-use Rattle.frame_table.specs.Frames.{Frame, frame_at, entry_of}
-use Rattle.frame_table.specs.TreeLaws.{map_value, AreRising}
+use Rattle.frame_tree.specs.declared.names.FrameId.{FrameId}
+use Rattle.frame_tree.specs.Frames.{Frame, frame_at, entry_of}
+use Rattle.frame_tree.specs.TreeLaws.{map_value, AreRising}
 use Rattle.frame_table.specs.Tables.{frames_of}
-use Rattle.frame_table.proofs.TreeLaws.{found-there, tree-rising, above-missing}
+use Rattle.frame_tree.proofs.TreeLaws.{found-there, tree-rising, above-missing}
 use Rattle.sched_rules.specs.Trees.{is_held_by, is_busy_in}
 use Rattle.sched_rules.specs.Views.{named}
 use Rattle.sched_store.specs.Parts.{Parts, worded, tenants_from, shared_of}
 use Rattle.sched_store.specs.Reads.{is_busy_among, holds, may_hold}
 use Rattle.sched_store.specs.Stored.{IsStored, frame_in}
-use Rattle.frame_table.specs.declared.names.Entry.{Entry}
+use Rattle.frame_tree.specs.declared.names.Entry.{Entry}
 use Rattle.sched_store.proofs.Lookups.{named-found}
 use Rattle.sched_store.proofs.Frames.{found, nothing-found}
 

@@ -6,13 +6,13 @@ use Rattle.cactus_stack.specs.Nodes.{Nodes, HasNoChild, node_at, node_words, nod
 use Rattle.tenant_quota.specs.Accounts.{credited_by, charged_segments}
 use Rattle.tenant_quota.specs.Reservations.{Reservations, IsSound, ChangesOnly, KeepsOthers as KeepsOtherAccounts, HasCharged}
 use Rattle.tenant_quota.specs.declared.account.Account.{Account}
-use Rattle.frame_table.specs.declared.names.FrameId.{FrameId}
-use Rattle.frame_table.specs.Frames.{Frame, frame_at, parent_of, children_of, frames_without, IsTree, HasValue}
-use Rattle.frame_table.specs.Tables.{Tree as TableTree, frames_of, KeepsOthers}
-use Rattle.frame_table.specs.TreeLaws.{map_values, is_child_of, AllAboveSerial, AreRising}
-use Rattle.frame_table.proofs.TreeLaws.{tree-rising, children-by-paths}
-use Rattle.frame_table.proofs.TreeChanges.{tree-without, frame_at-stays}
-use Rattle.frame_table.proofs.TreeValues.{frames_without-map_values, children_of-map_values}
+use Rattle.frame_tree.specs.declared.names.FrameId.{FrameId}
+use Rattle.frame_tree.specs.Frames.{Frame, frame_at, parent_of, children_of, frames_without, IsTree, HasValue, TenantTree}
+use Rattle.frame_table.specs.Tables.{frames_of, KeepsOthers}
+use Rattle.frame_tree.specs.TreeLaws.{map_values, is_child_of, AllAboveSerial, AreRising}
+use Rattle.frame_tree.proofs.TreeLaws.{tree-rising, children-by-paths}
+use Rattle.frame_tree.proofs.TreeChanges.{tree-without, frame_at-stays}
+use Rattle.frame_tree.proofs.TreeValues.{frames_without-map_values, children_of-map_values}
 use Rattle.sched_rules.specs.Trees.{Tenant, has_child}
 use Rattle.sched_rules.specs.Changes.{on_tenant, without_frame}
 use Rattle.sched_rules.specs.Views.{named}
@@ -91,7 +91,7 @@ has-value None node is = absurd is
 has-value (Some f) node is = (f, refl, is)
 
 -- what a removal was told by the table, the stack and the book
-pub record IsRemoved (parts : Parts) (nodes : Nodes) (trees : List (TableTree ℕ)) (book : Reservations) (name : FrameId) (node before later : ℕ) : Type 0 where
+pub record IsRemoved (parts : Parts) (nodes : Nodes) (trees : List (TenantTree ℕ)) (book : Reservations) (name : FrameId) (node before later : ℕ) : Type 0 where
   pub leaf : children_of (frames_of parts.trees name.tenant) name.serial ≡ []
   pub value : HasValue (frame_in parts.trees name.tenant name.serial) node
   pub closed_one : nodes ≡ with_node parts.nodes node None
@@ -136,7 +136,7 @@ leaf-frees parts nodes name node before later stored some value closed_one was_f
       charged = can-give-back parts name.tenant (later - before) (others_stay name.serial) stored there.account there.there freed.1;
     }
 
-leaf-removal : (parts : Parts) (nodes : Nodes) (trees : List (TableTree ℕ)) (book : Reservations) (name : FrameId) (node before later : ℕ) → IsStored parts → IsSome (named (shared_of parts) name) →
+leaf-removal : (parts : Parts) (nodes : Nodes) (trees : List (TenantTree ℕ)) (book : Reservations) (name : FrameId) (node before later : ℕ) → IsStored parts → IsSome (named (shared_of parts) name) →
     IsRemoved parts nodes trees book name node before later → IsRemoval parts trees book name.tenant (later - before) (others_stay name.serial)
 leaf-removal parts nodes trees book name node before later stored some is =
     let there = is-there parts stored name some in
@@ -163,14 +163,14 @@ closed-same : (parts : Parts) (nodes : Nodes) (name : FrameId) (node : ℕ) → 
     without parts.nodes (closing parts.trees name.tenant (others_stay name.serial)) ≡ nodes
 closed-same parts nodes name node stored value closed_one = ap (without parts.nodes) (closes-one parts name node stored value) ∙ sym closed_one
 
-pub remove-stored : (parts : Parts) (nodes : Nodes) (trees : List (TableTree ℕ)) (book : Reservations) (name : FrameId) (node before later : ℕ) → IsStored parts → IsSome (named (shared_of parts) name) →
+pub remove-stored : (parts : Parts) (nodes : Nodes) (trees : List (TenantTree ℕ)) (book : Reservations) (name : FrameId) (node before later : ℕ) → IsStored parts → IsSome (named (shared_of parts) name) →
     IsRemoved parts nodes trees book name node before later → IsStored (with_parts parts nodes trees book)
 remove-stored parts nodes trees book name node before later stored some is =
     let removal = leaf-removal parts nodes trees book name node before later stored some is in
     subst (λ (n : Nodes). IsStored (with_parts parts n trees book)) (closed-same parts nodes name node stored is.value is.closed_one)
     (removed-stored parts trees book name.tenant (later - before) (others_stay name.serial) stored removal)
 
-pub remove-shared : (parts : Parts) (nodes : Nodes) (trees : List (TableTree ℕ)) (book : Reservations) (name : FrameId) (node before later : ℕ) → IsStored parts → IsSome (named (shared_of parts) name) →
+pub remove-shared : (parts : Parts) (nodes : Nodes) (trees : List (TenantTree ℕ)) (book : Reservations) (name : FrameId) (node before later : ℕ) → IsStored parts → IsSome (named (shared_of parts) name) →
     IsRemoved parts nodes trees book name node before later → shared_of (with_parts parts nodes trees book) ≡ on_tenant name.tenant (without_frame name.serial) (shared_of parts)
 remove-shared parts nodes trees book name node before later stored some is =
     let removal = leaf-removal parts nodes trees book name node before later stored some is in

@@ -7,8 +7,8 @@ use Rattle.tenant_quota.specs.Accounts.{account_of, without as without_account, 
 use Rattle.tenant_quota.specs.Reservations.{Reservations, IsSound, Releases, KeepsOthers as KeepsOtherAccounts}
 use Rattle.tenant_quota.specs.declared.account.Account.{Account}
 use Rattle.tenant_quota.proofs.Edits.{AllEntries-of}
-use Rattle.frame_table.specs.Frames.{Frame, values_of, AllBelow, IsTree}
-use Rattle.frame_table.specs.Tables.{Tree as TableTree, frames_of, places_of, tenant_count}
+use Rattle.frame_tree.specs.Frames.{Frame, values_of, AllBelow, IsTree, TenantTree}
+use Rattle.frame_table.specs.Tables.{frames_of, places_of, tenant_count}
 use Rattle.sched_rules.specs.Trees.{Tenant, charged_for}
 use Rattle.sched_rules.specs.Cores.{Shared, without_tenant}
 use Rattle.sched_store.specs.Changes.{with_departed}
@@ -53,7 +53,7 @@ leave-closes parts number numbers stored is =
     })
 
 -- what a departure was told by the table, the stack, the ledgers and the book
-pub record HasLeft (parts : Parts) (nodes : Nodes) (trees : List (TableTree ℕ)) (ledgers : List Ledger) (book : Reservations) (number : ℕ) (numbers : List ℕ) (account : Account) : Type 0 where
+pub record HasLeft (parts : Parts) (nodes : Nodes) (trees : List (TenantTree ℕ)) (ledgers : List Ledger) (book : Reservations) (number : ℕ) (numbers : List ℕ) (account : Account) : Type 0 where
   pub there : account_of number parts.book.accounts ≡ Some account
   pub values : numbers ≡ values_of (frames_of parts.trees number)
   pub closed_all : nodes ≡ without parts.nodes numbers
@@ -68,7 +68,7 @@ pub record HasLeft (parts : Parts) (nodes : Nodes) (trees : List (TableTree ℕ)
   pub sound : IsSound book
 
 -- the parts after it
-abbrev pub departed : Parts → Nodes → List (TableTree ℕ) → List Ledger → Reservations → Parts
+abbrev pub departed : Parts → Nodes → List (TenantTree ℕ) → List Ledger → Reservations → Parts
 departed parts nodes trees ledgers book = record parts { nodes = nodes; trees = trees; ledgers = ledgers; book = book }
 
 numbers-without : (number : ℕ) (ledgers : List Ledger) (entries : List (ℕ × Account)) → numbers_of ledgers ≡ numbers_in entries → numbers_of (without_ledger number ledgers) ≡ numbers_in (without_account number entries)
@@ -103,7 +103,7 @@ jobs-without number other (ledger ∷ ledgers) differs =
     ]
 
 -- the cut that takes all frames
-leave-cut : (parts : Parts) (nodes : Nodes) (trees : List (TableTree ℕ)) (ledgers : List Ledger) (book : Reservations) (number : ℕ) (numbers : List ℕ) (account : Account) → IsStored parts →
+leave-cut : (parts : Parts) (nodes : Nodes) (trees : List (TenantTree ℕ)) (ledgers : List Ledger) (book : Reservations) (number : ℕ) (numbers : List ℕ) (account : Account) → IsStored parts →
     HasLeft parts nodes trees ledgers book number numbers account → IsCut parts.trees trees number none_stays
 leave-cut parts nodes trees ledgers book number numbers account stored is = record {
   tree = stored.forest;
@@ -116,7 +116,7 @@ closed-same : (parts : Parts) (nodes : Nodes) (number : ℕ) (numbers : List ℕ
 closed-same parts nodes number numbers values closed_all = ap (without parts.nodes) (closed-whole (frames_of parts.trees number) ∙ sym values) ∙ sym closed_all
 
 -- another tenant's words
-leave-words : (parts : Parts) (nodes : Nodes) (trees : List (TableTree ℕ)) (ledgers : List Ledger) (book : Reservations) (number : ℕ) (numbers : List ℕ) (account : Account) → IsStored parts →
+leave-words : (parts : Parts) (nodes : Nodes) (trees : List (TenantTree ℕ)) (ledgers : List Ledger) (book : Reservations) (number : ℕ) (numbers : List ℕ) (account : Account) → IsStored parts →
     HasLeft parts nodes trees ledgers book number numbers account → (other : ℕ) → other ≢ number → worded nodes (frames_of trees other) ≡ worded parts.nodes (frames_of parts.trees other)
 leave-words parts nodes trees ledgers book number numbers account stored is other differs =
     let cut = leave-cut parts nodes trees ledgers book number numbers account stored is in
@@ -125,7 +125,7 @@ leave-words parts nodes trees ledgers book number numbers account stored is othe
     ∙ cut-words parts.nodes parts.trees trees number none_stays stored.frames_nodes cut other (cut-trees parts.trees trees number none_stays cut other)
     ∙ ap (worded parts.nodes) (is.other_frames other differs)
 
-leave-charges : (parts : Parts) (nodes : Nodes) (trees : List (TableTree ℕ)) (ledgers : List Ledger) (book : Reservations) (number : ℕ) (numbers : List ℕ) (account : Account) → IsStored parts →
+leave-charges : (parts : Parts) (nodes : Nodes) (trees : List (TenantTree ℕ)) (ledgers : List Ledger) (book : Reservations) (number : ℕ) (numbers : List ℕ) (account : Account) → IsStored parts →
     HasLeft parts nodes trees ledgers book number numbers account → total_charge nodes ≡ charged_segments book.accounts
 leave-charges parts nodes trees ledgers book number numbers account stored is =
     let frees = cut-frees parts.nodes parts.trees number none_stays stored.frames_nodes (stored.forest number) in
@@ -137,7 +137,7 @@ leave-charges parts nodes trees ledgers book number numbers account stored is =
     omega (arith, frees, none, same, charged, whole, back)
 
 -- what a store keeps true is true after it
-pub leave-stored : (parts : Parts) (nodes : Nodes) (trees : List (TableTree ℕ)) (ledgers : List Ledger) (book : Reservations) (number : ℕ) (numbers : List ℕ) (account : Account) → IsStored parts →
+pub leave-stored : (parts : Parts) (nodes : Nodes) (trees : List (TenantTree ℕ)) (ledgers : List Ledger) (book : Reservations) (number : ℕ) (numbers : List ℕ) (account : Account) → IsStored parts →
     HasLeft parts nodes trees ledgers book number numbers account → IsStored (departed parts nodes trees ledgers book)
 leave-stored parts nodes trees ledgers book number numbers account stored is =
     let cut = leave-cut parts nodes trees ledgers book number numbers account stored is in
@@ -200,7 +200,7 @@ tenants-without parts after number (entry ∷ entries) rising others =
     ]
 
 -- and the core is the one before without that tenant
-pub leave-shared : (parts : Parts) (nodes : Nodes) (trees : List (TableTree ℕ)) (ledgers : List Ledger) (book : Reservations) (number : ℕ) (numbers : List ℕ) (account : Account) → IsStored parts →
+pub leave-shared : (parts : Parts) (nodes : Nodes) (trees : List (TenantTree ℕ)) (ledgers : List Ledger) (book : Reservations) (number : ℕ) (numbers : List ℕ) (account : Account) → IsStored parts →
     HasLeft parts nodes trees ledgers book number numbers account → shared_of (departed parts nodes trees ledgers book) ≡ with_departed number (shared_of parts)
 leave-shared parts nodes trees ledgers book number numbers account stored is =
     let after = departed parts nodes trees ledgers book in

@@ -7,11 +7,11 @@ use Rattle.tenant_quota.specs.Accounts.{account_of, AllEntries, IsRising, left_i
 use Rattle.tenant_quota.specs.declared.account.Account.{Account}
 use Rattle.tenant_quota.specs.declared.account.Left.{Left}
 use Rattle.tenant_quota.specs.Reservations.{left_of as left_of_book}
-use Rattle.frame_table.specs.declared.names.FrameId.{FrameId}
-use Rattle.frame_table.specs.Frames.{frame_at}
-use Rattle.frame_table.specs.TreeLaws.{map_value}
+use Rattle.frame_tree.specs.declared.names.FrameId.{FrameId}
+use Rattle.frame_tree.specs.Frames.{frame_at}
+use Rattle.frame_tree.specs.TreeLaws.{map_value}
 use Rattle.frame_table.specs.Tables.{frames_of}
-use Rattle.frame_table.proofs.TreeValues.{frame_at-map_values}
+use Rattle.frame_tree.proofs.TreeValues.{frame_at-map_values}
 use Rattle.sched_rules.specs.declared.job.Job.{Job}
 use Rattle.sched_rules.specs.Trees.{Tenant, Tree, charged_for, account_in, job_at}
 use Rattle.sched_rules.specs.Cores.{tenant_in, accounts_in, charged_in, reservations_in}

@@ -6,12 +6,12 @@ use Rattle.cactus_stack.specs.Nodes.{Nodes, Node, node_at, node_words, words_of,
 use Rattle.tenant_quota.specs.Accounts.{account_of, charged_by, charged_segments}
 use Rattle.tenant_quota.specs.Reservations.{Reservations, ChangesOnly, IsSound}
 use Rattle.tenant_quota.specs.declared.account.Account.{Account}
-use Rattle.frame_table.specs.declared.names.State.TheVariants.{Ready}
-use Rattle.frame_table.specs.Frames.{Frame, frame_at, has_parent, parent_of, path_under, AllBelow, IsTree}
-use Rattle.frame_table.specs.TreeLaws.{map_value}
-use Rattle.frame_table.specs.Tables.{Tree as TableTree, frames_of, KeepsOthers, new_frame}
-use Rattle.frame_table.proofs.TreeLaws.{found-each, tree-rising, found-there, below-found, frame_at-push, frame_at_other-push, frame_at-left, under-there}
-use Rattle.frame_table.proofs.TreeValues.{tree-new_frame, parent_of-path_under, append-map_values, path_in-map_values}
+use Rattle.frame_tree.specs.declared.names.State.TheVariants.{Ready}
+use Rattle.frame_tree.specs.Frames.{Frame, frame_at, has_parent, parent_of, path_under, AllBelow, IsTree, TenantTree, new_frame}
+use Rattle.frame_tree.specs.TreeLaws.{map_value}
+use Rattle.frame_table.specs.Tables.{frames_of, KeepsOthers}
+use Rattle.frame_tree.proofs.TreeLaws.{found-each, tree-rising, found-there, below-found, frame_at-push, frame_at_other-push, frame_at-left, under-there}
+use Rattle.frame_tree.proofs.TreeValues.{tree-new_frame, parent_of-path_under, append-map_values, path_in-map_values}
 use Rattle.sched_rules.specs.Trees.{Tree, charged_for, is_held_by}
 use Rattle.sched_rules.specs.Lone.{opened}
 use Rattle.sched_rules.specs.Changes.{on_tenant}
@@ -23,7 +23,7 @@ use Rattle.sched_store.proofs.States.{charged-cons}
 use Rattle.sched_store.proofs.Steps.{TenantStep, other-tenants, step-stored, step-shared}
 
 -- what is opened: the tenant's next serial, under a parent, with these words
-pub record Opens (old : Parts) (nodes : Nodes) (trees : List (TableTree ℕ)) (book : Reservations) (number : ℕ) (parent : Option ℕ) (above : Option ℕ) (words : List ℕ) (size home node : ℕ) (account : Account) : Type 0 where
+pub record Opens (old : Parts) (nodes : Nodes) (trees : List (TenantTree ℕ)) (book : Reservations) (number : ℕ) (parent : Option ℕ) (above : Option ℕ) (words : List ℕ) (size home node : ℕ) (account : Account) : Type 0 where
   pub there : account_of number old.book.accounts ≡ Some account
   pub parent_there : has_parent (frames_of old.trees number) parent ≡ true
   pub above_is : above ≡ node_above (frames_of old.trees number) parent
@@ -74,7 +74,7 @@ opened-sized nodes n entry sized unused some most =
 
 -- the frames after one was added: either it is the new one, or it was there
 
-added-cases : (old new : List (TableTree ℕ)) (added : Frame ℕ) (number : ℕ) → frames_of new number ≡ frames_of old number ++ added ∷ [] → KeepsOthers old new number → AllBelow added.serial (frames_of old number) → (m s : ℕ) →
+added-cases : (old new : List (TenantTree ℕ)) (added : Frame ℕ) (number : ℕ) → frames_of new number ≡ frames_of old number ++ added ∷ [] → KeepsOthers old new number → AllBelow added.serial (frames_of old number) → (m s : ℕ) →
     ((m ≡ number) × (s ≡ added.serial)) ⊎ (frame_in new m s ≡ frame_in old m s)
 added-cases old new added number frames kept above m s =
     elim (cases_eq m number) [
@@ -85,11 +85,11 @@ added-cases old new added number frames kept above m s =
       | inr other ↦ inr (ap (λ (fs : List (Frame ℕ)). frame_at fs s) (kept.frames m other))
     ]
 
-added-here : (old new : List (TableTree ℕ)) (added : Frame ℕ) (number : ℕ) → frames_of new number ≡ frames_of old number ++ added ∷ [] → AllBelow added.serial (frames_of old number) → frame_in new number added.serial ≡ Some added
+added-here : (old new : List (TenantTree ℕ)) (added : Frame ℕ) (number : ℕ) → frames_of new number ≡ frames_of old number ++ added ∷ [] → AllBelow added.serial (frames_of old number) → frame_in new number added.serial ≡ Some added
 added-here old new added number frames above = rw frames (frame_at-push (frames_of old number) added above)
 
 -- a frame that was there is there
-added-keeps : (old new : List (TableTree ℕ)) (added : Frame ℕ) (number : ℕ) → frames_of new number ≡ frames_of old number ++ added ∷ [] → KeepsOthers old new number → AllBelow added.serial (frames_of old number) → (m s : ℕ) (frame : Frame ℕ) → frame_in old m s ≡ Some frame → frame_in new m s ≡ Some frame
+added-keeps : (old new : List (TenantTree ℕ)) (added : Frame ℕ) (number : ℕ) → frames_of new number ≡ frames_of old number ++ added ∷ [] → KeepsOthers old new number → AllBelow added.serial (frames_of old number) → (m s : ℕ) (frame : Frame ℕ) → frame_in old m s ≡ Some frame → frame_in new m s ≡ Some frame
 added-keeps old new added number frames kept above m s frame is =
     elim (added-cases old new added number frames kept above m s) [
       | inl (same, here) ↦ absurd (
@@ -122,7 +122,7 @@ charged-push [] frame = charged-cons frame [] ∙ omega arith
 charged-push (first ∷ frames) frame = omega (arith, charged-cons first (frames ++ frame ∷ []), charged-cons first frames, charged-push frames frame)
 
 -- what stood above a frame stands there still
-tree-above : (old new : List (TableTree ℕ)) (added : Frame ℕ) (number : ℕ) → frames_of new number ≡ frames_of old number ++ added ∷ [] → KeepsOthers old new number → (m : ℕ) (parent : Option ℕ) → has_parent (frames_of old m) parent ≡ true →
+tree-above : (old new : List (TenantTree ℕ)) (added : Frame ℕ) (number : ℕ) → frames_of new number ≡ frames_of old number ++ added ∷ [] → KeepsOthers old new number → (m : ℕ) (parent : Option ℕ) → has_parent (frames_of old m) parent ≡ true →
     node_above (frames_of new m) parent ≡ node_above (frames_of old m) parent
 tree-above old new added number frames kept m parent there =
     elim (cases_eq m number) [
@@ -146,7 +146,7 @@ path_under-worded nodes frames (Some p) serial = ap (λ (path : List ℕ). path 
 abbrev added_to : Parts → ℕ → Option ℕ → ℕ → ℕ → Account → Frame ℕ
 added_to old number parent home node account = new_frame (frames_of old.trees number) (account.opened + 1) parent home node
 
-opened-nodes : (old : Parts) (nodes : Nodes) (trees : List (TableTree ℕ)) (book : Reservations) (number : ℕ) (parent above : Option ℕ) (words : List ℕ) (size home node : ℕ) (account : Account) → IsStored old → Opens old nodes trees book number parent above words size home node account → AreFramesNodes nodes trees
+opened-nodes : (old : Parts) (nodes : Nodes) (trees : List (TenantTree ℕ)) (book : Reservations) (number : ℕ) (parent above : Option ℕ) (words : List ℕ) (size home node : ℕ) (account : Account) → IsStored old → Opens old nodes trees book number parent above words size home node account → AreFramesNodes nodes trees
 opened-nodes old nodes trees book number parent above words size home node account stored opens =
     let frames = frames_of old.trees number in
     let added = added_to old number parent home node account in
@@ -205,7 +205,7 @@ opened-nodes old nodes trees book number parent above words size home node accou
     })
 
 -- no frame that was there has the new node
-opened-others : (old : Parts) (nodes : Nodes) (trees : List (TableTree ℕ)) (book : Reservations) (number : ℕ) (parent above : Option ℕ) (words : List ℕ) (size home node : ℕ) (account : Account) → IsStored old → Opens old nodes trees book number parent above words size home node account → (m : ℕ) → worded nodes (frames_of old.trees m) ≡ worded old.nodes (frames_of old.trees m)
+opened-others : (old : Parts) (nodes : Nodes) (trees : List (TenantTree ℕ)) (book : Reservations) (number : ℕ) (parent above : Option ℕ) (words : List ℕ) (size home node : ℕ) (account : Account) → IsStored old → Opens old nodes trees book number parent above words size home node account → (m : ℕ) → worded nodes (frames_of old.trees m) ≡ worded old.nodes (frames_of old.trees m)
 opened-others old nodes trees book number parent above words size home node account stored opens m =
     let entry : Node = record { parent = above; words = padded words size } in
     worded-same old.nodes nodes (frames_of old.trees m) (found-each (λ x. node_words nodes x.value ≡ node_words old.nodes x.value) (frames_of old.trees m) (tree-rising (frames_of old.trees m) (stored.forest m))
@@ -213,7 +213,7 @@ opened-others old nodes trees book number parent above words size home node acco
     let own = stored.frames_nodes.nodes_of_frames m s x at in
     ap (λ (ns : Nodes). node_words ns x.value) opens.nodes_is ∙ ap words_of (opened-other old.nodes node x.value entry (open-not-unused old.nodes node x.value opens.unused own.is_open))))
 
-opened-frames : (old : Parts) (nodes : Nodes) (trees : List (TableTree ℕ)) (book : Reservations) (number : ℕ) (parent above : Option ℕ) (words : List ℕ) (size home node : ℕ) (account : Account) → IsStored old → Opens old nodes trees book number parent above words size home node account → worded nodes (frames_of trees number) ≡ worded old.nodes (frames_of old.trees number) ++ new_frame (worded old.nodes (frames_of old.trees number)) (account.opened + 1) parent home (padded words size) ∷ []
+opened-frames : (old : Parts) (nodes : Nodes) (trees : List (TenantTree ℕ)) (book : Reservations) (number : ℕ) (parent above : Option ℕ) (words : List ℕ) (size home node : ℕ) (account : Account) → IsStored old → Opens old nodes trees book number parent above words size home node account → worded nodes (frames_of trees number) ≡ worded old.nodes (frames_of old.trees number) ++ new_frame (worded old.nodes (frames_of old.trees number)) (account.opened + 1) parent home (padded words size) ∷ []
 opened-frames old nodes trees book number parent above words size home node account stored opens =
     let frames = frames_of old.trees number in
     let added = added_to old number parent home node account in
@@ -226,11 +226,11 @@ opened-frames old nodes trees book number parent above words size home node acco
     ∙ ap (λ (fs : Tree). fs ++ map_value (node_words nodes) added ∷ []) (opened-others old nodes trees book number parent above words size home node account stored opens number)
     ∙ ap (λ (f : Frame (List ℕ)). worded old.nodes frames ++ f ∷ []) new
 
-pub record Opened (old : Parts) (nodes : Nodes) (trees : List (TableTree ℕ)) (book : Reservations) (number : ℕ) (parent : Option ℕ) (words : List ℕ) (size home : ℕ) : Type 0 where
+pub record Opened (old : Parts) (nodes : Nodes) (trees : List (TenantTree ℕ)) (book : Reservations) (number : ℕ) (parent : Option ℕ) (words : List ℕ) (size home : ℕ) : Type 0 where
   pub stored : IsStored (record old { nodes = nodes; trees = trees; book = book })
   pub shared : shared_of (record old { nodes = nodes; trees = trees; book = book }) ≡ on_tenant number (opened parent words size home) (shared_of old)
 
-pub open-step : (old : Parts) (nodes : Nodes) (trees : List (TableTree ℕ)) (book : Reservations) (number : ℕ) (parent above : Option ℕ) (words : List ℕ) (size home node : ℕ) (account : Account) → IsStored old → Opens old nodes trees book number parent above words size home node account → Opened old nodes trees book number parent words size home
+pub open-step : (old : Parts) (nodes : Nodes) (trees : List (TenantTree ℕ)) (book : Reservations) (number : ℕ) (parent above : Option ℕ) (words : List ℕ) (size home node : ℕ) (account : Account) → IsStored old → Opens old nodes trees book number parent above words size home node account → Opened old nodes trees book number parent words size home
 open-step old nodes trees book number parent above words size home node account stored opens =
     let frames = frames_of old.trees number in
     let added = added_to old number parent home node account in

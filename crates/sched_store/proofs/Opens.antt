@@ -5,12 +5,12 @@ use Rattle.cactus_stack.specs.Nodes.{Nodes, node_words, IsOpen, charge}
 use Rattle.tenant_quota.specs.Accounts.{account_of, left_in}
 use Rattle.tenant_quota.specs.Reservations.{opened_of}
 use Rattle.tenant_quota.specs.declared.account.Account.{Account}
-use Rattle.frame_table.specs.declared.names.FrameId.{FrameId}
-use Rattle.frame_table.specs.Frames.{Frame, has_parent, name_of}
-use Rattle.frame_table.specs.TreeLaws.{Each, map_value}
+use Rattle.frame_tree.specs.declared.names.FrameId.{FrameId}
+use Rattle.frame_tree.specs.Frames.{Frame, has_parent, name_of}
+use Rattle.frame_tree.specs.TreeLaws.{Each, map_value}
 use Rattle.frame_table.specs.Tables.{frames_of, places_of, IsParentIn, serial_of}
-use Rattle.frame_table.proofs.TreeLaws.{found-each, tree-rising, there-found}
-use Rattle.frame_table.proofs.TreeValues.{has_frame-map_values}
+use Rattle.frame_tree.proofs.TreeLaws.{found-each, tree-rising, there-found}
+use Rattle.frame_tree.proofs.TreeValues.{has_frame-map_values}
 use Rattle.sched_rules.specs.Trees.{charged_for}
 use Rattle.sched_rules.specs.Lone.{is_frame_size}
 use Rattle.sched_store.specs.Parts.{Parts, worded, shared_of}

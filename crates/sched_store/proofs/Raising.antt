@@ -8,8 +8,8 @@ use Rattle.tenant_quota.specs.Accounts.{account_of, raised_to, IsWithinReserve}
 use Rattle.tenant_quota.specs.Reservations.{Reservations, IsSound, HasRoomFor, CanRaise, Raises}
 use Rattle.tenant_quota.specs.declared.account.Account.{Account}
 use Rattle.tenant_quota.proofs.Edits.{AllEntries-of}
-use Rattle.frame_table.specs.Frames.{Frame, frame_at, AllBelow}
-use Rattle.frame_table.specs.Tables.{Tree as TableTree, frames_of, places_of, tenant_count, KeepsOtherTenants}
+use Rattle.frame_tree.specs.Frames.{Frame, frame_at, AllBelow, TenantTree}
+use Rattle.frame_table.specs.Tables.{frames_of, places_of, tenant_count, KeepsOtherTenants}
 use Rattle.sched_rules.specs.Trees.{charged_for}
 use Rattle.sched_rules.specs.Lone.{is_lower}
 use Rattle.sched_rules.specs.Cores.{tenant_in, reservations_in, reserved_by, is_beyond}
@@ -75,7 +75,7 @@ pub book-raises : (parts : Parts) (number : ℕ) (quota : Quota) → CanBeRaised
 book-raises parts number quota can = rw can.there (can.above, can.room)
 
 -- what was told by the table and the book
-pub record IsRaised (parts : Parts) (trees : List (TableTree ℕ)) (book : Reservations) (number : ℕ) (quota : Quota) (account : Account) : Type 0 where
+pub record IsRaised (parts : Parts) (trees : List (TenantTree ℕ)) (book : Reservations) (number : ℕ) (quota : Quota) (account : Account) : Type 0 where
   pub there : account_of number parts.book.accounts ≡ Some account
   pub places : places_of trees number ≡ quota.segments
   pub frames : frames_of trees number ≡ frames_of parts.trees number
@@ -85,10 +85,10 @@ pub record IsRaised (parts : Parts) (trees : List (TableTree ℕ)) (book : Reser
   pub sound : IsSound book
 
 -- the parts after it
-abbrev pub with_more : Parts → List (TableTree ℕ) → Reservations → Parts
+abbrev pub with_more : Parts → List (TenantTree ℕ) → Reservations → Parts
 with_more parts trees book = record parts { trees = trees; book = book }
 
-raise-step : (parts : Parts) (trees : List (TableTree ℕ)) (book : Reservations) (number : ℕ) (quota : Quota) (account : Account) → IsStored parts → IsRaised parts trees book number quota account →
+raise-step : (parts : Parts) (trees : List (TenantTree ℕ)) (book : Reservations) (number : ℕ) (quota : Quota) (account : Account) → IsStored parts → IsRaised parts trees book number quota account →
     TenantStep parts (with_more parts trees book) number (raised_to quota) account
 raise-step parts trees book number quota account stored is =
     let own = stored.accounts number account is.there in
@@ -123,13 +123,13 @@ raise-step parts trees book number quota account stored is =
     ]
 
 -- what a store keeps true is true after it
-pub raise-stored : (parts : Parts) (trees : List (TableTree ℕ)) (book : Reservations) (number : ℕ) (quota : Quota) (account : Account) → IsStored parts → IsRaised parts trees book number quota account →
+pub raise-stored : (parts : Parts) (trees : List (TenantTree ℕ)) (book : Reservations) (number : ℕ) (quota : Quota) (account : Account) → IsStored parts → IsRaised parts trees book number quota account →
     IsStored (with_more parts trees book)
 raise-stored parts trees book number quota account stored is =
     step-stored parts (with_more parts trees book) number (raised_to quota) account stored (raise-step parts trees book number quota account stored is)
 
 -- and the core is the one before with more reserved by that tenant
-pub raise-shared : (parts : Parts) (trees : List (TableTree ℕ)) (book : Reservations) (number : ℕ) (quota : Quota) (account : Account) → IsStored parts → IsRaised parts trees book number quota account →
+pub raise-shared : (parts : Parts) (trees : List (TenantTree ℕ)) (book : Reservations) (number : ℕ) (quota : Quota) (account : Account) → IsStored parts → IsRaised parts trees book number quota account →
     shared_of (with_more parts trees book) ≡ on_tenant number (with_reserve quota) (shared_of parts)
 raise-shared parts trees book number quota account stored is =
     step-shared parts (with_more parts trees book) number (raised_to quota) account (with_reserve quota) stored (raise-step parts trees book number quota account stored is) (rw is.frames refl)

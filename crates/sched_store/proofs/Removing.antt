@@ -6,9 +6,9 @@ use Rattle.cactus_stack.specs.Nodes.{Nodes, with_node, without, total_charge}
 use Rattle.tenant_quota.specs.Accounts.{account_of, credited_by, charged_segments}
 use Rattle.tenant_quota.specs.Reservations.{Reservations, IsSound, ChangesOnly, KeepsOthers as KeepsOtherAccounts, HasCharged}
 use Rattle.tenant_quota.specs.declared.account.Account.{Account}
-use Rattle.frame_table.specs.Frames.{Frame, AllBelow}
-use Rattle.frame_table.specs.Tables.{Tree as TableTree, frames_of, KeepsOthers}
-use Rattle.frame_table.proofs.TreeChanges.{AllBelow-filter}
+use Rattle.frame_tree.specs.Frames.{Frame, AllBelow, TenantTree}
+use Rattle.frame_table.specs.Tables.{frames_of, KeepsOthers}
+use Rattle.frame_tree.proofs.TreeChanges.{AllBelow-filter}
 use Rattle.sched_rules.specs.Trees.{Tenant, charged_for}
 use Rattle.sched_rules.specs.Changes.{on_tenant}
 use Rattle.sched_store.specs.Parts.{Parts, worded, tenant_from, shared_of}
@@ -22,7 +22,7 @@ length-without nodes [] = refl
 length-without nodes (number ∷ numbers) = length-without (with_node nodes number None) numbers ∙ length-set nodes number None
 
 -- what was done: frames of one tenant went, their nodes were closed, and what they took was given back
-pub record IsRemoval (parts : Parts) (trees : List (TableTree ℕ)) (book : Reservations) (number freed : ℕ) (keep : Frame ℕ → Bool) : Type 0 where
+pub record IsRemoval (parts : Parts) (trees : List (TenantTree ℕ)) (book : Reservations) (number freed : ℕ) (keep : Frame ℕ → Bool) : Type 0 where
   pub account : Account
   pub there : account_of number parts.book.accounts ≡ Some account
   pub cut : IsCut parts.trees trees number keep
@@ -34,18 +34,18 @@ pub record IsRemoval (parts : Parts) (trees : List (TableTree ℕ)) (book : Rese
   pub sound : IsSound book
 
 -- the parts after it
-abbrev pub removed : Parts → List (TableTree ℕ) → Reservations → ℕ → (Frame ℕ → Bool) → Parts
+abbrev pub removed : Parts → List (TenantTree ℕ) → Reservations → ℕ → (Frame ℕ → Bool) → Parts
 removed parts trees book number keep = record parts { nodes = without parts.nodes (closing parts.trees number keep); trees = trees; book = book }
 
 -- the words of a tenant that isn't the one
-other-words : (parts : Parts) (trees : List (TableTree ℕ)) (book : Reservations) (number freed : ℕ) (keep : Frame ℕ → Bool) → IsStored parts → IsRemoval parts trees book number freed keep → (other : ℕ) → other ≢ number →
+other-words : (parts : Parts) (trees : List (TenantTree ℕ)) (book : Reservations) (number freed : ℕ) (keep : Frame ℕ → Bool) → IsStored parts → IsRemoval parts trees book number freed keep → (other : ℕ) → other ≢ number →
     worded (without parts.nodes (closing parts.trees number keep)) (frames_of trees other) ≡ worded parts.nodes (frames_of parts.trees other)
 other-words parts trees book number freed keep stored is other differs =
     cut-words parts.nodes parts.trees trees number keep stored.frames_nodes is.cut other (cut-trees parts.trees trees number keep is.cut other)
     ∙ ap (worded parts.nodes) (is.cut.others other differs)
 
 -- the words of the one: those of its frames that stay
-pub own-words : (parts : Parts) (trees : List (TableTree ℕ)) (book : Reservations) (number freed : ℕ) (keep : Frame ℕ → Bool) → IsStored parts → IsRemoval parts trees book number freed keep →
+pub own-words : (parts : Parts) (trees : List (TenantTree ℕ)) (book : Reservations) (number freed : ℕ) (keep : Frame ℕ → Bool) → IsStored parts → IsRemoval parts trees book number freed keep →
     worded (without parts.nodes (closing parts.trees number keep)) (frames_of trees number) ≡ worded parts.nodes (filter keep (frames_of parts.trees number))
 own-words parts trees book number freed keep stored is =
     cut-words parts.nodes parts.trees trees number keep stored.frames_nodes is.cut number (cut-trees parts.trees trees number keep is.cut number)
@@ -67,7 +67,7 @@ can-give-back parts number freed keep stored account there frees =
     let left = charge-left parts number freed keep stored account there frees in
     rw there (omega (arith, left))
 
-removed-own : (parts : Parts) (trees : List (TableTree ℕ)) (book : Reservations) (number freed : ℕ) (keep : Frame ℕ → Bool) → IsStored parts → (is : IsRemoval parts trees book number freed keep) →
+removed-own : (parts : Parts) (trees : List (TenantTree ℕ)) (book : Reservations) (number freed : ℕ) (keep : Frame ℕ → Bool) → IsStored parts → (is : IsRemoval parts trees book number freed keep) →
     IsAccountFor (without parts.nodes (closing parts.trees number keep)) trees number (credited_by freed is.account)
 removed-own parts trees book number freed keep stored is =
     let was = stored.accounts number is.account is.there in
@@ -80,7 +80,7 @@ removed-own parts trees book number freed keep stored is =
     }
 
 -- one tenant changes by it, and no other
-pub removal-step : (parts : Parts) (trees : List (TableTree ℕ)) (book : Reservations) (number freed : ℕ) (keep : Frame ℕ → Bool) → IsStored parts → (is : IsRemoval parts trees book number freed keep) →
+pub removal-step : (parts : Parts) (trees : List (TenantTree ℕ)) (book : Reservations) (number freed : ℕ) (keep : Frame ℕ → Bool) → IsStored parts → (is : IsRemoval parts trees book number freed keep) →
     TenantStep parts (removed parts trees book number keep) number (credited_by freed) is.account
 removal-step parts trees book number freed keep stored is = record {
   there = is.there;
@@ -103,13 +103,13 @@ removal-step parts trees book number freed keep stored is = record {
 }
 
 -- what the store keeps true stays so
-pub removed-stored : (parts : Parts) (trees : List (TableTree ℕ)) (book : Reservations) (number freed : ℕ) (keep : Frame ℕ → Bool) → IsStored parts → IsRemoval parts trees book number freed keep →
+pub removed-stored : (parts : Parts) (trees : List (TenantTree ℕ)) (book : Reservations) (number freed : ℕ) (keep : Frame ℕ → Bool) → IsStored parts → IsRemoval parts trees book number freed keep →
     IsStored (removed parts trees book number keep)
 removed-stored parts trees book number freed keep stored is =
     step-stored parts (removed parts trees book number keep) number (credited_by freed) is.account stored (removal-step parts trees book number freed keep stored is)
 
 -- and the core is the one before, that tenant without those frames
-pub removed-shared : (parts : Parts) (trees : List (TableTree ℕ)) (book : Reservations) (number freed : ℕ) (keep : Frame ℕ → Bool) (change : Tenant → Tenant) → IsStored parts → (is : IsRemoval parts trees book number freed keep) →
+pub removed-shared : (parts : Parts) (trees : List (TenantTree ℕ)) (book : Reservations) (number freed : ℕ) (keep : Frame ℕ → Bool) (change : Tenant → Tenant) → IsStored parts → (is : IsRemoval parts trees book number freed keep) →
     tenant_from (removed parts trees book number keep) number (credited_by freed is.account) ≡ change (tenant_from parts number is.account) →
     shared_of (removed parts trees book number keep) ≡ on_tenant number change (shared_of parts)
 removed-shared parts trees book number freed keep change stored is changes =

@@ -4,13 +4,13 @@ use Rattle.std.proofs.lemmas.Bool.{false≢true}
 use Rattle.std.proofs.lemmas.List.{reverse-append, map-append}
 use Rattle.cactus_stack.specs.Nodes.{IsOpen, IsSight, node_words, node_parent}
 use Rattle.cactus_stack.proofs.LawFacts.{one-sight}
-use Rattle.frame_table.specs.declared.names.FrameId.{FrameId}
-use Rattle.frame_table.specs.declared.names.Entry.{Entry}
-use Rattle.frame_table.specs.Frames.{Frame, frame_at, entry_of}
+use Rattle.frame_tree.specs.declared.names.FrameId.{FrameId}
+use Rattle.frame_tree.specs.declared.names.Entry.{Entry}
+use Rattle.frame_tree.specs.Frames.{Frame, frame_at, entry_of}
 use Rattle.frame_table.specs.Tables.{frames_of}
-use Rattle.frame_table.specs.TreeLaws.{map_value}
-use Rattle.frame_table.proofs.TreeLaws.{IsTop, IsUnder, tree-induction, found-serial}
-use Rattle.frame_table.proofs.TreeValues.{frame_at-map_values}
+use Rattle.frame_tree.specs.TreeLaws.{map_value}
+use Rattle.frame_tree.proofs.TreeLaws.{IsTop, IsUnder, tree-induction, found-serial}
+use Rattle.frame_tree.proofs.TreeValues.{frame_at-map_values}
 use Rattle.sched_rules.specs.Trees.{sight, words_in, words_of}
 use Rattle.sched_rules.specs.Views.{named}
 use Rattle.sched_store.specs.Parts.{Parts, worded, shared_of}

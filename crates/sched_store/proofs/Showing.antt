@@ -5,13 +5,13 @@ use Rattle.std.proofs.Math.Dec.{ltb}
 use Rattle.std.proofs.lemmas.Bool.{ne_eqb, lt-ltb, le-ltb, false≢true}
 use Rattle.std.proofs.lemmas.List.{length-append}
 use Rattle.cactus_stack.specs.Nodes.{node_words}
-use Rattle.frame_table.specs.declared.names.FrameId.{FrameId}
-use Rattle.frame_table.specs.declared.names.Entry.{Entry}
-use Rattle.frame_table.specs.Frames.{Frame, entry_of, parent_of, path_in, name_of, children_of, IsTree}
+use Rattle.frame_tree.specs.declared.names.FrameId.{FrameId}
+use Rattle.frame_tree.specs.declared.names.Entry.{Entry}
+use Rattle.frame_tree.specs.Frames.{Frame, entry_of, parent_of, path_in, name_of, children_of, IsTree}
 use Rattle.frame_table.specs.Tables.{frames_of}
-use Rattle.frame_table.specs.TreeLaws.{map_value, map_values}
-use Rattle.frame_table.proofs.TreeLaws.{found-path, placed, IsPlaced}
-use Rattle.frame_table.proofs.TreeValues.{children_of-map_values}
+use Rattle.frame_tree.specs.TreeLaws.{map_value, map_values}
+use Rattle.frame_tree.proofs.TreeLaws.{found-path, placed, IsPlaced}
+use Rattle.frame_tree.proofs.TreeValues.{children_of-map_values}
 use Rattle.sched_rules.specs.Trees.{is_root, has_child, words_of}
 use Rattle.sched_rules.specs.Views.{words_of_frame, named}
 use Rattle.sched_store.specs.Parts.{Parts, shared_of}

@@ -8,13 +8,13 @@ use Rattle.cactus_stack.specs.Nodes.{Nodes, node_words, node_parent, charge}
 use Rattle.tenant_quota.specs.Accounts.{account_of}
 use Rattle.tenant_quota.specs.Reservations.{Reservations}
 use Rattle.tenant_quota.specs.declared.account.Account.{Account}
-use Rattle.frame_table.specs.declared.names.FrameId.{FrameId}
-use Rattle.frame_table.specs.declared.names.State.{State}
-use Rattle.frame_table.specs.declared.names.State.TheVariants.{Ready, Running, Computing, Waiting, Returned}
-use Rattle.frame_table.specs.Frames.{Frame, frame_at, parent_of, with_state}
-use Rattle.frame_table.specs.TreeLaws.{map_value}
-use Rattle.frame_table.specs.Tables.{Tree as TableTree, frames_of, KeepsOthers}
-use Rattle.frame_table.proofs.TreeValues.{tree-with_state, with_state-alike, AllBelow-alike, with_state-map_values, frame_at-with_state, frame_at_other-with_state}
+use Rattle.frame_tree.specs.declared.names.FrameId.{FrameId}
+use Rattle.frame_tree.specs.declared.names.State.{State}
+use Rattle.frame_tree.specs.declared.names.State.TheVariants.{Ready, Running, Computing, Waiting, Returned}
+use Rattle.frame_tree.specs.Frames.{Frame, frame_at, parent_of, with_state, TenantTree}
+use Rattle.frame_tree.specs.TreeLaws.{map_value}
+use Rattle.frame_table.specs.Tables.{frames_of, KeepsOthers}
+use Rattle.frame_tree.proofs.TreeValues.{tree-with_state, with_state-alike, AllBelow-alike, with_state-map_values, frame_at-with_state, frame_at_other-with_state}
 use Rattle.sched_rules.specs.Trees.{Tree, charged_for, is_held_by}
 use Rattle.sched_rules.specs.Lone.{in_state}
 use Rattle.sched_rules.specs.Changes.{on_tenant}
@@ -32,15 +32,15 @@ pub record IsLike (frame : Frame ℕ) (old : Option (Frame ℕ)) : Type 0 where
   pub value : frame.value ≡ was.value
   pub path : frame.path ≡ was.path
 
-pub record AreLike (old new : List (TableTree ℕ)) : Type 0 where
+pub record AreLike (old new : List (TenantTree ℕ)) : Type 0 where
   pub nodes : (number serial : ℕ) → node_of (frame_in new number serial) ≡ node_of (frame_in old number serial)
   pub frames : (number serial : ℕ) (frame : Frame ℕ) → frame_in new number serial ≡ Some frame → IsLike frame (frame_in old number serial)
 
-node_above-like : (old new : List (TableTree ℕ)) (number : ℕ) (parent : Option ℕ) → AreLike old new → node_above (frames_of new number) parent ≡ node_above (frames_of old number) parent
+node_above-like : (old new : List (TenantTree ℕ)) (number : ℕ) (parent : Option ℕ) → AreLike old new → node_above (frames_of new number) parent ≡ node_above (frames_of old number) parent
 node_above-like old new number None like = refl
 node_above-like old new number (Some parent) like = like.nodes number parent
 
-pub like-nodes : (nodes : Nodes) (old new : List (TableTree ℕ)) → AreFramesNodes nodes old → AreLike old new → AreFramesNodes nodes new
+pub like-nodes : (nodes : Nodes) (old new : List (TenantTree ℕ)) → AreFramesNodes nodes old → AreLike old new → AreFramesNodes nodes new
 like-nodes nodes old new is like =
     record {
       nodes_of_frames = λ number serial frame there.
@@ -62,12 +62,12 @@ like-nodes nodes old new is like =
     }
 
 -- the frames after one has another state
-pub record SetsState (old new : List (TableTree ℕ)) (name : FrameId) (state : State) : Type 0 where
+pub record SetsState (old new : List (TenantTree ℕ)) (name : FrameId) (state : State) : Type 0 where
   pub frames : frames_of new name.tenant ≡ with_state name.serial state (frames_of old name.tenant)
   pub kept : KeepsOthers old new name.tenant
 
 -- either it is this frame, or it is as it was
-pub state-cases : (old new : List (TableTree ℕ)) (name : FrameId) (state : State) → SetsState old new name state → (number serial : ℕ) →
+pub state-cases : (old new : List (TenantTree ℕ)) (name : FrameId) (state : State) → SetsState old new name state → (number serial : ℕ) →
     ((number ≡ name.tenant) × (serial ≡ name.serial)) ⊎ (frame_in new number serial ≡ frame_in old number serial)
 state-cases old new name state sets number serial =
     elim (cases_eq number name.tenant) [
@@ -78,10 +78,10 @@ state-cases old new name state sets number serial =
       | inr other ↦ inr (ap (λ (frames : List (Frame ℕ)). frame_at frames serial) (sets.kept.frames number other))
     ]
 
-state-here : (old new : List (TableTree ℕ)) (name : FrameId) (state : State) (frame : Frame ℕ) → SetsState old new name state → frame_in old name.tenant name.serial ≡ Some frame → frame_in new name.tenant name.serial ≡ Some (record frame { state = state })
+state-here : (old new : List (TenantTree ℕ)) (name : FrameId) (state : State) (frame : Frame ℕ) → SetsState old new name state → frame_in old name.tenant name.serial ≡ Some frame → frame_in new name.tenant name.serial ≡ Some (record frame { state = state })
 state-here old new name state frame sets there = rw sets.frames (frame_at-with_state name.serial state (frames_of old name.tenant) frame there)
 
-state-like : (old new : List (TableTree ℕ)) (name : FrameId) (state : State) (frame : Frame ℕ) → SetsState old new name state → frame_in old name.tenant name.serial ≡ Some frame → AreLike old new
+state-like : (old new : List (TenantTree ℕ)) (name : FrameId) (state : State) (frame : Frame ℕ) → SetsState old new name state → frame_in old name.tenant name.serial ≡ Some frame → AreLike old new
 state-like old new name state frame sets there =
     let here = state-here old new name state frame sets there in
     record {
@@ -113,7 +113,7 @@ charged-with_state nodes serial state (frame ∷ frames) =
       | inr other ↦ rw other (charged-tail (map_value (node_words nodes) frame) (map_value (node_words nodes) frame) (worded nodes (with_state serial state frames)) (worded nodes frames) refl (charged-with_state nodes serial state frames))
     ]
 
-state-step : (old : Parts) (trees : List (TableTree ℕ)) (places : List (Option FrameId)) (name : FrameId) (state : State) (frame : Frame ℕ) (account : Account) → IsStored old → SetsState old.trees trees name state → frame_in old.trees name.tenant name.serial ≡ Some frame →
+state-step : (old : Parts) (trees : List (TenantTree ℕ)) (places : List (Option FrameId)) (name : FrameId) (state : State) (frame : Frame ℕ) (account : Account) → IsStored old → SetsState old.trees trees name state → frame_in old.trees name.tenant name.serial ≡ Some frame →
     account_of name.tenant old.book.accounts ≡ Some account → length places ≡ 33 → ArePlaces trees places → TenantStep old (record old { trees = trees; places = places }) name.tenant (λ a. a) account
 state-step old trees places name state frame account stored sets there own workers are =
     record {
@@ -143,11 +143,11 @@ state-step old trees places name state frame account stored sets there own worke
     at_entries : List (ℕ × Account) → Reservations
     at_entries entries = record old.book { accounts = entries }
 
-pub record StateSet (old : Parts) (trees : List (TableTree ℕ)) (places : List (Option FrameId)) (name : FrameId) (state : State) : Type 0 where
+pub record StateSet (old : Parts) (trees : List (TenantTree ℕ)) (places : List (Option FrameId)) (name : FrameId) (state : State) : Type 0 where
   pub stored : IsStored (record old { trees = trees; places = places })
   pub shared : shared_of (record old { trees = trees; places = places }) ≡ on_tenant name.tenant (in_state name.serial state) (shared_of old)
 
-state-set : (old : Parts) (trees : List (TableTree ℕ)) (places : List (Option FrameId)) (name : FrameId) (state : State) (frame : Frame ℕ) → IsStored old → SetsState old.trees trees name state → frame_in old.trees name.tenant name.serial ≡ Some frame →
+state-set : (old : Parts) (trees : List (TenantTree ℕ)) (places : List (Option FrameId)) (name : FrameId) (state : State) (frame : Frame ℕ) → IsStored old → SetsState old.trees trees name state → frame_in old.trees name.tenant name.serial ≡ Some frame →
     length places ≡ 33 → ArePlaces trees places → StateSet old trees places name state
 state-set old trees places name state frame stored sets there workers are =
     let own = frame-account old stored name.tenant name.serial frame there in
@@ -169,7 +169,7 @@ held-is-held worker (Computing holder) is = refl
 held-is-held worker Waiting is = is
 held-is-held worker Returned is = is
 
-pub unheld-set : (old : Parts) (trees : List (TableTree ℕ)) (name : FrameId) (state : State) (frame : Frame ℕ) → IsStored old → SetsState old.trees trees name state → frame_in old.trees name.tenant name.serial ≡ Some frame → is_held state ≡ false → StateSet old trees old.places name state
+pub unheld-set : (old : Parts) (trees : List (TenantTree ℕ)) (name : FrameId) (state : State) (frame : Frame ℕ) → IsStored old → SetsState old.trees trees name state → frame_in old.trees name.tenant name.serial ≡ Some frame → is_held state ≡ false → StateSet old trees old.places name state
 unheld-set old trees name state frame stored sets there nobody =
     state-set old trees old.places name state frame stored sets there stored.workers (λ worker number serial f is held.
     elim (state-cases old.trees trees name state sets number serial) [
@@ -183,7 +183,7 @@ unheld-set old trees name state frame stored sets there nobody =
 
 -- the worker that held the frame has an empty place, where the state names nobody
 
-pub let-go-set : (old : Parts) (trees : List (TableTree ℕ)) (worker : ℕ) (name : FrameId) (state : State) (frame : Frame ℕ) → IsStored old → SetsState old.trees trees name state → frame_in old.trees name.tenant name.serial ≡ Some frame →
+pub let-go-set : (old : Parts) (trees : List (TenantTree ℕ)) (worker : ℕ) (name : FrameId) (state : State) (frame : Frame ℕ) → IsStored old → SetsState old.trees trees name state → frame_in old.trees name.tenant name.serial ≡ Some frame →
     is_held_by worker frame.state ≡ true → is_held state ≡ false → StateSet old trees (set old.places worker None) name state
 let-go-set old trees worker name state frame stored sets there holds nobody =
     state-set old trees (set old.places worker None) name state frame stored sets there (length-set old.places worker None ∙ stored.workers) (λ other number serial f is held.
@@ -212,7 +212,7 @@ let-go-set old trees worker name state frame stored sets there holds nobody =
 
 -- a state that names the worker
 
-pub held-set : (old : Parts) (trees : List (TableTree ℕ)) (worker : ℕ) (name : FrameId) (state : State) (frame : Frame ℕ) → IsStored old → SetsState old.trees trees name state → frame_in old.trees name.tenant name.serial ≡ Some frame →
+pub held-set : (old : Parts) (trees : List (TenantTree ℕ)) (worker : ℕ) (name : FrameId) (state : State) (frame : Frame ℕ) → IsStored old → SetsState old.trees trees name state → frame_in old.trees name.tenant name.serial ≡ Some frame →
     1 ≤ worker → worker ≤ 32 → may_hold (shared_of old) worker name ≡ true → ((other : ℕ) → is_held_by other state ≡ true → other ≡ worker) → StateSet old trees (set old.places worker (Some name)) name state
 held-set old trees worker name state frame stored sets there some most may only =
     state-set old trees (set old.places worker (Some name)) name state frame stored sets there (length-set old.places worker (Some name) ∙ stored.workers) (λ other number serial f is held.

@@ -5,8 +5,8 @@ use Rattle.cactus_stack.specs.Nodes.{total_charge}
 use Rattle.tenant_quota.specs.Accounts.{account_of, with_changed, charged_segments, AllEntries, IsRising}
 use Rattle.tenant_quota.specs.Reservations.{Reservations, changed, IsSound}
 use Rattle.tenant_quota.specs.declared.account.Account.{Account}
-use Rattle.frame_table.specs.Frames.{IsTree}
-use Rattle.frame_table.specs.Tables.{Tree as TableTree, frames_of, tenant_count, KeepsOthers, KeepsOtherTenants}
+use Rattle.frame_tree.specs.Frames.{IsTree, TenantTree}
+use Rattle.frame_table.specs.Tables.{frames_of, tenant_count, KeepsOthers, KeepsOtherTenants}
 use Rattle.sched_rules.specs.Trees.{Tenant}
 use Rattle.sched_rules.specs.Cores.{Shared}
 use Rattle.sched_rules.specs.Changes.{with_change, on_tenant}
@@ -68,7 +68,7 @@ changed-same n (entry ∷ entries) =
     ]
 
 -- a table that keeps all places
-pub other-tenants : {old new : List (TableTree ℕ)} {number : ℕ} → KeepsOthers old new number → KeepsOtherTenants old new number
+pub other-tenants : {old new : List (TenantTree ℕ)} {number : ℕ} → KeepsOthers old new number → KeepsOtherTenants old new number
 other-tenants kept = record { frames = kept.frames; places = λ other differs. kept.places other }
 
 -- one tenant's account, frames, places, words or jobs change, and no other tenant's

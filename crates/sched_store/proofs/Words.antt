@@ -6,11 +6,11 @@ use Rattle.tenant_quota.specs.Quota.{Quota}
 use Rattle.tenant_quota.specs.Accounts.{account_of, charged_segments}
 use Rattle.tenant_quota.specs.Reservations.{Reservations, changed, IsSound}
 use Rattle.tenant_quota.specs.declared.account.Account.{Account}
-use Rattle.frame_table.specs.declared.names.FrameId.{FrameId}
-use Rattle.frame_table.specs.Frames.{Frame, frame_at}
-use Rattle.frame_table.specs.TreeLaws.{map_value, AllAboveSerial, AreRising, Each}
-use Rattle.frame_table.specs.Tables.{Tree as TableTree, frames_of}
-use Rattle.frame_table.proofs.TreeLaws.{found-serial, found-each, tree-rising}
+use Rattle.frame_tree.specs.declared.names.FrameId.{FrameId}
+use Rattle.frame_tree.specs.Frames.{Frame, frame_at, TenantTree}
+use Rattle.frame_tree.specs.TreeLaws.{map_value, AllAboveSerial, AreRising, Each}
+use Rattle.frame_table.specs.Tables.{frames_of}
+use Rattle.frame_tree.proofs.TreeLaws.{found-serial, found-each, tree-rising}
 use Rattle.sched_rules.specs.Trees.{charged_for, with_words}
 use Rattle.sched_rules.specs.Lone.{holding}
 use Rattle.sched_rules.specs.Changes.{on_tenant}
@@ -62,7 +62,7 @@ charged-changed nodes (first ∷ frames) serial words frame rising there =
 
 -- a node is of one frame alone
 
-other-node : (nodes : Nodes) (trees : List (TableTree ℕ)) (number serial other_number other_serial : ℕ) (frame other : Frame ℕ) → AreFramesNodes nodes trees → frame_in trees number serial ≡ Some frame → frame_in trees other_number other_serial ≡ Some other →
+other-node : (nodes : Nodes) (trees : List (TenantTree ℕ)) (number serial other_number other_serial : ℕ) (frame other : Frame ℕ) → AreFramesNodes nodes trees → frame_in trees number serial ≡ Some frame → frame_in trees other_number other_serial ≡ Some other →
     other.value ≡ frame.value → (other_number ≡ number) × (other_serial ≡ serial)
 other-node nodes trees number serial other_number other_serial frame other are there is same =
     are.once other_number other_serial number serial frame.value (ap node_of is ∙ ap (λ (n : ℕ). Some n) same) (ap node_of there)

@@ -7,9 +7,9 @@ use Rattle.tenant_quota.specs.Accounts.{account_of, charged_by, charged_segments
 use Rattle.tenant_quota.specs.Reservations.{Reservations, ChangesOnly, IsSound}
 use Rattle.tenant_quota.specs.declared.account.Account.{Account}
 use Rattle.tenant_quota.proofs.Edits.{AllEntries-map, sum_by-le_with}
-use Rattle.frame_table.specs.declared.names.FrameId.{FrameId}
-use Rattle.frame_table.specs.Frames.{Frame, HasValue}
-use Rattle.frame_table.specs.TreeLaws.{map_value}
+use Rattle.frame_tree.specs.declared.names.FrameId.{FrameId}
+use Rattle.frame_tree.specs.Frames.{Frame, HasValue}
+use Rattle.frame_tree.specs.TreeLaws.{map_value}
 use Rattle.sched_rules.specs.Changes.{on_tenant}
 use Rattle.sched_rules.specs.Lone.{holding}
 use Rattle.sched_rules.specs.Trees.{words_of, stored}

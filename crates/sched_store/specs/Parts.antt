@@ -4,10 +4,10 @@ use Rattle.std.specs.Prelude.{ℕ, List, [], ◌∷◌, Option}
 use Rattle.cactus_stack.specs.Nodes.{Nodes, node_words}
 use Rattle.tenant_quota.specs.declared.account.Account.{Account}
 use Rattle.tenant_quota.specs.Reservations.{Reservations}
-use Rattle.frame_table.specs.declared.names.FrameId.{FrameId}
-use Rattle.frame_table.specs.Frames.{Frame}
-use Rattle.frame_table.specs.TreeLaws.{map_values}
-use Rattle.frame_table.specs.Tables.{Tree as TableTree, frames_of}
+use Rattle.frame_tree.specs.declared.names.FrameId.{FrameId}
+use Rattle.frame_tree.specs.Frames.{Frame, TenantTree}
+use Rattle.frame_tree.specs.TreeLaws.{map_values}
+use Rattle.frame_table.specs.Tables.{frames_of}
 use Rattle.sched_rules.specs.Trees.{Tree, Tenant}
 use Rattle.sched_rules.specs.Cores.{Shared}
 use Rattle.sched_store.specs.Ledgers.{Ledger, jobs_of}
@@ -16,7 +16,7 @@ use Rattle.sched_store.specs.Ledgers.{Ledger, jobs_of}
 pub record Parts : Type 0 where
   pub nodes : Nodes
   pub book : Reservations
-  pub trees : List (TableTree ℕ)
+  pub trees : List (TenantTree ℕ)
   pub ledgers : List Ledger
   pub places : List (Option FrameId)
   pub newest : ℕ

@@ -4,15 +4,15 @@ use Rattle.cactus_stack.specs.Nodes.{Nodes, IsOpen, node_words, node_parent, tot
 use Rattle.tenant_quota.specs.Accounts.{account_of, charged_segments}
 use Rattle.tenant_quota.specs.declared.account.Account.{Account}
 use Rattle.tenant_quota.specs.Reservations.{IsSound}
-use Rattle.frame_table.specs.declared.names.FrameId.{FrameId}
-use Rattle.frame_table.specs.Frames.{Frame, frame_at, parent_of, AllBelow, IsTree}
-use Rattle.frame_table.specs.Tables.{Tree as TableTree, frames_of, places_of, tenant_count}
+use Rattle.frame_tree.specs.declared.names.FrameId.{FrameId}
+use Rattle.frame_tree.specs.Frames.{Frame, frame_at, parent_of, AllBelow, IsTree, TenantTree}
+use Rattle.frame_table.specs.Tables.{frames_of, places_of, tenant_count}
 use Rattle.sched_rules.specs.Trees.{charged_for, is_held_by}
 use Rattle.sched_store.specs.Ledgers.{numbers_of}
 use Rattle.sched_store.specs.Parts.{Parts, worded}
 
 -- the frames of all tenants: under a tenant's number and a serial the frame, if there is one
-abbrev pub frame_in : List (TableTree ℕ) → ℕ → ℕ → Option (Frame ℕ)
+abbrev pub frame_in : List (TenantTree ℕ) → ℕ → ℕ → Option (Frame ℕ)
 frame_in trees number serial = frame_at (frames_of trees number) serial
 
 -- the node of a frame
@@ -31,13 +31,13 @@ pub record IsFrameNode (nodes : Nodes) (frames : List (Frame ℕ)) (frame : Fram
   pub parent : node_parent nodes frame.value ≡ node_above frames (parent_of frame.path)
 
 -- the frame that has this node
-pub record HasFrame (trees : List (TableTree ℕ)) (node : ℕ) : Type 0 where
+pub record HasFrame (trees : List (TenantTree ℕ)) (node : ℕ) : Type 0 where
   pub number : ℕ
   pub serial : ℕ
   pub there : node_of (frame_in trees number serial) ≡ Some node
 
 -- frames and open nodes belong to one another, one to one
-pub record AreFramesNodes (nodes : Nodes) (trees : List (TableTree ℕ)) : Type 0 where
+pub record AreFramesNodes (nodes : Nodes) (trees : List (TenantTree ℕ)) : Type 0 where
   pub nodes_of_frames : (number serial : ℕ) (frame : Frame ℕ) → frame_in trees number serial ≡ Some frame → IsFrameNode nodes (frames_of trees number) frame
   pub once : (number serial other_number other_serial node : ℕ) → node_of (frame_in trees number serial) ≡ Some node → node_of (frame_in trees other_number other_serial) ≡ Some node →
       (number ≡ other_number) × (serial ≡ other_serial)
@@ -49,13 +49,13 @@ pub record AreSized (nodes : Nodes) : Type 0 where
   pub most : (node : ℕ) → IsOpen nodes node → length (node_words nodes node) ≤ 128
 
 -- a tenant's account and its frames agree: it is charged for its frames, has as many places for them as segments, and their serials were given
-pub record IsAccountFor (nodes : Nodes) (trees : List (TableTree ℕ)) (number : ℕ) (account : Account) : Type 0 where
+pub record IsAccountFor (nodes : Nodes) (trees : List (TenantTree ℕ)) (number : ℕ) (account : Account) : Type 0 where
   pub charged : account.charged ≡ charged_for (worded nodes (frames_of trees number))
   pub places : places_of trees number ≡ account.reserve.segments
   pub serials : AllBelow (account.opened + 1) (frames_of trees number)
 
 -- a worker that holds a frame has that frame's name at its place
-abbrev pub ArePlaces : List (TableTree ℕ) → List (Option FrameId) → Type 0
+abbrev pub ArePlaces : List (TenantTree ℕ) → List (Option FrameId) → Type 0
 ArePlaces trees places = (worker number serial : ℕ) (frame : Frame ℕ) → frame_in trees number serial ≡ Some frame → is_held_by worker frame.state ≡ true →
     (1 ≤ worker) × (worker ≤ 32) × (slice_index_or places worker None ≡ Some (record { tenant = number; serial = serial }))
 

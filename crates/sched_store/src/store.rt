@@ -1,6 +1,6 @@
 //! The store, and what it keeps.
 ghost use Rattle.std.specs.Prelude.{◌≡◌, IfOk, IsTrue};
-ghost use Rattle.frame_table.specs.Frames.{frame_at, has_frame, HasValue};
+ghost use Rattle.frame_tree.specs.Frames.{frame_at, has_frame, HasValue};
 ghost use Rattle.frame_table.specs.Tables.{frames_of};
 ghost use Rattle.sched_rules.specs.Cores.{shared_by_nobody};
 
@@ -12,7 +12,8 @@ mod writing;
 
 use crate::ledgers::Ledgers;
 use cactus_stack::{NodeNo, Stack};
-use frame_table::{FrameId, FrameTable};
+use frame_table::FrameTable;
+use frame_tree::FrameId;
 use sched_rules::Config;
 use std::alloc::{AllocError, Allocator, Global};
 use std::marker::Model;

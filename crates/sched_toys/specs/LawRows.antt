@@ -1,7 +1,7 @@
 -- Representation: small tenants, jobs and procedures on which the laws are tried.
 use Rattle.std.specs.Prelude.{◌≡◌, List, [], ◌∷◌}
-use Rattle.frame_table.specs.declared.names.State.{State}
-use Rattle.frame_table.specs.declared.names.State.TheVariants.{Ready, Returned}
+use Rattle.frame_tree.specs.declared.names.State.{State}
+use Rattle.frame_tree.specs.declared.names.State.TheVariants.{Ready, Returned}
 use Rattle.sched_rules.specs.declared.job.Job.{Job}
 use Rattle.sched_rules.specs.declared.job.Job.TheVariants.{Done, Spent, Cancelled}
 use Rattle.sched_rules.specs.Trees.{Tree, Tenant}

@@ -3,7 +3,7 @@ ghost use Rattle.std.specs.Prelude.{◌≡◌, ◌<◌, map, vec_len};
 ghost use Rattle.task_deques.specs.Deals.{posts, IsWhole};
 
 use super::*;
-use frame_table::FrameId;
+use frame_tree::FrameId;
 use pool_rules::TaskList;
 use sched_rules::Worker;
 use std::alloc::{AllocError, Global};

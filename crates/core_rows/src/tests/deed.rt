@@ -1,5 +1,5 @@
 //! Steps in plain numbers, as tables write them.
-use frame_table::FrameId;
+use frame_tree::FrameId;
 use sched_core::{GivenWords, StepOf, Worker};
 use sched_toys::FanAnswer;
 use tenant_quota::Reserve;

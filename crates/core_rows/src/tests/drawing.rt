@@ -1,6 +1,6 @@
 //! All that is read of a tenant, as a text.
 use cactus_stack::Words;
-use frame_table::{FrameId, State};
+use frame_tree::{FrameId, State};
 use sched_core::{Core, Job, Procedure};
 use std::alloc::{AllocError, Global};
 

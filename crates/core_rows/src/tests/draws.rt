@@ -4,7 +4,7 @@ ghost use Rattle.std.specs.Prelude.{◌<◌};
 use crate::Reader;
 use crate::tests::deed::Deed;
 use crate::tests::walking::Told;
-use frame_table::{FrameId, State};
+use frame_tree::{FrameId, State};
 use sched_core::{Core, DidOf};
 
 /// The words that a root begins with: its acts in octal, its children's, and what its inlet does.

@@ -1,5 +1,5 @@
 //! Frames of tenants 1 and 2, by serial.
-use frame_table::FrameId;
+use frame_tree::FrameId;
 
 pub const ROOT: FrameId = FrameId {
     tenant: 1,

@@ -1,6 +1,6 @@
 ghost use Rattle.std.specs.Prelude.{◌<◌};
 
-use frame_table::{FrameId, State};
+use frame_tree::{FrameId, State};
 use linked_list_allocator::LocalHeap;
 use sched_core::{Config, Core, DidOf, GivenWords, Job, Refusal, Step, StepOf, Worker};
 use sched_toys::Fan;

@@ -2,7 +2,7 @@
 use crate::tests::deed::Deed;
 use crate::tests::walking::Row::{Free, Refused, Taken};
 use crate::tests::walking::{Miss, Row, core_of, follow, run_tables, walk};
-use frame_table::FrameId;
+use frame_tree::FrameId;
 use sched_core::{Core, DidOf, Refusal};
 use sched_toys::Fan;
 use std::alloc::Global;

@@ -4,7 +4,7 @@ use crate::tests::deed::Deed;
 use crate::tests::lists::{NODES, Played, SEGMENTS, new_core, play_all};
 use crate::tests::walking::{Miss, Told};
 use counted_alloc::Counted;
-use frame_table::FrameId;
+use frame_tree::FrameId;
 use sched_core::{Config, Core, Step};
 use std::alloc::Global;
 

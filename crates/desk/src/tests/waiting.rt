@@ -3,7 +3,7 @@ ghost use Rattle.std.specs.Prelude.{◌≡◌};
 
 use super::{badge_of, compute, desk_of, seat_of, start};
 use crate::{Badge, Desk, Hands, Outcome, PARTS, Seat, StepOf, Worker};
-use frame_table::FrameId;
+use frame_tree::FrameId;
 use std::alloc::Global;
 use std::marker::Brand;
 use std::process::Abort;

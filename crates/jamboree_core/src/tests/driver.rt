@@ -3,7 +3,7 @@ ghost use Rattle.jamboree_laws.specs.jamboree_rules.declared.leaf.LeafAnswer.{Le
 ghost use Rattle.jamboree_laws.specs.Replies.{IsSearch};
 
 use crate::{Outcome, outcome_of, step_search};
-use frame_table::{FrameId, State};
+use frame_tree::{FrameId, State};
 use jamboree::{Jamboree, Leaf, LeafAnswer};
 use sched_core::Core;
 use sched_rules::{Config, Did, DidOf, Refusal, Step, StepOf, Worker};

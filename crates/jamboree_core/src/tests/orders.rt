@@ -2,7 +2,7 @@
 ghost use Rattle.std.specs.Prelude.{◌<◌};
 
 use crate::tests::driver::{At, Searched, take, turn};
-use frame_table::FrameId;
+use frame_tree::FrameId;
 use sched_rules::Worker;
 use std::alloc::{AllocError, Global};
 use std::test::Fail;

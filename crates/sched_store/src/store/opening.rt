@@ -1,7 +1,7 @@
 //! Frames are opened.
 ghost use Rattle.std.specs.Prelude.{◌≡◌, ◌+◌, ℕ, true, length, IsSome};
 ghost use Rattle.cactus_stack.specs.Nodes.{charge as charge_of_words};
-ghost use Rattle.frame_table.specs.Frames.{has_parent, name_of};
+ghost use Rattle.frame_tree.specs.Frames.{has_parent, name_of};
 ghost use Rattle.frame_table.specs.Tables.{frames_of};
 ghost use Rattle.sched_rules.specs.Lone.{opened, is_frame_size};
 ghost use Rattle.sched_rules.specs.Changes.{on_tenant};
@@ -10,7 +10,8 @@ ghost use Rattle.sched_store.specs.Reads.{frames_in, serials_in, HasLeft};
 
 use crate::store::{Store, node_of};
 use cactus_stack::{NodeNo, charge};
-use frame_table::{FrameId, FrameTable};
+use frame_table::FrameTable;
+use frame_tree::FrameId;
 use std::alloc::Allocator;
 
 impl<A: Allocator> Store<A> {

@@ -1,8 +1,8 @@
 //! The calls that only read: the tests by which steps are decided, and what a core shows. Each is
 //! total or asks for a frame that is there; none takes memory.
 ghost use Rattle.std.specs.Prelude.{◌≡◌, ◌↔◌, ◌+◌, ◌≤◌, ◌^◌, ℕ, [], length, not, is_some, IfSome, IsSome, IsNone, Some, option_copied, option_map};
-ghost use Rattle.frame_table.specs.declared.names.State.TheVariants.{Ready};
-ghost use Rattle.frame_table.specs.Frames.{root_of, IsTree};
+ghost use Rattle.frame_tree.specs.declared.names.State.TheVariants.{Ready};
+ghost use Rattle.frame_tree.specs.Frames.{root_of, IsTree};
 ghost use Rattle.sched_rules.specs.Trees.{is_held_by, has_child as has_child_in, is_root as is_root_path, job_under as number_under};
 ghost use Rattle.sched_rules.specs.Cores.{tenant_in, reservations_in, is_full as is_full_for, is_beyond as is_beyond_for};
 ghost use Rattle.sched_rules.specs.Headline.{IsKnown};
@@ -11,7 +11,7 @@ ghost use Rattle.sched_store.specs.Reads.{frames_in, jobs_in, serials_in, path_o
 
 use crate::store::Store;
 use cactus_stack::{Sight, Words};
-use frame_table::{FrameId, State};
+use frame_tree::{FrameId, State};
 use sched_rules::{Job, Worker};
 use std::alloc::Allocator;
 use tenant_quota::{Left, Reserve};

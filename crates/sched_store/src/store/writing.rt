@@ -1,7 +1,7 @@
 //! Frames are written, made longer, and put into other states.
 ghost use Rattle.std.specs.Prelude.{◌≡◌, ◌+◌, ◌≤◌, ◌++◌, ℕ, true, false, length, replicate, IsSome};
 ghost use Rattle.cactus_stack.specs.Nodes.{IsOpen, node_words, with_words, growth_charge as growth_of_words};
-ghost use Rattle.frame_table.specs.declared.names.State.TheVariants.{Running, Computing};
+ghost use Rattle.frame_tree.specs.declared.names.State.TheVariants.{Running, Computing};
 ghost use Rattle.sched_rules.specs.Trees.{stored, is_outside};
 ghost use Rattle.sched_rules.specs.Lone.{holding, in_state};
 ghost use Rattle.sched_rules.specs.Changes.{on_tenant};
@@ -10,7 +10,7 @@ ghost use Rattle.sched_store.specs.Reads.{words_under, is_held, holds, may_hold,
 
 use crate::store::{Store, node_of};
 use cactus_stack::{NodeNo, Stack, growth_charge};
-use frame_table::{FrameId, State};
+use frame_tree::{FrameId, State};
 use sched_rules::Worker;
 use std::alloc::Allocator;
 

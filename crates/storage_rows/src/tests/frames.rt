@@ -1,6 +1,7 @@
 ghost use Rattle.std.specs.Prelude.{◌≤◌, ◌<◌};
 
-use frame_table::{Entry, FrameId, FrameTable, State};
+use frame_table::FrameTable;
+use frame_tree::{Entry, FrameId, State};
 use linked_list_allocator::LocalHeap;
 use std::alloc::{AllocError, Allocator, Global};
 use std::process::Abort;

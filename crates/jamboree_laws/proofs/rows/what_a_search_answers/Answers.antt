@@ -3,11 +3,11 @@ use Rattle.std.proofs.lemmas.Int.{ints}
 use Rattle.othello_board.specs.Rules.{squares, squares_beside}
 use Rattle.othello_moves.specs.declared.choices.Choice.TheVariants.{Square}
 use Rattle.othello_moves.specs.Choices.{in_order}
-use Rattle.othello_eval.specs.declared.bound.BoundKind.{BoundKind}
-use Rattle.othello_eval.specs.declared.bound.BoundKind.TheVariants.{Low, High, Exact}
-use Rattle.othello_eval.specs.Values.{weights}
-use Rattle.othello_eval.specs.Minimax.{minimax, best_choice}
-use Rattle.othello_eval.specs.Rows.{entry}
+use Rattle.jamboree_rules.specs.othello_eval.declared.bound.BoundKind.{BoundKind}
+use Rattle.jamboree_rules.specs.othello_eval.declared.bound.BoundKind.TheVariants.{Low, High, Exact}
+use Rattle.jamboree_rules.specs.othello_eval.Values.{weights}
+use Rattle.jamboree_rules.specs.othello_eval.Minimax.{minimax, best_choice}
+use Rattle.jamboree_rules.specs.othello_eval.Rows.{entry}
 use Rattle.jamboree_rules.specs.Frames.{coded}
 use Rattle.jamboree_laws.proofs.Opening.{worth, best, answered}
 use Rattle.jamboree_laws.proofs.rows.what_a_search_answers.Goals as goal

@@ -3,9 +3,9 @@ use Rattle.std.proofs.lemmas.Int.{ints}
 use Rattle.othello_board.specs.declared.boards.Board.{Board}
 use Rattle.othello_board.specs.Words.{cells}
 use Rattle.othello_board.specs.declared.cells.Cell.{Cell}
-use Rattle.othello_moves.specs.declared.choices.Choice.{Choice}
-use Rattle.othello_moves.specs.Choices.{choices, after, plies}
-use Rattle.othello_moves.proofs.DescentLemmas.{goes_down}
+use Rattle.othello_eval.specs.othello_moves.declared.choices.Choice.{Choice}
+use Rattle.othello_eval.specs.othello_moves.Choices.{choices, after, plies}
+use Rattle.othello_eval.proofs.othello_moves_DescentLemmas.{goes_down}
 use Rattle.othello_eval.specs.Values.{eval, final_value}
 use Rattle.othello_eval.specs.Minimax.{minimax, choice_value, int_equal}
 use Rattle.othello_eval.proofs.BestLemmas.{minimax_leaf_there}

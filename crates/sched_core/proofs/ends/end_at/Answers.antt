@@ -1,4 +1,4 @@
-use Rattle.frame_table.proofs.TreeChanges.{aborted-itself}
+use Rattle.frame_tree.proofs.TreeChanges.{aborted-itself}
 use Rattle.sched_rules.specs.Changes.{without_frame, without_under, ending_job}
 use Rattle.sched_rules.specs.Lone.{ended}
 use Rattle.sched_laws.proofs.Answers.{shaped-in}

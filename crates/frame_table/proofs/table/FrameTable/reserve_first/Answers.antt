@@ -1,6 +1,6 @@
 use Rattle.std.proofs.Common.{◌<◌, length, IsOk, not, sym, ap, vec_capacity, ◌∙◌, arith}
 use Rattle.std.proofs.lemmas.Bool.{false≢true}
-use Rattle.frame_table.specs.Tables.{Tree}
+use Rattle.frame_tree.specs.Frames.{TenantTree}
 use Rattle.frame_table.proofs.Tenants.{reserve_sound, reserve_here, insert_keeps, more_room}
 use Rattle.frame_table.proofs.table.FrameTable.reserve_first.Goals as goal
 
@@ -26,7 +26,7 @@ returns-clause-places g c =
     let free : length c.self.inside.trees.items < 64 = rw (← c.self.view_is) at c.requires.free in
     let done : IsOk c.insert.result = c.insert.ensures.succeeds (omega (arith, free, c.self.invariant.1, c.self.inside.trees.ok.0)) in
     let here = reserve_here _ _ _ c.args.tenant c.args.segments c.place_for-at.result c.in_ok-tree.tree c.self.invariant.0 fresh c.in_ok-tree.ensures in
-    rw (c.insert.ensures.items, done) (here.places ∙ ap (λ (z : Tree g.row.T.Denot). z.places) c.in_ok-tree.ensures)
+    rw (c.insert.ensures.items, done) (here.places ∙ ap (λ (z : TenantTree g.row.T.Denot). z.places) c.in_ok-tree.ensures)
 
 pub returns-clause-frames : goal.returns-clause-frames
 returns-clause-frames g c =
@@ -34,13 +34,13 @@ returns-clause-frames g c =
     let free : length c.self.inside.trees.items < 64 = rw (← c.self.view_is) at c.requires.free in
     let done : IsOk c.insert.result = c.insert.ensures.succeeds (omega (arith, free, c.self.invariant.1, c.self.inside.trees.ok.0)) in
     let here = reserve_here _ _ _ c.args.tenant c.args.segments c.place_for-at.result c.in_ok-tree.tree c.self.invariant.0 fresh c.in_ok-tree.ensures in
-    rw (c.insert.ensures.items, done) (here.frames ∙ ap (λ (z : Tree g.row.T.Denot). z.frames) c.in_ok-tree.ensures)
+    rw (c.insert.ensures.items, done) (here.frames ∙ ap (λ (z : TenantTree g.row.T.Denot). z.frames) c.in_ok-tree.ensures)
 
 pub returns-clause-kept : goal.returns-clause-kept
 returns-clause-kept g c =
     let free : length c.self.inside.trees.items < 64 = rw (← c.self.view_is) at c.requires.free in
     let done : IsOk c.insert.result = c.insert.ensures.succeeds (omega (arith, free, c.self.invariant.1, c.self.inside.trees.ok.0)) in
-    rw (← c.self.view_is, c.insert.ensures.items, done) (insert_keeps c.self.inside.trees.items c.args.tenant c.place_for-at.result c.in_ok-tree.tree (ap (λ (z : Tree g.row.T.Denot). z.tenant) c.in_ok-tree.ensures))
+    rw (← c.self.view_is, c.insert.ensures.items, done) (insert_keeps c.self.inside.trees.items c.args.tenant c.place_for-at.result c.in_ok-tree.tree (ap (λ (z : TenantTree g.row.T.Denot). z.tenant) c.in_ok-tree.ensures))
 
 pub unreachable-requires : goal.unreachable-requires
 unreachable-requires g c =

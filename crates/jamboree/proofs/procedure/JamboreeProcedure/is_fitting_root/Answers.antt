@@ -1,7 +1,7 @@
 use Rattle.std.specs.Prelude.{ℕ, []}
 use Rattle.std.proofs.Common.{sym, subst}
 use Rattle.cactus_stack.specs.Nodes.{padded}
-use Rattle.sched_rules.specs.Laws.{Neither}
+use Rattle.jamboree_rules.specs.sched_rules.Laws.{Neither}
 use Rattle.jamboree_rules.specs.Fits.{AreFitting, IsRoot}
 use Rattle.jamboree.proofs.procedure.JamboreeProcedure.is_fitting_root.Goals as goal
 

@@ -1,8 +1,8 @@
 use Rattle.std.proofs.Common.{◌∙◌, ap, Some}
 use Rattle.othello_board.specs.Words.{cells}
 use Rattle.othello_moves.specs.Choices.{choices}
-use Rattle.othello_eval.specs.Minimax.{best_choice}
-use Rattle.othello_eval.specs.Tables.{IsTrueBound, IsExactIfBest}
+use Rattle.jamboree_rules.specs.othello_eval.Minimax.{best_choice}
+use Rattle.jamboree_rules.specs.othello_eval.Tables.{IsTrueBound, IsExactIfBest}
 use Rattle.jamboree.specs.Replies.{table_of}
 use Rattle.jamboree.proofs.KnowledgeLemmas.{bound-at, bound-holds, places-held}
 use Rattle.jamboree.proofs.reply.Reply.bound.Goals as goal

@@ -2,8 +2,8 @@ use Rattle.std.proofs.Common.{◌≡◌, ◌≤◌, ℕ, List, take, drop, lengt
 use Rattle.std.proofs.lemmas.List.{length-drop}
 use Rattle.othello_board.specs.Words.{cells_of}
 use Rattle.othello_moves.specs.Choices.{choices}
-use Rattle.othello_eval.specs.Minimax.{minimax, best_choice}
-use Rattle.othello_eval.specs.Tables.{entered, IsTable}
+use Rattle.jamboree_rules.specs.othello_eval.Minimax.{minimax, best_choice}
+use Rattle.jamboree_rules.specs.othello_eval.Tables.{entered, IsTable}
 use Rattle.jamboree_rules.specs.Frames.{board}
 use Rattle.jamboree_rules.specs.Places.{score_of, frame_of, are_entries}
 use Rattle.jamboree_rules.specs.Entries.{bounds_of}

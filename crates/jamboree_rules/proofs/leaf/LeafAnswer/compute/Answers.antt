@@ -1,7 +1,7 @@
 use Rattle.std.proofs.Common.{◌≡◌, ◌<ℤ◌, ◌≤ℤ◌, pos, negsuc, ℤ, to_z, of_z, w32, arith, Option}
 use Rattle.std.proofs.lemmas.Int.{ints}
 use Rattle.othello_moves.specs.declared.choices.Choice.{Choice}
-use Rattle.othello_eval.specs.Values.{IsWithin}
+use Rattle.leaf_search.specs.othello_eval.Values.{IsWithin}
 use Rattle.leaf_search.specs.Bounds.{IsBound}
 use Rattle.jamboree_rules.proofs.leaf.LeafAnswer.compute.Goals as goal
 

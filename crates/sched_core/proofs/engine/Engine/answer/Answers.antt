@@ -1,5 +1,5 @@
 use Rattle.std.proofs.Common.{◌≡◌, refl}
-use Rattle.frame_table.specs.declared.names.State.TheVariants.{Running}
+use Rattle.frame_tree.specs.declared.names.State.TheVariants.{Running}
 use Rattle.sched_rules.specs.declared.step.StepOf.TheVariants.{Answer}
 use Rattle.sched_rules.specs.Changes.{on_tenant}
 use Rattle.sched_rules.specs.Trees.{stored}

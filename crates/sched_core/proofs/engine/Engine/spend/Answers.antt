@@ -1,5 +1,5 @@
 use Rattle.std.proofs.Common.{◌≡◌, refl}
-use Rattle.frame_table.specs.Frames.{root_of}
+use Rattle.frame_tree.specs.Frames.{root_of}
 use Rattle.sched_rules.specs.declared.job.Job.TheVariants.{Spent as SpentJob}
 use Rattle.sched_rules.specs.declared.step.StepOf.TheVariants.{Spend}
 use Rattle.sched_rules.specs.Changes.{on_tenant}

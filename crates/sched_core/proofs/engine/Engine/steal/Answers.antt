@@ -1,6 +1,6 @@
 use Rattle.std.proofs.Common.{refl}
 use Rattle.std.proofs.lemmas.Result.{err_from_is_err_and}
-use Rattle.frame_table.specs.declared.names.State.TheVariants.{Running}
+use Rattle.frame_tree.specs.declared.names.State.TheVariants.{Running}
 use Rattle.sched_rules.specs.declared.step.StepOf.TheVariants.{Steal}
 use Rattle.sched_rules.specs.Lone.{in_state, counted}
 use Rattle.sched_core.proofs.Deciding.{seen-serial}

@@ -1,5 +1,5 @@
 use Rattle.std.proofs.Common.{refl}
-use Rattle.frame_table.specs.declared.names.State.TheVariants.{Running}
+use Rattle.frame_tree.specs.declared.names.State.TheVariants.{Running}
 use Rattle.sched_rules.specs.declared.step.StepOf.TheVariants.{Take}
 use Rattle.sched_rules.specs.Lone.{in_state, counted}
 use Rattle.sched_core.proofs.Deciding.{seen-serial}

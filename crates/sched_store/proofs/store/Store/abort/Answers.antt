@@ -4,7 +4,7 @@ use Rattle.sched_rules.specs.Cores.{Shared}
 use Rattle.sched_rules.specs.Views.{named}
 use Rattle.sched_store.specs.Inside.{parts_of}
 use Rattle.sched_store.specs.Reads.{frames_in}
-use Rattle.frame_table.specs.Frames.{frames_under}
+use Rattle.frame_tree.specs.Frames.{frames_under}
 use Rattle.sched_store.proofs.Aborting.{has-frame, abort-closes, abort-frees, abort-stored, abort-shared, abort-count}
 use Rattle.sched_store.proofs.store.Store.abort.Goals as goal
 

@@ -1,7 +1,7 @@
 use Rattle.std.proofs.Common.{ℕ, IfSome, sym, ◌∙◌, ap, subst}
 use Rattle.sched_rules.specs.Cores.{Shared}
 use Rattle.sched_rules.specs.Views.{ready_count}
-use Rattle.frame_table.specs.declared.names.FrameId.{FrameId}
+use Rattle.frame_tree.specs.declared.names.FrameId.{FrameId}
 use Rattle.sched_store.specs.Inside.{parts_of}
 use Rattle.sched_store.specs.Reads.{IsReadyIn}
 use Rattle.sched_store.proofs.Counting.{ready-found, none-counted, nobody-ready}

@@ -1,7 +1,7 @@
 use Rattle.std.proofs.Common.{◌≡◌, ◌≤◌, ℕ, length, sum_by, is_some, true, sym, ◌∙◌, ap, subst, arith}
 use Rattle.std.proofs.lemmas.List.Sums.{sum_by-cons}
-use Rattle.frame_table.specs.declared.names.FrameId.{FrameId}
-use Rattle.frame_table.specs.Frames.{names_of}
+use Rattle.frame_tree.specs.declared.names.FrameId.{FrameId}
+use Rattle.frame_tree.specs.Frames.{names_of}
 use Rattle.frame_table.specs.Tables.{frames_of}
 use Rattle.sched_rules.specs.Cores.{Shared, tenant_in}
 use Rattle.sched_rules.specs.Views.{live_of}

@@ -5,7 +5,7 @@ use Rattle.sched_rules.specs.Cores.{Shared}
 use Rattle.sched_rules.specs.Views.{named}
 use Rattle.cactus_stack.specs.Nodes.{IsOpen, HasNoChild}
 use Rattle.frame_table.specs.Tables.{frames_of}
-use Rattle.frame_table.specs.Frames.{frame_at}
+use Rattle.frame_tree.specs.Frames.{frame_at}
 use Rattle.sched_store.specs.Inside.{parts_of}
 use Rattle.sched_store.specs.Reads.{frames_in}
 use Rattle.sched_store.proofs.Aborting.{has-frame}

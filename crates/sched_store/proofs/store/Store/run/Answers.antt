@@ -1,6 +1,6 @@
 use Rattle.std.proofs.Common.{sym}
 use Rattle.std.proofs.lemmas.Bool.{eqb-true}
-use Rattle.frame_table.specs.declared.names.State.TheVariants.{Running}
+use Rattle.frame_tree.specs.declared.names.State.TheVariants.{Running}
 use Rattle.sched_store.specs.Inside.{parts_of}
 use Rattle.sched_store.proofs.Frames.{there-frame, there-has}
 use Rattle.sched_store.proofs.States.{held-set}

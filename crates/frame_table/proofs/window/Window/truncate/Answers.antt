@@ -1,7 +1,0 @@
-use Rattle.std.proofs.Common.{refl}
-use Rattle.std.proofs.lemmas.List.{drop-take}
-use Rattle.frame_table.proofs.window.Window.truncate.Goals as goal
-
-pub returns-then-at-len : goal.returns-then-at-len
-returns-then-at-len g c =
-    rw (← c.self.view_is, c.truncate.ensures.items, drop-take c.self.inside.start c.args.at c.self.inside.items.items) refl

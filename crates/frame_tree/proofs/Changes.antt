@@ -1,0 +1,320 @@
+-- What each change of the slots does to the frames, and that the slots stay sound.
+use Rattle.std.proofs.Common.{◌≡◌, ℕ, zero, suc, ◌+◌, ◌-◌, ◌<◌, Bool, true, false, not, ◌||◌, eqb, List, [], ◌∷◌, ◌++◌, Option, Some, None, length, get_or, set, slice_index, cond, refl, ap, sym, ◌∙◌, inl, inr, arith, subst}
+use Rattle.std.specs.List.{filter, remove}
+use Rattle.std.proofs.lemmas.Bool.{cases_eq, cases_Bool, false≢true, eq-eqb, ne_eqb}
+use Rattle.frame_tree.specs.declared.names.State.{State}
+use Rattle.frame_tree.specs.declared.slot.Slot.{Slot}
+use Rattle.frame_tree.specs.Frames.{Frame, has_frame, path_in, path_under, root_of, AllBelow, is_ready, with_state, frames_without, has_parent}
+use Rattle.frame_tree.specs.Slots.{frame_of_slot, frames_from, has_parent_slot, CountsAtParent, children_at, IsNextSlot, IsLinked, has_slot, serials_of, AllAbove, Rises, is_serial, child_slots, ready_slots, CountsAre, AreSoundSlots, with_slot, with_child, without_child, kept_slots, is_kept}
+use Rattle.frame_tree.proofs.Forest.{AllBelow-append, AllBelow-left, AllBelow-right, has_frame-append, path_in-left, path_in-right, frames_from-append, IsLinked-append, linked_rises}
+use Rattle.frame_tree.proofs.Search.{above_at, with_slot-set}
+use Rattle.frame_tree.proofs.Cuts.{IsClosed, Keeps-none, frames_from-kept, IsLinked-kept, kept_slots-linked, kept_follows, has_slot-filter}
+use Rattle.frame_tree.proofs.Lengths.{length-filter_push}
+use Rattle.frame_tree.proofs.Counts.{count_in, CountsAre-same, CountsAre-append, CountsAre-with_slot, CountsAre-filter, length-filter_with_slot, length-filter_set, length-filter_remove, CountsAre-with_child, CountsAre-without_child, no_child_of_new, no_child_stays, children_stay}
+
+-- a change that no frame shows
+pub frames_from-with_slot : {T : Type 0} (p : ℕ) (change : Slot T → Slot T) (frames : List (Frame T)) (xs : List (Slot T)) → ((fs : List (Frame T)) (x : Slot T) → frame_of_slot fs (change x) ≡ frame_of_slot fs x) → frames_from frames (with_slot p change xs) ≡ frames_from frames xs
+frames_from-with_slot p change frames [] e = refl
+frames_from-with_slot {T} p change frames (x ∷ xs) e =
+    rw (same p change frames x e (eqb x.serial p)) (ap (λ fs. frame_of_slot frames x ∷ fs) (frames_from-with_slot p change (frames ++ frame_of_slot frames x ∷ []) xs e))
+  where
+    same : {T : Type 0} (p : ℕ) (change : Slot T → Slot T) (frames : List (Frame T)) (x : Slot T) → ((fs : List (Frame T)) (x : Slot T) → frame_of_slot fs (change x) ≡ frame_of_slot fs x) → (b : Bool) → frame_of_slot frames (cond b (change x) x) ≡ frame_of_slot frames x
+    same p change frames x e true = e frames x
+    same p change frames x e false = refl
+
+pub IsNextSlot-with : {T : Type 0} (frames : List (Frame T)) (x y : Slot T) → y.serial ≡ x.serial → y.parent ≡ x.parent → y.root ≡ x.root → IsNextSlot frames x → IsNextSlot frames y
+IsNextSlot-with frames x y serial parent root n = record {
+  above = (let P : ℕ → Type 0 = λ s. AllBelow s frames in subst P (sym serial) n.above);
+  parent = rw parent n.parent;
+  root = rw (root, parent, serial) n.root;
+}
+
+-- slots are linked as before
+pub IsLinked-with_slot : {T : Type 0} (p : ℕ) (change : Slot T → Slot T) (frames : List (Frame T)) (xs : List (Slot T)) → ((fs : List (Frame T)) (x : Slot T) → frame_of_slot fs (change x) ≡ frame_of_slot fs x) → ((x : Slot T) → (change x).parent ≡ x.parent) → ((x : Slot T) → (change x).root ≡ x.root) → IsLinked frames xs → IsLinked frames (with_slot p change xs)
+IsLinked-with_slot p change frames [] e parent root l = tt
+IsLinked-with_slot {T} p change frames (x ∷ xs) e parent root l =
+    let rest = IsLinked-with_slot p change (frames ++ frame_of_slot frames x ∷ []) xs e parent root l.1 in
+    let P : Frame T → Type 0 = λ f. IsLinked (frames ++ f ∷ []) (with_slot p change xs) in
+    elim (cases_Bool (eqb x.serial p)) [
+      | inl same ↦ rw same (IsNextSlot-with frames x (change x) (ap (λ f. f.serial) (e frames x)) (parent x) (root x) l.0, subst P (sym (e frames x)) rest)
+      | inr differs ↦ rw differs (l.0, rest)
+    ]
+
+-- one more child of a parent
+pub frames_from-with_child : {T : Type 0} (parent : Option ℕ) (xs : List (Slot T)) → frames_from [] (with_child parent xs) ≡ frames_from [] xs
+frames_from-with_child None xs = refl
+frames_from-with_child (Some p) xs = frames_from-with_slot p (λ s. record s { children = s.children + 1 }) [] xs (λ fs x. refl)
+
+pub IsLinked-with_child : {T : Type 0} (parent : Option ℕ) (xs : List (Slot T)) → IsLinked [] xs → IsLinked [] (with_child parent xs)
+IsLinked-with_child None xs l = l
+IsLinked-with_child (Some p) xs l = IsLinked-with_slot p (λ s. record s { children = s.children + 1 }) [] xs (λ fs x. refl) (λ x. refl) (λ x. refl) l
+
+pub count-with_child : {T : Type 0} (parent : Option ℕ) (xs : List (Slot T)) (n : ℕ) → count_in (with_child parent xs) n ≡ count_in xs n
+count-with_child None xs n = refl
+count-with_child (Some p) xs n = length-filter_with_slot (λ s. is_serial n s.parent) p (λ s. record s { children = s.children + 1 }) xs (λ x. refl)
+
+pub ready-with_child : {T : Type 0} (parent : Option ℕ) (xs : List (Slot T)) → length (ready_slots (with_child parent xs)) ≡ length (ready_slots xs)
+ready-with_child None xs = refl
+ready-with_child (Some p) xs = length-filter_with_slot (λ s. is_ready s.state) p (λ s. record s { children = s.children + 1 }) xs (λ x. refl)
+
+-- one child less of a parent
+pub frames_from-without_child : {T : Type 0} (parent : Option ℕ) (xs : List (Slot T)) → frames_from [] (without_child parent xs) ≡ frames_from [] xs
+frames_from-without_child None xs = refl
+frames_from-without_child (Some p) xs = frames_from-with_slot p (λ s. record s { children = s.children - 1 }) [] xs (λ fs x. refl)
+
+pub IsLinked-without_child : {T : Type 0} (parent : Option ℕ) (xs : List (Slot T)) → IsLinked [] xs → IsLinked [] (without_child parent xs)
+IsLinked-without_child None xs l = l
+IsLinked-without_child (Some p) xs l = IsLinked-with_slot p (λ s. record s { children = s.children - 1 }) [] xs (λ fs x. refl) (λ x. refl) (λ x. refl) l
+
+pub count-without_child : {T : Type 0} (parent : Option ℕ) (xs : List (Slot T)) (n : ℕ) → count_in (without_child parent xs) n ≡ count_in xs n
+count-without_child None xs n = refl
+count-without_child (Some p) xs n = length-filter_with_slot (λ s. is_serial n s.parent) p (λ s. record s { children = s.children - 1 }) xs (λ x. refl)
+
+pub ready-without_child : {T : Type 0} (parent : Option ℕ) (xs : List (Slot T)) → length (ready_slots (without_child parent xs)) ≡ length (ready_slots xs)
+ready-without_child None xs = refl
+ready-without_child (Some p) xs = length-filter_with_slot (λ s. is_ready s.state) p (λ s. record s { children = s.children - 1 }) xs (λ x. refl)
+
+-- a new slot at the end
+pub sound_add : {T : Type 0} (xs : List (Slot T)) (ready : ℕ) (slot : Slot T) → AreSoundSlots xs ready → IsNextSlot (frames_from [] xs) slot → slot.children ≡ 0 → is_ready slot.state ≡ true → AreSoundSlots (with_child slot.parent xs ++ slot ∷ []) (ready + 1)
+sound_add {T} xs ready slot s next none is =
+    let ys = with_child slot.parent xs in
+    let frames : frames_from [] ys ≡ frames_from [] xs = frames_from-with_child slot.parent xs in
+    let P : List (Frame T) → Type 0 = λ fs. IsNextSlot fs slot in
+    let count : (n : ℕ) → count_in (ys ++ slot ∷ []) n ≡ count_in xs n + cond (is_serial n slot.parent) 1 0 = λ n. length-filter_push (λ x. is_serial n x.parent) ys slot ∙ ap (λ k. k + cond (is_serial n slot.parent) 1 0) (count-with_child slot.parent xs n) in
+    record {
+      linked = IsLinked-append [] ys (slot ∷ []) (IsLinked-with_child slot.parent xs s.linked) (subst P (sym frames) next, tt);
+      counted = CountsAre-append _ ys (slot ∷ [])
+          (CountsAre-same (λ n. count_in xs n + cond (is_serial n slot.parent) 1 0) (λ n. count_in (ys ++ slot ∷ []) n) ys (λ n. sym (count n)) (CountsAre-with_child (λ n. count_in xs n) slot.parent xs s.counted))
+          (none ∙ sym (count slot.serial ∙ no_child_of_new xs slot.serial slot.parent s.linked next.above next.parent), tt);
+      ready_count = (let push = length-filter_push (λ x. is_ready x.state) ys slot in let e = rw is at push in let r = ready-with_child slot.parent xs in omega (arith, e, r, s.ready_count));
+    }
+
+pub frames_add : {T : Type 0} (xs : List (Slot T)) (slot : Slot T) → frames_from [] (with_child slot.parent xs ++ slot ∷ []) ≡ frames_from [] xs ++ frame_of_slot (frames_from [] xs) slot ∷ []
+frames_add xs slot =
+    let frames = frames_from-with_child slot.parent xs in
+    frames_from-append [] (with_child slot.parent xs) (slot ∷ []) ∙ (rw frames refl)
+
+-- frames that are as before to those under them
+pub record Same {T : Type 0} (frames others : List (Frame T)) : Type 0 where
+  pub paths : (p : ℕ) → path_in others p ≡ path_in frames p
+  pub has : (p : ℕ) → has_frame others p ≡ has_frame frames p
+  pub below : (m : ℕ) → AllBelow m frames → AllBelow m others
+
+pub Same-none : {T : Type 0} → Same {T = T} [] []
+Same-none = record { paths = λ p. refl; has = λ p. refl; below = λ m b. b }
+
+pub Same-next : {T : Type 0} (frames others : List (Frame T)) (x y : Frame T) → x.serial ≡ y.serial → x.path ≡ y.path → Same frames others → Same (frames ++ x ∷ []) (others ++ y ∷ [])
+Same-next frames others x y serial path s = record {
+  paths = λ p. path_both frames others x y p serial path (s.paths p) (s.has p);
+  has = λ p. has_frame-append others (y ∷ []) p ∙ (rw (s.has p, ← serial) (sym (has_frame-append frames (x ∷ []) p)));
+  below = λ m b. AllBelow-append m others (y ∷ []) (s.below m (AllBelow-left m frames (x ∷ []) b)) (let P : ℕ → Type 0 = λ n. n < m in subst P serial (AllBelow-right m frames (x ∷ []) b).0, tt);
+}
+  where
+    path_both : {T : Type 0} (frames others : List (Frame T)) (x y : Frame T) (p : ℕ) → x.serial ≡ y.serial → x.path ≡ y.path → path_in others p ≡ path_in frames p → has_frame others p ≡ has_frame frames p → path_in (others ++ y ∷ []) p ≡ path_in (frames ++ x ∷ []) p
+    path_both frames others x y p serial path paths has =
+        elim (cases_Bool (has_frame frames p)) [
+          | inl there ↦ path_in-left others (y ∷ []) p (has ∙ there) ∙ (paths ∙ sym (path_in-left frames (x ∷ []) p there))
+          | inr gone ↦ path_in-right others (y ∷ []) p (has ∙ gone) ∙ (rw (← serial, ← path) (sym (path_in-right frames (x ∷ []) p gone)))
+        ]
+
+pub path_under-same : {T : Type 0} (frames others : List (Frame T)) (parent : Option ℕ) (serial : ℕ) → Same frames others → path_under others parent serial ≡ path_under frames parent serial
+path_under-same frames others None serial s = refl
+path_under-same frames others (Some p) serial s = ap (λ path. path ++ serial ∷ []) (s.paths p)
+
+pub has_parent-same : {T : Type 0} (frames others : List (Frame T)) (parent : Option ℕ) → Same frames others → has_parent others parent ≡ has_parent frames parent
+has_parent-same frames others None s = refl
+has_parent-same frames others (Some p) s = s.has p
+
+-- the slot of a frame in another state
+abbrev pub in_state : {T : Type 0} → State → Slot T → Slot T
+in_state state slot = record slot { state = state }
+
+-- frames in another state
+pub frames_from-state : {T : Type 0} (n : ℕ) (state : State) (frames others : List (Frame T)) (xs : List (Slot T)) → Same frames others → frames_from others (with_slot n (in_state state) xs) ≡ with_state n state (frames_from frames xs)
+frames_from-state n state frames others [] s = refl
+frames_from-state {T} n state frames others (x ∷ xs) s =
+    let path = path_under-same frames others x.parent x.serial s in
+    elim (cases_Bool (eqb x.serial n)) [
+      | inl same ↦ rw (same, path) (ap (λ fs. record (frame_of_slot frames x) { state = state } ∷ fs) (
+          let y : Frame T = record { serial = x.serial; path = path_under frames x.parent x.serial; state = state; value = x.value } in
+          frames_from-state n state (frames ++ frame_of_slot frames x ∷ []) (others ++ y ∷ []) xs (Same-next frames others (frame_of_slot frames x) y refl refl s)))
+      | inr differs ↦ rw (differs, path) (ap (λ fs. frame_of_slot frames x ∷ fs) (frames_from-state n state (frames ++ frame_of_slot frames x ∷ []) (others ++ frame_of_slot frames x ∷ []) xs (Same-next frames others (frame_of_slot frames x) (frame_of_slot frames x) refl refl s)))
+    ]
+
+pub IsLinked-state : {T : Type 0} (n : ℕ) (state : State) (frames others : List (Frame T)) (xs : List (Slot T)) → Same frames others → IsLinked frames xs → IsLinked others (with_slot n (in_state state) xs)
+IsLinked-state n state frames others [] s l = tt
+IsLinked-state {T} n state frames others (x ∷ xs) s l =
+    let path = path_under-same frames others x.parent x.serial s in
+    let next : IsNextSlot others x = record { above = s.below x.serial l.0.above; parent = has_parent-same frames others x.parent s ∙ l.0.parent; root = l.0.root ∙ ap root_of (sym path) } in
+    elim (cases_Bool (eqb x.serial n)) [
+      | inl same ↦ rw same (IsNextSlot-with others x (in_state state x) refl refl refl next, IsLinked-state n state (frames ++ frame_of_slot frames x ∷ []) (others ++ frame_of_slot others (in_state state x) ∷ []) xs (Same-next frames others (frame_of_slot frames x) (frame_of_slot others (in_state state x)) refl (sym path) s) l.1)
+      | inr differs ↦ rw differs (next, IsLinked-state n state (frames ++ frame_of_slot frames x ∷ []) (others ++ frame_of_slot others x ∷ []) xs (Same-next frames others (frame_of_slot frames x) (frame_of_slot others x) refl (sym path) s) l.1)
+    ]
+
+-- the counts of ready slots before and after
+pub ready_state : {T : Type 0} (xs : List (Slot T)) (i : ℕ) (slot : Slot T) (state : State) → i < length xs → slot ≡ get_or xs i slot → length (ready_slots (set xs i (in_state state slot))) + cond (is_ready slot.state) 1 0 ≡ length (ready_slots xs) + cond (is_ready state) 1 0
+ready_state xs i slot state lt is = length-filter_set (λ x. is_ready x.state) xs i slot (in_state state slot) lt is
+
+pub sound_state : {T : Type 0} (xs : List (Slot T)) (ready now i n : ℕ) (slot : Slot T) (state : State) → AreSoundSlots xs ready → i < length xs → slice_index (serials_of xs) i ≡ n → slot ≡ get_or xs i slot → now + cond (is_ready slot.state) 1 0 ≡ ready + cond (is_ready state) 1 0 → AreSoundSlots (set xs i (in_state state slot)) now
+sound_state {T} xs ready now i n slot state s lt at is count =
+    let changed : set xs i (in_state state slot) ≡ with_slot n (in_state state) xs = with_slot-set xs i n (in_state state) slot (linked_rises [] xs s.linked) lt at is in
+    let r = ready_state xs i slot state lt is in
+    let P : List (Slot T) → Type 0 = λ ys. IsLinked [] ys in
+    let Q : List (Slot T) → Type 0 = λ ys. CountsAre (λ m. count_in ys m) ys in
+    record {
+      linked = subst P (sym changed) (IsLinked-state n state [] [] xs Same-none s.linked);
+      counted = subst Q (sym changed) (CountsAre-with_slot (λ m. count_in xs m) (λ m. count_in (with_slot n (in_state state) xs) m) n (in_state state) xs (λ x. refl)
+          (λ x e has. has ∙ sym (same_count n n state xs)) (λ m ne. sym (same_count m n state xs)) s.counted);
+      ready_count = omega (arith, r, count, s.ready_count);
+    }
+  where
+    same_count : {T : Type 0} (m n : ℕ) (state : State) (xs : List (Slot T)) → count_in (with_slot n (in_state state) xs) m ≡ count_in xs m
+    same_count m n state xs = length-filter_with_slot (λ x. is_serial m x.parent) n (in_state state) xs (λ x. refl)
+
+pub frames_state : {T : Type 0} (xs : List (Slot T)) (i n : ℕ) (slot : Slot T) (state : State) → IsLinked [] xs → i < length xs → slice_index (serials_of xs) i ≡ n → slot ≡ get_or xs i slot → frames_from [] (set xs i (in_state state slot)) ≡ with_state n state (frames_from [] xs)
+frames_state xs i n slot state l lt at is =
+    rw (with_slot-set xs i n (in_state state) slot (linked_rises [] xs l) lt at is) (frames_from-state n state [] [] xs Same-none)
+
+-- an abort: the aborted frame's count is cleared, and then the others go
+abbrev pub childless : {T : Type 0} → Slot T → Slot T
+childless slot = record slot { children = 0 }
+
+pub cleared-linked : {T : Type 0} (n : ℕ) (xs : List (Slot T)) → IsLinked [] xs → IsLinked [] (with_slot n childless xs)
+cleared-linked n xs l = IsLinked-with_slot n childless [] xs (λ fs x. refl) (λ x. refl) (λ x. refl) l
+
+pub cleared-frames : {T : Type 0} (n : ℕ) (xs : List (Slot T)) → frames_from [] (with_slot n childless xs) ≡ frames_from [] xs
+cleared-frames n xs = frames_from-with_slot n childless [] xs (λ fs x. refl)
+
+pub cleared-counts : {T : Type 0} (n : ℕ) (xs : List (Slot T)) → CountsAre (λ m. count_in xs m) xs → CountsAre (λ m. cond (eqb m n) 0 (count_in (with_slot n childless xs) m)) (with_slot n childless xs)
+cleared-counts n xs c =
+    CountsAre-with_slot (λ m. count_in xs m) (λ m. cond (eqb m n) 0 (count_in (with_slot n childless xs) m)) n childless xs (λ x. refl)
+    (λ x e has. rw (eq-eqb n n refl) refl)
+    (λ m ne. rw (ne_eqb m n ne) (sym (length-filter_with_slot (λ x. is_serial m x.parent) n childless xs (λ x. refl)))) c
+
+pub sound_cut : {T : Type 0} (n : ℕ) (xs ys : List (Slot T)) (ready now : ℕ) → AreSoundSlots xs ready → ys ≡ with_slot n childless xs → now ≡ length (ready_slots (kept_slots n ys)) → AreSoundSlots (kept_slots n ys) now
+sound_cut {T} n xs ys ready now s is count =
+    let P : List (Slot T) → Type 0 = λ zs. IsLinked [] zs in
+    let linked : IsLinked [] ys = subst P (sym is) (cleared-linked n xs s.linked) in
+    let Q : List (Slot T) → Type 0 = λ zs. CountsAre (λ m. cond (eqb m n) 0 (count_in zs m)) zs in
+    let counts : CountsAre (λ m. cond (eqb m n) 0 (count_in ys m)) ys = subst Q (sym is) (cleared-counts n xs s.counted) in
+    let follows = kept_follows n (frames_from [] ys) [] ys refl linked tt in
+    record {
+      linked = kept_slots-linked n ys linked;
+      counted = CountsAre-filter (λ m. cond (eqb m n) 0 (count_in ys m)) (λ m. count_in (kept_slots n ys) m) (is_kept n (frames_from [] ys)) ys
+          (λ m kept. elim (cases_eq m n) [
+            | inl e ↦ rw (eq-eqb m n e, e) (sym (no_child_stays (is_kept n (frames_from [] ys)) n ys follows))
+            | inr ne ↦ rw (ne_eqb m n ne) (sym (children_stay (is_kept n (frames_from [] ys)) n m ys follows ne kept))
+          ]) counts;
+      ready_count = count;
+    }
+
+-- a removal is a filter
+pub remove-filter : {T : Type 0} (xs : List (Slot T)) (i n : ℕ) → Rises xs → i < length xs → slice_index (serials_of xs) i ≡ n → remove xs i ≡ filter (λ x. not (eqb x.serial n)) xs
+remove-filter [] i n r lt at = absurd (omega arith)
+remove-filter (x ∷ xs) zero n r lt at =
+    rw (eq-eqb x.serial n at) (sym (all_stay xs n (let P : ℕ → Type 0 = λ s. AllAbove s xs in subst P at r.0)))
+  where
+    all_stay : {T : Type 0} (xs : List (Slot T)) (n : ℕ) → AllAbove n xs → filter (λ x. not (eqb x.serial n)) xs ≡ xs
+    all_stay [] n a = refl
+    all_stay (x ∷ xs) n a = rw (ne_eqb x.serial n (λ e. omega (arith, a.0, e))) (ap (λ ys. x ∷ ys) (all_stay xs n a.1))
+remove-filter (x ∷ xs) (suc i) n r lt at =
+    rw (ne_eqb x.serial n (λ e. omega (arith, above_at xs x.serial i r.0 (omega arith), at, e))) (ap (λ ys. x ∷ ys) (remove-filter xs i n r.1 (omega arith) at))
+
+-- a leaf lets all others stay
+pub leaf-closed : {T : Type 0} (n : ℕ) (xs : List (Slot T)) → child_slots n xs ≡ [] → IsClosed (λ s. not (eqb s n)) xs
+leaf-closed n [] none = tt
+leaf-closed n (x ∷ xs) none =
+    elim (cases_Bool (is_serial n x.parent)) [
+      | inl child ↦ absurd (cons_nil (rw child at none))
+      | inr other ↦ (λ p is kept. rw (ne_eqb p n (λ e. false≢true (sym other ∙ (rw (is, e) (eq-eqb n n refl))))) refl, leaf-closed n xs (rw other at none))
+    ]
+  where
+    cons_nil : {X : Type 0} {x : X} {xs : List X} → x ∷ xs ≡ [] → ⊥
+    cons_nil h = cc
+
+-- slots without a leaf
+pub record HasLost {T : Type 0} (xs ys : List (Slot T)) (slot : Slot T) : Type 0 where
+  pub frames : frames_from [] ys ≡ frames_without slot.serial (frames_from [] xs)
+  pub linked : IsLinked [] ys
+  pub counted : CountsAre (λ m. count_in xs m) ys
+  pub counts : (m : ℕ) → count_in ys m + cond (is_serial m slot.parent) 1 0 ≡ count_in xs m
+  pub ready : length (ready_slots ys) + cond (is_ready slot.state) 1 0 ≡ length (ready_slots xs)
+  pub parent : has_parent_slot ys slot.parent ≡ true
+
+-- what is below all of a list's bound
+pub below_bound : {T : Type 0} (frames : List (Frame T)) (m p : ℕ) → AllBelow m frames → has_frame frames p ≡ true → p < m
+below_bound [] m p b h = absurd (false≢true h)
+below_bound (f ∷ fs) m p b h =
+    elim (cases_eq f.serial p) [ inl e ↦ omega (arith, b.0, e) | inr ne ↦ below_bound fs m p b.1 (rw (ne_eqb f.serial p ne) at h) ]
+
+-- the parent of a slot that was read has a lower serial, and a slot
+pub parent_below : {T : Type 0} (frames : List (Frame T)) (xs : List (Slot T)) (i : ℕ) (slot : Slot T) (p : ℕ) → IsLinked frames xs → i < length xs → slot ≡ get_or xs i slot → slot.parent ≡ Some p → (p < slot.serial) × ((has_frame frames p || has_slot xs p) ≡ true)
+parent_below frames [] i slot p l lt is parent = absurd (omega arith)
+parent_below frames (x ∷ xs) zero slot p l lt is parent =
+    let there : has_frame frames p ≡ true = (let h = l.0.parent in rw (sym (ap (λ s. s.parent) is) ∙ parent) at h) in
+    (let b = below_bound frames x.serial p l.0.above there in let e = ap (λ s. s.serial) is in omega (arith, b, e), rw there refl)
+parent_below frames (x ∷ xs) (suc i) slot p l lt is parent =
+    let rest = parent_below (frames ++ frame_of_slot frames x ∷ []) xs i slot p l.1 (omega arith) is parent in
+    (rest.0, regroup frames (frame_of_slot frames x) p (has_slot xs p) (sym (ap (λ b. b || has_slot xs p) (has_frame-append frames (frame_of_slot frames x ∷ []) p)) ∙ rest.1))
+  where
+    regroup : {T : Type 0} (frames : List (Frame T)) (f : Frame T) (p : ℕ) (b : Bool) → ((has_frame frames p || has_frame (f ∷ []) p) || b) ≡ true → (has_frame frames p || (eqb f.serial p || b)) ≡ true
+    regroup frames f p b h =
+        elim (cases_Bool (has_frame frames p)) [
+          | inl a ↦ rw a refl
+          | inr a ↦ rw a (elim (cases_Bool (eqb f.serial p)) [ inl c ↦ rw c refl | inr c ↦ rw c (rw (a, c) at h) ])
+        ]
+
+pub has_lost : {T : Type 0} (xs : List (Slot T)) (ready i : ℕ) (slot : Slot T) → AreSoundSlots xs ready → i < length xs → slot ≡ get_or xs i slot → slice_index (serials_of xs) i ≡ slot.serial → child_slots slot.serial xs ≡ [] → HasLost xs (remove xs i) slot
+has_lost {T} xs ready i slot s lt is at none =
+    let n = slot.serial in
+    let keep : ℕ → Bool = λ m. not (eqb m n) in
+    let closed = leaf-closed n xs none in
+    let gone : remove xs i ≡ filter (λ x. keep x.serial) xs = remove-filter xs i n (linked_rises [] xs s.linked) lt at in
+    let P : List (Slot T) → Type 0 = λ zs. IsLinked [] zs in
+    let Q : List (Slot T) → Type 0 = λ zs. CountsAre (λ m. count_in xs m) zs in
+    record {
+      frames = ap (λ zs. frames_from [] zs) gone ∙ frames_from-kept keep [] [] xs (Keeps-none keep) closed;
+      linked = subst P (sym gone) (IsLinked-kept keep [] [] xs (Keeps-none keep) closed s.linked);
+      counted = subst Q (sym gone) (CountsAre-filter (λ m. count_in xs m) (λ m. count_in xs m) keep xs (λ m kept. refl) s.counted);
+      counts = λ m. length-filter_remove (λ x. is_serial m x.parent) xs i slot lt is;
+      ready = length-filter_remove (λ x. is_ready x.state) xs i slot lt is;
+      parent = rw gone (parent_stays xs i slot s.linked lt is slot.parent refl);
+    }
+  where
+    parent_stays : {T : Type 0} (xs : List (Slot T)) (i : ℕ) (slot : Slot T) → IsLinked [] xs → i < length xs → slot ≡ get_or xs i slot → (parent : Option ℕ) → slot.parent ≡ parent → has_parent_slot (filter (λ x. not (eqb x.serial slot.serial)) xs) parent ≡ true
+    parent_stays xs i slot l lt is None e = refl
+    parent_stays xs i slot l lt is (Some p) e =
+        let h = parent_below [] xs i slot p l lt is e in
+        has_slot-filter (λ m. not (eqb m slot.serial)) xs p h.1 ∙ (rw (ne_eqb p slot.serial (λ q. omega (arith, h.0, q))) refl)
+
+-- the count of children in a slot that is there
+pub children_at-counts : {T : Type 0} (count : ℕ → ℕ) (xs : List (Slot T)) (p : ℕ) → CountsAre count xs → has_slot xs p ≡ true → children_at xs p ≡ count p
+children_at-counts count [] p c h = absurd (false≢true h)
+children_at-counts count (x ∷ xs) p c h =
+    elim (cases_eq x.serial p) [
+      | inl e ↦ rw (eq-eqb x.serial p e) (c.0 ∙ ap count e)
+      | inr ne ↦ rw (ne_eqb x.serial p ne) (children_at-counts count xs p c.1 (rw (ne_eqb x.serial p ne) at h))
+    ]
+
+-- a parent has the lost child counted still
+pub lost_counted : {T : Type 0} (xs ys : List (Slot T)) (slot : Slot T) → HasLost xs ys slot → CountsAtParent ys slot.parent
+lost_counted xs ys slot h = by_parent xs ys slot.parent h.counted h.counts h.parent
+  where
+    by_parent : {T : Type 0} (xs ys : List (Slot T)) (parent : Option ℕ) → CountsAre (λ m. count_in xs m) ys → ((m : ℕ) → count_in ys m + cond (is_serial m parent) 1 0 ≡ count_in xs m) → has_parent_slot ys parent ≡ true → CountsAtParent ys parent
+    by_parent xs ys None c e there = tt
+    by_parent xs ys (Some p) c e there =
+        let k = children_at-counts (λ m. count_in xs m) ys p c there in
+        let h = rw (eq-eqb p p refl) at (e p) in
+        omega (arith, k, h)
+
+pub sound_lost : {T : Type 0} (xs ys zs : List (Slot T)) (ready now : ℕ) (slot : Slot T) → HasLost xs ys slot → zs ≡ without_child slot.parent ys → now ≡ length (ready_slots ys) → AreSoundSlots zs now
+sound_lost {T} xs ys zs ready now slot h is count =
+    let P : List (Slot T) → Type 0 = λ ws. AreSoundSlots ws now in
+    subst P (sym is) (record {
+      linked = IsLinked-without_child slot.parent ys h.linked;
+      counted = CountsAre-same (λ m. count_in ys m) (λ m. count_in (without_child slot.parent ys) m) (without_child slot.parent ys) (λ m. sym (count-without_child slot.parent ys m)) (CountsAre-without_child (λ m. count_in xs m) (λ m. count_in ys m) slot.parent ys h.counts h.counted);
+      ready_count = count ∙ sym (ready-without_child slot.parent ys);
+    })
+
+pub frames_lost : {T : Type 0} (xs ys zs : List (Slot T)) (slot : Slot T) → HasLost xs ys slot → zs ≡ without_child slot.parent ys → frames_from [] zs ≡ frames_without slot.serial (frames_from [] xs)
+frames_lost xs ys zs slot h is = rw is (frames_from-without_child slot.parent ys ∙ h.frames)

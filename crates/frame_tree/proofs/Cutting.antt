@@ -1,0 +1,416 @@
+-- A shelf of which some slots went.
+use Rattle.std.proofs.Common.{◌≡◌, ◌≢◌, ℕ, zero, suc, ◌+◌, ◌<◌, ◌≤◌, Bool, true, false, not, ◌||◌, eqb, List, [], ◌∷◌, ◌++◌, Option, Some, None, IsSome, get_or, slice_index, take, length, append-nil, map, refl, ap, sym, ◌∙◌, inl, inr, arith, subst}
+use Rattle.std.specs.List.{filter, remove}
+use Rattle.std.proofs.lemmas.Bool.{cases_eq, cases_Bool, false≢true, eq-eqb, ne_eqb, not-true}
+use Rattle.slab.specs.Slab.{Slab, get, slab_len}
+use Rattle.frame_tree.specs.declared.slot.Slot.{Slot as TenantSlot}
+use Rattle.frame_tree.specs.declared.shelf.KeptSlot.{KeptSlot}
+use Rattle.frame_tree.specs.Slots.{frames_from, is_kept, IsLinked, kept_slots, gone_values, child_slots, is_serial, AllAbove, Rises, serials_of}
+use Rattle.frame_tree.specs.Places.{has_number}
+use Rattle.frame_tree.specs.Shelves.{with_found, slots_in, AreApartKeys, HasSerial, KnowsParent, IsHere, AllHere, IsShelf, AreThere, is_marked, marked_in, swept_in, values_in}
+use Rattle.frame_tree.proofs.Cuts.{IsClosed, IsClosed-from_follows, kept_follows}
+use Rattle.frame_tree.proofs.Lengths.{length-filter-le}
+use Rattle.frame_tree.specs.Shelves.{Marks, AreKeys, IsKeyAt}
+use Rattle.frame_tree.proofs.Search.{above_at, serial_read}
+use Rattle.frame_tree.proofs.Shelves.{has_number-append, has_number-at, here_read, slots_in-length, slot_read}
+use Rattle.frame_tree.proofs.Keys.{key_found, knows_key}
+use Rattle.frame_tree.proofs.Changes.{parent_below}
+
+-- the slot that is here
+pub here_found : {T : Type 0} (slab : Slab (KeptSlot T)) (before : List ℕ) (o : Option (KeptSlot T)) → IsHere slab before o → (kept : KeptSlot T) × (o ≡ Some kept)
+here_found slab before None h = absurd h
+here_found slab before (Some x) h = (x, refl)
+
+-- the slot of a serial
+pub named_slot : {T : Type 0} (p : ℕ) (o : Option (KeptSlot T)) → HasSerial p o → (y : KeptSlot T) × (o ≡ Some y) × (y.slot.serial ≡ p)
+named_slot p None h = absurd h
+named_slot p (Some y) h = (y, refl, h)
+
+pub all_there : {T : Type 0} (slab : Slab (KeptSlot T)) (before keys : List ℕ) → AllHere slab before keys → AreThere slab keys
+all_there slab before [] h = tt
+all_there slab before (k ∷ keys) h = (some slab before (get slab k) h.0, all_there slab (before ++ k ∷ []) keys h.1)
+  where
+    some : {T : Type 0} (slab : Slab (KeptSlot T)) (before : List ℕ) (o : Option (KeptSlot T)) → IsHere slab before o → IsSome o
+    some slab before None h = absurd h
+    some slab before (Some x) h = refl
+
+has_number-filter : (keep : ℕ → Bool) (keys : List ℕ) (a : ℕ) → has_number keys a ≡ true → keep a ≡ true → has_number (filter keep keys) a ≡ true
+has_number-filter keep [] a has kept = absurd (false≢true has)
+has_number-filter keep (k ∷ keys) a has kept =
+    elim (cases_eq k a) [
+      | inl same ↦ rw (ap keep same ∙ kept, eq-eqb k a same) refl
+      | inr differs ↦ (let rest : has_number keys a ≡ true = rw (ne_eqb k a differs) at has in
+          elim (cases_Bool (keep k)) [
+            | inl stays ↦ rw (stays, ne_eqb k a differs) (has_number-filter keep keys a rest kept)
+            | inr goes ↦ rw goes (has_number-filter keep keys a rest kept)
+          ])
+    ]
+
+no_key-filter : (keep : ℕ → Bool) (keys : List ℕ) (a : ℕ) → has_number keys a ≡ false → has_number (filter keep keys) a ≡ false
+no_key-filter keep [] a none = refl
+no_key-filter keep (k ∷ keys) a none =
+    let parts = or_false (eqb k a) (has_number keys a) none in
+    elim (cases_Bool (keep k)) [
+      | inl stays ↦ rw (stays, parts.0) (no_key-filter keep keys a parts.1)
+      | inr goes ↦ rw goes (no_key-filter keep keys a parts.1)
+    ]
+  where
+    or_false : (a b : Bool) → (a || b) ≡ false → (a ≡ false) × (b ≡ false)
+    or_false true b h = absurd (false≢true (sym h))
+    or_false false b h = (refl, h)
+
+pub apart-filter : (keep : ℕ → Bool) (keys : List ℕ) → AreApartKeys keys → AreApartKeys (filter keep keys)
+apart-filter keep [] a = tt
+apart-filter keep (k ∷ keys) a =
+    elim (cases_Bool (keep k)) [
+      | inl stays ↦ rw stays (no_key-filter keep keys k a.0, apart-filter keep keys a.1)
+      | inr goes ↦ rw goes (apart-filter keep keys a.1)
+    ]
+
+filter-append : (keep : ℕ → Bool) (xs ys : List ℕ) → filter keep (xs ++ ys) ≡ filter keep xs ++ filter keep ys
+filter-append keep [] ys = refl
+filter-append keep (x ∷ xs) ys =
+    elim (cases_Bool (keep x)) [ inl stays ↦ rw stays (ap (λ zs. x ∷ zs) (filter-append keep xs ys)) | inr goes ↦ rw goes (filter-append keep xs ys) ]
+
+head_key : (k : ℕ) (keys : List ℕ) → has_number (k ∷ keys) k ≡ true
+head_key k keys = rw (eq-eqb k k refl) refl
+
+tail_key : (k j : ℕ) (keys : List ℕ) → has_number keys j ≡ true → has_number (k ∷ keys) j ≡ true
+tail_key k j keys h = or_right (eqb k j) (has_number keys j) h
+  where
+    or_right : (a b : Bool) → b ≡ true → (a || b) ≡ true
+    or_right true b h = refl
+    or_right false b h = h
+
+-- which slots stay, by key and by serial, and how those are kept
+pub record Stays {T : Type 0} (old new : Slab (KeptSlot T)) (by_key by_serial : ℕ → Bool) (keys : List ℕ) : Type 0 where
+  pub agree : (k : ℕ) (x : KeptSlot T) → has_number keys k ≡ true → get old k ≡ Some x → by_key k ≡ by_serial x.slot.serial
+  pub renew : (k : ℕ) (x : KeptSlot T) → has_number keys k ≡ true → get old k ≡ Some x → by_key k ≡ true → get new k ≡ Some (record x { marked = false })
+
+-- those that stay are here as before
+pub here-filter : {T : Type 0} (old new : Slab (KeptSlot T)) (by_key by_serial : ℕ → Bool) (all before keys : List ℕ) → Stays old new by_key by_serial all → ((k : ℕ) → has_number before k ≡ true → has_number all k ≡ true) → ((k : ℕ) → has_number keys k ≡ true → has_number all k ≡ true) → IsClosed by_serial (slots_in old keys) → AllHere old before keys → AllHere new (filter by_key before) (filter by_key keys)
+here-filter old new by_key by_serial all before [] s b w c h = tt
+here-filter {T} old new by_key by_serial all before (k ∷ keys) s b w c h =
+    let found = here_found old before (get old k) h.0 in
+    let x = found.0 in
+    let closed : IsClosed by_serial (x.slot ∷ slots_in old keys) = subst (λ o. IsClosed by_serial (with_found o (slots_in old keys))) found.1 c in
+    let here : IsHere old before (Some x) = subst (λ o. IsHere old before o) found.1 h.0 in
+    let there = w k (head_key k keys) in
+    let agree = s.agree k x there found.1 in
+    let rest = here-filter old new by_key by_serial all (before ++ k ∷ []) keys s (λ j has. in_either before k j all b there (sym (has_number-append before (k ∷ []) j) ∙ has)) (λ j has. w j (tail_key k j keys has)) closed.1 h.1 in
+    elim (cases_Bool (by_key k)) [
+      | inl stays ↦ (let more : filter by_key (before ++ k ∷ []) ≡ filter by_key before ++ k ∷ [] = filter-append by_key before (k ∷ []) ∙ (rw stays refl) in
+          let last : IsHere new (filter by_key before) (get new k) = rw (s.renew k x there found.1 stays) (refl, parent old new by_key by_serial all before x.slot.parent x.above s b (λ p is. closed.0 p is (sym agree ∙ stays)) here.1) in
+          rw stays (last, subst (λ bs. AllHere new bs (filter by_key keys)) more rest))
+      | inr goes ↦ (let more : filter by_key (before ++ k ∷ []) ≡ filter by_key before = filter-append by_key before (k ∷ []) ∙ (rw goes (append-nil (filter by_key before))) in
+          rw goes (subst (λ bs. AllHere new bs (filter by_key keys)) more rest))
+    ]
+  where
+    in_either : (before : List ℕ) (k j : ℕ) (all : List ℕ) → ((k : ℕ) → has_number before k ≡ true → has_number all k ≡ true) → has_number all k ≡ true → (has_number before j || (eqb k j || false)) ≡ true → has_number all j ≡ true
+    in_either before k j all b there h =
+        elim (cases_Bool (has_number before j)) [
+          | inl has ↦ b j has
+          | inr none ↦ elim (cases_eq k j) [
+            | inl same ↦ ap (has_number all) (sym same) ∙ there
+            | inr differs ↦ absurd (false≢true (rw (none, ne_eqb k j differs) at h))
+          ]
+        ]
+
+    parent : {T : Type 0} (old new : Slab (KeptSlot T)) (by_key by_serial : ℕ → Bool) (all before : List ℕ) (parent above : Option ℕ) → Stays old new by_key by_serial all → ((k : ℕ) → has_number before k ≡ true → has_number all k ≡ true) → ((p : ℕ) → parent ≡ Some p → by_serial p ≡ true) → KnowsParent old before parent above → KnowsParent new (filter by_key before) parent above
+    parent old new by_key by_serial all before None None s b up k = tt
+    parent old new by_key by_serial all before None (Some a) s b up k = absurd k
+    parent old new by_key by_serial all before (Some p) None s b up k = absurd k
+    parent old new by_key by_serial all before (Some p) (Some a) s b up k =
+        let y = named_slot p (get old a) k.1 in
+        let stays : by_key a ≡ true = s.agree a y.0 (b a k.0) y.1 ∙ (ap by_serial y.2 ∙ up p refl) in
+        (has_number-filter by_key before a k.0 stays, rw (s.renew a y.0 (b a k.0) y.1 stays) y.2)
+
+-- and stand for the same slots
+pub slots-filter : {T : Type 0} (old new : Slab (KeptSlot T)) (by_key by_serial : ℕ → Bool) (all before keys : List ℕ) → ((k : ℕ) (x : KeptSlot T) → has_number all k ≡ true → get old k ≡ Some x → by_key k ≡ by_serial x.slot.serial) → ((k : ℕ) (x : KeptSlot T) → has_number all k ≡ true → get old k ≡ Some x → by_key k ≡ true → with_found (get new k) [] ≡ x.slot ∷ []) → ((k : ℕ) → has_number keys k ≡ true → has_number all k ≡ true) → AllHere old before keys → slots_in new (filter by_key keys) ≡ filter (λ slot. by_serial slot.serial) (slots_in old keys)
+slots-filter old new by_key by_serial all before [] agree same w h = refl
+slots-filter {T} old new by_key by_serial all before (k ∷ keys) agree same w h =
+    let found = here_found old before (get old k) h.0 in
+    let x = found.0 in
+    let there = w k (head_key k keys) in
+    let rest = slots-filter old new by_key by_serial all (before ++ k ∷ []) keys agree same (λ j has. w j (tail_key k j keys has)) h.1 in
+    let at = agree k x there found.1 in
+    rw found.1 (elim (cases_Bool (by_key k)) [
+      | inl stays ↦ rw (stays, sym at ∙ stays) (one (get new k) x.slot (slots_in new (filter by_key keys)) (same k x there found.1 stays) ∙ ap (λ xs. x.slot ∷ xs) rest)
+      | inr goes ↦ rw (goes, sym at ∙ goes) rest
+    ])
+  where
+    one : {T : Type 0} (o : Option (KeptSlot T)) (s : TenantSlot T) (xs : List (TenantSlot T)) → with_found o [] ≡ s ∷ [] → with_found o xs ≡ s ∷ xs
+    one None s xs e = absurd (cc)
+    one (Some y) s xs e = ap (λ ys. ys ++ xs) e
+
+-- what an abort leaves of a shelf
+pub record HasCut {T : Type 0} (under : ℕ) (old marked new : Slab (KeptSlot T)) (order left : List ℕ) : Type 0 where
+  pub marks : Marks under (slots_in old order) order old marked
+  pub kept : left ≡ filter (λ key. not (is_marked (get marked key))) order
+  pub swept : (key : ℕ) → get new key ≡ swept_in marked order key
+
+pub has_cut : {T : Type 0} (under : ℕ) (old marked new : Slab (KeptSlot T)) (order left : List ℕ) → Marks under (slots_in old order) order old marked → left ≡ filter (λ key. not (is_marked (get marked key))) order → ((key : ℕ) → get new key ≡ swept_in marked order key) → HasCut under old marked new order left
+has_cut under old marked new order left marks kept swept = record { marks = marks; kept = kept; swept = swept }
+
+pub cut_marks : {T : Type 0} (under : ℕ) (old marked new : Slab (KeptSlot T)) (order left : List ℕ) → HasCut under old marked new order left → (k : ℕ) (x : KeptSlot T) → has_number order k ≡ true → get old k ≡ Some x → get marked k ≡ Some (record x { marked = not (is_kept under (frames_from [] (slots_in old order)) x.slot.serial) })
+cut_marks under old marked new order left c k x has is = c.marks k ∙ (rw (is, has) refl)
+
+not_not : (b : Bool) → not (not b) ≡ b
+not_not true = refl
+not_not false = refl
+
+pub cut_stays : {T : Type 0} (under : ℕ) (old marked new : Slab (KeptSlot T)) (order left : List ℕ) → HasCut under old marked new order left → Stays old new (λ key. not (is_marked (get marked key))) (is_kept under (frames_from [] (slots_in old order))) order
+cut_stays under old marked new order left c = record {
+  agree = λ k x has is. rw (cut_marks under old marked new order left c k x has is) (not_not _);
+  renew = λ k x has is stays.
+      let m = cut_marks under old marked new order left c k x has is in
+      let off : is_marked (get marked k) ≡ false = not-true (is_marked (get marked k)) stays in
+      let mark : not (is_kept under (frames_from [] (slots_in old order)) x.slot.serial) ≡ false = sym (ap is_marked m) ∙ off in
+      c.swept k ∙ (rw (has, off) (m ∙ ap (λ b. Some (record x { marked = b })) mark));
+}
+
+-- the slots that stay
+pub cut_slots : {T : Type 0} (under : ℕ) (old marked new : Slab (KeptSlot T)) (order left : List ℕ) → HasCut under old marked new order left → AllHere old [] order → slots_in new left ≡ kept_slots under (slots_in old order)
+cut_slots under old marked new order left c h =
+    let s = cut_stays under old marked new order left c in
+    ap (slots_in new) c.kept ∙ slots-filter old new (λ key. not (is_marked (get marked key))) (is_kept under (frames_from [] (slots_in old order))) order [] order s.agree (λ k x has is stays. rw (s.renew k x has is stays) refl) (λ k has. has) h
+
+-- the values of those that went
+pub cut_values : {T : Type 0} (under : ℕ) (old marked new : Slab (KeptSlot T)) (order left : List ℕ) → HasCut under old marked new order left → AllHere old [] order → values_in marked (filter (λ key. is_marked (get marked key)) order) ≡ gone_values under (slots_in old order)
+cut_values under old marked new order left c h =
+    ap (map (λ slot. slot.value)) (slots-filter old marked (λ key. is_marked (get marked key)) (λ serial. not (is_kept under (frames_from [] (slots_in old order)) serial)) order [] order
+    (λ k x has is. rw (cut_marks under old marked new order left c k x has is) refl)
+    (λ k x has is goes. rw (cut_marks under old marked new order left c k x has is) refl) (λ k has. has) h)
+
+-- the shelf
+pub cut_shelf : {T : Type 0} (under : ℕ) (old marked new : Slab (KeptSlot T)) (order left : List ℕ) (room places : ℕ) → HasCut under old marked new order left → IsShelf old order room places → IsLinked [] (slots_in old order) → slab_len new + length order ≡ slab_len old + length left → new.capacity ≡ old.capacity → IsShelf new left room places
+cut_shelf under old marked new order left room places c s l len capacity =
+    let closed = IsClosed-from_follows (is_kept under (frames_from [] (slots_in old order))) under (slots_in old order) (kept_follows under (frames_from [] (slots_in old order)) [] (slots_in old order) refl l tt) in
+    let here = here-filter old new (λ key. not (is_marked (get marked key))) (is_kept under (frames_from [] (slots_in old order))) order [] order (cut_stays under old marked new order left c) (λ k has. absurd (false≢true has)) (λ k has. has) closed s.here in
+    let fewer : length left ≤ length order = omega (arith, ap length c.kept, length-filter-le (λ key. not (is_marked (get marked key))) order) in
+    record {
+      here = rw c.kept here;
+      apart = rw c.kept (apart-filter (λ key. not (is_marked (get marked key))) order s.apart);
+      counted = omega (arith, len, s.counted);
+      within = omega (arith, fewer, s.within);
+      slab_room = omega (arith, s.slab_room, capacity);
+      order_room = s.order_room;
+    }
+
+-- each key has a slot, marked or not
+pub marked_there : {T : Type 0} (under : ℕ) (slots : List (TenantSlot T)) (all : List ℕ) (old marked : Slab (KeptSlot T)) (keys : List ℕ) → Marks under slots all old marked → AreThere old keys → AreThere marked keys
+marked_there under slots all old marked [] m t = tt
+marked_there under slots all old marked (k ∷ keys) m t = (subst (λ o. IsSome o) (sym (m k)) (some under slots all k (get old k) t.0), marked_there under slots all old marked keys m t.1)
+  where
+    some : {T : Type 0} (under : ℕ) (slots : List (TenantSlot T)) (all : List ℕ) (k : ℕ) (o : Option (KeptSlot T)) → IsSome o → IsSome (marked_in under slots all k o)
+    some under slots all k None t = t
+    some under slots all k (Some x) t = refl
+
+-- what is there is one slot
+by_one : {T : Type 0} (o : Option (KeptSlot T)) (x y : KeptSlot T) → o ≡ Some x → o ≡ Some y → x.slot.serial ≡ y.slot.serial
+by_one {T} o x y a b = ap (λ (o : Option (KeptSlot T)). serial_or o) (sym a ∙ b)
+  where
+    serial_or : {T : Type 0} → Option (KeptSlot T) → ℕ
+    serial_or None = 0
+    serial_or (Some k) = k.slot.serial
+
+-- a slot was taken away under its key, which was no slot's parent
+pub record HasTaken {T : Type 0} (old new : Slab (KeptSlot T)) (order : List ℕ) (at key : ℕ) (kept : KeptSlot T) : Type 0 where
+  pub within : at < length order
+  pub read : key ≡ get_or order at key
+  pub was : get old key ≡ Some kept
+  pub others : (k : ℕ) → k ≢ key → get new k ≡ get old k
+
+-- no slot's parent has this serial
+abbrev pub NoParent : {T : Type 0} → ℕ → List (TenantSlot T) → Type 0
+NoParent n [] = Unit {0}
+NoParent n (x ∷ xs) = (x.parent ≢ Some n) × NoParent n xs
+
+pub no_parent : {T : Type 0} (n : ℕ) (xs : List (TenantSlot T)) → child_slots n xs ≡ [] → NoParent n xs
+no_parent n [] none = tt
+no_parent n (x ∷ xs) none =
+    elim (cases_Bool (is_serial n x.parent)) [
+      | inl child ↦ absurd (cons_nil x (child_slots n xs) (rw child at none))
+      | inr other ↦ (λ e. false≢true (sym other ∙ (rw e (eq-eqb n n refl))), no_parent n xs (rw other at none))
+    ]
+  where
+    cons_nil : {X : Type 0} (x : X) (xs : List X) → x ∷ xs ≡ [] → ⊥
+    cons_nil x xs e = absurd (cc)
+
+-- nothing stays behind under it
+pub leaf_closed : {T : Type 0} (n : ℕ) (xs : List (TenantSlot T)) → NoParent n xs → IsClosed (λ serial. not (eqb serial n)) xs
+leaf_closed n [] none = tt
+leaf_closed n (x ∷ xs) none = ((λ p is stays. rw (ne_eqb p n (λ e. none.0 (is ∙ ap Some e))) refl), leaf_closed n xs none.1)
+
+-- the list without the key at a place
+pub remove_key : (keys : List ℕ) (i d : ℕ) → AreApartKeys keys → i < length keys → remove keys i ≡ filter (λ k. not (eqb k (get_or keys i d))) keys
+remove_key [] i d a lt = absurd (omega arith)
+remove_key (k ∷ keys) zero d a lt = rw (eq-eqb k k refl) (sym (all_stay k keys a.0))
+  where
+    all_stay : (k : ℕ) (keys : List ℕ) → has_number keys k ≡ false → filter (λ j. not (eqb j k)) keys ≡ keys
+    all_stay k [] none = refl
+    all_stay k (j ∷ keys) none =
+        elim (cases_Bool (eqb j k)) [
+          | inl same ↦ absurd (false≢true (sym none ∙ (rw same refl)))
+          | inr differs ↦ rw differs (ap (λ ks. j ∷ ks) (all_stay k keys (rw differs at none)))
+        ]
+remove_key (k ∷ keys) (suc i) d a lt =
+    let other : k ≢ get_or keys i d = λ e. false≢true (sym a.0 ∙ (ap (has_number keys) e ∙ has_number-at keys i d (omega arith))) in
+    rw (ne_eqb k (get_or keys i d) other) (ap (λ ks. k ∷ ks) (remove_key keys i d a.1 (omega arith)))
+
+-- no slot is marked
+pub unmarked : {T : Type 0} (slab : Slab (KeptSlot T)) (before keys : List ℕ) (k : ℕ) (x : KeptSlot T) → AllHere slab before keys → has_number keys k ≡ true → get slab k ≡ Some x → x.marked ≡ false
+unmarked slab before [] k x h has is = absurd (false≢true has)
+unmarked slab before (j ∷ keys) k x h has is =
+    elim (cases_eq j k) [
+      | inl same ↦ (let here : IsHere slab before (Some x) = subst (λ o. IsHere slab before o) (ap (get slab) same ∙ is) h.0 in here.0)
+      | inr differs ↦ unmarked slab (before ++ j ∷ []) keys k x h.1 (rw (ne_eqb j k differs) at has) is
+    ]
+
+-- a serial above another, by its key
+above_key : {T : Type 0} (slab : Slab (KeptSlot T)) (before keys : List ℕ) (n k : ℕ) (x : KeptSlot T) → AllHere slab before keys → AllAbove n (slots_in slab keys) → has_number keys k ≡ true → get slab k ≡ Some x → n < x.slot.serial
+above_key slab before [] n k x h above has is = absurd (false≢true has)
+above_key {T} slab before (j ∷ keys) n k x h above has is =
+    let found = here_found slab before (get slab j) h.0 in
+    let both : AllAbove n (found.0.slot ∷ slots_in slab keys) = subst (λ o. AllAbove n (with_found o (slots_in slab keys))) found.1 above in
+    elim (cases_eq j k) [
+      | inl same ↦ (let P : Option (KeptSlot T) → Type 0 = λ o. AllAbove n (with_found o []) in
+          let one : AllAbove n (x.slot ∷ []) = subst P (sym found.1 ∙ (ap (get slab) same ∙ is)) (both.0, tt) in one.0)
+      | inr differs ↦ above_key slab (before ++ j ∷ []) keys n k x h.1 both.1 (rw (ne_eqb j k differs) at has) is
+    ]
+
+-- slots of one serial stand under one key
+pub same_key : {T : Type 0} (slab : Slab (KeptSlot T)) (before keys : List ℕ) (k j : ℕ) (x y : KeptSlot T) → AllHere slab before keys → Rises (slots_in slab keys) → has_number keys k ≡ true → has_number keys j ≡ true → get slab k ≡ Some x → get slab j ≡ Some y → x.slot.serial ≡ y.slot.serial → k ≡ j
+same_key slab before [] k j x y h rise has_k has_j is_k is_j same = absurd (false≢true has_k)
+same_key {T} slab before (i ∷ keys) k j x y h rise has_k has_j is_k is_j same =
+    let found = here_found slab before (get slab i) h.0 in
+    let both : Rises (found.0.slot ∷ slots_in slab keys) = subst (λ o. Rises (with_found o (slots_in slab keys))) found.1 rise in
+    elim (cases_eq i k) [
+      | inl at_k ↦ elim (cases_eq i j) [
+        | inl at_j ↦ sym at_k ∙ at_j
+        | inr not_j ↦ (let e = serial_at slab i k found.0 x found.1 at_k is_k in
+            absurd (omega (arith, above_key slab (before ++ i ∷ []) keys found.0.slot.serial j y h.1 both.0 (rw (ne_eqb i j not_j) at has_j) is_j, e, same)))
+      ]
+      | inr not_k ↦ elim (cases_eq i j) [
+        | inl at_j ↦ (let e = serial_at slab i j found.0 y found.1 at_j is_j in
+            absurd (omega (arith, above_key slab (before ++ i ∷ []) keys found.0.slot.serial k x h.1 both.0 (rw (ne_eqb i k not_k) at has_k) is_k, e, same)))
+        | inr not_j ↦ same_key slab (before ++ i ∷ []) keys k j x y h.1 both.1 (rw (ne_eqb i k not_k) at has_k) (rw (ne_eqb i j not_j) at has_j) is_k is_j same
+      ]
+    ]
+  where
+    some_slot : {T : Type 0} (a b : KeptSlot T) → Some a ≡ Some b → a.slot.serial ≡ b.slot.serial
+    some_slot {T} a b e = ap (λ (o : Option (KeptSlot T)). serial_or o) e
+      where
+        serial_or : {T : Type 0} → Option (KeptSlot T) → ℕ
+        serial_or None = 0
+        serial_or (Some k) = k.slot.serial
+
+    serial_at : {T : Type 0} (slab : Slab (KeptSlot T)) (i k : ℕ) (a x : KeptSlot T) → get slab i ≡ Some a → i ≡ k → get slab k ≡ Some x → a.slot.serial ≡ x.slot.serial
+    serial_at slab i k a x is_i same is_k = some_slot a x (sym is_i ∙ (ap (get slab) same ∙ is_k))
+
+-- those that stay when a leaf is taken away
+pub taken_stays : {T : Type 0} (old new : Slab (KeptSlot T)) (order : List ℕ) (at key : ℕ) (kept : KeptSlot T) → HasTaken old new order at key kept → AllHere old [] order → Rises (slots_in old order) → Stays old new (λ k. not (eqb k key)) (λ serial. not (eqb serial kept.slot.serial)) order
+taken_stays old new order at key kept t h rise =
+    let there : has_number order key ≡ true = ap (has_number order) t.read ∙ has_number-at order at key t.within in
+    record {
+      agree = λ k x has is. elim (cases_eq k key) [
+        | inl same ↦ (let e = by_one (get old k) x kept is (ap (get old) same ∙ t.was) in rw (eq-eqb k key same, eq-eqb x.slot.serial kept.slot.serial e) refl)
+        | inr differs ↦ rw (ne_eqb k key differs, ne_eqb x.slot.serial kept.slot.serial (λ e. differs (same_key old [] order k key x kept h rise has there is t.was e))) refl
+      ];
+      renew = λ k x has is stays.
+          t.others k (λ e. false≢true (rw (eq-eqb k key e) at stays)) ∙ (is ∙ ap (λ b. Some (record x { marked = b })) (unmarked old [] order k x h has is));
+    }
+
+-- the slots without the one at a place, by serials
+slots_without : {T : Type 0} (xs : List (TenantSlot T)) (i n : ℕ) → Rises xs → i < length xs → slice_index (serials_of xs) i ≡ n → filter (λ s. not (eqb s.serial n)) xs ≡ remove xs i
+slots_without [] i n rise lt at = absurd (omega arith)
+slots_without (x ∷ xs) zero n rise lt at = rw (eq-eqb x.serial n at) (later xs n (rw at at rise.0))
+  where
+    later : {T : Type 0} (xs : List (TenantSlot T)) (n : ℕ) → AllAbove n xs → filter (λ s. not (eqb s.serial n)) xs ≡ xs
+    later [] n above = refl
+    later (x ∷ xs) n above = rw (ne_eqb x.serial n (λ e. omega (arith, above.0, e))) (ap (λ ys. x ∷ ys) (later xs n above.1))
+slots_without (x ∷ xs) (suc i) n rise lt at =
+    let more = above_at xs x.serial i rise.0 (omega arith) in
+    rw (ne_eqb x.serial n (λ e. omega (arith, more, at, e))) (ap (λ ys. x ∷ ys) (slots_without xs i n rise.1 (omega arith) at))
+
+pub taken_slots : {T : Type 0} (old new : Slab (KeptSlot T)) (order : List ℕ) (at key : ℕ) (kept : KeptSlot T) → HasTaken old new order at key kept → AllHere old [] order → AreApartKeys order → Rises (slots_in old order) → slots_in new (remove order at) ≡ remove (slots_in old order) at
+taken_slots old new order at key kept t h a rise =
+    let s = taken_stays old new order at key kept t h rise in
+    let within : at < length (slots_in old order) = rw (slots_in-length old [] order h) t.within in
+    let here = serial_read (slots_in old order) at kept.slot within (sym (slot_read old order at key kept kept.slot h t.within t.read t.was)) in
+    ap (slots_in new) (remove_key order at key a t.within ∙ ap (λ j. filter (λ k. not (eqb k j)) order) (sym t.read))
+    ∙ (slots-filter old new (λ k. not (eqb k key)) (λ serial. not (eqb serial kept.slot.serial)) order [] order s.agree (λ k x has is stays. rw (s.renew k x has is stays) refl) (λ k has. has) h
+    ∙ slots_without (slots_in old order) at kept.slot.serial rise within here)
+
+pub taken_shelf : {T : Type 0} (old new : Slab (KeptSlot T)) (order left : List ℕ) (room places at key : ℕ) (kept : KeptSlot T) → HasTaken old new order at key kept → IsShelf old order room places → Rises (slots_in old order) → child_slots (slice_index (serials_of (slots_in old order)) at) (slots_in old order) ≡ [] → left ≡ remove order at → length left + 1 ≡ length order → slab_len new + 1 ≡ slab_len old → new.capacity ≡ old.capacity → IsShelf new left room places
+taken_shelf old new order left room places at key kept t s rise leaf is long len capacity =
+    let within : at < length (slots_in old order) = rw (slots_in-length old [] order s.here) t.within in
+    let here_is = serial_read (slots_in old order) at kept.slot within (sym (slot_read old order at key kept kept.slot s.here t.within t.read t.was)) in
+    let none : child_slots kept.slot.serial (slots_in old order) ≡ [] = ap (λ n. child_slots n (slots_in old order)) (sym here_is) ∙ leaf in
+    let closed = leaf_closed kept.slot.serial (slots_in old order) (no_parent kept.slot.serial (slots_in old order) none) in
+    let here = here-filter old new (λ k. not (eqb k key)) (λ serial. not (eqb serial kept.slot.serial)) order [] order (taken_stays old new order at key kept t s.here rise) (λ k has. absurd (false≢true has)) (λ k has. has) closed s.here in
+    let kept_is : left ≡ filter (λ k. not (eqb k key)) order = is ∙ (remove_key order at key s.apart t.within ∙ ap (λ j. filter (λ k. not (eqb k j)) order) (sym t.read)) in
+    record {
+      here = rw kept_is here;
+      apart = rw kept_is (apart-filter (λ k. not (eqb k key)) order s.apart);
+      counted = omega (arith, len, s.counted, long);
+      within = omega (arith, long, s.within);
+      slab_room = omega (arith, s.slab_room, capacity);
+      order_room = s.order_room;
+    }
+
+-- the parent of a slot that was taken away is known as before
+pub taken_knows : {T : Type 0} (old new : Slab (KeptSlot T)) (order : List ℕ) (at key : ℕ) (kept : KeptSlot T) → HasTaken old new order at key kept → AllHere old [] order → IsLinked [] (slots_in old order) → AreKeys new (remove order at) → KnowsParent new (remove order at) kept.slot.parent kept.above
+taken_knows {T} old new order at key kept t h linked are =
+    let here : IsHere old (take at order) (Some kept) = subst (λ o. IsHere old (take at order) o) t.was (here_read old order at key h t.within t.read) in
+    let within : at < length (slots_in old order) = rw (slots_in-length old [] order h) t.within in
+    let read = sym (slot_read old order at key kept kept.slot h t.within t.read t.was) in
+    still old new (take at order) (remove order at) key kept kept.slot.parent kept.above t.was t.others (λ p is. (parent_below [] (slots_in old order) at kept.slot p linked within read is).0) are here.1
+  where
+    still : {T : Type 0} (old new : Slab (KeptSlot T)) (before keys : List ℕ) (key : ℕ) (kept : KeptSlot T) (parent above : Option ℕ) → get old key ≡ Some kept → ((k : ℕ) → k ≢ key → get new k ≡ get old k) → ((p : ℕ) → parent ≡ Some p → p < kept.slot.serial) → AreKeys new keys → KnowsParent old before parent above → KnowsParent new keys parent above
+    still old new before keys key kept None None was others below are k = tt
+    still old new before keys key kept None (Some a) was others below are k = absurd k
+    still old new before keys key kept (Some p) None was others below are k = absurd k
+    still {T} old new before keys key kept (Some p) (Some a) was others below are k =
+        let y = named_slot p (get old a) k.1 in
+        let other : a ≢ key = λ e. omega (arith, below p refl, y.2, by_one (get old a) y.0 kept y.1 (ap (get old) e ∙ was)) in
+        let found : get new a ≡ Some y.0 = others a other ∙ y.1 in
+        let place = key_found new keys p a y.0 are found y.2 in
+        knows_key new keys (Some p) p place.0 a refl are place.1
+
+-- what stands under a parent's key
+pub record IsParentKey {T : Type 0} (slab : Slab (KeptSlot T)) (keys : List ℕ) (parent : Option ℕ) (key : ℕ) : Type 0 where
+  pub name : ℕ
+  pub at : ℕ
+  pub kept : KeptSlot T
+  pub is : parent ≡ Some name
+  pub key_at : IsKeyAt slab keys name at key
+  pub found : get slab key ≡ Some kept
+
+pub parent_key : {T : Type 0} (slab : Slab (KeptSlot T)) (keys : List ℕ) (parent above : Option ℕ) (key : ℕ) → above ≡ Some key → AreKeys slab keys → KnowsParent slab keys parent above → IsParentKey slab keys parent key
+parent_key {T} slab keys parent above key is are k = of slab keys parent key are (rw is at k)
+  where
+    of : {T : Type 0} (slab : Slab (KeptSlot T)) (keys : List ℕ) (parent : Option ℕ) (key : ℕ) → AreKeys slab keys → KnowsParent slab keys parent (Some key) → IsParentKey slab keys parent key
+    of slab keys None key are k = absurd k
+    of slab keys (Some p) key are k =
+        let y = named_slot p (get slab key) k.1 in
+        let place = key_found slab keys p key y.0 are y.1 y.2 in
+        record { name = p; at = place.0; kept = y.0; is = refl; key_at = place.1; found = y.1 }
+
+-- no key is a root's
+pub no_parent_key : {T : Type 0} (slab : Slab (KeptSlot T)) (keys : List ℕ) (parent above : Option ℕ) → above ≡ None → KnowsParent slab keys parent above → parent ≡ None
+no_parent_key slab keys None above is k = refl
+no_parent_key slab keys (Some p) above is k = absurd (rw is at k)
+
+-- slots rise without the one at a place
+pub rises_remove : {T : Type 0} (xs : List (TenantSlot T)) (i : ℕ) → Rises xs → Rises (remove xs i)
+rises_remove [] zero rise = tt
+rises_remove [] (suc i) rise = tt
+rises_remove (x ∷ xs) zero rise = rise.1
+rises_remove (x ∷ xs) (suc i) rise = (above x.serial xs i rise.0, rises_remove xs i rise.1)
+  where
+    above : {T : Type 0} (n : ℕ) (xs : List (TenantSlot T)) (i : ℕ) → AllAbove n xs → AllAbove n (remove xs i)
+    above n [] zero a = tt
+    above n [] (suc i) a = tt
+    above n (x ∷ xs) zero a = a.1
+    above n (x ∷ xs) (suc i) a = (a.0, above n xs i a.1)

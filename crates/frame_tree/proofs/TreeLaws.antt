@@ -1,0 +1,316 @@
+-- A tree, frame by frame: each frame stands under its parent, and what follows for look-ups, paths and children.
+use Rattle.std.proofs.Common.{◌≡◌, ◌≢◌, ℕ, zero, suc, ◌<◌, ◌≤◌, ◌⊎◌, inl, inr, Bool, true, false, ◌||◌, eqb, List, [], ◌∷◌, ◌++◌, Option, Some, None, refl, ap, sym, ◌∙◌, subst, arith, append_assoc}
+use Rattle.std.specs.List.{filter}
+use Rattle.std.proofs.lemmas.Bool.{cases_Bool, cases_eq, false≢true, true≢false, eq-eqb, ne_eqb, eqb-true, and_parts, or_cases}
+use Rattle.frame_tree.specs.Frames.{Frame, frame_at, has_frame, has_parent, path_in, AllBelow, parent_of, path_under, goes_under, is_one_more, children_under, children_of, IsNextFrame, IsTree, IsTreeAfter}
+use Rattle.frame_tree.specs.TreeLaws.{is_that, is_child_of, AllAboveSerial, AreRising, Each}
+use Rattle.frame_tree.proofs.Forest.{AllBelow-left, AllBelow-right, has_frame-above, EndsIn, EndsIn-append, goes_under-append}
+
+-- a frame that is found
+pub found-there : {T : Type 0} (frames : List (Frame T)) (serial : ℕ) (frame : Frame T) → frame_at frames serial ≡ Some frame → has_frame frames serial ≡ true
+found-there [] serial frame at = absurd cc
+found-there (x ∷ xs) serial frame at =
+    elim (cases_Bool (eqb x.serial serial)) [ inl same ↦ rw same refl | inr other ↦ rw other (found-there xs serial frame (rw other at at)) ]
+
+pub there-found : {T : Type 0} (frames : List (Frame T)) (serial : ℕ) → has_frame frames serial ≡ true → (frame : Frame T) × (frame_at frames serial ≡ Some frame)
+there-found [] serial there = absurd (false≢true there)
+there-found (x ∷ xs) serial there =
+    elim (cases_Bool (eqb x.serial serial)) [ inl same ↦ (x, rw same refl) | inr other ↦ (let rest = there-found xs serial (rw other at there) in (rest.0, rw other rest.1)) ]
+
+pub found-serial : {T : Type 0} (frames : List (Frame T)) (serial : ℕ) (frame : Frame T) → frame_at frames serial ≡ Some frame → frame.serial ≡ serial
+found-serial [] serial frame at = absurd cc
+found-serial {T} (x ∷ xs) serial frame at =
+    elim (cases_Bool (eqb x.serial serial)) [
+      | inl same ↦ (let is : ◌≡◌ {A = Option (Frame T)} (Some x) (Some frame) = rw same at at in let e : x ≡ frame = cc in sym (ap (λ f. f.serial) e) ∙ eqb-true x.serial serial same)
+      | inr other ↦ found-serial xs serial frame (rw other at at)
+    ]
+
+pub found-path : {T : Type 0} (frames : List (Frame T)) (serial : ℕ) (frame : Frame T) → frame_at frames serial ≡ Some frame → path_in frames serial ≡ frame.path
+found-path [] serial frame at = absurd cc
+found-path {T} (x ∷ xs) serial frame at =
+    elim (cases_Bool (eqb x.serial serial)) [
+      | inl same ↦ (let is : ◌≡◌ {A = Option (Frame T)} (Some x) (Some frame) = rw same at at in rw same (let e : x ≡ frame = cc in ap (λ f. f.path) e))
+      | inr other ↦ rw other (found-path xs serial frame (rw other at at))
+    ]
+
+pub missing : {T : Type 0} (frames : List (Frame T)) (serial : ℕ) → has_frame frames serial ≡ false → frame_at frames serial ≡ None
+missing [] serial lacks = refl
+missing (x ∷ xs) serial lacks =
+    elim (cases_Bool (eqb x.serial serial)) [ inl same ↦ absurd (false≢true (sym lacks ∙ (rw same refl))) | inr other ↦ rw other (missing xs serial (rw other at lacks)) ]
+
+pub frame_at-left : {T : Type 0} (xs ys : List (Frame T)) (serial : ℕ) → has_frame xs serial ≡ true → frame_at (xs ++ ys) serial ≡ frame_at xs serial
+frame_at-left [] ys serial there = absurd (false≢true there)
+frame_at-left (x ∷ xs) ys serial there =
+    elim (cases_Bool (eqb x.serial serial)) [ inl same ↦ rw same refl | inr other ↦ rw other (frame_at-left xs ys serial (rw other at there)) ]
+
+pub frame_at-right : {T : Type 0} (xs ys : List (Frame T)) (serial : ℕ) → has_frame xs serial ≡ false → frame_at (xs ++ ys) serial ≡ frame_at ys serial
+frame_at-right [] ys serial lacks = refl
+frame_at-right (x ∷ xs) ys serial lacks =
+    elim (cases_Bool (eqb x.serial serial)) [ inl same ↦ absurd (false≢true (sym lacks ∙ (rw same refl))) | inr other ↦ rw other (frame_at-right xs ys serial (rw other at lacks)) ]
+
+-- one frame more: another serial is found as before, and its own where it is above all
+pub frame_at_other-push : {T : Type 0} (xs : List (Frame T)) (y : Frame T) (serial : ℕ) → y.serial ≢ serial → frame_at (xs ++ y ∷ []) serial ≡ frame_at xs serial
+frame_at_other-push [] y serial other = rw (ne_eqb y.serial serial other) refl
+frame_at_other-push (x ∷ xs) y serial other =
+    elim (cases_Bool (eqb x.serial serial)) [ inl same ↦ rw same refl | inr differs ↦ rw differs (frame_at_other-push xs y serial other) ]
+
+pub frame_at-push : {T : Type 0} (xs : List (Frame T)) (y : Frame T) → AllBelow y.serial xs → frame_at (xs ++ y ∷ []) y.serial ≡ Some y
+frame_at-push xs y below = frame_at-right xs (y ∷ []) y.serial (has_frame-above xs y.serial below) ∙ (rw (eq-eqb y.serial y.serial refl) refl)
+
+-- a serial below a bound on all
+pub below-found : {T : Type 0} (xs : List (Frame T)) (bound serial : ℕ) → AllBelow bound xs → has_frame xs serial ≡ true → serial < bound
+below-found [] bound serial below there = absurd (false≢true there)
+below-found (x ∷ xs) bound serial below there =
+    elim (cases_Bool (eqb x.serial serial)) [
+      | inl same ↦ (let e = eqb-true x.serial serial same in omega (arith, below.0, e))
+      | inr other ↦ below-found xs bound serial below.1 (rw other at there)
+    ]
+
+-- the frames of a tree rise
+above-linked : {T : Type 0} (before frames : List (Frame T)) (serial : ℕ) → ((bound : ℕ) → AllBelow bound before → serial < bound) → IsTreeAfter before frames → AllAboveSerial serial frames
+above-linked before [] serial low t = tt
+above-linked before (x ∷ xs) serial low t =
+    (low x.serial t.0.above, above-linked (before ++ x ∷ []) xs serial (λ bound below. low bound (AllBelow-left bound before _ below)) t.1)
+
+rising-after : {T : Type 0} (before frames : List (Frame T)) → IsTreeAfter before frames → AreRising frames
+rising-after before [] t = tt
+rising-after before (x ∷ xs) t =
+    (above-linked (before ++ x ∷ []) xs x.serial (λ bound below. (AllBelow-right bound before (x ∷ []) below).0) t.1, rising-after (before ++ x ∷ []) xs t.1)
+
+pub tree-rising : {T : Type 0} (frames : List (Frame T)) → IsTree frames → AreRising frames
+tree-rising frames t = rising-after [] frames t
+
+-- what rises above a serial hasn't got it
+pub above-missing : {T : Type 0} (xs : List (Frame T)) (low serial : ℕ) → serial ≤ low → AllAboveSerial low xs → has_frame xs serial ≡ false
+above-missing [] low serial le above = refl
+above-missing (x ∷ xs) low serial le above =
+    rw (ne_eqb x.serial serial (λ e. omega (arith, above.0, e, le))) (above-missing xs low serial le above.1)
+
+-- a fact of each frame that is found, and of each frame of the list
+pub each-found : {T : Type 0} (P : Frame T → Type 0) (frames : List (Frame T)) (serial : ℕ) (frame : Frame T) → Each P frames → frame_at frames serial ≡ Some frame → P frame
+each-found P [] serial frame each at = absurd cc
+each-found {T} P (x ∷ xs) serial frame each at =
+    elim (cases_Bool (eqb x.serial serial)) [
+      | inl same ↦ (let is : ◌≡◌ {A = Option (Frame T)} (Some x) (Some frame) = rw same at at in let e : x ≡ frame = cc in subst P e each.0)
+      | inr other ↦ each-found P xs serial frame each.1 (rw other at at)
+    ]
+
+pub found-each : {T : Type 0} (P : Frame T → Type 0) (frames : List (Frame T)) → AreRising frames → ((serial : ℕ) (frame : Frame T) → frame_at frames serial ≡ Some frame → P frame) → Each P frames
+found-each P [] rising all = tt
+found-each P (x ∷ xs) rising all = (
+  all x.serial x (rw (eq-eqb x.serial x.serial refl) refl),
+  found-each P xs rising.1 (λ serial frame at. all serial frame
+      (rw (ne_eqb x.serial serial (λ e. true≢false (sym (found-there xs serial frame at) ∙ above-missing xs x.serial serial (omega (arith, e)) rising.0))) at)),
+)
+
+-- the last serial of a path is one alone
+pub EndsIn-one : (path : List ℕ) (a b : ℕ) → EndsIn path a → EndsIn path b → a ≡ b
+EndsIn-one [] a b p q = absurd p
+EndsIn-one (x ∷ []) a b p q = sym p ∙ q
+EndsIn-one (x ∷ y ∷ path) a b p q = EndsIn-one (y ∷ path) a b p q
+
+-- a frame in its place among others: a root, whose path is its serial alone, or one step further than its parent, which is there and has a lower serial
+pub record IsUnder {T : Type 0} (frames : List (Frame T)) (frame : Frame T) : Type 0 where
+  pub parent : ℕ
+  pub above : Frame T
+  pub named : parent_of frame.path ≡ Some parent
+  pub there : frame_at frames parent ≡ Some above
+  pub below : parent < frame.serial
+  pub path : frame.path ≡ above.path ++ frame.serial ∷ []
+
+abbrev pub IsTop : {T : Type 0} → Frame T → Type 0
+IsTop frame = (parent_of frame.path ≡ None) × (frame.path ≡ frame.serial ∷ [])
+
+abbrev pub IsPlaced : {T : Type 0} → List (Frame T) → Frame T → Type 0
+IsPlaced frames frame = IsTop frame ⊎ IsUnder frames frame
+
+placed-next : {T : Type 0} (before frames : List (Frame T)) (x : Frame T) → IsNextFrame before x → IsPlaced (before ++ frames) x
+placed-next {T} before frames x n = by (parent_of x.path) refl
+  where
+    by : (parent : Option ℕ) → parent_of x.path ≡ parent → IsPlaced (before ++ frames) x
+    by None e = inl (e, n.path ∙ ap (λ p. path_under before p x.serial) e)
+    by (Some p) e =
+        let there : has_frame before p ≡ true = sym (ap (has_parent before) e) ∙ n.parent in
+        let f = there-found before p there in
+        inr (record {
+          parent = p;
+          above = f.0;
+          named = e;
+          there = frame_at-left before frames p there ∙ f.1;
+          below = below-found before x.serial p n.above there;
+          path = n.path ∙ ap (λ q. path_under before q x.serial) e ∙ ap (λ path. path ++ x.serial ∷ []) (found-path before p f.0 f.1);
+        })
+
+placed-after : {T : Type 0} (before frames : List (Frame T)) → IsTreeAfter before frames → Each (IsPlaced (before ++ frames)) frames
+placed-after before [] t = tt
+placed-after {T} before (x ∷ xs) t =
+    let P : List (Frame T) → Type 0 = λ all. Each (IsPlaced all) xs in
+    (placed-next before (x ∷ xs) x t.0, subst P (append_assoc before (x ∷ []) xs) (placed-after (before ++ x ∷ []) xs t.1))
+
+-- in a tree each frame is in its place
+pub placed : {T : Type 0} (frames : List (Frame T)) (serial : ℕ) (frame : Frame T) → IsTree frames → frame_at frames serial ≡ Some frame → IsPlaced frames frame
+placed frames serial frame t at = each-found (IsPlaced frames) frames serial frame (placed-after [] frames t) at
+
+pub each-placed : {T : Type 0} (frames : List (Frame T)) → IsTree frames → Each (IsPlaced frames) frames
+each-placed frames t = placed-after [] frames t
+
+pub placed-ends : {T : Type 0} (frames : List (Frame T)) (frame : Frame T) → IsPlaced frames frame → EndsIn frame.path frame.serial
+placed-ends frames frame (inl top) = rw top.1 refl
+placed-ends frames frame (inr under) = rw under.path (EndsIn-append under.above.path frame.serial)
+
+pub found-ends : {T : Type 0} (frames : List (Frame T)) (serial : ℕ) (frame : Frame T) → IsTree frames → frame_at frames serial ≡ Some frame → EndsIn frame.path serial
+found-ends frames serial frame t at =
+    let is = found-serial frames serial frame at in
+    rw is at (placed-ends frames frame (placed frames serial frame t at))
+
+-- a fact that each frame of a tree has where its parent has it
+by-parents : {T : Type 0} (P : Frame T → Type 0) (frames : List (Frame T)) → IsTree frames →
+    ((frame : Frame T) → IsTop frame → P frame) → ((frame : Frame T) → (u : IsUnder frames frame) → P u.above → P frame) →
+    (bound serial : ℕ) (frame : Frame T) → serial < bound → frame_at frames serial ≡ Some frame → P frame
+by-parents P frames t top under zero serial frame low at = absurd (omega arith)
+by-parents P frames t top under (suc bound) serial frame low at =
+    elim (placed frames serial frame t at) [
+      | inl is ↦ top frame is
+      | inr u ↦ (let e = found-serial frames serial frame at in let below = u.below in
+          under frame u (by-parents P frames t top under bound u.parent u.above (omega (arith, e, below, low)) u.there))
+    ]
+
+pub tree-induction : {T : Type 0} (P : Frame T → Type 0) (frames : List (Frame T)) → IsTree frames →
+    ((frame : Frame T) → IsTop frame → P frame) → ((frame : Frame T) → (u : IsUnder frames frame) → P u.above → P frame) →
+    (serial : ℕ) (frame : Frame T) → frame_at frames serial ≡ Some frame → P frame
+tree-induction P frames t top under serial frame at = by-parents P frames t top under (suc serial) serial frame (omega arith) at
+
+-- a path goes under a frame through its parent, or where its parent goes
+pub under-through : {T : Type 0} (frames : List (Frame T)) (frame : Frame T) (p : ℕ) → IsTree frames → (u : IsUnder frames frame) →
+    goes_under p frame.path ≡ (eqb u.parent p || goes_under p u.above.path)
+under-through frames frame p t u =
+    rw u.path (goes_under-append p u.above.path u.parent frame.serial (found-ends frames u.parent u.above t u.there))
+
+top-under-none : {T : Type 0} (frame : Frame T) (p : ℕ) → IsTop frame → goes_under p frame.path ≡ false
+top-under-none frame p top = rw top.1 refl
+
+-- what a path goes through is there, and has a lower serial
+abbrev pub GoesThrough : {T : Type 0} → List (Frame T) → Frame T → Type 0
+GoesThrough frames frame = (p : ℕ) → goes_under p frame.path ≡ true → (p < frame.serial) × (has_frame frames p ≡ true)
+
+pub goes-through : {T : Type 0} (frames : List (Frame T)) (serial : ℕ) (frame : Frame T) → IsTree frames → frame_at frames serial ≡ Some frame → GoesThrough frames frame
+goes-through {T} frames serial frame t at =
+    tree-induction (GoesThrough frames) frames t
+    (λ frame top p goes. absurd (false≢true (sym (top-under-none frame p top) ∙ goes)))
+    (λ frame u above p goes. elim (or_cases (eqb u.parent p) (goes_under p u.above.path) (sym (under-through frames frame p t u) ∙ goes)) [
+      | inl same ↦ (let e = eqb-true u.parent p same in let below = u.below in
+          (omega (arith, e, below), rw (← e) (found-there frames u.parent u.above u.there)))
+      | inr through ↦ (let rest = above p through in let e = found-serial frames u.parent u.above u.there in let below = u.below in
+          (omega (arith, rest.0, e, below), rest.1))
+    ])
+    serial frame at
+
+-- no frame is under itself
+pub not-under-itself : {T : Type 0} (frames : List (Frame T)) (serial : ℕ) (frame : Frame T) → IsTree frames → frame_at frames serial ≡ Some frame → goes_under serial frame.path ≡ false
+not-under-itself frames serial frame t at =
+    elim (cases_Bool (goes_under serial frame.path)) [
+      | inl goes ↦ (let low = (goes-through frames serial frame t at serial goes).0 in let e = found-serial frames serial frame at in absurd (omega (arith, low, e)))
+      | inr stays ↦ stays
+    ]
+
+-- a path with one more serial than another
+one_more-itself : (path : List ℕ) (serial : ℕ) → is_one_more path (path ++ serial ∷ []) ≡ true
+one_more-itself [] serial = refl
+one_more-itself (x ∷ path) serial = rw (eq-eqb x x refl) (one_more-itself path serial)
+
+one_more-none : (above : List ℕ) → is_one_more above [] ≡ false
+one_more-none [] = refl
+one_more-none (x ∷ above) = refl
+
+one_more-same : (above path : List ℕ) (serial : ℕ) → is_one_more above (path ++ serial ∷ []) ≡ true → above ≡ path
+one_more-same [] [] serial e = refl
+one_more-same [] (y ∷ []) serial e = absurd (false≢true e)
+one_more-same [] (y ∷ z ∷ path) serial e = absurd (false≢true e)
+one_more-same (x ∷ above) [] serial e = absurd (false≢true (sym (one_more-none above) ∙ (and_parts (eqb x serial) (is_one_more above []) e).1))
+one_more-same (x ∷ above) (y ∷ path) serial e =
+    let both = and_parts (eqb x y) (is_one_more above (path ++ serial ∷ [])) e in
+    let head = eqb-true x y both.0 in
+    let tail = one_more-same above path serial both.1 in cc
+
+-- the children of a frame are those whose path has its serial as the last but one
+child-top : {T : Type 0} (above : List ℕ) (s : ℕ) (x : Frame T) → EndsIn above s → IsTop x → is_one_more above x.path ≡ is_child_of s x.path
+child-top [] s x ends top = absurd ends
+child-top (a ∷ above) s x ends top = rw (top.0, top.1) (none a (x.serial) above)
+  where
+    none : (a b : ℕ) (above : List ℕ) → (is_one_more (a ∷ above) (b ∷ [])) ≡ false
+    none a b [] = elim (cases_Bool (eqb a b)) [ inl same ↦ rw same refl | inr other ↦ rw other refl ]
+    none a b (c ∷ above) = elim (cases_Bool (eqb a b)) [ inl same ↦ rw same refl | inr other ↦ rw other refl ]
+
+child-under : {T : Type 0} (frames : List (Frame T)) (s : ℕ) (f x : Frame T) → IsTree frames → frame_at frames s ≡ Some f → (u : IsUnder frames x) → is_one_more f.path x.path ≡ is_child_of s x.path
+child-under {T} frames s f x t at u =
+    elim (cases_eq u.parent s) [
+      | inl same ↦ (let both : ◌≡◌ {A = Option (Frame T)} (Some u.above) (Some f) = sym u.there ∙ (rw same at) in
+          let e : u.above ≡ f = cc in
+          let one : is_one_more f.path x.path ≡ true = rw (u.path, e) (one_more-itself f.path x.serial) in
+          one ∙ sym (ap (is_that s) u.named ∙ eq-eqb u.parent s same))
+      | inr other ↦ elim (cases_Bool (is_one_more f.path x.path)) [
+        | inl one ↦ (let e = one_more-same f.path u.above.path x.serial (rw u.path at one) in
+            let ends : EndsIn u.above.path s = rw e at (found-ends frames s f t at) in
+            absurd (other (EndsIn-one u.above.path u.parent s (found-ends frames u.parent u.above t u.there) ends)))
+        | inr none ↦ none ∙ sym (ap (is_that s) u.named ∙ ne_eqb u.parent s other)
+      ]
+    ]
+
+filter-alike : {T : Type 0} (p q : Frame T → Bool) (frames : List (Frame T)) → Each (λ x. p x ≡ q x) frames → filter p frames ≡ filter q frames
+filter-alike p q [] each = refl
+filter-alike p q (x ∷ xs) each = elim (cases_Bool (q x)) [
+  | inl is ↦ rw (each.0, is, filter-alike p q xs each.1) refl
+  | inr not_so ↦ rw (each.0, not_so, filter-alike p q xs each.1) refl
+]
+
+filter-none : {T : Type 0} (p : Frame T → Bool) (frames : List (Frame T)) → Each (λ x. p x ≡ false) frames → filter p frames ≡ []
+filter-none p [] each = refl
+filter-none p (x ∷ xs) each = rw each.0 (filter-none p xs each.1)
+
+not-child-missing : {T : Type 0} (frames : List (Frame T)) (s : ℕ) (x : Frame T) → has_frame frames s ≡ false → IsPlaced frames x → is_child_of s x.path ≡ false
+not-child-missing frames s x lacks (inl top) = rw top.0 refl
+not-child-missing frames s x lacks (inr u) =
+    rw u.named (ne_eqb u.parent s (λ e. true≢false (sym (found-there frames u.parent u.above u.there) ∙ (rw e lacks))))
+
+pub children-by-paths : {T : Type 0} (frames : List (Frame T)) (s : ℕ) → IsTree frames → children_of frames s ≡ filter (λ x. is_child_of s x.path) frames
+children-by-paths {T} frames s t =
+    elim (cases_Bool (has_frame frames s)) [
+      | inl there ↦ (let f = there-found frames s there in
+          let P : Frame T → Type 0 = λ x. is_one_more f.0.path x.path ≡ is_child_of s x.path in
+          ap (λ o. children_under o frames) f.1 ∙ filter-alike (λ x. is_one_more f.0.path x.path) (λ x. is_child_of s x.path) frames
+          (found-each P frames (tree-rising frames t) (λ serial x at. elim (placed frames serial x t at) [
+            | inl top ↦ child-top f.0.path s x (found-ends frames s f.0 t f.1) top
+            | inr u ↦ child-under frames s f.0 x t f.1 u
+          ])))
+      | inr lacks ↦ (let P : Frame T → Type 0 = λ x. is_child_of s x.path ≡ false in
+          ap (λ o. children_under o frames) (missing frames s lacks) ∙ sym (filter-none (λ x. is_child_of s x.path) frames
+          (found-each P frames (tree-rising frames t) (λ serial x at. not-child-missing frames s x lacks (placed frames serial x t at)))))
+    ]
+
+-- the same, part by part
+pub top-path : {T : Type 0} (frames : List (Frame T)) (s : ℕ) (frame : Frame T) → IsTree frames → frame_at frames s ≡ Some frame → parent_of frame.path ≡ None → frame.path ≡ s ∷ []
+top-path frames s frame t at none =
+    elim (placed frames s frame t at) [
+      | inl top ↦ top.1 ∙ ap (λ (n : ℕ). n ∷ []) (found-serial frames s frame at)
+      | inr u ↦ (let e = u.named in absurd cc)
+    ]
+
+pub named-under : {T : Type 0} (frames : List (Frame T)) (s p : ℕ) (frame : Frame T) → IsTree frames → frame_at frames s ≡ Some frame → parent_of frame.path ≡ Some p → (u : IsUnder frames frame) × (u.parent ≡ p)
+named-under {T} frames s p frame t at named =
+    elim (placed frames s frame t at) [
+      | inl top ↦ (let e = top.0 in absurd cc)
+      | inr u ↦ (u, (let both : Some u.parent ≡ Some p = sym u.named ∙ named in cc))
+    ]
+
+pub under-path : {T : Type 0} (frames : List (Frame T)) (s p : ℕ) (frame : Frame T) → IsTree frames → frame_at frames s ≡ Some frame → parent_of frame.path ≡ Some p → frame.path ≡ path_in frames p ++ s ∷ []
+under-path frames s p frame t at named =
+    let u = named-under frames s p frame t at named in
+    rw (← u.1, found-path frames u.0.parent u.0.above u.0.there) (u.0.path ∙ ap (λ n. u.0.above.path ++ n ∷ []) (found-serial frames s frame at))
+
+pub under-there : {T : Type 0} (frames : List (Frame T)) (s p : ℕ) (frame : Frame T) → IsTree frames → frame_at frames s ≡ Some frame → parent_of frame.path ≡ Some p → has_frame frames p ≡ true
+under-there frames s p frame t at named = let u = named-under frames s p frame t at named in rw (← u.1) (found-there frames u.0.parent u.0.above u.0.there)
+
+pub under-below : {T : Type 0} (frames : List (Frame T)) (s p : ℕ) (frame : Frame T) → IsTree frames → frame_at frames s ≡ Some frame → parent_of frame.path ≡ Some p → p < s
+under-below frames s p frame t at named =
+    let u = named-under frames s p frame t at named in
+    let below = u.0.below in let e = found-serial frames s frame at in omega (arith, below, e, u.1)

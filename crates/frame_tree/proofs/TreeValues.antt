@@ -1,0 +1,251 @@
+-- A tree with one frame more, with another state in a frame, and with other values: what is found, the children, and that it is a tree.
+use Rattle.std.proofs.Common.{◌≡◌, ◌≢◌, ℕ, zero, suc, ◌<◌, inl, inr, Bool, true, not, eqb, List, [], ◌∷◌, ◌++◌, Option, Some, None, refl, ap, sym, ◌∙◌, subst, arith, append_assoc, append-nil}
+use Rattle.std.specs.Prelude.{map, option_map}
+use Rattle.std.specs.List.{filter}
+use Rattle.std.proofs.lemmas.List.Elements.{filter-append}
+use Rattle.std.proofs.lemmas.Bool.{cases_Bool, eq-eqb, ne_eqb, eqb-true}
+use Rattle.frame_tree.specs.declared.names.State.{State}
+use Rattle.frame_tree.specs.Frames.{Frame, frame_at, has_frame, has_parent, path_in, AllBelow, parent_of, path_under, goes_under, root_of, is_one_more, children_under, children_of, frames_under, aborted, frames_without, with_state, values_of, IsNextFrame, IsTree, IsTreeAfter, new_frame}
+use Rattle.frame_tree.specs.TreeLaws.{is_child_of, map_value, map_values, AreAlike}
+use Rattle.frame_tree.proofs.Forest.{EndsIn, parent_of-append}
+use Rattle.frame_tree.proofs.TreeLaws.{there-found, found-serial, found-path, IsUnder, placed, found-ends, children-by-paths}
+
+-- one frame more
+tree-push-after : {T : Type 0} (before xs : List (Frame T)) (y : Frame T) → IsTreeAfter before xs → IsNextFrame (before ++ xs) y → IsTreeAfter before (xs ++ y ∷ [])
+tree-push-after {T} before [] y t next = (rw append-nil at next, tt)
+tree-push-after {T} before (x ∷ xs) y t next =
+    let N : List (Frame T) → Type 0 = λ all. IsNextFrame all y in
+    (t.0, tree-push-after (before ++ x ∷ []) xs y t.1 (subst N (sym (append_assoc before (x ∷ []) xs)) next))
+
+pub tree-push : {T : Type 0} (xs : List (Frame T)) (y : Frame T) → IsTree xs → IsNextFrame xs y → IsTree (xs ++ y ∷ [])
+tree-push xs y t next = tree-push-after [] xs y t next
+
+-- the parent of a new frame
+pub parent_of-path_under : {T : Type 0} (xs : List (Frame T)) (parent : Option ℕ) (serial : ℕ) → IsTree xs → has_parent xs parent ≡ true → parent_of (path_under xs parent serial) ≡ parent
+parent_of-path_under xs None serial t there = refl
+parent_of-path_under xs (Some p) serial t there =
+    let f = there-found xs p there in
+    parent_of-append (path_in xs p) p serial (rw (found-path xs p f.0 f.1) (found-ends xs p f.0 t f.1))
+
+pub new-frame-next : {T : Type 0} (xs : List (Frame T)) (serial : ℕ) (parent : Option ℕ) (home : ℕ) (value : T) → IsTree xs → AllBelow serial xs → has_parent xs parent ≡ true → IsNextFrame xs (new_frame xs serial parent home value)
+new-frame-next xs serial parent home value t below there =
+    let e = parent_of-path_under xs parent serial t there in
+    record { above = below; parent = rw e there; path = rw e refl }
+
+pub tree-new_frame : {T : Type 0} (xs : List (Frame T)) (serial : ℕ) (parent : Option ℕ) (home : ℕ) (value : T) → IsTree xs → AllBelow serial xs → has_parent xs parent ≡ true → IsTree (xs ++ new_frame xs serial parent home value ∷ [])
+tree-new_frame xs serial parent home value t below there = tree-push xs (new_frame xs serial parent home value) t (new-frame-next xs serial parent home value t below there)
+
+-- it is the last child of its parent, and nobody else's
+pub children_of-push : {T : Type 0} (xs : List (Frame T)) (y : Frame T) (s : ℕ) → IsTree xs → IsNextFrame xs y → children_of (xs ++ y ∷ []) s ≡ children_of xs s ++ filter (λ x. is_child_of s x.path) (y ∷ [])
+children_of-push xs y s t next =
+    children-by-paths (xs ++ y ∷ []) s (tree-push xs y t next) ∙ filter-append (λ x. is_child_of s x.path) xs (y ∷ []) ∙ sym (ap (λ zs. zs ++ filter (λ x. is_child_of s x.path) (y ∷ [])) (children-by-paths xs s t))
+
+-- the root above a frame is there
+root_of-append : (path : List ℕ) (s last : ℕ) → EndsIn path last → root_of (path ++ s ∷ []) ≡ root_of path
+root_of-append [] s last ends = absurd ends
+root_of-append (x ∷ path) s last ends = refl
+
+pub root-there : {T : Type 0} (xs : List (Frame T)) (s : ℕ) (f : Frame T) → IsTree xs → frame_at xs s ≡ Some f → path_in xs (root_of f.path) ≡ root_of f.path ∷ []
+root-there {T} xs s f t at =
+    let P : Frame T → Type 0 = λ x. (has_frame xs x.serial ≡ true → path_in xs (root_of x.path) ≡ root_of x.path ∷ []) in
+    found s f at
+  where
+    step : (x : Frame T) → (u : IsUnder xs x) → root_of x.path ≡ root_of u.above.path
+    step x u = ap root_of u.path ∙ root_of-append u.above.path x.serial u.parent (found-ends xs u.parent u.above t u.there)
+
+    by : (bound s : ℕ) (f : Frame T) → s < bound → frame_at xs s ≡ Some f → path_in xs (root_of f.path) ≡ root_of f.path ∷ []
+    by zero s f low at = absurd (omega arith)
+    by (suc bound) s f low at =
+        let is = found-serial xs s f at in
+        elim (placed xs s f t at) [
+          | inl top ↦ rw (top.1, is) (found-path xs s f at ∙ top.1 ∙ (rw is refl))
+          | inr u ↦ (let below = u.below in rw (step f u) (by bound u.parent u.above (omega (arith, is, low, below)) u.there))
+        ]
+
+    found : (s : ℕ) (f : Frame T) → frame_at xs s ≡ Some f → path_in xs (root_of f.path) ≡ root_of f.path ∷ []
+    found s f at = by (suc s) s f (omega arith) at
+
+-- a frame that is no root is under the root of its path
+pub under-root : (path : List ℕ) (p : ℕ) → parent_of path ≡ Some p → goes_under (root_of path) path ≡ true
+under-root [] p e = absurd cc
+under-root (x ∷ []) p e = absurd cc
+under-root (x ∷ y ∷ path) p e = rw (eq-eqb x x refl) refl
+
+-- frames of the same serials and paths
+alike-itself : {T : Type 0} (xs : List (Frame T)) → AreAlike xs xs
+alike-itself [] = tt
+alike-itself (x ∷ xs) = (refl, refl, alike-itself xs)
+
+has_frame-alike : {T U : Type 0} (xs : List (Frame T)) (ys : List (Frame U)) (s : ℕ) → AreAlike xs ys → has_frame ys s ≡ has_frame xs s
+has_frame-alike [] [] s alike = refl
+has_frame-alike [] (y ∷ ys) s alike = absurd alike
+has_frame-alike (x ∷ xs) [] s alike = absurd alike
+has_frame-alike (x ∷ xs) (y ∷ ys) s alike = rw (alike.0, has_frame-alike xs ys s alike.2) refl
+
+pub path_in-alike : {T U : Type 0} (xs : List (Frame T)) (ys : List (Frame U)) (s : ℕ) → AreAlike xs ys → path_in ys s ≡ path_in xs s
+path_in-alike [] [] s alike = refl
+path_in-alike [] (y ∷ ys) s alike = absurd alike
+path_in-alike (x ∷ xs) [] s alike = absurd alike
+path_in-alike (x ∷ xs) (y ∷ ys) s alike = rw (alike.0, alike.1, path_in-alike xs ys s alike.2) refl
+
+pub AllBelow-alike : {T U : Type 0} (xs : List (Frame T)) (ys : List (Frame U)) (bound : ℕ) → AreAlike xs ys → AllBelow bound xs → AllBelow bound ys
+AllBelow-alike [] [] bound alike below = tt
+AllBelow-alike [] (y ∷ ys) bound alike below = absurd alike
+AllBelow-alike (x ∷ xs) [] bound alike below = absurd alike
+AllBelow-alike (x ∷ xs) (y ∷ ys) bound alike below = (rw alike.0 below.0, AllBelow-alike xs ys bound alike.2 below.1)
+
+alike-append : {T U : Type 0} (xs : List (Frame T)) (ys : List (Frame U)) (x : Frame T) (y : Frame U) → AreAlike xs ys → y.serial ≡ x.serial → y.path ≡ x.path → AreAlike (xs ++ x ∷ []) (ys ++ y ∷ [])
+alike-append [] [] x y alike s p = (s, p, tt)
+alike-append [] (z ∷ ys) x y alike s p = absurd alike
+alike-append (z ∷ xs) [] x y alike s p = absurd alike
+alike-append (z ∷ xs) (w ∷ ys) x y alike s p = (alike.0, alike.1, alike-append xs ys x y alike.2 s p)
+
+path_under-alike : {T U : Type 0} (xs : List (Frame T)) (ys : List (Frame U)) (parent : Option ℕ) (s : ℕ) → AreAlike xs ys → path_under ys parent s ≡ path_under xs parent s
+path_under-alike xs ys None s alike = refl
+path_under-alike xs ys (Some p) s alike = rw (path_in-alike xs ys p alike) refl
+
+has_parent-alike : {T U : Type 0} (xs : List (Frame T)) (ys : List (Frame U)) (parent : Option ℕ) → AreAlike xs ys → has_parent ys parent ≡ has_parent xs parent
+has_parent-alike xs ys None alike = refl
+has_parent-alike xs ys (Some p) alike = has_frame-alike xs ys p alike
+
+tree-alike-after : {T U : Type 0} (before xs : List (Frame T)) (others ys : List (Frame U)) → AreAlike before others → AreAlike xs ys → IsTreeAfter before xs → IsTreeAfter others ys
+tree-alike-after before [] others [] all alike t = tt
+tree-alike-after before [] others (y ∷ ys) all alike t = absurd alike
+tree-alike-after before (x ∷ xs) others [] all alike t = absurd alike
+tree-alike-after {T} {U} before (x ∷ xs) others (y ∷ ys) all alike t =
+    let B : ℕ → Type 0 = λ s. AllBelow s others in (
+      record {
+        above = subst B (sym alike.0) (AllBelow-alike before others x.serial all t.0.above);
+        parent = ap (λ path. has_parent others (parent_of path)) alike.1 ∙ has_parent-alike before others (parent_of x.path) all ∙ t.0.parent;
+        path = alike.1 ∙ t.0.path ∙ sym (ap (λ path. path_under others (parent_of path) y.serial) alike.1 ∙ ap (λ s. path_under others (parent_of x.path) s) alike.0 ∙ path_under-alike before others (parent_of x.path) x.serial all);
+      },
+      tree-alike-after (before ++ x ∷ []) xs (others ++ y ∷ []) ys (alike-append before others x y all alike.0 alike.1) alike.2 t.1,
+    )
+
+pub tree-alike : {T U : Type 0} (xs : List (Frame T)) (ys : List (Frame U)) → AreAlike xs ys → IsTree xs → IsTree ys
+tree-alike xs ys alike t = tree-alike-after [] xs [] ys tt alike t
+
+-- another state in a frame
+pub with_state-alike : {T : Type 0} (n : ℕ) (state : State) (xs : List (Frame T)) → AreAlike xs (with_state n state xs)
+with_state-alike n state [] = tt
+with_state-alike {T} n state (x ∷ xs) = elim (cases_Bool (eqb x.serial n)) [
+  | inl same ↦ rw same (refl, refl, with_state-alike n state xs)
+  | inr other ↦ rw other (refl, refl, with_state-alike n state xs)
+]
+
+pub tree-with_state : {T : Type 0} (n : ℕ) (state : State) (xs : List (Frame T)) → IsTree xs → IsTree (with_state n state xs)
+tree-with_state n state xs t = tree-alike xs (with_state n state xs) (with_state-alike n state xs) t
+
+pub frame_at-with_state : {T : Type 0} (n : ℕ) (state : State) (xs : List (Frame T)) (f : Frame T) → frame_at xs n ≡ Some f → frame_at (with_state n state xs) n ≡ Some (record f { state = state })
+frame_at-with_state n state [] f at = absurd cc
+frame_at-with_state {T} n state (x ∷ xs) f at = elim (cases_Bool (eqb x.serial n)) [
+  | inl same ↦ (let is : ◌≡◌ {A = Option (Frame T)} (Some x) (Some f) = rw same at at in let e : x ≡ f = cc in rw (same, same) (ap (λ (y : Frame T). Some (record y { state = state })) e))
+  | inr other ↦ rw (other, other) (frame_at-with_state n state xs f (rw other at at))
+]
+
+pub frame_at_other-with_state : {T : Type 0} (n : ℕ) (state : State) (xs : List (Frame T)) (s : ℕ) → n ≢ s → frame_at (with_state n state xs) s ≡ frame_at xs s
+frame_at_other-with_state n state [] s other = refl
+frame_at_other-with_state n state (x ∷ xs) s other = elim (cases_Bool (eqb x.serial n)) [
+  | inl same ↦ (let e = eqb-true x.serial n same in let differs = ne_eqb x.serial s (λ is. other (sym e ∙ is)) in rw (same, differs) (frame_at_other-with_state n state xs s other))
+  | inr differs ↦ elim (cases_Bool (eqb x.serial s)) [
+    | inl same ↦ rw (differs, same) refl
+    | inr another ↦ rw (differs, another) (frame_at_other-with_state n state xs s other)
+  ]
+]
+
+-- the frames that pass a test on paths
+paths-with_state : {T : Type 0} (n : ℕ) (state : State) (p : List ℕ → Bool) (xs : List (Frame T)) → filter (λ x. p x.path) (with_state n state xs) ≡ with_state n state (filter (λ x. p x.path) xs)
+paths-with_state n state p [] = refl
+paths-with_state {T} n state p (x ∷ xs) = elim (cases_Bool (eqb x.serial n)) [
+  | inl same ↦ elim (cases_Bool (p x.path)) [
+    | inl is ↦ rw (same, is, same) (ap (λ (ys : List (Frame T)). record x { state = state } ∷ ys) (paths-with_state n state p xs))
+    | inr not_so ↦ rw (same, not_so) (paths-with_state n state p xs)
+  ]
+  | inr other ↦ elim (cases_Bool (p x.path)) [
+    | inl is ↦ rw (other, is, other) (ap (λ (ys : List (Frame T)). x ∷ ys) (paths-with_state n state p xs))
+    | inr not_so ↦ rw (other, not_so) (paths-with_state n state p xs)
+  ]
+]
+
+pub values_of-with_state : {T : Type 0} (n : ℕ) (state : State) (xs : List (Frame T)) → values_of (with_state n state xs) ≡ values_of xs
+values_of-with_state n state [] = refl
+values_of-with_state {T} n state (x ∷ xs) = elim (cases_Bool (eqb x.serial n)) [
+  | inl same ↦ rw same (ap (λ (vs : List T). x.value ∷ vs) (values_of-with_state n state xs))
+  | inr other ↦ rw other (ap (λ (vs : List T). x.value ∷ vs) (values_of-with_state n state xs))
+]
+
+pub children_of-with_state : {T : Type 0} (n : ℕ) (state : State) (xs : List (Frame T)) (s : ℕ) → IsTree xs → children_of (with_state n state xs) s ≡ with_state n state (children_of xs s)
+children_of-with_state n state xs s t =
+    children-by-paths (with_state n state xs) s (tree-with_state n state xs t) ∙ paths-with_state n state (is_child_of s) xs ∙ sym (ap (with_state n state) (children-by-paths xs s t))
+
+-- other values: everything is as before, with the values changed
+pub map_values-alike : {T U : Type 0} (change : T → U) (xs : List (Frame T)) → AreAlike xs (map_values change xs)
+map_values-alike change [] = tt
+map_values-alike change (x ∷ xs) = (refl, refl, map_values-alike change xs)
+
+back-alike : {T U : Type 0} (change : T → U) (xs : List (Frame T)) → AreAlike (map_values change xs) xs
+back-alike change [] = tt
+back-alike change (x ∷ xs) = (refl, refl, back-alike change xs)
+
+pub tree-map_values : {T U : Type 0} (change : T → U) (xs : List (Frame T)) → IsTree xs → IsTree (map_values change xs)
+tree-map_values change xs t = tree-alike xs (map_values change xs) (map_values-alike change xs) t
+
+pub tree-from-map_values : {T U : Type 0} (change : T → U) (xs : List (Frame T)) → IsTree (map_values change xs) → IsTree xs
+tree-from-map_values change xs t = tree-alike (map_values change xs) xs (back-alike change xs) t
+
+pub path_in-map_values : {T U : Type 0} (change : T → U) (xs : List (Frame T)) (s : ℕ) → path_in (map_values change xs) s ≡ path_in xs s
+path_in-map_values change xs s = path_in-alike xs (map_values change xs) s (map_values-alike change xs)
+
+pub has_frame-map_values : {T U : Type 0} (change : T → U) (xs : List (Frame T)) (s : ℕ) → has_frame (map_values change xs) s ≡ has_frame xs s
+has_frame-map_values change xs s = has_frame-alike xs (map_values change xs) s (map_values-alike change xs)
+
+pub frame_at-map_values : {T U : Type 0} (change : T → U) (xs : List (Frame T)) (s : ℕ) → frame_at (map_values change xs) s ≡ option_map (map_value change) (frame_at xs s)
+frame_at-map_values change [] s = refl
+frame_at-map_values change (x ∷ xs) s = elim (cases_Bool (eqb x.serial s)) [ inl same ↦ rw same refl | inr other ↦ rw other (frame_at-map_values change xs s) ]
+
+pub append-map_values : {T U : Type 0} (change : T → U) (xs ys : List (Frame T)) → map_values change (xs ++ ys) ≡ map_values change xs ++ map_values change ys
+append-map_values change [] ys = refl
+append-map_values {T} {U} change (x ∷ xs) ys = ap (λ (zs : List (Frame U)). map_value change x ∷ zs) (append-map_values change xs ys)
+
+paths-map_values : {T U : Type 0} (change : T → U) (p : List ℕ → Bool) (xs : List (Frame T)) → filter (λ x. p x.path) (map_values change xs) ≡ map_values change (filter (λ x. p x.path) xs)
+paths-map_values change p [] = refl
+paths-map_values {T} {U} change p (x ∷ xs) = elim (cases_Bool (p x.path)) [
+  | inl is ↦ rw is (ap (λ (ys : List (Frame U)). map_value change x ∷ ys) (paths-map_values change p xs))
+  | inr not_so ↦ rw not_so (paths-map_values change p xs)
+]
+
+pub aborted-map_values : {T U : Type 0} (change : T → U) (s : ℕ) (xs : List (Frame T)) → aborted s (map_values change xs) ≡ map_values change (aborted s xs)
+aborted-map_values change s xs = paths-map_values change (λ path. not (goes_under s path)) xs
+
+pub frames_under-map_values : {T U : Type 0} (change : T → U) (s : ℕ) (xs : List (Frame T)) → frames_under s (map_values change xs) ≡ map_values change (frames_under s xs)
+frames_under-map_values change s xs = paths-map_values change (λ path. goes_under s path) xs
+
+pub frames_without-map_values : {T U : Type 0} (change : T → U) (s : ℕ) (xs : List (Frame T)) → frames_without s (map_values change xs) ≡ map_values change (frames_without s xs)
+frames_without-map_values change s [] = refl
+frames_without-map_values {T} {U} change s (x ∷ xs) = elim (cases_Bool (eqb x.serial s)) [
+  | inl same ↦ rw same (frames_without-map_values change s xs)
+  | inr other ↦ rw other (ap (λ (ys : List (Frame U)). map_value change x ∷ ys) (frames_without-map_values change s xs))
+]
+
+pub children_of-map_values : {T U : Type 0} (change : T → U) (xs : List (Frame T)) (s : ℕ) → children_of (map_values change xs) s ≡ map_values change (children_of xs s)
+children_of-map_values {T} {U} change xs s = ap (λ o. children_under o (map_values change xs)) (frame_at-map_values change xs s) ∙ by (frame_at xs s)
+  where
+    by : (o : Option (Frame T)) → children_under (option_map (map_value change) o) (map_values change xs) ≡ map_values change (children_under o xs)
+    by None = refl
+    by (Some f) = paths-map_values change (is_one_more f.path) xs
+
+pub with_state-map_values : {T U : Type 0} (change : T → U) (n : ℕ) (state : State) (xs : List (Frame T)) → with_state n state (map_values change xs) ≡ map_values change (with_state n state xs)
+with_state-map_values change n state [] = refl
+with_state-map_values {T} {U} change n state (x ∷ xs) = elim (cases_Bool (eqb x.serial n)) [
+  | inl same ↦ rw same (ap (λ (ys : List (Frame U)). map_value change (record x { state = state }) ∷ ys) (with_state-map_values change n state xs))
+  | inr other ↦ rw other (ap (λ (ys : List (Frame U)). map_value change x ∷ ys) (with_state-map_values change n state xs))
+]
+
+pub new_frame-map_values : {T U : Type 0} (change : T → U) (xs : List (Frame T)) (serial : ℕ) (parent : Option ℕ) (home : ℕ) (value : T) →
+    new_frame (map_values change xs) serial parent home (change value) ≡ map_value change (new_frame xs serial parent home value)
+new_frame-map_values {T} {U} change xs serial parent home value =
+    ap (λ (path : List ℕ). map_value change (record (new_frame xs serial parent home value) { path = path })) (path_under-alike xs (map_values change xs) parent serial (map_values-alike change xs))
+
+pub values_of-map_values : {T U : Type 0} (change : T → U) (xs : List (Frame T)) → values_of (map_values change xs) ≡ map change (values_of xs)
+values_of-map_values change [] = refl
+values_of-map_values {T} {U} change (x ∷ xs) = ap (λ (vs : List U). change x.value ∷ vs) (values_of-map_values change xs)

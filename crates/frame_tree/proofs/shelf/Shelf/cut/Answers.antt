@@ -1,0 +1,71 @@
+use Rattle.std.proofs.Common.{[], refl, ◌∙◌, arith}
+use Rattle.frame_tree.specs.Shelves.{slots_in}
+use Rattle.frame_tree.proofs.Shelves.{slots_in-length}
+use Rattle.frame_tree.proofs.Cutting.{has_cut, all_there, marked_there, cut_shelf, cut_slots, cut_values}
+use Rattle.frame_tree.proofs.Early.{marks_early, none_marked_early}
+use Rattle.frame_tree.proofs.shelf.Shelf.cut.Goals as goal
+
+pub mark_under-requires-clause-within : goal.mark_under-requires-clause-within
+mark_under-requires-clause-within g c =
+    let within = rw (← c.self.view_is) at c.requires.within in
+    let long = slots_in-length c.self.inside.slab [] c.self.inside.order.list c.self.invariant.here in
+    rw c.as_slice.ensures.value (omega (arith, within, long))
+
+pub mark_under-requires-clause-early : goal.mark_under-requires-clause-early
+mark_under-requires-clause-early g c =
+    let within = rw (← c.self.view_is) at c.requires.within in
+    let named = rw (← c.self.view_is) at c.requires.named in
+    let linked = rw (← c.self.view_is) at c.requires.linked in
+    rw c.as_slice.ensures.value (marks_early c.args.under c.self.inside.slab c.self.inside.order.list c.args.at c.self.invariant.here linked within named)
+
+pub sweep-requires-clause-within : goal.sweep-requires-clause-within
+sweep-requires-clause-within g c =
+    let within = rw (← c.self.view_is) at c.requires.within in
+    let long = slots_in-length c.self.inside.slab [] c.self.inside.order.list c.self.invariant.here in
+    omega (arith, within, long)
+
+pub sweep-requires-clause-early : goal.sweep-requires-clause-early
+sweep-requires-clause-early g c =
+    let marks = rw c.as_slice.ensures.value at c.mark_under.ensures.marked in
+    let within = rw (← c.self.view_is) at c.requires.within in
+    let named = rw (← c.self.view_is) at c.requires.named in
+    let linked = rw (← c.self.view_is) at c.requires.linked in
+    none_marked_early c.args.under c.self.inside.slab c.mark_under.new.slab c.self.inside.order.list c.args.at c.self.invariant.here linked within named marks
+
+pub sweep-requires-clause-there : goal.sweep-requires-clause-there
+sweep-requires-clause-there g c =
+    let slab = c.self.inside.slab in
+    let order = c.self.inside.order.list in
+    let marks = rw c.as_slice.ensures.value at c.mark_under.ensures.marked in
+    marked_there c.args.under (slots_in slab order) order slab c.mark_under.new.slab order marks (all_there slab [] order c.self.invariant.here)
+
+pub sweep-requires-clause-room : goal.sweep-requires-clause-room
+sweep-requires-clause-room g c =
+    let room = rw (← c.self.view_is) at c.requires.room in
+    let long = slots_in-length c.self.inside.slab [] c.self.inside.order.list c.self.invariant.here in
+    omega (arith, room, long)
+
+pub invariant_of-self : goal.invariant_of-self
+invariant_of-self g c =
+    let slab = c.self.inside.slab in
+    let order = c.self.inside.order.list in
+    let marks = rw c.as_slice.ensures.value at c.mark_under.ensures.marked in
+    let cut = has_cut c.args.under slab c.mark_under.new.slab c.sweep.new.slab order c.sweep.new.order.list marks c.sweep.ensures.kept c.sweep.ensures.slots in
+    let linked = rw (← c.self.view_is) at c.requires.linked in
+    rw c.sweep.ensures.order_places (cut_shelf _ _ _ _ _ _ _ _ cut c.self.invariant linked (omega (arith, c.sweep.ensures.len, c.mark_under.ensures.len)) (c.sweep.ensures.capacity ∙ c.mark_under.ensures.capacity))
+
+pub returns-clause-kept : goal.returns-clause-kept
+returns-clause-kept g c =
+    let slab = c.self.inside.slab in
+    let order = c.self.inside.order.list in
+    let marks = rw c.as_slice.ensures.value at c.mark_under.ensures.marked in
+    let cut = has_cut c.args.under slab c.mark_under.new.slab c.sweep.new.slab order c.sweep.new.order.list marks c.sweep.ensures.kept c.sweep.ensures.slots in
+    rw (← c.self.view_is, cut_slots _ _ _ _ _ _ cut c.self.invariant.here) refl
+
+pub returns-clause-values : goal.returns-clause-values
+returns-clause-values g c =
+    let slab = c.self.inside.slab in
+    let order = c.self.inside.order.list in
+    let marks = rw c.as_slice.ensures.value at c.mark_under.ensures.marked in
+    let cut = has_cut c.args.under slab c.mark_under.new.slab c.sweep.new.slab order c.sweep.new.order.list marks c.sweep.ensures.kept c.sweep.ensures.slots in
+    rw (← c.self.view_is, ← cut_values _ _ _ _ _ _ cut c.self.invariant.here) c.sweep.ensures.values

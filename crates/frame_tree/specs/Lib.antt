@@ -1,0 +1,8 @@
+pub mod Frames
+pub mod Slots
+pub mod Windows
+pub mod Places
+pub mod Readies
+pub mod Rows
+pub mod Shelves
+pub mod TreeLaws

@@ -1,0 +1,54 @@
+-- Representation: the ready frames of one tenant, by rising serial.
+use Rattle.std.specs.Prelude.{◌≡◌, ℕ, ◌≤◌, ◌==◌, not, filter, if◌then◌else◌, length, List, [], ◌∷◌, Option, Some, None}
+use Rattle.frame_tree.specs.declared.names.State.{State}
+use Rattle.frame_tree.specs.declared.names.State.TheVariants.{Ready as ReadyAt, Running, Computing, Waiting, Returned}
+use Rattle.frame_tree.specs.declared.slot.Slot.{Slot}
+use Rattle.frame_tree.specs.declared.ready.ReadyFrame.{ReadyFrame}
+use Rattle.frame_tree.specs.Frames.{first_of_two, is_ready}
+use Rattle.frame_tree.specs.Places.{inserted}
+use Rattle.frame_tree.specs.Slots.{AreSoundSlots, SerialList, serials_of}
+
+-- a number of places, and ready frames by rising serial
+pub record ReadyList : Type 0 where
+  pub places : ℕ
+  pub frames : List ReadyFrame
+
+-- the frame of this serial before others, if it is ready
+abbrev pub with_ready : ℕ → State → List ReadyFrame → List ReadyFrame
+with_ready serial (ReadyAt home) frames = record { serial = serial; home = home } ∷ frames
+with_ready serial (Running worker) frames = frames
+with_ready serial (Computing worker) frames = frames
+with_ready serial Waiting frames = frames
+with_ready serial Returned frames = frames
+
+-- the ready frames among slots
+abbrev pub ready_in : {T : Type 0} → List (Slot T) → List ReadyFrame
+ready_in [] = []
+ready_in (slot ∷ slots) = with_ready slot.serial slot.state (ready_in slots)
+
+-- ready frames without the one of this serial, if its state was to be ready
+abbrev pub without_ready : ℕ → State → List ReadyFrame → List ReadyFrame
+without_ready serial was frames = if is_ready was then filter (λ frame. not (frame.serial == serial)) frames else frames
+
+-- ready frames with the one of this serial in its place, if it is ready now
+abbrev pub put_ready : ℕ → State → List ReadyFrame → List ReadyFrame
+put_ready serial (ReadyAt home) frames = inserted (λ frame. frame.serial) (record { serial = serial; home = home }) frames
+put_ready serial (Running worker) frames = frames
+put_ready serial (Computing worker) frames = frames
+put_ready serial Waiting frames = frames
+put_ready serial Returned frames = frames
+
+-- the last of ready frames
+abbrev pub last_ready : List ReadyFrame → Option ReadyFrame
+last_ready [] = None
+last_ready (frame ∷ frames) = first_of_two (last_ready frames) (Some frame)
+
+-- what is true of a tenant's slots, its number of places, its serials and its ready frames
+pub record IsTenant {T : Type 0} (slots : List (Slot T)) (places : ℕ) (serials : SerialList) (ready : ReadyList) : Type 0 where
+  pub sound : AreSoundSlots slots (length ready.frames)
+  pub index : serials.serials ≡ serials_of slots
+  pub ready_frames : ready.frames ≡ ready_in slots
+  pub within : length slots ≤ places
+  pub few : places ≤ 4096
+  pub serial_places : places ≤ serials.places
+  pub ready_places : places ≤ ready.places

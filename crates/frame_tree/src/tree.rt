@@ -1,0 +1,256 @@
+//! The frames of one tenant, in the places that were reserved for them.
+//!
+//! Seen as a tenant, a number of places and a list of frames by rising serial, each with its path.
+//! What makes that true: slots rise, each names a parent that stands before it and the root above it,
+//! the counts of children are those of the slots, and so are the serials and the ready frames that are
+//! listed beside them.
+ghost use Rattle.std.specs.Prelude.{◌≡◌, ◌+◌, ◌<◌, ◌≤◌, ◌↔◌, ◌++◌, [], ◌∷◌, true, false, length, vec_len, vec_capacity, IsTrue, IfOk, OnOk, OnErr, IfSome};
+ghost use Rattle.frame_tree.specs.Slots.{frames_from, IsLinked};
+ghost use Rattle.frame_tree.specs.Frames.{frame_at, has_frame, path_in, root_of, children_of, aborted, frames_under, frames_without, values_of, with_state, ready_frames, AllBelow, entry_of, newest_ready_of, new_frame, one_if_ready, HasValue, has_parent, IsReadyAt, IsTree};
+
+use crate::names::{Entry, FrameId, State};
+use crate::ready::ReadyFrames;
+use crate::serials::Serials;
+use crate::shelf::Shelf;
+use crate::slot::Slot;
+use std::alloc::{AllocError, Allocator, Global};
+use std::marker::Model;
+
+/// The frames of one tenant.
+#[derive(Drop)]
+pub struct TenantFrames<T, A: Allocator = Global> {
+    tenant: u64,
+    shelf: Shelf<T, A>,
+    serials: Serials<A>,
+    ready: ReadyFrames<A>,
+}
+
+impl<T, A: Allocator> Model for TenantFrames<T, A> {
+    ghost use Rattle.std.specs.Prelude.{[]};
+    ghost use Rattle.frame_tree.specs.Frames.{TenantTree};
+    ghost use Rattle.frame_tree.specs.Slots.{frames_from};
+    ghost use Rattle.frame_tree.specs.Readies.{IsTenant};
+
+    ghost Value = { TenantTree T };
+
+    ghost view = { λ t. record { tenant = t.tenant; places = t.shelf.places; frames = frames_from [] t.shelf.slots } };
+
+    ghost invariant = { λ t. IsTenant t.shelf.slots t.shelf.places t.serials t.ready };
+}
+
+impl<T: Copy, A: Allocator> TenantFrames<T, A> {
+    /// No frames, with places for this many. Takes memory: `AllocError` only where a growth was refused.
+    pub fn new(alloc: A, tenant: u64, places: usize) -> Result<Self, AllocError>
+    where
+        A: Clone,
+        requires { places ≤ 4096 }
+        ensures { IfOk result (λ t. t ≡ record { tenant = tenant; places = places; frames = [] }) }
+    {
+        let shelf = Shelf::new(alloc.clone()?, places)?;
+        let serials = Serials::new(alloc.clone()?, places)?;
+        let ready = ReadyFrames::new(alloc, places)?;
+        Ok(TenantFrames {
+            tenant,
+            shelf,
+            serials,
+            ready,
+        })
+    }
+
+    /// Makes so many places. It alone takes memory after `new`: `AllocError` only where a growth was refused.
+    pub fn raise(&mut self, alloc: A, places: usize) -> Result<(), AllocError>
+        requires more { self.old.places ≤ places }
+        requires few { places ≤ 4096 }
+        ensures ok { OnOk result (self.new ≡ record self.old { places = places }) }
+        ensures err { OnErr result (self.new ≡ self.old) }
+    {
+        self.serials.raise(places)?;
+        self.ready.raise(places)?;
+        self.shelf.raise(alloc, places)
+    }
+
+    /// The tenant.
+    pub fn tenant(&self) -> u64
+        ensures { result ≡ self.now.tenant }
+    {
+        self.tenant
+    }
+
+    /// How many places it has.
+    pub fn places(&self) -> usize
+        ensures { result ≡ self.now.places }
+    {
+        self.shelf.places()
+    }
+
+    /// How many frames there are.
+    pub fn len(&self) -> usize
+        ensures { result ≡ length self.now.frames }
+    {
+        self.shelf.len()
+    }
+
+    /// How many of them are ready, from a kept count.
+    pub fn ready(&self) -> usize
+        ensures { result ≡ length (ready_frames self.now.frames) }
+    {
+        self.ready.len()
+    }
+
+    /// The slots.
+    pub(crate) fn shelf(&self) -> &Shelf<T, A>
+        ensures frames { frames_from [] result.now.slots ≡ self.now.frames }
+        ensures linked { IsLinked [] result.now.slots }
+    {
+        &self.shelf
+    }
+
+    /// The parent, state and value of a frame; `None` where there is no such frame.
+    #[inline(always)]
+    pub fn find(&self, serial: u64) -> Option<Entry<T>>
+        ensures entry { result ≡ entry_of self.now.tenant (frame_at self.now.frames serial) }
+        ensures tree { IsTree self.now.frames }
+    {
+        match self.shelf.find(&self.serials, serial) {
+            Some(slot) => Some(slot.entry(self.tenant)),
+            None => None,
+        }
+    }
+
+    /// The serial of the root above a frame, or of the frame itself.
+    pub fn root(&self, serial: u64) -> u64
+        requires { IsTrue (has_frame self.now.frames serial) }
+        ensures { result ≡ root_of (path_in self.now.frames serial) }
+    {
+        let at = self.serials.known_place(serial);
+        self.shelf.at(at).root
+    }
+
+    /// Whether a frame has a child, from a kept count.
+    #[inline(always)]
+    pub fn has_child(&self, serial: u64) -> bool
+        ensures child { IsTrue result ↔ (0 < length (children_of self.now.frames serial)) }
+        ensures leaf { result ≡ false → children_of self.now.frames serial ≡ [] }
+    {
+        match self.shelf.find(&self.serials, serial) {
+            Some(slot) => slot.children > 0,
+            None => false,
+        }
+    }
+
+    /// Whether there is a frame with this serial.
+    pub fn contains(&self, serial: u64) -> bool
+        ensures { result ≡ has_frame self.now.frames serial }
+    {
+        self.serials.place_of(serial).is_some()
+    }
+
+    /// Whether a serial is above those of all frames.
+    pub fn is_above(&self, serial: u64) -> bool
+        ensures above { IsTrue result → AllBelow serial self.now.frames }
+        ensures otherwise { AllBelow serial self.now.frames → IsTrue result }
+    {
+        let count = self.shelf.len();
+        if count == 0 {
+            return true;
+        }
+        self.shelf.at(count - 1).serial < serial
+    }
+
+    /// The ready frame of the greatest serial, with its home.
+    pub fn newest_ready(&self) -> Option<(FrameId, u8)>
+        ensures value { result ≡ newest_ready_of self.now.tenant self.now.frames }
+        ensures found { IfSome result (λ ready. (ready.0.tenant ≡ self.now.tenant) × IsReadyAt (frame_at self.now.frames ready.0.serial) ready.1) }
+    {
+        match self.ready.newest() {
+            Some(frame) => {
+                let tenant = self.tenant;
+                let serial = frame.serial;
+                Some((FrameId { tenant, serial }, frame.home))
+            }
+            None => None,
+        }
+    }
+
+    /// Adds a frame that is ready at this home, in one of the places. Takes no memory.
+    #[inline(always)]
+    pub fn add(&mut self, serial: u64, parent: Option<u64>, home: u8, value: T)
+        requires above { AllBelow serial self.old.frames }
+        requires parent { has_parent self.old.frames parent ≡ true }
+        requires room { length self.old.frames < self.old.places }
+        ensures { self.new ≡ record self.old { frames = self.old.frames ++ new_frame self.old.frames serial parent home value ∷ [] } }
+    {
+        self.shelf.push(&self.serials, serial, parent, home, value);
+        self.serials.push(serial);
+        self.ready.push(serial, home);
+    }
+
+    /// Puts a frame into another state, and gives the one that it was in.
+    #[inline(always)]
+    pub fn set_state(&mut self, serial: u64, state: State) -> State
+        requires { IsTrue (has_frame self.old.frames serial) }
+        ensures frames { self.new ≡ record self.old { frames = with_state serial state self.old.frames } }
+        ensures count { length (ready_frames self.new.frames) + one_if_ready result ≡ length (ready_frames self.old.frames) + one_if_ready state }
+    {
+        let was = self.shelf.set_state(&self.serials, serial, state);
+        self.ready.follow(serial, was, state);
+        was
+    }
+
+    /// Removes the frames under one, which stays: those whose path goes through it to a further serial.
+    /// Adds their values to `removed`, each once, by rising serial. Takes no memory.
+    pub fn remove_under(&mut self, serial: u64, removed: &mut Vec<T, A>)
+        requires there { IsTrue (has_frame self.old.frames serial) }
+        requires room { vec_len removed.old + length self.old.frames ≤ vec_capacity removed.old }
+        ensures left { self.new ≡ record self.old { frames = aborted serial self.old.frames } }
+        ensures values { removed.new.items ≡ removed.old.items ++ values_of (frames_under serial self.old.frames) }
+        ensures capacity { vec_capacity removed.new ≡ vec_capacity removed.old }
+    {
+        let at = self.serials.known_place(serial);
+        let slot = self.shelf.at(at);
+        if slot.children == 0 {
+            return;
+        }
+        self.shelf.put(
+            at,
+            Slot {
+                children: 0,
+                ..slot
+            },
+        );
+        self.shelf.cut(at, serial, removed);
+        self.serials.truncate(at);
+        self.shelf.add_serials(at, &mut self.serials);
+        self.ready.forget_from(serial);
+        self.shelf.add_ready(at, &mut self.ready);
+    }
+
+    /// Removes all frames, whose places stay, and adds their values to `removed`, each once, by rising
+    /// serial. Takes no memory.
+    pub fn remove_all(&mut self, removed: &mut Vec<T, A>)
+        requires { vec_len removed.old + length self.old.frames ≤ vec_capacity removed.old }
+        ensures left { self.new ≡ record self.old { frames = [] } }
+        ensures values { removed.new.items ≡ removed.old.items ++ values_of self.old.frames }
+        ensures capacity { vec_capacity removed.new ≡ vec_capacity removed.old }
+    {
+        self.shelf.clear(removed);
+        self.serials.truncate(0);
+        self.ready.clear();
+    }
+
+    /// Removes a frame that has no child, and gives the state that it was in, and its value.
+    #[inline(always)]
+    pub fn remove(&mut self, serial: u64) -> (State, T)
+        requires there { IsTrue (has_frame self.old.frames serial) }
+        requires leaf { children_of self.old.frames serial ≡ [] }
+        ensures left { self.new ≡ record self.old { frames = frames_without serial self.old.frames } }
+        ensures value { HasValue (frame_at self.old.frames serial) result.1 }
+        ensures count { length (ready_frames self.new.frames) + one_if_ready result.0 ≡ length (ready_frames self.old.frames) }
+    {
+        let at = self.serials.known_place(serial);
+        let slot = self.shelf.take(at);
+        self.serials.remove(at);
+        self.ready.leave(serial, slot.state);
+        (slot.state, slot.value)
+    }
+}

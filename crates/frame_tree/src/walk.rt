@@ -1,0 +1,164 @@
+//! The iterators over names.
+ghost use Rattle.std.specs.Prelude.{◌≡◌, List, drop};
+ghost use Rattle.std.specs.Iterator.{YieldsFirst, item_count};
+ghost use Rattle.frame_tree.specs.Frames.{names_of, children_of, frames_in, IsTree};
+ghost use Rattle.frame_tree.specs.Slots.{names_in, child_slots, SplitsChild};
+ghost use Rattle.frame_tree.specs.Shelves.{slots_after};
+
+use crate::names::FrameId;
+use crate::shelf::Shelf;
+use crate::tree::TenantFrames;
+use std::alloc::{Allocator, Global};
+use std::marker::Model;
+
+/// The names of a tenant's frames, by rising serial; seen as the list of those that are left.
+#[derive(Drop)]
+pub struct Frames<'a, T, A: Allocator = Global> {
+    tenant: u64,
+    shelf: Option<&'a Shelf<T, A>>,
+    at: usize,
+}
+
+impl<'a, T, A: Allocator> Model for Frames<'a, T, A> {
+    ghost use Rattle.std.specs.Prelude.{List};
+    ghost use Rattle.frame_tree.specs.declared.names.FrameId.{FrameId};
+    ghost use Rattle.frame_tree.specs.Slots.{names_in};
+    ghost use Rattle.frame_tree.specs.Shelves.{slots_after};
+
+    ghost Value = { List FrameId };
+
+    ghost view = { λ it. names_in it.tenant (slots_after it.at it.shelf) };
+}
+
+impl<'a, T, A: Allocator> Frames<'a, T, A> {
+    /// The names of the frames of a tenant's tree, and none where it has no tree.
+    pub fn of(tenant: u64, tree: Option<&'a TenantFrames<T, A>>) -> Self
+    where
+        T: Copy,
+        ensures names { result ≡ names_of tenant (frames_in tree.entry) }
+        ensures tree { IsTree (frames_in tree.entry) }
+    {
+        match tree {
+            Some(tree) => Frames::new(tenant, Some(tree.shelf())),
+            None => Frames::new(tenant, None),
+        }
+    }
+
+    /// The names of the frames on a shelf.
+    fn new(tenant: u64, shelf: Option<&'a Shelf<T, A>>) -> Self
+        ensures { result ≡ names_in tenant (slots_after 0 shelf.entry) }
+    {
+        Frames {
+            tenant,
+            shelf,
+            at: 0,
+        }
+    }
+}
+
+impl<'a, T: Copy, A: Allocator> Iterator for Frames<'a, T, A> {
+    type Item = FrameId;
+
+    ghost next_gives = { YieldsFirst (λ rest. rest) };
+
+    ghost remaining = { item_count (λ rest. rest) };
+
+    fn next(&mut self) -> Option<FrameId> {
+        let shelf = self.shelf?;
+        if self.at >= shelf.len() {
+            return None;
+        }
+        let tenant = self.tenant;
+        let serial = shelf.at(self.at).serial;
+        self.at += 1;
+        Some(FrameId { tenant, serial })
+    }
+}
+
+/// The names of a frame's children, by rising serial; seen as the list of those that are left.
+#[derive(Drop)]
+pub struct Children<'a, T, A: Allocator = Global> {
+    tenant: u64,
+    parent: u64,
+    shelf: Option<&'a Shelf<T, A>>,
+    at: usize,
+}
+
+impl<'a, T, A: Allocator> Model for Children<'a, T, A> {
+    ghost use Rattle.std.specs.Prelude.{List};
+    ghost use Rattle.frame_tree.specs.declared.names.FrameId.{FrameId};
+    ghost use Rattle.frame_tree.specs.Slots.{names_in, child_slots};
+    ghost use Rattle.frame_tree.specs.Shelves.{slots_after};
+
+    ghost Value = { List FrameId };
+
+    ghost view = { λ it. names_in it.tenant (child_slots it.parent (slots_after it.at it.shelf)) };
+}
+
+impl<'a, T, A: Allocator> Children<'a, T, A> {
+    /// The names of a frame's children in its tenant's tree, and none where it has no tree.
+    pub fn of(parent: FrameId, tree: Option<&'a TenantFrames<T, A>>) -> Self
+    where
+        T: Copy,
+        ensures { result ≡ names_of parent.tenant (children_of (frames_in tree.entry) parent.serial) }
+    {
+        match tree {
+            Some(tree) => Children::new(parent, Some(tree.shelf())),
+            None => Children::new(parent, None),
+        }
+    }
+
+    /// The names of a frame's children on a shelf.
+    fn new(parent: FrameId, shelf: Option<&'a Shelf<T, A>>) -> Self
+        ensures { result ≡ names_in parent.tenant (child_slots parent.serial (slots_after 0 shelf.entry)) }
+    {
+        Children {
+            tenant: parent.tenant,
+            parent: parent.serial,
+            shelf,
+            at: 0,
+        }
+    }
+}
+
+impl<'a, T: Copy, A: Allocator> Iterator for Children<'a, T, A> {
+    type Item = FrameId;
+
+    ghost next_gives = { YieldsFirst (λ rest. rest) };
+
+    ghost remaining = { item_count (λ rest. rest) };
+
+    fn next(&mut self) -> Option<FrameId> {
+        let shelf = self.shelf?;
+        let (found, after) = next_child(shelf, self.at, self.parent);
+        self.at = after;
+        match found {
+            Some(serial) => Some(FrameId {
+                tenant: self.tenant,
+                serial,
+            }),
+            None => None,
+        }
+    }
+}
+
+/// The serial of the first slot under this parent from a place on, and the place after it.
+fn next_child<T: Copy, A: Allocator>(
+    shelf: &Shelf<T, A>,
+    from: usize,
+    parent: u64,
+) -> (Option<u64>, usize)
+    ensures { SplitsChild parent (drop from shelf.now.slots) result.0 (drop result.1 shelf.now.slots) }
+{
+    let mut at = from;
+    while at < shelf.len() {
+        let slot = shelf.at(at);
+        at += 1;
+        if let Some(above) = slot.parent
+            && above == parent
+        {
+            return (Some(slot.serial), at);
+        }
+    }
+    (None, at)
+}
