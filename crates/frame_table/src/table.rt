@@ -14,7 +14,7 @@ ghost use Rattle.frame_table.specs.Readies.{one_if_ready};
 use crate::names::{Entry, FrameId, State};
 use crate::tree::TenantFrames;
 use crate::walk::{Children, Frames};
-use guesses::Guesses;
+use number_index::Guesses;
 use std::alloc::{AllocError, Allocator, Global};
 use std::marker::Model;
 

@@ -12,7 +12,7 @@ ghost use Rattle.hall.specs.Journals.{goes_on, raise_in, admitted_journal};
 ghost use Rattle.hall.specs.Halls.{empty_hall, hall_after, count_of, IsExplained, KeepsEndedJobs};
 
 use crate::journal::{Journal, guess_anew, place_of, raise, write};
-use guesses::Guesses;
+use number_index::Guesses;
 use jamboree_core::jamboree::Jamboree;
 use jamboree_core::sched_core::Core;
 use sched_rules::{Config, Did, Refusal, Step, StepOf};

@@ -10,7 +10,7 @@ ghost use Rattle.hall.specs.Entries.{is_long_step, serial_in};
 ghost use Rattle.hall.specs.Journals.{admitted_journal, goes_on, has_journal, journal_in, longer, place_in, places_for, places_in, raise_count, raise_in, with_step, AreRising};
 
 use crate::entry::{Entry, LongEntry};
-use guesses::Guesses;
+use number_index::Guesses;
 use jamboree_core::jamboree::Jamboree;
 use jamboree_core::sched_core::Core;
 use sched_rules::{Did, Refusal, Step, StepOf};
