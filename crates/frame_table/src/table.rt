@@ -11,7 +11,7 @@ ghost use Rattle.frame_table.specs.Tables.{frames_of, places_of, tenant_count, K
 ghost use Rattle.frame_tree.specs.Places.{RisesBy, IsPlaceFor};
 
 use frame_tree::{Children, Entry, FrameId, Frames, State, TenantFrames};
-use guesses::Guesses;
+use number_index::Guesses;
 use std::alloc::{AllocError, Allocator, Global};
 use std::marker::Model;
 

@@ -21,7 +21,7 @@ use crate::ready::ReadyFrames;
 use crate::serials::Serials;
 use crate::slot::Slot;
 use crate::window::ListWindow;
-use guesses::Guesses;
+use number_index::Guesses;
 use slab::Slab;
 use std::alloc::{AllocError, Allocator, Global};
 use std::marker::Model;

@@ -4,8 +4,8 @@ use Rattle.std.specs.Prelude.{if◌then◌else◌}
 use Rattle.std.proofs.lemmas.Bool.{cases_Bool, false≢true}
 use Rattle.sched_rules.specs.declared.step.StepOf.{StepOf}
 use Rattle.jamboree_core.specs.jamboree_rules.declared.leaf.LeafAnswer.{LeafAnswer}
-use Rattle.hall.specs.declared.entry.Entry.{Entry}
-use Rattle.hall.specs.declared.entry.Entry.TheVariants.{Taken, Stolen, Advanced, TakenIn, Finished, Spent, Long}
+use Rattle.hall.specs.declared.entry.JournalEntry.{JournalEntry}
+use Rattle.hall.specs.declared.entry.JournalEntry.TheVariants.{Taken, Stolen, Advanced, TakenIn, Finished, Spent, Long}
 use Rattle.hall.specs.declared.entry.LongEntry.{LongEntry}
 use Rattle.hall.specs.Entries.{is_long, short_steps, long_step, steps_in, long_count}
 use Rattle.hall.specs.Journals.{JournalOf, longer, places_with, raise_in}
@@ -15,7 +15,7 @@ abbrev Step : Type 0
 Step = StepOf LeafAnswer
 
 -- a short entry stands for one step
-short-one : (n : ℕ) (e : Entry) → is_long e ≡ false → length (short_steps n e) ≡ 1
+short-one : (n : ℕ) (e : JournalEntry) → is_long e ≡ false → length (short_steps n e) ≡ 1
 short-one n (Taken worker serial) short = refl
 short-one n (Stolen worker from serial) short = refl
 short-one n (Advanced worker serial) short = refl
@@ -25,19 +25,19 @@ short-one n (Spent serial) short = refl
 short-one n Long short = absurd (false≢true (sym short))
 
 -- no more entries are long than there are
-pub long_count-few : (es : List Entry) → long_count es ≤ length es
+pub long_count-few : (es : List JournalEntry) → long_count es ≤ length es
 long_count-few [] = omega arith
 long_count-few (e ∷ es) = elim (cases_Bool (is_long e)) [
   | inl long ↦ (let rest = long_count-few es in rw long (omega (arith, rest)))
   | inr short ↦ (let rest = long_count-few es in rw short (omega (arith, rest)))
 ]
 
-pub long_count-more : (e : Entry) (es : List Entry) → long_count (es ++ e ∷ []) ≡ long_count es + (if is_long e then 1 else 0)
+pub long_count-more : (e : JournalEntry) (es : List JournalEntry) → long_count (es ++ e ∷ []) ≡ long_count es + (if is_long e then 1 else 0)
 long_count-more e [] = omega arith
 long_count-more e (f ∷ es) = (let rest = long_count-more e es in omega (arith, rest))
 
 -- as many steps as entries
-pub steps_in-length : (n : ℕ) (es : List Entry) (ls : List LongEntry) → long_count es ≡ length ls → length (steps_in n es ls) ≡ length es
+pub steps_in-length : (n : ℕ) (es : List JournalEntry) (ls : List LongEntry) → long_count es ≡ length ls → length (steps_in n es ls) ≡ length es
 steps_in-length n [] ls count = refl
 steps_in-length n (e ∷ es) [] count = elim (cases_Bool (is_long e)) [
   | inl long ↦ (let none = rw long at count in absurd (omega (arith, none)))
@@ -59,7 +59,7 @@ steps_in-length n (e ∷ es) (l ∷ ls) count = elim (cases_Bool (is_long e)) [
 ]
 
 -- one short entry more
-pub steps_in-short : (n : ℕ) (e : Entry) (es : List Entry) (ls : List LongEntry) → is_long e ≡ false → steps_in n (es ++ e ∷ []) ls ≡ steps_in n es ls ++ short_steps n e
+pub steps_in-short : (n : ℕ) (e : JournalEntry) (es : List JournalEntry) (ls : List LongEntry) → is_long e ≡ false → steps_in n (es ++ e ∷ []) ls ≡ steps_in n es ls ++ short_steps n e
 steps_in-short n e [] ls short = rw short (append-nil (short_steps n e))
 steps_in-short n e (f ∷ es) ls short = elim (cases_Bool (is_long f)) [
   | inl long ↦ rw long (ap (λ (k : List Step). map (long_step n) (take 1 ls) ++ k) (steps_in-short n e es (drop 1 ls) short) ∙ sym (append_assoc (map (long_step n) (take 1 ls)) (steps_in n es (drop 1 ls)) (short_steps n e)))
@@ -67,7 +67,7 @@ steps_in-short n e (f ∷ es) ls short = elim (cases_Bool (is_long f)) [
 ]
 
 -- one long entry more
-pub steps_in-long : (n : ℕ) (l : LongEntry) (es : List Entry) (ls : List LongEntry) → long_count es ≡ length ls → steps_in n (es ++ Long ∷ []) (ls ++ l ∷ []) ≡ steps_in n es ls ++ long_step n l ∷ []
+pub steps_in-long : (n : ℕ) (l : LongEntry) (es : List JournalEntry) (ls : List LongEntry) → long_count es ≡ length ls → steps_in n (es ++ Long ∷ []) (ls ++ l ∷ []) ≡ steps_in n es ls ++ long_step n l ∷ []
 steps_in-long n l [] [] count = refl
 steps_in-long n l [] (k ∷ ls) count = absurd (omega (arith, count))
 steps_in-long n l (f ∷ es) [] count = elim (cases_Bool (is_long f)) [
@@ -83,32 +83,32 @@ steps_in-long n l (f ∷ es) (k ∷ ls) count = elim (cases_Bool (is_long f)) [
 ]
 
 -- what a journal with these entries is seen as
-abbrev pub seen : ℕ → ℕ → List Entry → List LongEntry → JournalOf
+abbrev pub seen : ℕ → ℕ → List JournalEntry → List LongEntry → JournalOf
 seen n places es ls = record { tenant = n; places = places; steps = steps_in n es ls }
 
 -- where a place is left for a step, there is room for an entry and a long one
-pub has-room : (n p : ℕ) (es : List Entry) (ls : List LongEntry) (j : JournalOf) → seen n p es ls ≡ j → long_count es ≡ length ls → length j.steps < j.places → (length es < p) × (length ls < p)
+pub has-room : (n p : ℕ) (es : List JournalEntry) (ls : List LongEntry) (j : JournalOf) → seen n p es ls ≡ j → long_count es ≡ length ls → length j.steps < j.places → (length es < p) × (length ls < p)
 has-room n p es ls j is count place =
     let long = steps_in-length n es ls count in let few = long_count-few es in
     let steps = ap (λ (k : JournalOf). length k.steps) is in let places = ap (λ (k : JournalOf). k.places) is in
     (omega (arith, long, steps, places, place), omega (arith, long, steps, places, place, few, count))
 
 -- a step is written as a short entry
-pub written-short : (n p : ℕ) (e : Entry) (es new : List Entry) (ls : List LongEntry) (j : JournalOf) (step : Step) → seen n p es ls ≡ j → new ≡ es ++ e ∷ [] → is_long e ≡ false → short_steps j.tenant e ≡ step ∷ [] → seen n p new ls ≡ further step j
+pub written-short : (n p : ℕ) (e : JournalEntry) (es new : List JournalEntry) (ls : List LongEntry) (j : JournalOf) (step : Step) → seen n p es ls ≡ j → new ≡ es ++ e ∷ [] → is_long e ≡ false → short_steps j.tenant e ≡ step ∷ [] → seen n p new ls ≡ further step j
 written-short n p e es new ls j step is pushed short one =
     let own : short_steps n e ≡ step ∷ [] = ap (λ (k : JournalOf). short_steps k.tenant e) is ∙ one in
-    let steps = ap (λ (k : List Entry). steps_in n k ls) pushed ∙ steps_in-short n e es ls short ∙ ap (λ (k : List Step). steps_in n es ls ++ k) own in
+    let steps = ap (λ (k : List JournalEntry). steps_in n k ls) pushed ∙ steps_in-short n e es ls short ∙ ap (λ (k : List Step). steps_in n es ls ++ k) own in
     ap (λ (k : List Step). record { tenant = n; places = p; steps = k }) steps ∙ ap (further step) is
 
 -- a step is written as a long one
-pub written-long : (n p : ℕ) (es new : List Entry) (l : LongEntry) (ls more : List LongEntry) (j : JournalOf) (step : Step) → seen n p es ls ≡ j → long_count es ≡ length ls → new ≡ es ++ Long ∷ [] → more ≡ ls ++ l ∷ [] → long_step j.tenant l ≡ step → seen n p new more ≡ further step j
+pub written-long : (n p : ℕ) (es new : List JournalEntry) (l : LongEntry) (ls more : List LongEntry) (j : JournalOf) (step : Step) → seen n p es ls ≡ j → long_count es ≡ length ls → new ≡ es ++ Long ∷ [] → more ≡ ls ++ l ∷ [] → long_step j.tenant l ≡ step → seen n p new more ≡ further step j
 written-long n p es new l ls more j step is count pushed added one =
     let own : long_step n l ≡ step = ap (λ (k : JournalOf). long_step k.tenant l) is ∙ one in
-    let steps = ap (λ (k : List Entry). steps_in n k more) pushed ∙ ap (λ (k : List LongEntry). steps_in n (es ++ Long ∷ []) k) added ∙ steps_in-long n l es ls count ∙ ap (λ (k : Step). steps_in n es ls ++ k ∷ []) own in
+    let steps = ap (λ (k : List JournalEntry). steps_in n k more) pushed ∙ ap (λ (k : List LongEntry). steps_in n (es ++ Long ∷ []) k) added ∙ steps_in-long n l es ls count ∙ ap (λ (k : Step). steps_in n es ls ++ k ∷ []) own in
     ap (λ (k : List Step). record { tenant = n; places = p; steps = k }) steps ∙ ap (further step) is
 
 -- a step that raises what is reserved is written as a long one, in the places that it makes
-pub written-raise : (n p q : ℕ) (es new : List Entry) (l : LongEntry) (ls more : List LongEntry) (j : JournalOf) (step : Step) → seen n p es ls ≡ j → long_count es ≡ length ls → new ≡ es ++ Long ∷ [] → more ≡ ls ++ l ∷ [] → long_step j.tenant l ≡ step →
+pub written-raise : (n p q : ℕ) (es new : List JournalEntry) (l : LongEntry) (ls more : List LongEntry) (j : JournalOf) (step : Step) → seen n p es ls ≡ j → long_count es ≡ length ls → new ≡ es ++ Long ∷ [] → more ≡ ls ++ l ∷ [] → long_step j.tenant l ≡ step →
     q ≡ places_with (raise_in step) j → seen n q new more ≡ longer step j
 written-raise n p q es new l ls more j step is count pushed added one places =
     ap (λ (k : JournalOf). record { tenant = k.tenant; places = q; steps = k.steps }) (written-long n p es new l ls more j step is count pushed added one)

@@ -35,7 +35,8 @@ use Rattle.jamboree_core.specs.Outcomes.{IsOutcomeIn, AnswersTo}
 use Rattle.jamboree_core.specs.Journals.{IsJournalOf}
 use Rattle.jamboree_core.proofs.JournalLemmas.{journal-searches, journal-goes-on, journal-begins, others-stay}
 use Rattle.hall.specs.Entries.{serial_in}
-use Rattle.hall.specs.Journals.{JournalOf, journal_in, places_in, has_journal, place_in, with_step, without_journal, total_length, places_for, places_with, raise_in, raise_count, reserved_in, admitted_journal, journals_after, gone_by, goes_on, AreBegun}
+use Rattle.number_index.specs.Places.{count_below, AreRising}
+use Rattle.hall.specs.Journals.{JournalOf, journal_in, places_in, owner_of, has_journal, with_step, without_journal, total_length, places_for, places_with, raise_in, raise_count, reserved_in, admitted_journal, journals_after, gone_by, goes_on, AreBegun}
 use Rattle.hall.specs.Halls.{HallOf, empty_hall, hall_after, Explains, IsExplained, IsHall, lets_go, KeepsEndedJobs}
 use Rattle.hall.proofs.Lists.{IsAllowed, Brings, longer-places, none-there, step-own, step-other, step-length, step-total, step-rising, step-upto, step-begun, without-own, without-other, without-length, without-total, without-rising, without-upto, without-begun, push-own, push-other, push-total, push-rising, push-upto, push-begun, total-within, found-at, at-read, at-removed}
 use Rattle.hall.proofs.Using.{step-used, step-brings, serial-given, journal-reserves, journal-short, journal-shaped}
@@ -447,11 +448,11 @@ leaves-off hall latest count n did after keeps one known =
       };
     }
 
--- the same, where a scan found the journal
-pub left-by : (hall : HallOf) (latest count n : ℕ) (after : Shared) (read removed : List JournalOf) (at : ℕ) (journal : JournalOf) (long : ℕ) → LeavesOff hall latest count n after → read ≡ hall.journals → at ≡ place_in n read →
+-- the same, where the index found the journal
+pub left-by : (hall : HallOf) (latest count n : ℕ) (after : Shared) (read removed : List JournalOf) (at : ℕ) (journal : JournalOf) (long : ℕ) → AreRising owner_of hall.journals → LeavesOff hall latest count n after → read ≡ hall.journals → at ≡ count_below owner_of n read →
     removed ≡ remove hall.journals at → journal ≡ get_or hall.journals at journal → long ≡ length journal.steps → (removed ≡ without_journal n hall.journals) × (long ≡ length (journal_in hall.journals n))
-left-by hall latest count n after read removed at journal long off same is gone stands long_is =
-    (gone ∙ at-removed n hall.journals read at off.has same is, long_is ∙ ap length (sym (at-read n hall.journals read at journal off.has same is stands).steps))
+left-by hall latest count n after read removed at journal long rising off same is gone stands long_is =
+    (gone ∙ at-removed n hall.journals read at rising off.has same is, long_is ∙ ap length (sym (at-read n hall.journals read at journal rising off.has same is stands).steps))
 
 -- each tenant of a hall has searches alone
 pub served : (grain : ℕ) (own : Option Tenant) (journal : List Step) → Explains (jamboree grain) own journal → AreSearches journal → ServesSearches own

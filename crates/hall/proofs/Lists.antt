@@ -7,7 +7,9 @@ use Rattle.sched_rules.specs.declared.step.StepOf.{StepOf}
 use Rattle.jamboree_core.specs.jamboree_rules.declared.leaf.LeafAnswer.{LeafAnswer}
 use Rattle.tenant_quota.specs.Quota.{Quota, IsWithinLimits}
 use Rattle.sched_rules.specs.declared.step.StepOf.TheVariants.{Admit, AdmitMore, Submit, Take, Steal, Advance, Answer, Inlet, Finish, Spend, Cancel, Leave}
-use Rattle.hall.specs.Journals.{reserve_in, raise_in, newer, reserved_after, reserved_in, one_for, raise_count, places_for, places_with, longer, goes_on, JournalOf, journal_in, places_in, has_journal, place_in, with_step, without_journal, total_length, AreAbove, AreRising, AreUpTo, IsBegun, AreBegun}
+use Rattle.number_index.specs.Places.{count_below, AreAbove, AreRising}
+use Rattle.number_index.proofs.Places.{count_below-cases}
+use Rattle.hall.specs.Journals.{reserve_in, raise_in, newer, reserved_after, reserved_in, one_for, raise_count, places_for, places_with, longer, goes_on, JournalOf, journal_in, places_in, owner_of, has_journal, with_step, without_journal, total_length, AreUpTo, IsBegun, AreBegun}
 
 abbrev Js : Type 0
 Js = List JournalOf
@@ -97,14 +99,14 @@ step-total n step (j ∷ js) has = elim (cases_Bool (eqb j.tenant n)) [
   | inr other ↦ (let rest = step-total n step js (rw other at has) in rw other (omega (arith, rest)))
 ]
 
-pub step-above : (m n : ℕ) (step : Step) (js : Js) → AreAbove m js → AreAbove m (with_step n step js)
+pub step-above : (m n : ℕ) (step : Step) (js : Js) → AreAbove owner_of m js → AreAbove owner_of m (with_step n step js)
 step-above m n step [] above = tt
 step-above m n step (j ∷ js) above = elim (cases_Bool (eqb j.tenant n)) [
   | inl same ↦ rw same above
   | inr other ↦ rw other (above.0, step-above m n step js above.1)
 ]
 
-pub step-rising : (n : ℕ) (step : Step) (js : Js) → AreRising js → AreRising (with_step n step js)
+pub step-rising : (n : ℕ) (step : Step) (js : Js) → AreRising owner_of js → AreRising owner_of (with_step n step js)
 step-rising n step [] rising = tt
 step-rising n step (j ∷ js) rising = elim (cases_Bool (eqb j.tenant n)) [
   | inl same ↦ rw same rising
@@ -180,12 +182,12 @@ step-begun n step (j ∷ js) goes allowed brings place begun = elim (cases_Bool 
 ]
 
 -- one fewer
-above-none : (n : ℕ) (js : Js) → AreAbove n js → has_journal n js ≡ false
+above-none : (n : ℕ) (js : Js) → AreAbove owner_of n js → has_journal n js ≡ false
 above-none n [] above = refl
 above-none n (j ∷ js) above =
     let below : n < j.tenant = above.0 in rw (ne_eqb j.tenant n (λ e. omega (arith, e, below))) (above-none n js above.1)
 
-pub without-own : (n : ℕ) (js : Js) → AreRising js → journal_in (without_journal n js) n ≡ []
+pub without-own : (n : ℕ) (js : Js) → AreRising owner_of js → journal_in (without_journal n js) n ≡ []
 without-own n [] rising = refl
 without-own n (j ∷ js) rising = elim (cases_Bool (eqb j.tenant n)) [
   | inl same ↦ rw same (none-there n js (rw (eqb-true j.tenant n same) at (above-none j.tenant js rising.0)))
@@ -216,14 +218,14 @@ without-total n (j ∷ js) = elim (cases_Bool (eqb j.tenant n)) [
   | inr other ↦ (let rest = without-total n js in rw other (omega (arith, rest)))
 ]
 
-without-above : (m n : ℕ) (js : Js) → AreAbove m js → AreAbove m (without_journal n js)
+without-above : (m n : ℕ) (js : Js) → AreAbove owner_of m js → AreAbove owner_of m (without_journal n js)
 without-above m n [] above = tt
 without-above m n (j ∷ js) above = elim (cases_Bool (eqb j.tenant n)) [
   | inl same ↦ rw same above.1
   | inr other ↦ rw other (above.0, without-above m n js above.1)
 ]
 
-pub without-rising : (n : ℕ) (js : Js) → AreRising js → AreRising (without_journal n js)
+pub without-rising : (n : ℕ) (js : Js) → AreRising owner_of js → AreRising owner_of (without_journal n js)
 without-rising n [] rising = tt
 without-rising n (j ∷ js) rising = elim (cases_Bool (eqb j.tenant n)) [
   | inl same ↦ rw same rising.1
@@ -261,11 +263,11 @@ pub push-total : (j : JournalOf) (js : Js) → total_length (js ++ j ∷ []) ≡
 push-total j [] = omega arith
 push-total j (i ∷ js) = (let rest = push-total j js in omega (arith, rest))
 
-push-above : (m n : ℕ) (j : JournalOf) (js : Js) → m < j.tenant → AreAbove m js → AreAbove m (js ++ j ∷ [])
+push-above : (m n : ℕ) (j : JournalOf) (js : Js) → m < j.tenant → AreAbove owner_of m js → AreAbove owner_of m (js ++ j ∷ [])
 push-above m n j [] below above = (below, tt)
 push-above m n j (i ∷ js) below above = (above.0, push-above m n j js below above.1)
 
-pub push-rising : (m : ℕ) (j : JournalOf) (js : Js) → AreUpTo m js → m < j.tenant → AreRising js → AreRising (js ++ j ∷ [])
+pub push-rising : (m : ℕ) (j : JournalOf) (js : Js) → AreUpTo m js → m < j.tenant → AreRising owner_of js → AreRising owner_of (js ++ j ∷ [])
 push-rising m j [] upto below rising = (tt, tt)
 push-rising m j (i ∷ js) upto below rising =
     let first : i.tenant ≤ m = upto.0 in
@@ -304,26 +306,29 @@ found-at n (j ∷ js) has begun = elim (cases_Bool (eqb j.tenant n)) [
       record { journal = at.journal; own = at.own; steps = rw other at.steps; places = rw other at.places; after = λ step. rw (other, other) (at.after step); begun = at.begun })
 ]
 
--- where it stands
-pub place-within : (n : ℕ) (js : Js) → has_journal n js ≡ true → place_in n js < length js
-place-within n [] has = absurd (false≢true has)
-place-within n (j ∷ js) has = elim (cases_Bool (eqb j.tenant n)) [
-  | inl same ↦ rw same (omega arith)
-  | inr other ↦ (let rest = place-within n js (rw other at has) in rw other (omega (arith, rest)))
+-- where it stands: first of all, or behind those of tenants below its own
+below-own : (n m : ℕ) (js : Js) → AreAbove owner_of m js → has_journal n js ≡ true → m < n
+below-own n m [] above has = absurd (false≢true has)
+below-own n m (j ∷ js) above has = elim (cases_Bool (eqb j.tenant n)) [
+  | inl same ↦ (let e = eqb-true j.tenant n same in let lt : m < j.tenant = above.0 in omega (arith, e, lt))
+  | inr other ↦ below-own n m js above.1 (rw other at has)
 ]
 
-above-at : (m : ℕ) (js : Js) (i : ℕ) (d : JournalOf) → AreAbove m js → i < length js → m < (get_or js i d).tenant
-above-at m [] i d above within = absurd (omega arith)
-above-at m (j ∷ js) zero d above within = above.0
-above-at m (j ∷ js) (suc i) d above within = above-at m js i d above.1 (omega (arith, within))
+place-first : (n : ℕ) (j : JournalOf) (js : Js) → eqb j.tenant n ≡ true → count_below owner_of n (j ∷ js) ≡ 0
+place-first n j js same =
+    let e = eqb-true j.tenant n same in count_below-cases owner_of n j js (λ k. k ≡ 0) (λ below. absurd (omega (arith, e, below))) (λ above. refl)
 
--- where a journal of a tenant stands, that is its place
-pub place-found : (n : ℕ) (js : Js) (i : ℕ) (d : JournalOf) → AreRising js → i < length js → (get_or js i d).tenant ≡ n → i ≡ place_in n js
-place-found n [] i d rising within own = absurd (omega arith)
-place-found n (j ∷ js) zero d rising within own = rw (eq-eqb j.tenant n own) refl
-place-found n (j ∷ js) (suc i) d rising within own =
-    let below : j.tenant < (get_or js i d).tenant = above-at j.tenant js i d rising.0 (omega (arith, within)) in
-    rw (ne_eqb j.tenant n (λ e. omega (arith, e, below, own))) (ap (λ (k : ℕ). suc k) (place-found n js i d rising.1 (omega (arith, within)) own))
+place-later : (n : ℕ) (j : JournalOf) (js : Js) → AreAbove owner_of j.tenant js → has_journal n js ≡ true → count_below owner_of n (j ∷ js) ≡ suc (count_below owner_of n js)
+place-later n j js above has =
+    let lt = below-own n j.tenant js above has in count_below-cases owner_of n j js (λ k. k ≡ suc (count_below owner_of n js)) (λ below. refl) (λ not_below. absurd (omega (arith, lt, not_below)))
+
+pub place-within : (n : ℕ) (js : Js) → AreRising owner_of js → has_journal n js ≡ true → count_below owner_of n js < length js
+place-within n [] rising has = absurd (false≢true has)
+place-within n (j ∷ js) rising has = elim (cases_Bool (eqb j.tenant n)) [
+  | inl same ↦ rw (place-first n j js same) (omega arith)
+  | inr other ↦ (let later : has_journal n js ≡ true = rw other at has in
+      let rest = place-within n js rising.1 later in rw (place-later n j js rising.0 later) (omega (arith, rest)))
+]
 
 -- what stands there
 pub record StandsAt (n : ℕ) (js : Js) (j : JournalOf) : Type 0 where
@@ -331,44 +336,48 @@ pub record StandsAt (n : ℕ) (js : Js) (j : JournalOf) : Type 0 where
   pub steps : journal_in js n ≡ j.steps
   pub places : places_in js n ≡ j.places
 
-pub place-read : (n : ℕ) (js : Js) (d : JournalOf) → has_journal n js ≡ true → StandsAt n js (get_or js (place_in n js) d)
-place-read n [] d has = absurd (false≢true has)
-place-read n (j ∷ js) d has = elim (cases_Bool (eqb j.tenant n)) [
-  | inl same ↦ rw same (record { own = eqb-true j.tenant n same; steps = rw same refl; places = rw same refl })
-  | inr other ↦ (let rest = place-read n js d (rw other at has) in
-      rw other (record { own = rest.own; steps = rw other rest.steps; places = rw other rest.places }))
+pub place-read : (n : ℕ) (js : Js) (d : JournalOf) → AreRising owner_of js → has_journal n js ≡ true → StandsAt n js (get_or js (count_below owner_of n js) d)
+place-read n [] d rising has = absurd (false≢true has)
+place-read n (j ∷ js) d rising has = elim (cases_Bool (eqb j.tenant n)) [
+  | inl same ↦ rw (place-first n j js same) (record { own = eqb-true j.tenant n same; steps = rw same refl; places = rw same refl })
+  | inr other ↦ (let later : has_journal n js ≡ true = rw other at has in
+      let rest = place-read n js d rising.1 later in
+      rw (place-later n j js rising.0 later) (record { own = rest.own; steps = rw other rest.steps; places = rw other rest.places }))
 ]
 
-pub place-written : (n : ℕ) (step : Step) (js : Js) (d : JournalOf) → has_journal n js ≡ true → set js (place_in n js) (longer step (get_or js (place_in n js) d)) ≡ with_step n step js
-place-written n step [] d has = absurd (false≢true has)
-place-written n step (j ∷ js) d has = elim (cases_Bool (eqb j.tenant n)) [
-  | inl same ↦ rw same refl
-  | inr other ↦ rw other (ap (λ (rest : Js). j ∷ rest) (place-written n step js d (rw other at has)))
+pub place-written : (n : ℕ) (step : Step) (js : Js) (d : JournalOf) → AreRising owner_of js → has_journal n js ≡ true → set js (count_below owner_of n js) (longer step (get_or js (count_below owner_of n js) d)) ≡ with_step n step js
+place-written n step [] d rising has = absurd (false≢true has)
+place-written n step (j ∷ js) d rising has = elim (cases_Bool (eqb j.tenant n)) [
+  | inl same ↦ rw (place-first n j js same, same) refl
+  | inr other ↦ (let later : has_journal n js ≡ true = rw other at has in
+      rw (place-later n j js rising.0 later, other) (ap (λ (rest : Js). j ∷ rest) (place-written n step js d rising.1 later)))
 ]
 
-pub place-removed : (n : ℕ) (js : Js) → has_journal n js ≡ true → remove js (place_in n js) ≡ without_journal n js
-place-removed n [] has = absurd (false≢true has)
-place-removed n (j ∷ js) has = elim (cases_Bool (eqb j.tenant n)) [
-  | inl same ↦ rw same refl
-  | inr other ↦ rw other (ap (λ (rest : Js). j ∷ rest) (place-removed n js (rw other at has)))
+pub place-removed : (n : ℕ) (js : Js) → AreRising owner_of js → has_journal n js ≡ true → remove js (count_below owner_of n js) ≡ without_journal n js
+place-removed n [] rising has = absurd (false≢true has)
+place-removed n (j ∷ js) rising has = elim (cases_Bool (eqb j.tenant n)) [
+  | inl same ↦ rw (place-first n j js same, same) refl
+  | inr other ↦ (let later : has_journal n js ≡ true = rw other at has in
+      rw (place-later n j js rising.0 later, other) (ap (λ (rest : Js). j ∷ rest) (place-removed n js rising.1 later)))
 ]
 
--- the same, where a scan found the place
-pub at-within : (n : ℕ) (js read : Js) (at : ℕ) → has_journal n js ≡ true → read ≡ js → at ≡ place_in n read → at < length js
-at-within n js read at has same is = (let within = place-within n js has in rw (is, same) within)
+-- the same, where the index found the place
+pub at-within : (n : ℕ) (js read : Js) (at : ℕ) → AreRising owner_of js → has_journal n js ≡ true → read ≡ js → at ≡ count_below owner_of n read → at < length js
+at-within n js read at rising has same is = (let within = place-within n js rising has in rw (is, same) within)
 
-pub at-read : (n : ℕ) (js read : Js) (at : ℕ) (j : JournalOf) → has_journal n js ≡ true → read ≡ js → at ≡ place_in n read → j ≡ get_or js at j → StandsAt n js j
-at-read n js read at j has same is stands =
+pub at-read : (n : ℕ) (js read : Js) (at : ℕ) (j : JournalOf) → AreRising owner_of js → has_journal n js ≡ true → read ≡ js → at ≡ count_below owner_of n read → j ≡ get_or js at j → StandsAt n js j
+at-read n js read at j rising has same is stands =
     let P : JournalOf → Type 0 = λ i. StandsAt n js i in
-    subst P (ap (λ (k : ℕ). get_or js k j) (sym (is ∙ ap (place_in n) same)) ∙ sym stands) (place-read n js j has)
+    subst P (ap (λ (k : ℕ). get_or js k j) (sym (is ∙ ap (count_below owner_of n) same)) ∙ sym stands) (place-read n js j rising has)
 
-pub at-written : (n : ℕ) (step : Step) (js read : Js) (at : ℕ) (j written : JournalOf) → has_journal n js ≡ true → read ≡ js → at ≡ place_in n read → j ≡ get_or js at j → written ≡ longer step j →
+pub at-written : (n : ℕ) (step : Step) (js read : Js) (at : ℕ) (j written : JournalOf) → AreRising owner_of js → has_journal n js ≡ true → read ≡ js → at ≡ count_below owner_of n read → j ≡ get_or js at j → written ≡ longer step j →
     set js at written ≡ with_step n step js
-at-written n step js read at j written has same is stands longer_is =
-    let place : at ≡ place_in n js = is ∙ ap (place_in n) same in
+at-written n step js read at j written rising has same is stands longer_is =
+    let place : at ≡ count_below owner_of n js = is ∙ ap (count_below owner_of n) same in
     ap (λ (k : ℕ). set js k written) place
-    ∙ ap (λ (w : JournalOf). set js (place_in n js) w) (longer_is ∙ ap (longer step) (stands ∙ ap (λ (k : ℕ). get_or js k j) place))
-    ∙ place-written n step js j has
+    ∙ ap (λ (w : JournalOf). set js (count_below owner_of n js) w) (longer_is ∙ ap (longer step) (stands ∙ ap (λ (k : ℕ). get_or js k j) place))
+    ∙ place-written n step js j rising has
 
-pub at-removed : (n : ℕ) (js read : Js) (at : ℕ) → has_journal n js ≡ true → read ≡ js → at ≡ place_in n read → remove js at ≡ without_journal n js
-at-removed n js read at has same is = ap (λ (k : ℕ). remove js k) (is ∙ ap (place_in n) same) ∙ place-removed n js has
+pub at-removed : (n : ℕ) (js read : Js) (at : ℕ) → AreRising owner_of js → has_journal n js ≡ true → read ≡ js → at ≡ count_below owner_of n read → remove js at ≡ without_journal n js
+at-removed n js read at rising has same is =
+    ap (λ (k : ℕ). remove js k) (is ∙ ap (count_below owner_of n) same) ∙ place-removed n js rising has

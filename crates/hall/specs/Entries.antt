@@ -5,8 +5,8 @@ use Rattle.sched_rules.specs.declared.step.StepOf.TheVariants.{Admit, AdmitMore,
 use Rattle.frame_tree.specs.declared.names.FrameId.{FrameId}
 use Rattle.jamboree_core.specs.jamboree_rules.declared.leaf.LeafAnswer.{LeafAnswer}
 use Rattle.jamboree_core.specs.jamboree_rules.Places.{root_words, frame_size}
-use Rattle.hall.specs.declared.entry.Entry.{Entry}
-use Rattle.hall.specs.declared.entry.Entry.TheVariants.{Taken, Stolen, Advanced, TakenIn, Finished, Spent, Long}
+use Rattle.hall.specs.declared.entry.JournalEntry.{JournalEntry}
+use Rattle.hall.specs.declared.entry.JournalEntry.TheVariants.{Taken, Stolen, Advanced, TakenIn, Finished, Spent, Long}
 use Rattle.hall.specs.declared.entry.LongEntry.{LongEntry}
 use Rattle.hall.specs.declared.entry.LongEntry.TheVariants.{Admitted, Raised, Asked, Answered, Cancelled}
 
@@ -15,7 +15,7 @@ abbrev pub named : ℕ → ℕ → FrameId
 named number serial = record { tenant = number; serial = serial }
 
 -- whether an entry's step stands in a long one
-abbrev pub is_long : Entry → Bool
+abbrev pub is_long : JournalEntry → Bool
 is_long (Taken worker serial) = false
 is_long (Stolen worker from serial) = false
 is_long (Advanced worker serial) = false
@@ -34,7 +34,7 @@ is_long_step (Cancel number job) = true
 is_long_step _ = false
 
 -- the tenant's step that a short entry was made of, alone in a list; none of the entry that stands for a long one
-abbrev pub short_steps : ℕ → Entry → List (StepOf LeafAnswer)
+abbrev pub short_steps : ℕ → JournalEntry → List (StepOf LeafAnswer)
 short_steps number (Taken worker serial) = Take worker (named number serial) ∷ []
 short_steps number (Stolen worker from serial) = Steal worker from (named number serial) ∷ []
 short_steps number (Advanced worker serial) = Advance worker (named number serial) ∷ []
@@ -52,14 +52,14 @@ long_step number (Answered worker serial answer) = Answer worker (named number s
 long_step number (Cancelled job) = Cancel number job
 
 -- the tenant's steps that these entries and these long entries stand for, in order: each entry's own, or the next long entry's
-abbrev pub steps_in : ℕ → List Entry → List LongEntry → List (StepOf LeafAnswer)
+abbrev pub steps_in : ℕ → List JournalEntry → List LongEntry → List (StepOf LeafAnswer)
 steps_in number [] longs = []
 steps_in number (entry ∷ entries) longs =
     if is_long entry then map (long_step number) (take 1 longs) ++ steps_in number entries (drop 1 longs)
     else short_steps number entry ++ steps_in number entries longs
 
 -- how many of these entries have a long one
-abbrev pub long_count : List Entry → ℕ
+abbrev pub long_count : List JournalEntry → ℕ
 long_count [] = 0
 long_count (entry ∷ entries) = (if is_long entry then 1 else 0) + long_count entries
 

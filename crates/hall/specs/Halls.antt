@@ -14,7 +14,8 @@ use Rattle.jamboree_core.specs.jamboree_rules.declared.leaf.LeafAnswer.{LeafAnsw
 use Rattle.jamboree_core.specs.jamboree_rules.Procedure.{jamboree}
 use Rattle.jamboree_core.specs.jamboree_laws.Replies.{AreSearches}
 use Rattle.jamboree_core.specs.Journals.{IsJournalOf}
-use Rattle.hall.specs.Journals.{JournalOf, journal_in, total_length, journals_after, gone_by, AreRising, AreUpTo, AreBegun}
+use Rattle.number_index.specs.Places.{AreRising}
+use Rattle.hall.specs.Journals.{JournalOf, journal_in, total_length, journals_after, gone_by, owner_of, AreUpTo, AreBegun}
 
 -- a hall: the grain of its searches, what the tenants share, their journals by rising number, how many steps went with tenants that
 -- left, and the number that was noted as that of the steps that are kept
@@ -56,7 +57,7 @@ pub record IsExplained (hall : HallOf) : Type 0 where
 -- what a hall keeps: the above, and what it is proved by. Each admission brings at most 2^21 steps
 pub record IsHall (hall : HallOf) (latest count : ℕ) : Type 0 where
   pub explained : IsExplained hall
-  pub rising : AreRising hall.journals
+  pub rising : AreRising owner_of hall.journals
   pub upto : AreUpTo latest hall.journals
   pub begun : AreBegun hall.journals
   pub newest : latest ≡ hall.shared.newest

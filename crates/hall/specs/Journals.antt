@@ -1,5 +1,5 @@
 -- Meaning: the journal of a tenant: its steps that were taken, in order, from its Admit on.
-use Rattle.std.specs.Prelude.{◌≡◌, ℕ, ◌+◌, ◌*◌, ◌<◌, ◌≤◌, Bool, true, false, ◌||◌, ◌==◌, List, [], ◌∷◌, ◌++◌, Option, Some, None, if◌then◌else◌, length, suc}
+use Rattle.std.specs.Prelude.{◌≡◌, ℕ, ◌+◌, ◌*◌, ◌<◌, ◌≤◌, Bool, true, false, ◌||◌, ◌==◌, List, [], ◌∷◌, ◌++◌, Option, Some, None, if◌then◌else◌, length}
 use Rattle.tenant_quota.specs.Quota.{Quota}
 use Rattle.sched_rules.specs.declared.step.StepOf.{StepOf}
 use Rattle.sched_rules.specs.declared.step.StepOf.TheVariants.{Admit, AdmitMore, Submit, Take, Steal, Advance, Answer, Inlet, Finish, Spend, Cancel, Leave}
@@ -11,6 +11,10 @@ pub record JournalOf : Type 0 where
   pub tenant : ℕ
   pub places : ℕ
   pub steps : List (StepOf LeafAnswer)
+
+-- whose journal it is
+abbrev pub owner_of : JournalOf → ℕ
+owner_of journal = journal.tenant
 
 -- the steps in a tenant's journal; none where it has no journal
 abbrev pub journal_in : List JournalOf → ℕ → List (StepOf LeafAnswer)
@@ -26,11 +30,6 @@ places_in (journal ∷ journals) number = if journal.tenant == number then journ
 abbrev pub has_journal : ℕ → List JournalOf → Bool
 has_journal number [] = false
 has_journal number (journal ∷ journals) = (journal.tenant == number) || has_journal number journals
-
--- the place of a tenant's journal among all; as many as there are where it has none
-abbrev pub place_in : ℕ → List JournalOf → ℕ
-place_in number [] = 0
-place_in number (journal ∷ journals) = if journal.tenant == number then 0 else suc (place_in number journals)
 
 -- what a step reserves for its tenant, which an admission does, and one of more
 abbrev pub reserve_in : {A : Type 0} → StepOf A → Option Quota
@@ -126,16 +125,6 @@ is_worker_step (Submit number words size) = false
 is_worker_step (Cancel number job) = false
 is_worker_step (Leave number) = false
 is_worker_step _ = true
-
--- each of these journals is of a tenant above this number
-abbrev pub AreAbove : ℕ → List JournalOf → Type 0
-AreAbove number [] = Unit {0}
-AreAbove number (journal ∷ journals) = (number < journal.tenant) × AreAbove number journals
-
--- the journals stand by rising tenant
-abbrev pub AreRising : List JournalOf → Type 0
-AreRising [] = Unit {0}
-AreRising (journal ∷ journals) = AreAbove journal.tenant journals × AreRising journals
 
 -- each of these journals is of a tenant up to this number
 abbrev pub AreUpTo : ℕ → List JournalOf → Type 0

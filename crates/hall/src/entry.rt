@@ -17,7 +17,7 @@ use tenant_quota::Reserve;
 
 /// What is kept of a tenant's step: of a frame's name its serial.
 #[derive(Drop)]
-pub(crate) enum Entry {
+pub(crate) enum JournalEntry {
     Taken(Worker, u32),
     Stolen(Worker, u8, u32),
     Advanced(Worker, u32),
@@ -38,10 +38,10 @@ pub(crate) enum LongEntry {
     Cancelled(u64),
 }
 
-impl Entry {
+impl JournalEntry {
     /// The entry of a step of a tenant that is there.
     #[inline(always)]
-    pub(crate) fn of(step: &Step<Jamboree>) -> Entry
+    pub(crate) fn of(step: &Step<Jamboree>) -> JournalEntry
         requires goes_on { goes_on step.now ≡ true }
         requires serial { serial_in step.now < 2 ^ 32 }
         ensures long { is_long result ≡ is_long_step step.now }
@@ -52,15 +52,15 @@ impl Entry {
             StepOf::AdmitMore(_, _)
             | StepOf::Submit(_, _, _)
             | StepOf::Answer(_, _, _)
-            | StepOf::Cancel(_, _) => Entry::Long,
-            StepOf::Take(worker, name) => Entry::Taken(*worker, name.serial as u32),
+            | StepOf::Cancel(_, _) => JournalEntry::Long,
+            StepOf::Take(worker, name) => JournalEntry::Taken(*worker, name.serial as u32),
             StepOf::Steal(worker, from, name) => {
-                Entry::Stolen(*worker, *from, name.serial as u32)
+                JournalEntry::Stolen(*worker, *from, name.serial as u32)
             }
-            StepOf::Advance(worker, name) => Entry::Advanced(*worker, name.serial as u32),
-            StepOf::Inlet(worker, name) => Entry::TakenIn(*worker, name.serial as u32),
-            StepOf::Finish(worker, name) => Entry::Finished(*worker, name.serial as u32),
-            StepOf::Spend(name) => Entry::Spent(name.serial as u32),
+            StepOf::Advance(worker, name) => JournalEntry::Advanced(*worker, name.serial as u32),
+            StepOf::Inlet(worker, name) => JournalEntry::TakenIn(*worker, name.serial as u32),
+            StepOf::Finish(worker, name) => JournalEntry::Finished(*worker, name.serial as u32),
+            StepOf::Spend(name) => JournalEntry::Spent(name.serial as u32),
         }
     }
 
@@ -70,13 +70,13 @@ impl Entry {
         ensures { result ≡ is_long self.now }
     {
         match self {
-            Entry::Long => true,
-            Entry::Taken(_, _)
-            | Entry::Stolen(_, _, _)
-            | Entry::Advanced(_, _)
-            | Entry::TakenIn(_, _)
-            | Entry::Finished(_, _)
-            | Entry::Spent(_) => false,
+            JournalEntry::Long => true,
+            JournalEntry::Taken(_, _)
+            | JournalEntry::Stolen(_, _, _)
+            | JournalEntry::Advanced(_, _)
+            | JournalEntry::TakenIn(_, _)
+            | JournalEntry::Finished(_, _)
+            | JournalEntry::Spent(_) => false,
         }
     }
 }

@@ -11,17 +11,14 @@ ghost use Rattle.tenant_quota.specs.Quota.{IsWithinLimits};
 ghost use Rattle.hall.specs.Journals.{goes_on, raise_in, admitted_journal};
 ghost use Rattle.hall.specs.Halls.{empty_hall, hall_after, count_of, IsExplained, KeepsEndedJobs};
 
-use crate::journal::{Journal, guess_anew, place_of, raise, write};
-use guesses::Guesses;
+use crate::journal::{Journal, raise, write};
 use jamboree_core::jamboree::Jamboree;
 use jamboree_core::sched_core::Core;
+use number_index::TenantIndex;
 use sched_rules::{Config, Did, Refusal, Step, StepOf};
 use std::alloc::{AllocError, Allocator, Global};
 use std::marker::Model;
 use tenant_quota::Reserve;
-
-/// The number of guesses of where journals stand.
-const GUESSES: usize = 256;
 
 /// A core that searches, and the journals of the tenants that are there.
 #[derive(Drop)]
@@ -29,7 +26,7 @@ pub struct Hall<A: Allocator = Global> {
     alloc: A,
     pub(crate) core: Core<Jamboree, A>,
     journals: Vec<Journal<A>, A>,
-    guesses: Guesses<A>,
+    index: TenantIndex,
     pub(crate) newest: u64,
     pub(crate) count: u128,
     pub(crate) gone: u128,
@@ -58,12 +55,11 @@ impl<A: Allocator> Hall<A> {
     {
         let core = Core::new(alloc.clone()?, config, Jamboree { grain })?;
         let journals = Vec::new(alloc.clone()?);
-        let guesses = Guesses::new(alloc.clone()?, GUESSES)?;
         Ok(Hall {
             alloc,
             core,
             journals,
-            guesses,
+            index: TenantIndex::new(),
             newest: 0,
             count: 0,
             gone: 0,
@@ -153,8 +149,8 @@ impl<A: Allocator> Hall<A> {
         match room_for(&mut self.journals, &self.alloc, number, reserve) {
             Ok(journal) => match self.core.step(&StepOf::Admit(number, reserve)) {
                 Ok(did) => {
-                    self.guesses.put(number, self.journals.len());
                     self.journals.push_reserved(journal);
+                    self.index.guess_anew(self.journals.as_slice());
                     self.newest = number;
                     self.count += 1;
                     Ok(did)
@@ -192,7 +188,7 @@ impl<A: Allocator> Hall<A> {
         ensures count { OnOk result (count_of self.new ≡ count_of self.old + 1) }
     {
         let answer = raise(
-            &self.guesses,
+            &self.index,
             &mut self.journals,
             &mut self.core,
             number,
@@ -221,7 +217,7 @@ impl<A: Allocator> Hall<A> {
     {
         let answer = self.core.step(step);
         if answer.is_ok() {
-            write(&self.guesses, &mut self.journals, number, step);
+            write(&self.index, &mut self.journals, number, step);
             self.count += 1;
         }
         answer
@@ -239,9 +235,9 @@ impl<A: Allocator> Hall<A> {
     {
         match self.core.step(&StepOf::Leave(number)) {
             Ok(did) => {
-                let at = place_of(&self.guesses, self.journals.as_slice(), number);
+                let at = self.index.place_of(self.journals.as_slice(), number);
                 let journal = self.journals.remove(at);
-                guess_anew(&mut self.guesses, self.journals.as_slice());
+                self.index.guess_anew(self.journals.as_slice());
                 self.gone += journal.len() as u128 + 1;
                 self.count += 1;
                 Ok(did)

@@ -6,13 +6,14 @@ ghost use Rattle.jamboree_core.specs.jamboree_laws.Replies.{IsSearch};
 ghost use Rattle.sched_rules.specs.Cores.{shared_refusal};
 ghost use Rattle.sched_rules.specs.Headline.{IsOneStep, IsKnown};
 ghost use Rattle.sched_rules.specs.Runs.{tenant_of};
+ghost use Rattle.number_index.specs.Places.{AreRising};
 ghost use Rattle.hall.specs.Entries.{is_long_step, serial_in};
-ghost use Rattle.hall.specs.Journals.{admitted_journal, goes_on, has_journal, journal_in, longer, place_in, places_for, places_in, raise_count, raise_in, with_step, AreRising};
+ghost use Rattle.hall.specs.Journals.{admitted_journal, goes_on, has_journal, journal_in, longer, owner_of, places_for, places_in, raise_count, raise_in, with_step};
 
-use crate::entry::{Entry, LongEntry};
-use guesses::Guesses;
+use crate::entry::{JournalEntry, LongEntry};
 use jamboree_core::jamboree::Jamboree;
 use jamboree_core::sched_core::Core;
+use number_index::{Numbered, TenantIndex};
 use sched_rules::{Did, Refusal, Step, StepOf};
 use std::alloc::{AllocError, Allocator, Global};
 use std::marker::Model;
@@ -30,7 +31,7 @@ pub(crate) struct Journal<A: Allocator = Global> {
     tenant: u64,
     places: usize,
     raises: usize,
-    entries: Vec<Entry, A>,
+    entries: Vec<JournalEntry, A>,
     longs: Vec<LongEntry, A>,
 }
 
@@ -47,6 +48,18 @@ impl<A: Allocator> Model for Journal<A> {
     ghost invariant = { λ j. (j.places ≤ vec_capacity j.entries) × (j.places ≤ vec_capacity j.longs) × (long_count j.entries.items ≡ length j.longs.items) × (j.raises ≡ raise_count (steps_in j.tenant j.entries.items j.longs.items)) };
 }
 
+// A journal stands among all by its tenant's number.
+impl<A: Allocator> Numbered for Journal<A> {
+    ghost use Rattle.hall.specs.Journals.{owner_of};
+
+    ghost number_of = { owner_of };
+
+    #[inline(always)]
+    fn number(&self) -> u64 {
+        self.tenant
+    }
+}
+
 impl<A: Allocator> Journal<A> {
     /// The journal of a tenant that is admitted with this reservation. It makes all places.
     pub(crate) fn new(alloc: A, tenant: u64, reserve: Reserve) -> Result<Journal<A>, AllocError>
@@ -58,7 +71,7 @@ impl<A: Allocator> Journal<A> {
         let places = 16 * reserve.nodes() as usize + BESIDE_NODES;
         let mut entries = Vec::with_capacity(alloc.clone()?, places)?;
         let mut longs = Vec::with_capacity(alloc, places)?;
-        entries.push_reserved(Entry::Long);
+        entries.push_reserved(JournalEntry::Long);
         longs.push_reserved(LongEntry::Admitted(reserve));
         Ok(Journal {
             tenant,
@@ -67,13 +80,6 @@ impl<A: Allocator> Journal<A> {
             entries,
             longs,
         })
-    }
-
-    /// The tenant's number.
-    pub(crate) fn tenant(&self) -> u64
-        ensures { result ≡ self.now.tenant }
-    {
-        self.tenant
     }
 
     /// How many steps there are.
@@ -93,7 +99,7 @@ impl<A: Allocator> Journal<A> {
         requires raises_not { raise_in step.now ≡ None }
         ensures { self.new ≡ record self.old { steps = self.old.steps ++ step.now ∷ [] } }
     {
-        let entry = Entry::of(step);
+        let entry = JournalEntry::of(step);
         if entry.is_long() {
             return self.write_long(step);
         }
@@ -111,7 +117,7 @@ impl<A: Allocator> Journal<A> {
         requires long { is_long_step step.now ≡ true }
         ensures { self.new ≡ record self.old { steps = self.old.steps ++ step.now ∷ [] } }
     {
-        self.entries.push_reserved(Entry::Long);
+        self.entries.push_reserved(JournalEntry::Long);
         self.longs.push_reserved(LongEntry::of(step));
     }
 
@@ -147,7 +153,7 @@ impl<A: Allocator> Journal<A> {
             return Err(Refusal::OutOfMemory);
         }
         let did = core.step(&StepOf::AdmitMore(self.tenant, reserve))?;
-        self.entries.push_reserved(Entry::Long);
+        self.entries.push_reserved(JournalEntry::Long);
         self.longs.push_reserved(LongEntry::Raised(reserve));
         self.places = places;
         self.raises = raises;
@@ -155,50 +161,14 @@ impl<A: Allocator> Journal<A> {
     }
 }
 
-/// Where a tenant's journal stands; as many as there are where it has none. The guess is looked at
-/// first.
-pub(crate) fn place_of<A: Allocator>(
-    guesses: &Guesses<A>,
-    journals: &[Journal<A>],
-    tenant: u64,
-) -> usize
-    requires { AreRising journals.now }
-    ensures { result ≡ place_in tenant journals.now }
-{
-    let guess = guesses.guess(tenant);
-    if guess < journals.len() && journals[guess].tenant() == tenant {
-        return guess;
-    }
-    scan(journals, tenant)
-}
-
-/// The same place, by a look at each journal up to it.
-fn scan<A: Allocator>(journals: &[Journal<A>], tenant: u64) -> usize
-    ensures { result ≡ place_in tenant journals.now }
-{
-    for (at, journal) in journals.iter().enumerate() {
-        if journal.tenant() == tenant {
-            return at;
-        }
-    }
-    journals.len()
-}
-
-/// Puts down where each journal stands.
-pub(crate) fn guess_anew<A: Allocator>(guesses: &mut Guesses<A>, journals: &[Journal<A>]) {
-    for (at, journal) in journals.iter().enumerate() {
-        guesses.put(journal.tenant(), at);
-    }
-}
-
 /// Adds a step that raises nothing to the journal of its tenant, which has one.
 pub(crate) fn write<A: Allocator>(
-    guesses: &Guesses<A>,
+    index: &TenantIndex,
     journals: &mut Vec<Journal<A>, A>,
     tenant: u64,
     step: &Step<Jamboree>,
 )
-    requires rising { AreRising journals.old.items }
+    requires rising { AreRising owner_of journals.old.items }
     requires own { tenant_of step.now ≡ tenant }
     requires serial { serial_in step.now < 2 ^ 32 }
     requires there { has_journal tenant journals.old.items ≡ true }
@@ -208,20 +178,20 @@ pub(crate) fn write<A: Allocator>(
     requires raises_not { raise_in step.now ≡ None }
     ensures { journals.new.items ≡ with_step tenant step.now journals.old.items }
 {
-    let at = place_of(guesses, journals.as_slice(), tenant);
+    let at = index.place_of(journals.as_slice(), tenant);
     let journal = &mut journals[at];
     journal.write(step);
 }
 
 /// Lets the core raise what a tenant reserves, which has a journal, and writes it there.
 pub(crate) fn raise<A: Allocator + Clone>(
-    guesses: &Guesses<A>,
+    index: &TenantIndex,
     journals: &mut Vec<Journal<A>, A>,
     core: &mut Core<Jamboree, A>,
     tenant: u64,
     reserve: Reserve,
 ) -> Result<Did<Jamboree>, Refusal>
-    requires rising { AreRising journals.old.items }
+    requires rising { AreRising owner_of journals.old.items }
     requires there { has_journal tenant journals.old.items ≡ true }
     requires few { raise_count (journal_in journals.old.items tenant) ≤ 69632 }
     requires place { length (journal_in journals.old.items tenant) < places_for reserve + (raise_count (journal_in journals.old.items tenant) + 1) }
@@ -234,7 +204,7 @@ pub(crate) fn raise<A: Allocator + Clone>(
     ensures known { OnOk result (IsKnown core.new.shared) }
     ensures limits { IsWithinLimits reserve }
 {
-    let at = place_of(guesses, journals.as_slice(), tenant);
+    let at = index.place_of(journals.as_slice(), tenant);
     let journal = &mut journals[at];
     journal.raise(core, reserve)
 }

@@ -4,7 +4,7 @@ ghost use Rattle.tenant_quota.specs.Quota.{Quota};
 ghost use Rattle.sched_rules.specs.declared.job.Job.TheVariants.{Live, Done, Spent};
 ghost use Rattle.sched_rules.specs.declared.step.StepOf.TheVariants.{Admit, AdmitMore, Take, Advance, Spend, Cancel, Leave};
 ghost use Rattle.jamboree_core.specs.jamboree_rules.declared.leaf.LeafAnswer.{LeafAnswer};
-ghost use Rattle.hall.specs.declared.entry.Entry.TheVariants.{Taken, Advanced, Spent as SpentEntry, Long};
+ghost use Rattle.hall.specs.declared.entry.JournalEntry.TheVariants.{Taken, Advanced, Spent as SpentEntry, Long};
 ghost use Rattle.hall.specs.declared.entry.LongEntry.TheVariants.{Admitted, Raised, Cancelled};
 ghost use Rattle.hall.specs.Entries.{steps_in, long_count};
 ghost use Rattle.hall.specs.Journals.{journals_after, gone_by, total_length, admitted_journal, journal_in, places_in, reserved_in};

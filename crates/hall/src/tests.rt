@@ -2,7 +2,7 @@ ghost use Rattle.std.specs.Prelude.{◌<◌};
 ghost use Rattle.jamboree_core.specs.jamboree_laws.Replies.{IsSearch};
 
 use super::*;
-use crate::entry::{Entry, LongEntry};
+use crate::entry::{JournalEntry, LongEntry};
 use frame_tree::FrameId;
 use linked_list_allocator::LocalHeap;
 use othello_board::Board;
@@ -29,7 +29,7 @@ fn opening() -> Result<Position, Fail> {
 /// An entry of a journal takes 8 bytes, and a long one at most 48.
 #[test]
 fn entries_are_small(rt: HostRuntime) {
-    assert_eq!(rt; size_of::<Entry>(), 8);
+    assert_eq!(rt; size_of::<JournalEntry>(), 8);
     assert!(rt; size_of::<LongEntry>() <= 48);
 }
 

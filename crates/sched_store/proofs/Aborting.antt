@@ -4,7 +4,7 @@ use Rattle.std.proofs.lemmas.Bool.{cases_Bool, true≢false, false≢true, eq-eq
 use Rattle.cactus_stack.specs.Nodes.{Nodes, IsOpen, node_words, without, total_charge, HasAllChildren}
 use Rattle.cactus_stack.proofs.LawFacts.{charge-without}
 use Rattle.tenant_quota.specs.Accounts.{account_of, credited_by, charged_segments}
-use Rattle.tenant_quota.specs.Reservations.{Reservations, IsSound, ChangesOnly, KeepsOthers as KeepsOtherAccounts, HasCharged}
+use Rattle.tenant_quota.specs.Reservations.{Reservations, IsSoundBook, ChangesOnly, KeepsOthers as KeepsOtherAccounts, HasCharged}
 use Rattle.tenant_quota.specs.declared.account.Account.{Account}
 use Rattle.frame_tree.specs.declared.names.FrameId.{FrameId}
 use Rattle.frame_tree.specs.Frames.{Frame, frame_at, has_frame, goes_under, aborted, frames_under, values_of, IsTree, TenantTree}
@@ -118,7 +118,7 @@ pub record IsAborted (parts : Parts) (nodes : Nodes) (trees : List (TenantTree �
   pub credited : ChangesOnly parts.book book name.tenant (credited_by (later - before))
   pub sum : charged_segments book.accounts + (later - before) ≡ charged_segments parts.book.accounts
   pub others : KeepsOtherAccounts parts.book book name.tenant
-  pub sound : IsSound book
+  pub sound : IsSoundBook book
 
 -- no less is free, it is what the nodes gave back, and the tenant was charged as much
 pub record AreFreed (parts : Parts) (name : FrameId) (numbers : List ℕ) (before later : ℕ) : Type 0 where
@@ -139,7 +139,7 @@ abort-frees parts nodes name numbers before later stored some values closed_all 
     let frees = subst (λ (ns : List ℕ). total_charge (without parts.nodes ns) + (later - before) ≡ total_charge parts.nodes) same freed.1 in
     let there = is-there parts stored name some in
     let segments = stored.segments in
-    let within = IsSound.segments_within stored.book in
+    let within = IsSoundBook.segments_within stored.book in
     record {
       more = freed.0;
       few = omega (arith, free, long, segments, within);

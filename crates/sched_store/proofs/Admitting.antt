@@ -5,7 +5,7 @@ use Rattle.std.proofs.lemmas.Bool.{cases_Bool, cases_eq, ne_eqb, eq-eqb, leb-fal
 use Rattle.cactus_stack.specs.Nodes.{Nodes}
 use Rattle.tenant_quota.specs.Quota.{Quota}
 use Rattle.tenant_quota.specs.Accounts.{account_of, fresh, with_new, reserved_segments, reserved_nodes}
-use Rattle.tenant_quota.specs.Reservations.{Reservations, IsSound, HasRoom, Admits, KeepsOthers as KeepsOtherAccounts}
+use Rattle.tenant_quota.specs.Reservations.{Reservations, IsSoundBook, HasRoom, Admits, KeepsOthers as KeepsOtherAccounts}
 use Rattle.tenant_quota.specs.declared.account.Account.{Account}
 use Rattle.frame_tree.specs.Frames.{Frame, frame_at, AllBelow, TenantTree}
 use Rattle.frame_table.specs.Tables.{frames_of, places_of, tenant_count, KeepsOtherTenants}
@@ -94,7 +94,7 @@ pub record IsAdmitted (parts : Parts) (trees : List (TenantTree ℕ)) (ledger : 
   pub ledger_is : ledger ≡ (number, [])
   pub admits : Admits parts.book book number quota
   pub others : KeepsOtherAccounts parts.book book number
-  pub sound : IsSound book
+  pub sound : IsSoundBook book
 
 -- the parts after it
 abbrev pub with_one_more : Parts → List (TenantTree ℕ) → Ledger → Reservations → ℕ → Parts

@@ -4,7 +4,7 @@ use Rattle.std.proofs.lemmas.Bool.{cases_Bool, false≢true, eqb-true}
 use Rattle.std.proofs.lemmas.List.Sums.{sum_by-cons}
 use Rattle.cactus_stack.specs.Nodes.{Nodes, node_words, charge}
 use Rattle.tenant_quota.specs.Accounts.{account_of, IsWithinReserve}
-use Rattle.tenant_quota.specs.Reservations.{IsSound}
+use Rattle.tenant_quota.specs.Reservations.{IsSoundBook}
 use Rattle.tenant_quota.specs.declared.account.Account.{Account}
 use Rattle.tenant_quota.proofs.Edits.{AllEntries-of}
 use Rattle.frame_tree.specs.declared.names.FrameId.{FrameId}
@@ -108,7 +108,7 @@ words-few parts stored tenant = by (account_of tenant parts.book.accounts) refl
     by : (o : Option Account) → account_of tenant parts.book.accounts ≡ o → sum_by (words_counted parts) (names_of tenant (frames_of parts.trees tenant)) ≤ 65536
     by None missing = (let none = ap (λ (xs : List (Frame ℕ)). sum_by (words_counted parts) (names_of tenant xs)) (stored.nothing tenant missing) in omega (arith, none))
     by (Some account) there =
-        let within : IsWithinReserve account = AllEntries-of (λ (e : ℕ × Account). IsWithinReserve e.1) tenant account parts.book.accounts there (IsSound.within stored.book) in
+        let within : IsWithinReserve account = AllEntries-of (λ (e : ℕ × Account). IsWithinReserve e.1) tenant account parts.book.accounts there (IsSoundBook.within stored.book) in
         let most = within.charged_within in
         let segments = within.segments_within in
         let charged = IsAccountFor.charged (stored.accounts tenant account there) in

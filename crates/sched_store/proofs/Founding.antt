@@ -4,7 +4,7 @@ use Rattle.std.proofs.lemmas.Bool.{false≢true}
 use Rattle.std.proofs.lemmas.List.Sums.{sum_by-cons}
 use Rattle.std.proofs.lemmas.List.{length-replicate}
 use Rattle.cactus_stack.specs.Nodes.{Nodes, node_at, charge_of, total_charge}
-use Rattle.tenant_quota.specs.Reservations.{Reservations, IsSound, empty_of}
+use Rattle.tenant_quota.specs.Reservations.{Reservations, IsSoundBook, empty_of}
 use Rattle.tenant_quota.specs.declared.account.Account.{Account}
 use Rattle.frame_tree.specs.declared.names.FrameId.{FrameId}
 use Rattle.frame_tree.specs.Frames.{Frame, frame_at, IsTree, TenantTree}
@@ -25,7 +25,7 @@ none-charged (suc count) = omega (arith, sum_by-cons charge_of None (replicate c
 pub record AreNew (nodes : Nodes) (trees : List (TenantTree ℕ)) (ledgers : List Ledger) (book : Reservations) (segments nodes_in_all : ℕ) : Type 0 where
   pub stack : nodes ≡ replicate segments None
   pub empty : book ≡ empty_of segments nodes_in_all
-  pub sound : IsSound book
+  pub sound : IsSoundBook book
   pub count : tenant_count trees ≡ 0
   pub frames : (tenant : ℕ) → frames_of trees tenant ≡ []
   pub places : (tenant : ℕ) → places_of trees tenant ≡ 0

@@ -4,7 +4,7 @@ use Rattle.std.specs.List.{filter}
 use Rattle.std.proofs.lemmas.Bool.{cases_Bool, eq-eqb, eqb-true, ne_eqb, ltb-false}
 use Rattle.cactus_stack.specs.Nodes.{Nodes, HasNoChild, node_at, node_words, node_parent, with_node, without, total_charge}
 use Rattle.tenant_quota.specs.Accounts.{credited_by, charged_segments}
-use Rattle.tenant_quota.specs.Reservations.{Reservations, IsSound, ChangesOnly, KeepsOthers as KeepsOtherAccounts, HasCharged}
+use Rattle.tenant_quota.specs.Reservations.{Reservations, IsSoundBook, ChangesOnly, KeepsOthers as KeepsOtherAccounts, HasCharged}
 use Rattle.tenant_quota.specs.declared.account.Account.{Account}
 use Rattle.frame_tree.specs.declared.names.FrameId.{FrameId}
 use Rattle.frame_tree.specs.Frames.{Frame, frame_at, parent_of, children_of, frames_without, IsTree, HasValue, TenantTree}
@@ -102,7 +102,7 @@ pub record IsRemoved (parts : Parts) (nodes : Nodes) (trees : List (TenantTree �
   pub credited : ChangesOnly parts.book book name.tenant (credited_by (later - before))
   pub sum : charged_segments book.accounts + (later - before) ≡ charged_segments parts.book.accounts
   pub others : KeepsOtherAccounts parts.book book name.tenant
-  pub sound : IsSound book
+  pub sound : IsSoundBook book
 
 closes-one : (parts : Parts) (name : FrameId) (node : ℕ) → IsStored parts → HasValue (frame_in parts.trees name.tenant name.serial) node → closing parts.trees name.tenant (others_stay name.serial) ≡ node ∷ []
 closes-one parts name node stored value =
@@ -128,7 +128,7 @@ leaf-frees parts nodes name node before later stored some value closed_one was_f
     let freed = freed-is parts.nodes numbers before later once long was_free free in
     let there = is-there parts stored name some in
     let segments = stored.segments in
-    let within = IsSound.segments_within stored.book in
+    let within = IsSoundBook.segments_within stored.book in
     record {
       more = freed.0;
       few = omega (arith, free, long, segments, within);

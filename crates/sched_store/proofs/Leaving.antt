@@ -4,7 +4,7 @@ use Rattle.std.specs.List.{filter}
 use Rattle.std.proofs.lemmas.Bool.{cases_Bool, cases_eq, ne_eqb, eqb-true, eqb-false}
 use Rattle.cactus_stack.specs.Nodes.{Nodes, without, total_charge}
 use Rattle.tenant_quota.specs.Accounts.{account_of, without as without_account, AllEntries, IsRising, IsWithinReserve, charged_segments}
-use Rattle.tenant_quota.specs.Reservations.{Reservations, IsSound, Releases, KeepsOthers as KeepsOtherAccounts}
+use Rattle.tenant_quota.specs.Reservations.{Reservations, IsSoundBook, Releases, KeepsOthers as KeepsOtherAccounts}
 use Rattle.tenant_quota.specs.declared.account.Account.{Account}
 use Rattle.tenant_quota.proofs.Edits.{AllEntries-of}
 use Rattle.frame_tree.specs.Frames.{Frame, values_of, AllBelow, IsTree, TenantTree}
@@ -35,7 +35,7 @@ closed-whole (x ∷ xs) = ap (λ (ns : List ℕ). x.value ∷ ns) (closed-whole 
 -- a tenant that is there has a place at least
 pub has-places : (parts : Parts) → IsStored parts → (number : ℕ) (account : Account) → account_of number parts.book.accounts ≡ Some account → 0 < places_of parts.trees number
 has-places parts stored number account there =
-    let within : IsWithinReserve account = AllEntries-of (λ (e : ℕ × Account). IsWithinReserve e.1) number account parts.book.accounts there (IsSound.within stored.book) in
+    let within : IsWithinReserve account = AllEntries-of (λ (e : ℕ × Account). IsWithinReserve e.1) number account parts.book.accounts there (IsSoundBook.within stored.book) in
     let some = within.some_segments in
     let places = IsAccountFor.places (stored.accounts number account there) in
     omega (arith, some, places)
@@ -65,7 +65,7 @@ pub record HasLeft (parts : Parts) (nodes : Nodes) (trees : List (TenantTree ℕ
   pub jobs : ledgers ≡ without_ledger number parts.ledgers
   pub released : Releases parts.book book number account
   pub others : KeepsOtherAccounts parts.book book number
-  pub sound : IsSound book
+  pub sound : IsSoundBook book
 
 -- the parts after it
 abbrev pub departed : Parts → Nodes → List (TenantTree ℕ) → List Ledger → Reservations → Parts

@@ -4,7 +4,7 @@ use Rattle.std.proofs.lemmas.List.{length-set, length-append, length-replicate}
 use Rattle.std.proofs.lemmas.Bool.{cases_eq, false≢true}
 use Rattle.cactus_stack.specs.Nodes.{Nodes, Node, node_at, node_words, words_of, parent_of as node_parent_of, with_node, IsOpen, IsUnused, padded, charge, charge_of, total_charge}
 use Rattle.tenant_quota.specs.Accounts.{account_of, charged_by, charged_segments}
-use Rattle.tenant_quota.specs.Reservations.{Reservations, ChangesOnly, IsSound}
+use Rattle.tenant_quota.specs.Reservations.{Reservations, ChangesOnly, IsSoundBook}
 use Rattle.tenant_quota.specs.declared.account.Account.{Account}
 use Rattle.frame_tree.specs.declared.names.State.TheVariants.{Ready}
 use Rattle.frame_tree.specs.Frames.{Frame, frame_at, has_parent, parent_of, path_under, AllBelow, IsTree, TenantTree, new_frame}
@@ -34,7 +34,7 @@ pub record Opens (old : Parts) (nodes : Nodes) (trees : List (TenantTree ℕ)) (
   pub nodes_is : nodes ≡ with_node old.nodes node (Some (record { parent = above; words = padded words size }))
   pub frames : frames_of trees number ≡ frames_of old.trees number ++ new_frame (frames_of old.trees number) (account.opened + 1) parent home node ∷ []
   pub kept : KeepsOthers old.trees trees number
-  pub sound : IsSound book
+  pub sound : IsSoundBook book
   pub changes : ChangesOnly old.book book number (charged_by (charge size) 1)
   pub sum : charged_segments book.accounts ≡ charged_segments old.book.accounts + charge size
 

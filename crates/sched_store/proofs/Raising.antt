@@ -5,7 +5,7 @@ use Rattle.std.proofs.lemmas.Bool.{cases_eq}
 use Rattle.std.proofs.lemmas.Bool.Decides.{nat_tests}
 use Rattle.tenant_quota.specs.Quota.{Quota, IsAbove}
 use Rattle.tenant_quota.specs.Accounts.{account_of, raised_to, IsWithinReserve}
-use Rattle.tenant_quota.specs.Reservations.{Reservations, IsSound, HasRoomFor, CanRaise, Raises}
+use Rattle.tenant_quota.specs.Reservations.{Reservations, IsSoundBook, HasRoomFor, CanRaise, Raises}
 use Rattle.tenant_quota.specs.declared.account.Account.{Account}
 use Rattle.tenant_quota.proofs.Edits.{AllEntries-of}
 use Rattle.frame_tree.specs.Frames.{Frame, frame_at, AllBelow, TenantTree}
@@ -60,7 +60,7 @@ can-be-raised parts number quota stored above room = by (account_of number parts
         let not_lower : is_lower account.reserve quota ≡ false = rw found at above in
         let few : is_beyond (reservations_in (shared_of parts)) account.reserve quota ≡ false = rw found at room in
         let enough : is_beyond parts.book account.reserve quota ≡ false = subst (λ (b : Reservations). is_beyond b account.reserve quota ≡ false) (reservations-found parts stored) few in
-        let within : IsWithinReserve account = AllEntries-of (λ (e : ℕ × Account). IsWithinReserve e.1) number account parts.book.accounts there (IsSound.within stored.book) in
+        let within : IsWithinReserve account = AllEntries-of (λ (e : ℕ × Account). IsWithinReserve e.1) number account parts.book.accounts there (IsSoundBook.within stored.book) in
         record {
           account = account;
           there = there;
@@ -82,7 +82,7 @@ pub record IsRaised (parts : Parts) (trees : List (TenantTree ℕ)) (book : Rese
   pub kept : KeepsOtherTenants parts.trees trees number
   pub count : tenant_count trees ≡ tenant_count parts.trees
   pub raises : Raises parts.book book number quota account.reserve
-  pub sound : IsSound book
+  pub sound : IsSoundBook book
 
 -- the parts after it
 abbrev pub with_more : Parts → List (TenantTree ℕ) → Reservations → Parts

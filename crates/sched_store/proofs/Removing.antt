@@ -4,7 +4,7 @@ use Rattle.std.specs.List.{filter}
 use Rattle.std.proofs.lemmas.List.{length-set}
 use Rattle.cactus_stack.specs.Nodes.{Nodes, with_node, without, total_charge}
 use Rattle.tenant_quota.specs.Accounts.{account_of, credited_by, charged_segments}
-use Rattle.tenant_quota.specs.Reservations.{Reservations, IsSound, ChangesOnly, KeepsOthers as KeepsOtherAccounts, HasCharged}
+use Rattle.tenant_quota.specs.Reservations.{Reservations, IsSoundBook, ChangesOnly, KeepsOthers as KeepsOtherAccounts, HasCharged}
 use Rattle.tenant_quota.specs.declared.account.Account.{Account}
 use Rattle.frame_tree.specs.Frames.{Frame, AllBelow, TenantTree}
 use Rattle.frame_table.specs.Tables.{frames_of, KeepsOthers}
@@ -31,7 +31,7 @@ pub record IsRemoval (parts : Parts) (trees : List (TenantTree ℕ)) (book : Res
   pub credited : ChangesOnly parts.book book number (credited_by freed)
   pub sum : charged_segments book.accounts + freed ≡ charged_segments parts.book.accounts
   pub others : KeepsOtherAccounts parts.book book number
-  pub sound : IsSound book
+  pub sound : IsSoundBook book
 
 -- the parts after it
 abbrev pub removed : Parts → List (TenantTree ℕ) → Reservations → ℕ → (Frame ℕ → Bool) → Parts

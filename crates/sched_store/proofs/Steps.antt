@@ -3,7 +3,7 @@ use Rattle.std.proofs.Common.{◌≡◌, ◌≢◌, ℕ, suc, ◌<◌, false, co
 use Rattle.std.proofs.lemmas.Bool.{cases_Bool, cases_eq, ne_eqb, eqb-true, eqb-false}
 use Rattle.cactus_stack.specs.Nodes.{total_charge}
 use Rattle.tenant_quota.specs.Accounts.{account_of, with_changed, charged_segments, AllEntries, IsRising}
-use Rattle.tenant_quota.specs.Reservations.{Reservations, changed, IsSound}
+use Rattle.tenant_quota.specs.Reservations.{Reservations, changed, IsSoundBook}
 use Rattle.tenant_quota.specs.declared.account.Account.{Account}
 use Rattle.frame_tree.specs.Frames.{IsTree, TenantTree}
 use Rattle.frame_table.specs.Tables.{frames_of, tenant_count, KeepsOthers, KeepsOtherTenants}
@@ -74,7 +74,7 @@ other-tenants kept = record { frames = kept.frames; places = λ other differs. k
 -- one tenant's account, frames, places, words or jobs change, and no other tenant's
 pub record TenantStep (old new : Parts) (number : ℕ) (f : Account → Account) (account : Account) : Type 0 where
   pub there : account_of number old.book.accounts ≡ Some account
-  pub sound : IsSound new.book
+  pub sound : IsSoundBook new.book
   pub book : new.book ≡ changed old.book number f
   pub trees : KeepsOtherTenants old.trees new.trees number
   pub count : tenant_count new.trees ≡ tenant_count old.trees

@@ -4,7 +4,7 @@ use Rattle.std.proofs.lemmas.Bool.{cases_Bool, false≢true, ne_eqb, eqb-true}
 use Rattle.tenant_quota.specs.Accounts.{account_of, ticked, charged_segments, left_in}
 use Rattle.tenant_quota.specs.declared.account.Account.{Account}
 use Rattle.tenant_quota.specs.declared.account.Left.{Left}
-use Rattle.tenant_quota.specs.Reservations.{Reservations, ChangesOnly, IsSound, left_of as left_of_book}
+use Rattle.tenant_quota.specs.Reservations.{Reservations, ChangesOnly, IsSoundBook, left_of as left_of_book}
 use Rattle.sched_rules.specs.declared.job.Job.{Job}
 use Rattle.sched_rules.specs.Trees.{Tenant}
 use Rattle.sched_rules.specs.Lone.{counted}
@@ -42,7 +42,7 @@ book-left parts stored number P is = let Q : Option Left → Type 0 = λ left. I
 
 -- a step is counted
 
-ticked-step : (old : Parts) (book : Reservations) (number : ℕ) (account : Account) → IsStored old → account_of number old.book.accounts ≡ Some account → IsSound book → ChangesOnly old.book book number ticked → charged_segments book.accounts ≡ charged_segments old.book.accounts →
+ticked-step : (old : Parts) (book : Reservations) (number : ℕ) (account : Account) → IsStored old → account_of number old.book.accounts ≡ Some account → IsSoundBook book → ChangesOnly old.book book number ticked → charged_segments book.accounts ≡ charged_segments old.book.accounts →
     TenantStep old (record old { book = book }) number ticked account
 ticked-step old book number account stored there sound changes sum =
     record {
@@ -69,7 +69,7 @@ pub record Counted (old : Parts) (book : Reservations) (number : ℕ) : Type 0 w
   pub stored : IsStored (record old { book = book })
   pub shared : shared_of (record old { book = book }) ≡ on_tenant number counted (shared_of old)
 
-pub count-step : (old : Parts) (book : Reservations) (number : ℕ) (account : Account) → IsStored old → account_of number old.book.accounts ≡ Some account → IsSound book → ChangesOnly old.book book number ticked → charged_segments book.accounts ≡ charged_segments old.book.accounts → Counted old book number
+pub count-step : (old : Parts) (book : Reservations) (number : ℕ) (account : Account) → IsStored old → account_of number old.book.accounts ≡ Some account → IsSoundBook book → ChangesOnly old.book book number ticked → charged_segments book.accounts ≡ charged_segments old.book.accounts → Counted old book number
 count-step old book number account stored there sound changes sum =
     let step = ticked-step old book number account stored there sound changes sum in
     record {

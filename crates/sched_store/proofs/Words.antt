@@ -4,7 +4,7 @@ use Rattle.std.proofs.lemmas.Bool.{cases_Bool, ne_eqb, eqb-true, eqb-false}
 use Rattle.cactus_stack.specs.Nodes.{Nodes, node_words, with_words as with_node_words, IsOpen, charge, total_charge}
 use Rattle.tenant_quota.specs.Quota.{Quota}
 use Rattle.tenant_quota.specs.Accounts.{account_of, charged_segments}
-use Rattle.tenant_quota.specs.Reservations.{Reservations, changed, IsSound}
+use Rattle.tenant_quota.specs.Reservations.{Reservations, changed, IsSoundBook}
 use Rattle.tenant_quota.specs.declared.account.Account.{Account}
 use Rattle.frame_tree.specs.declared.names.FrameId.{FrameId}
 use Rattle.frame_tree.specs.Frames.{Frame, frame_at, TenantTree}
@@ -70,7 +70,7 @@ other-node nodes trees number serial other_number other_serial frame other are t
 -- what is asked of an account whose charge changes with the words
 pub record ChargesWords (old : Parts) (book : Reservations) (name : FrameId) (f : Account → Account) (account : Account) (before after : ℕ) : Type 0 where
   pub there : account_of name.tenant old.book.accounts ≡ Some account
-  pub sound : IsSound book
+  pub sound : IsSoundBook book
   pub changes : book ≡ changed old.book name.tenant f
   pub reserve : (f account).reserve ≡ account.reserve
   pub opened : (f account).opened ≡ account.opened

@@ -4,7 +4,7 @@ use Rattle.std.proofs.Math.ListN.{set}
 use Rattle.std.proofs.lemmas.List.{length-set, length-append, length-replicate}
 use Rattle.cactus_stack.specs.Nodes.{Nodes, node_words, with_words as with_node_words, IsOpen, charge, growth_charge, free_segments}
 use Rattle.tenant_quota.specs.Accounts.{account_of, charged_by, charged_segments, reserved_segments, IsWithinReserve}
-use Rattle.tenant_quota.specs.Reservations.{Reservations, ChangesOnly, IsSound}
+use Rattle.tenant_quota.specs.Reservations.{Reservations, ChangesOnly, IsSoundBook}
 use Rattle.tenant_quota.specs.declared.account.Account.{Account}
 use Rattle.tenant_quota.proofs.Edits.{AllEntries-map, sum_by-le_with}
 use Rattle.frame_tree.specs.declared.names.FrameId.{FrameId}
@@ -104,7 +104,7 @@ not-refused (Err error) not = absurd (not refl)
 
 -- growths
 
-charged-changes : (parts : Parts) (book : Reservations) (name : FrameId) (account : Account) (before after added : ℕ) → account_of name.tenant parts.book.accounts ≡ Some account → IsSound book → ChangesOnly parts.book book name.tenant (charged_by added 0) →
+charged-changes : (parts : Parts) (book : Reservations) (name : FrameId) (account : Account) (before after added : ℕ) → account_of name.tenant parts.book.accounts ≡ Some account → IsSoundBook book → ChangesOnly parts.book book name.tenant (charged_by added 0) →
     charged_segments book.accounts ≡ charged_segments parts.book.accounts + added → before + added ≡ after → ChargesWords parts book name (charged_by added 0) account before after
 charged-changes parts book name account before after added own sound changes sum grown =
     record {
@@ -119,7 +119,7 @@ charged-changes parts book name account before after added own sound changes sum
     }
 
 pub growth-set : (old : Parts) (nodes : Nodes) (book : Reservations) (name : FrameId) (node more added : ℕ) → IsStored old → HasNode old name node → nodes ≡ with_node_words old.nodes node (node_words old.nodes node ++ replicate more 0) →
-    length (node_words old.nodes node) + more ≤ 128 → added ≡ growth_charge (length (node_words old.nodes node)) more → IsSound book → ChangesOnly old.book book name.tenant (charged_by added 0) → charged_segments book.accounts ≡ charged_segments old.book.accounts + added →
+    length (node_words old.nodes node) + more ≤ 128 → added ≡ growth_charge (length (node_words old.nodes node)) more → IsSoundBook book → ChangesOnly old.book book name.tenant (charged_by added 0) → charged_segments book.accounts ≡ charged_segments old.book.accounts + added →
     WordsSet old nodes book name (words_under (shared_of old) name ++ replicate more 0)
 growth-set old nodes book name node more added is_stored has is most added_is sound changes sum =
     let words = node_words old.nodes node in

@@ -1,5 +1,5 @@
 -- Representation: the jobs of each tenant: a list of tenants, each with its jobs, in the order of their numbers.
-use Rattle.std.specs.Prelude.{◌≡◌, ℕ, ◌<◌, Bool, true, false, ◌||◌, ◌==◌, List, [], ◌∷◌, if◌then◌else◌, nat_lt, suc}
+use Rattle.std.specs.Prelude.{◌≡◌, ℕ, ◌<◌, Bool, true, false, ◌||◌, ◌==◌, List, [], ◌∷◌, if◌then◌else◌}
 use Rattle.sched_rules.specs.declared.job.Job.{Job}
 use Rattle.sched_rules.specs.declared.job.Job.TheVariants.{Live, Done, Spent, Cancelled}
 use Rattle.sched_rules.specs.Trees.{is_live_at}
@@ -7,6 +7,10 @@ use Rattle.sched_rules.specs.Trees.{is_live_at}
 -- a tenant's number, and its jobs from number 1 on
 abbrev pub Ledger : Type 0
 Ledger = ℕ × List Job
+
+-- the number of a ledger's tenant
+abbrev pub number_in : Ledger → ℕ
+number_in ledger = ledger.0
 
 -- the jobs of a tenant; none where it isn't there
 abbrev pub jobs_of : List Ledger → ℕ → List Job
@@ -23,25 +27,10 @@ abbrev pub is_there : ℕ → List Ledger → Bool
 is_there number [] = false
 is_there number (ledger ∷ ledgers) = (ledger.0 == number) || is_there number ledgers
 
--- each of these numbers is above this one
-abbrev pub AreAbove : ℕ → List ℕ → Type 0
-AreAbove number [] = Unit {0}
-AreAbove number (first ∷ numbers) = (number < first) × AreAbove number numbers
-
 -- each of these numbers is below this one
 abbrev pub AreBelow : ℕ → List ℕ → Type 0
 AreBelow number [] = Unit {0}
 AreBelow number (first ∷ numbers) = (first < number) × AreBelow number numbers
-
--- each number is below all later ones
-abbrev pub AreRising : List ℕ → Type 0
-AreRising [] = Unit {0}
-AreRising (number ∷ numbers) = AreAbove number numbers × AreRising numbers
-
--- how many numbers at the front are below this one: the place of this number, or that where it would stand
-abbrev pub count_below : ℕ → List ℕ → ℕ
-count_below number [] = 0
-count_below number (first ∷ numbers) = if nat_lt first number then suc (count_below number numbers) else 0
 
 -- whether a job lives
 abbrev pub is_live : Job → Bool

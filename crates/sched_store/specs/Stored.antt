@@ -3,7 +3,7 @@ use Rattle.std.specs.Prelude.{◌≡◌, ℕ, ◌+◌, ◌^◌, ◌≤◌, true,
 use Rattle.cactus_stack.specs.Nodes.{Nodes, IsOpen, node_words, node_parent, total_charge}
 use Rattle.tenant_quota.specs.Accounts.{account_of, charged_segments}
 use Rattle.tenant_quota.specs.declared.account.Account.{Account}
-use Rattle.tenant_quota.specs.Reservations.{IsSound}
+use Rattle.tenant_quota.specs.Reservations.{IsSoundBook}
 use Rattle.frame_tree.specs.declared.names.FrameId.{FrameId}
 use Rattle.frame_tree.specs.Frames.{Frame, frame_at, parent_of, AllBelow, IsTree, TenantTree}
 use Rattle.frame_table.specs.Tables.{frames_of, places_of, tenant_count}
@@ -71,7 +71,7 @@ AreAtMost most (entry ∷ entries) = (entry.0 ≤ most) × AreAtMost most entrie
 
 -- what a store keeps true
 pub record IsStored (parts : Parts) : Type 0 where
-  pub book : IsSound parts.book
+  pub book : IsSoundBook parts.book
   pub frames_nodes : AreFramesNodes parts.nodes parts.trees
   pub sized : AreSized parts.nodes
   pub accounts : (number : ℕ) (account : Account) → account_of number parts.book.accounts ≡ Some account → IsAccountFor parts.nodes parts.trees number account

@@ -3,6 +3,7 @@ ghost use Rattle.std.specs.Prelude.{◌≡◌, ◌+◌, ◌<◌, ◌≤◌, ℕ,
 ghost use Rattle.sched_rules.specs.Trees.{is_live_at, job_at, job_under, with_ended};
 ghost use Rattle.sched_store.specs.Ledgers.{is_live};
 
+use number_index::Numbered;
 use sched_rules::Job;
 use std::alloc::{AllocError, Allocator, Global};
 use std::marker::Model;
@@ -31,6 +32,17 @@ impl<A: Allocator> Model for Ledger<A> {
     ghost invariant = { λ l. (256 ≤ vec_capacity l.jobs) × (length l.jobs.items ≤ 256) × AreLiveOnce l.jobs.items };
 }
 
+impl<A: Allocator> Numbered for Ledger<A> {
+    ghost use Rattle.sched_store.specs.Ledgers.{number_in};
+
+    ghost number_of = { number_in };
+
+    #[inline(always)]
+    fn number(&self) -> u64 {
+        self.number
+    }
+}
+
 impl<A: Allocator> Ledger<A> {
     /// The ledger of a tenant that has no job yet. It makes places for 256.
     pub(crate) fn new(alloc: A, number: u64) -> Result<Ledger<A>, AllocError>
@@ -38,13 +50,6 @@ impl<A: Allocator> Ledger<A> {
     {
         let jobs = Vec::with_capacity(alloc, JOBS)?;
         Ok(Ledger { number, jobs })
-    }
-
-    /// The tenant's number.
-    pub(crate) fn number(&self) -> u64
-        ensures { result ≡ self.now.0 }
-    {
-        self.number
     }
 
     /// How many jobs it has.

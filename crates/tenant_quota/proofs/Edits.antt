@@ -5,36 +5,36 @@ use Rattle.std.specs.List.{insert, remove}
 use Rattle.std.proofs.lemmas.Bool.{ltb-true, ltb-false, eq-eqb, ne_eqb, eqb-true}
 use Rattle.std.proofs.lemmas.Bool.Decides.{nat_tests}
 use Rattle.std.proofs.lemmas.List.Sums.{sum_by-insert, sum_by-cons}
-use Rattle.tenant_quota.proofs.Places.{entry_is}
+use Rattle.tenant_quota.proofs.Places.{account_place, entry_is}
 use Rattle.tenant_quota.specs.declared.account.Account.{Account}
-use Rattle.tenant_quota.specs.Accounts.{account_of, count_below, with_new, with_changed, without, AllEntries, IsRising}
+use Rattle.tenant_quota.specs.Accounts.{account_of, with_new, with_changed, without, AllEntries, IsRising}
 
 abbrev Entries : Type 0
 Entries = List (ℕ × Account)
 
 -- the edits of a list at a tenant's place
 
-pub insert-count_below : (t : ℕ) (a : Account) (es : Entries) → insert es (count_below t es) (t, a) ≡ with_new t a es
-insert-count_below t a [] = refl
-insert-count_below t a (e ∷ es) =
-    elim (ltb e.0 t) as (λ b. insert (e ∷ es) (cond b (suc (count_below t es)) 0) (t, a) ≡ cond b (e ∷ with_new t a es) ((t, a) ∷ e ∷ es)) [
-      | true ↦ ap (λ l. e ∷ l) (insert-count_below t a es)
+pub insert-account_place : (t : ℕ) (a : Account) (es : Entries) → insert es (account_place t es) (t, a) ≡ with_new t a es
+insert-account_place t a [] = refl
+insert-account_place t a (e ∷ es) =
+    elim (ltb e.0 t) as (λ b. insert (e ∷ es) (cond b (suc (account_place t es)) 0) (t, a) ≡ cond b (e ∷ with_new t a es) ((t, a) ∷ e ∷ es)) [
+      | true ↦ ap (λ l. e ∷ l) (insert-account_place t a es)
       | false ↦ refl
     ]
 
-pub remove-count_below : (t : ℕ) (es : Entries) (d : ℕ × Account) → count_below t es < length es → (get_or es (count_below t es) d).0 ≡ t → remove es (count_below t es) ≡ without t es
-remove-count_below t [] d lt is = absurd (omega arith)
-remove-count_below t (e ∷ es) d lt is =
-    elim (ltb e.0 t) as (λ b. ltb e.0 t ≡ b → cond b (suc (count_below t es)) 0 < suc (length es) → (get_or (e ∷ es) (cond b (suc (count_below t es)) 0) d).0 ≡ t → remove (e ∷ es) (cond b (suc (count_below t es)) 0) ≡ without t (e ∷ es)) [
-      | true ↦ λ q within same. let below : e.0 < t = ltb-true e.0 t q in rw (ne_eqb e.0 t (omega arith)) (ap (λ l. e ∷ l) (remove-count_below t es d (omega arith) same))
+pub remove-account_place : (t : ℕ) (es : Entries) (d : ℕ × Account) → account_place t es < length es → (get_or es (account_place t es) d).0 ≡ t → remove es (account_place t es) ≡ without t es
+remove-account_place t [] d lt is = absurd (omega arith)
+remove-account_place t (e ∷ es) d lt is =
+    elim (ltb e.0 t) as (λ b. ltb e.0 t ≡ b → cond b (suc (account_place t es)) 0 < suc (length es) → (get_or (e ∷ es) (cond b (suc (account_place t es)) 0) d).0 ≡ t → remove (e ∷ es) (cond b (suc (account_place t es)) 0) ≡ without t (e ∷ es)) [
+      | true ↦ λ q within same. let below : e.0 < t = ltb-true e.0 t q in rw (ne_eqb e.0 t (omega arith)) (ap (λ l. e ∷ l) (remove-account_place t es d (omega arith) same))
       | false ↦ λ q within same. rw (eq-eqb e.0 t same)
     ] refl lt is
 
-pub set-count_below : (t : ℕ) (f : Account → Account) (es : Entries) (d : ℕ × Account) → count_below t es < length es → (get_or es (count_below t es) d).0 ≡ t → set es (count_below t es) ((get_or es (count_below t es) d).0, f (get_or es (count_below t es) d).1) ≡ with_changed t f es
-set-count_below t f [] d lt is = absurd (omega arith)
-set-count_below t f (e ∷ es) d lt is =
-    elim (ltb e.0 t) as (λ b. ltb e.0 t ≡ b → cond b (suc (count_below t es)) 0 < suc (length es) → (get_or (e ∷ es) (cond b (suc (count_below t es)) 0) d).0 ≡ t → set (e ∷ es) (cond b (suc (count_below t es)) 0) ((get_or (e ∷ es) (cond b (suc (count_below t es)) 0) d).0, f (get_or (e ∷ es) (cond b (suc (count_below t es)) 0) d).1) ≡ with_changed t f (e ∷ es)) [
-      | true ↦ λ q within same. let below : e.0 < t = ltb-true e.0 t q in rw (ne_eqb e.0 t (omega arith)) (ap (λ l. e ∷ l) (set-count_below t f es d (omega arith) same))
+pub set-account_place : (t : ℕ) (f : Account → Account) (es : Entries) (d : ℕ × Account) → account_place t es < length es → (get_or es (account_place t es) d).0 ≡ t → set es (account_place t es) ((get_or es (account_place t es) d).0, f (get_or es (account_place t es) d).1) ≡ with_changed t f es
+set-account_place t f [] d lt is = absurd (omega arith)
+set-account_place t f (e ∷ es) d lt is =
+    elim (ltb e.0 t) as (λ b. ltb e.0 t ≡ b → cond b (suc (account_place t es)) 0 < suc (length es) → (get_or (e ∷ es) (cond b (suc (account_place t es)) 0) d).0 ≡ t → set (e ∷ es) (cond b (suc (account_place t es)) 0) ((get_or (e ∷ es) (cond b (suc (account_place t es)) 0) d).0, f (get_or (e ∷ es) (cond b (suc (account_place t es)) 0) d).1) ≡ with_changed t f (e ∷ es)) [
+      | true ↦ λ q within same. let below : e.0 < t = ltb-true e.0 t q in rw (ne_eqb e.0 t (omega arith)) (ap (λ l. e ∷ l) (set-account_place t f es d (omega arith) same))
       | false ↦ λ q within same. rw (eq-eqb e.0 t same)
     ] refl lt is
 
@@ -138,7 +138,7 @@ length-without t a [] is = absurd cc
 length-without t a (e ∷ es) is = grind (arith, nat_tests, length-without t a es)
 
 pub sum_by-with_new : (g : ℕ × Account → ℕ) (t : ℕ) (a : Account) (es : Entries) → sum_by g (with_new t a es) ≡ sum_by g es + g (t, a)
-sum_by-with_new g t a es = rw (← insert-count_below t a es) (sum_by-insert g es (count_below t es) (t, a))
+sum_by-with_new g t a es = rw (← insert-account_place t a es) (sum_by-insert g es (account_place t es) (t, a))
 
 -- the term of the entry itself
 term_is : (g : ℕ × Account → ℕ) (e : ℕ × Account) (t : ℕ) (a : Account) → e.0 ≡ t → e.1 ≡ a → g e ≡ g (t, a)

@@ -3,7 +3,7 @@ use Rattle.std.proofs.Common.{◌≡◌, ℕ, ◌-◌, Some, None, refl, ap, sym
 use Rattle.tenant_quota.specs.Quota.{Quota, IsWithinLimits, IsAbove}
 use Rattle.tenant_quota.specs.declared.account.Account.{Account}
 use Rattle.tenant_quota.specs.Accounts.{fresh, raised_to, account_of, IsWithinReserve}
-use Rattle.tenant_quota.specs.Reservations.{Reservations, admitted, changed, released, HasRoom, HasRoomFor, KeepsOthers, Admits, Raises, ChangesOnly, Releases, IsSound}
+use Rattle.tenant_quota.specs.Reservations.{Reservations, admitted, changed, released, HasRoom, HasRoomFor, KeepsOthers, Admits, Raises, ChangesOnly, Releases, IsSoundBook}
 use Rattle.tenant_quota.proofs.Edits.{account_of-with_new, account_of_other-with_new, account_of-with_changed, account_of_other-with_changed, account_of_other-without, account_of-without, AllEntries-with_new, AllEntries-without, AllEntries-with_changed, IsRising-with_new, IsRising-with_changed, IsRising-without, length-with_new, length-with_changed, length-without, sum_by-with_new, sum_by-without, sum_by-with_changed, sum_by-with_changed_same}
 
 -- a new tenant
@@ -32,8 +32,8 @@ Admits-admitted b t quota none = record {
 pub KeepsOthers-admitted : (b : Reservations) (t : ℕ) (quota : Quota) → KeepsOthers b (admitted b t quota) t
 KeepsOthers-admitted b t quota = record { segments = refl; nodes = refl; others = λ q other. account_of_other-with_new q t (fresh quota) b.accounts other }
 
-pub IsSound-admitted : (b : Reservations) (t : ℕ) (quota : Quota) → account_of t b.accounts ≡ None → IsWithinLimits quota → HasRoom b quota → IsSound b → IsSound (admitted b t quota)
-IsSound-admitted b t quota none limits room sound = record {
+pub IsSoundBook-admitted : (b : Reservations) (t : ℕ) (quota : Quota) → account_of t b.accounts ≡ None → IsWithinLimits quota → HasRoom b quota → IsSoundBook b → IsSoundBook (admitted b t quota)
+IsSoundBook-admitted b t quota none limits room sound = record {
   some_segments = sound.some_segments;
   segments_within = sound.segments_within;
   some_nodes = sound.some_nodes;
@@ -60,8 +60,8 @@ ChangesOnly-changed b t f keeps =
 pub KeepsOthers-changed : (b : Reservations) (t : ℕ) (f : Account → Account) → KeepsOthers b (changed b t f) t
 KeepsOthers-changed b t f = record { segments = refl; nodes = refl; others = λ q other. account_of_other-with_changed q t f b.accounts other }
 
-pub IsSound-changed : (b : Reservations) (t : ℕ) (f : Account → Account) (a : Account) → account_of t b.accounts ≡ Some a → ((x : Account) → (f x).reserve ≡ x.reserve) → IsWithinReserve (f a) → IsSound b → IsSound (changed b t f)
-IsSound-changed b t f a is keeps within sound =
+pub IsSoundBook-changed : (b : Reservations) (t : ℕ) (f : Account → Account) (a : Account) → account_of t b.accounts ≡ Some a → ((x : Account) → (f x).reserve ≡ x.reserve) → IsWithinReserve (f a) → IsSoundBook b → IsSoundBook (changed b t f)
+IsSoundBook-changed b t f a is keeps within sound =
     let segments = sum_by-with_changed_same (λ e. e.1.reserve.segments) t f b.accounts (λ e. ap (λ (q : Quota). q.segments) (keeps e.1)) in
     let nodes = sum_by-with_changed_same (λ e. e.1.reserve.nodes) t f b.accounts (λ e. ap (λ (q : Quota). q.nodes) (keeps e.1)) in
     record {
@@ -100,8 +100,8 @@ Raises-raised b t quota a is = record {
   charged = sum_by-with_changed_same (λ e. e.1.charged) t (raised_to quota) b.accounts (λ e. refl);
 }
 
-pub IsSound-raised : (b : Reservations) (t : ℕ) (quota : Quota) (a : Account) → account_of t b.accounts ≡ Some a → IsWithinLimits quota → IsAbove a.reserve quota → HasRoomFor b a.reserve quota → IsWithinReserve a → IsSound b → IsSound (changed b t (raised_to quota))
-IsSound-raised b t quota a is limits above room within sound =
+pub IsSoundBook-raised : (b : Reservations) (t : ℕ) (quota : Quota) (a : Account) → account_of t b.accounts ≡ Some a → IsWithinLimits quota → IsAbove a.reserve quota → HasRoomFor b a.reserve quota → IsWithinReserve a → IsSoundBook b → IsSoundBook (changed b t (raised_to quota))
+IsSoundBook-raised b t quota a is limits above room within sound =
     let raises = Raises-raised b t quota a is in
     record {
       some_segments = sound.some_segments;
@@ -118,7 +118,7 @@ IsSound-raised b t quota a is limits above room within sound =
 
 -- a released tenant
 
-pub Releases-released : (b : Reservations) (t : ℕ) (a : Account) → account_of t b.accounts ≡ Some a → IsSound b → Releases b (released b t) t a
+pub Releases-released : (b : Reservations) (t : ℕ) (a : Account) → account_of t b.accounts ≡ Some a → IsSoundBook b → Releases b (released b t) t a
 Releases-released b t a is sound = record {
   whole = refl;
   account = account_of-without t b.accounts sound.rising;
@@ -131,8 +131,8 @@ Releases-released b t a is sound = record {
 pub KeepsOthers-released : (b : Reservations) (t : ℕ) → KeepsOthers b (released b t) t
 KeepsOthers-released b t = record { segments = refl; nodes = refl; others = λ q other. account_of_other-without q t b.accounts other }
 
-pub IsSound-released : (b : Reservations) (t : ℕ) (a : Account) → account_of t b.accounts ≡ Some a → IsSound b → IsSound (released b t)
-IsSound-released b t a is sound = record {
+pub IsSoundBook-released : (b : Reservations) (t : ℕ) (a : Account) → account_of t b.accounts ≡ Some a → IsSoundBook b → IsSoundBook (released b t)
+IsSoundBook-released b t a is sound = record {
   some_segments = sound.some_segments;
   segments_within = sound.segments_within;
   some_nodes = sound.some_nodes;

@@ -59,11 +59,6 @@ abbrev pub without : ℕ → List (ℕ × Account) → List (ℕ × Account)
 without tenant [] = []
 without tenant (e ∷ es) = if e.0 == tenant then es else e ∷ without tenant es
 
--- how many tenants at the front are below this one: the place of its account, or that where it would stand
-abbrev pub count_below : ℕ → List (ℕ × Account) → ℕ
-count_below tenant [] = 0
-count_below tenant (e ∷ es) = if nat_lt e.0 tenant then suc (count_below tenant es) else 0
-
 -- each entry has P
 abbrev pub AllEntries : (ℕ × Account → Type 0) → List (ℕ × Account) → Type 0
 AllEntries P [] = Unit {0}

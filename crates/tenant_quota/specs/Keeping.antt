@@ -2,7 +2,7 @@
 use Rattle.std.specs.Prelude.{◌≡◌, ◌≤◌}
 use Rattle.std.specs.Vec.{vec_capacity}
 use Rattle.tenant_quota.specs.Accounts.{reserved_segments, reserved_nodes}
-use Rattle.tenant_quota.specs.Reservations.{Reservations, IsSound}
+use Rattle.tenant_quota.specs.Reservations.{Reservations, IsSoundBook}
 use Rattle.tenant_quota.specs.declared.book.Book.TheInside.{Inside}
 
 -- the totals and the accounts; the kept sums, the capacity and the guesses aren't seen
@@ -11,7 +11,7 @@ held_by {A} b = record { segments = b.segments; nodes = b.nodes; accounts = b.ac
 
 -- the book is sound, the kept sums are those of the accounts, and there are places for 64
 pub record IsKept {A : Type 0} (b : Inside A) : Type 0 where
-  pub sound : IsSound (held_by b)
+  pub sound : IsSoundBook (held_by b)
   pub segments : b.reserved_segments ≡ reserved_segments b.accounts.items
   pub nodes : b.reserved_nodes ≡ reserved_nodes b.accounts.items
   pub places : 64 ≤ vec_capacity b.accounts

@@ -137,7 +137,7 @@ pub record Releases (old new : Reservations) (tenant : ℕ) (a : Account) : Type
 
 -- what is so of every book: each tenant stands once and has used no more than it reserved,
 -- there are at most 64, and the reservations never exceed the totals
-pub record IsSound (b : Reservations) : Type 0 where
+pub record IsSoundBook (b : Reservations) : Type 0 where
   pub some_segments : 1 ≤ b.segments
   pub segments_within : b.segments ≤ 65536
   pub some_nodes : 1 ≤ b.nodes

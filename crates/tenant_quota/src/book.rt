@@ -1,21 +1,15 @@
 ghost use Rattle.std.specs.Prelude.{◌≡◌, ℕ, ◌+◌, ◌<◌, ◌≤◌, ◌↔◌, IfOk, OnOk, OnErr, IsOk, IsSome, IfSome, option_copied, option_map, length, nat_lt};
-ghost use Rattle.tenant_quota.specs.Accounts.{account_of, count_below, IsRising};
+ghost use Rattle.tenant_quota.specs.Accounts.{account_of};
 
 use crate::account::{Account, Left};
 use crate::refusal::Refusal;
 use crate::reserve::Reserve;
+use number_index::TenantIndex;
 use std::alloc::{AllocError, Allocator, Global};
 use std::marker::Model;
 
 /// The number of places for tenants.
 const PLACES: usize = 64;
-
-/// The number of guesses.
-const GUESSES: u64 = 256;
-
-/// Where tenants may stand: the guess of a tenant is what its number's remainder by the count of guesses
-/// has. It may be of another tenant with the same remainder, so who uses it looks at what stands there.
-type Guesses = [u8; GUESSES as usize];
 
 /// What isn't reserved yet.
 #[derive(Clone, Copy, Debug, PartialEq, Eq)]
@@ -39,7 +33,7 @@ pub struct Book<A: Allocator = Global> {
     reserved_segments: u32,
     reserved_nodes: u32,
     accounts: Vec<(u64, Account), A>,
-    guesses: Guesses,
+    index: TenantIndex,
 }
 
 // Clauses see the totals and the accounts in rising order of tenants.
@@ -55,46 +49,9 @@ impl<A: Allocator> Model for Book<A> {
     ghost invariant = { λ book. IsKept book };
 }
 
-/// The place of the tenant's account, or that where it would stand. The guess is looked at first, so
-/// that a tenant that is there is seldom searched for.
-#[inline(always)]
-fn place_of(guesses: &Guesses, accounts: &[(u64, Account)], tenant: u64) -> usize
-    requires { IsRising accounts.now }
-    ensures { result ≡ count_below tenant accounts.now }
-{
-    let guess = guesses[(tenant % GUESSES) as usize] as usize;
-    if guess < accounts.len() && accounts[guess].0 == tenant {
-        return guess;
-    }
-    search(accounts, tenant)
-}
-
-/// The same place, by halves.
-#[cold]
-#[inline(never)]
-fn search(accounts: &[(u64, Account)], tenant: u64) -> usize
-    requires { IsRising accounts.now }
-    ensures { result ≡ count_below tenant accounts.now }
-{
-    accounts.partition_point(
-        |entry: &(u64, Account)| -> bool
-            ensures { result ≡ nat_lt entry.now.0 tenant }
-        { entry.0 < tenant },
-    )
-}
-
-/// The guesses for these accounts: each tenant's place, or that of a later one with the same remainder.
-fn guesses_for(accounts: &[(u64, Account)]) -> Guesses {
-    let mut guesses = [0; GUESSES as usize];
-    for (place, entry) in accounts.iter().enumerate() {
-        guesses[(entry.0 % GUESSES) as usize] = (place % PLACES) as u8;
-    }
-    guesses
-}
-
 impl<A: Allocator> Book<A> {
     ghost use Rattle.tenant_quota.specs.Accounts.{fresh, raised_to, charged_by, credited_by, ticked, charged_segments};
-    ghost use Rattle.tenant_quota.specs.Reservations.{empty_of, left_of, opened_of, reserve_of, rest_of, HasRoom, IsFull, CanRaise, IsTooMuch, IsLower, HasLeft, IsShort, HasStepLeft, IsOutOfSteps, HasCharged, KeepsOthers, Admits, Raises, ChangesOnly, Releases, IsSound};
+    ghost use Rattle.tenant_quota.specs.Reservations.{empty_of, left_of, opened_of, reserve_of, rest_of, HasRoom, IsFull, CanRaise, IsTooMuch, IsLower, HasLeft, IsShort, HasStepLeft, IsOutOfSteps, HasCharged, KeepsOthers, Admits, Raises, ChangesOnly, Releases, IsSoundBook};
 
     /// A book of so many segments (1 to 65,536) and nodes (1 to 4,194,304) in all, with no tenant.
     /// It makes the places of all 64 tenants, so no other call takes memory.
@@ -104,7 +61,7 @@ impl<A: Allocator> Book<A> {
         requires some_nodes { 1 ≤ nodes }
         requires nodes_within { nodes ≤ 4194304 }
         ensures empty { IfOk result (λ book. book ≡ empty_of segments nodes) }
-        ensures sound { IfOk result IsSound }
+        ensures sound { IfOk result IsSoundBook }
     {
         let accounts = Vec::with_capacity(alloc, PLACES)?;
         Ok(Book {
@@ -113,7 +70,7 @@ impl<A: Allocator> Book<A> {
             reserved_segments: 0,
             reserved_nodes: 0,
             accounts,
-            guesses: [0; GUESSES as usize],
+            index: TenantIndex::new(),
         })
     }
 
@@ -127,7 +84,7 @@ impl<A: Allocator> Book<A> {
         ensures admits { OnOk result (Admits self.old self.new tenant reserve) }
         ensures others { KeepsOthers self.old self.new tenant }
         ensures err { OnErr result (self.new ≡ self.old) }
-        ensures sound { IsSound self.new }
+        ensures sound { IsSoundBook self.new }
     {
         let rest = self.rest();
         let segments = reserve.segments();
@@ -135,10 +92,10 @@ impl<A: Allocator> Book<A> {
         if rest.tenants == 0 || rest.segments < segments || rest.nodes < nodes {
             return Err(Refusal::Full);
         }
-        let place = place_of(&self.guesses, &self.accounts, tenant);
+        let place = self.index.place_of(&self.accounts, tenant);
         let account = Account::new(reserve);
         self.accounts.insert(place, (tenant, account)).unwrap();
-        self.guesses = guesses_for(&self.accounts);
+        self.index.guess_anew(&self.accounts);
         self.reserved_segments += segments;
         self.reserved_nodes += nodes;
         Ok(())
@@ -158,10 +115,10 @@ impl<A: Allocator> Book<A> {
             IfSome (reserve_of tenant self.old) (Raises self.old self.new tenant reserve)) }
         ensures others { KeepsOthers self.old self.new tenant }
         ensures err { OnErr result (self.new ≡ self.old) }
-        ensures sound { IsSound self.new }
+        ensures sound { IsSoundBook self.new }
     {
         let rest = self.rest();
-        let place = place_of(&self.guesses, &self.accounts, tenant);
+        let place = self.index.place_of(&self.accounts, tenant);
         let account = &mut self.accounts[place].1;
         let now = account.reserve;
         if !reserve.is_above(&now) {
@@ -190,7 +147,7 @@ impl<A: Allocator> Book<A> {
             charged_segments self.new.accounts ≡ charged_segments self.old.accounts + segments) }
         ensures others { KeepsOthers self.old self.new tenant }
         ensures err { OnErr result (self.new ≡ self.old) }
-        ensures sound { IsSound self.new }
+        ensures sound { IsSoundBook self.new }
     {
         self.charge_nodes(tenant, segments, nodes)?;
         Ok(())
@@ -210,7 +167,7 @@ impl<A: Allocator> Book<A> {
             charged_segments self.new.accounts ≡ charged_segments self.old.accounts + segments) }
         ensures others { KeepsOthers self.old self.new tenant }
         ensures err { OnErr result (self.new ≡ self.old) }
-        ensures sound { IsSound self.new }
+        ensures sound { IsSoundBook self.new }
     {
         self.charge_nodes(tenant, segments, 1)
     }
@@ -221,9 +178,9 @@ impl<A: Allocator> Book<A> {
         ensures credits { ChangesOnly self.old self.new tenant (credited_by segments) }
         ensures sum { charged_segments self.new.accounts + segments ≡ charged_segments self.old.accounts }
         ensures others { KeepsOthers self.old self.new tenant }
-        ensures sound { IsSound self.new }
+        ensures sound { IsSoundBook self.new }
     {
-        let place = place_of(&self.guesses, &self.accounts, tenant);
+        let place = self.index.place_of(&self.accounts, tenant);
         self.accounts[place].1.charged -= segments;
     }
 
@@ -238,9 +195,9 @@ impl<A: Allocator> Book<A> {
         ensures sum { charged_segments self.new.accounts ≡ charged_segments self.old.accounts }
         ensures others { KeepsOthers self.old self.new tenant }
         ensures err { OnErr result (self.new ≡ self.old) }
-        ensures sound { IsSound self.new }
+        ensures sound { IsSoundBook self.new }
     {
-        let place = place_of(&self.guesses, &self.accounts, tenant);
+        let place = self.index.place_of(&self.accounts, tenant);
         let account = &mut self.accounts[place].1;
         if account.left().steps == 0 {
             return Err(Refusal::Short);
@@ -254,11 +211,11 @@ impl<A: Allocator> Book<A> {
         requires { IsSome (account_of tenant self.old.accounts) }
         ensures releases { IfSome (account_of tenant self.old.accounts) (Releases self.old self.new tenant) }
         ensures others { KeepsOthers self.old self.new tenant }
-        ensures sound { IsSound self.new }
+        ensures sound { IsSoundBook self.new }
     {
-        let place = place_of(&self.guesses, &self.accounts, tenant);
+        let place = self.index.place_of(&self.accounts, tenant);
         let (_, account) = self.accounts.remove(place);
-        self.guesses = guesses_for(&self.accounts);
+        self.index.guess_anew(&self.accounts);
         self.reserved_segments -= account.reserve.segments();
         self.reserved_nodes -= account.reserve.nodes();
     }
@@ -270,7 +227,7 @@ impl<A: Allocator> Book<A> {
         // What the tenant has left is there, whatever others are charged.
         ensures there { IfSome result (λ left.
             charged_segments self.now.accounts + left.segments ≤ self.now.segments) }
-        ensures sound { IsSound self.now }
+        ensures sound { IsSoundBook self.now }
     {
         let account = self.account(tenant)?;
         Some(account.left())
@@ -279,7 +236,7 @@ impl<A: Allocator> Book<A> {
     /// What the tenant has reserved, or None where it isn't there.
     pub fn reserved(&self, tenant: u64) -> Option<Reserve>
         ensures reserved { result ≡ reserve_of tenant self.now }
-        ensures sound { IsSound self.now }
+        ensures sound { IsSoundBook self.now }
     {
         let account = self.account(tenant)?;
         Some(account.reserve)
@@ -288,7 +245,7 @@ impl<A: Allocator> Book<A> {
     /// What isn't reserved yet.
     pub fn rest(&self) -> Rest
         ensures rest { result ≡ rest_of self.now }
-        ensures sound { IsSound self.now }
+        ensures sound { IsSoundBook self.now }
     {
         Rest {
             tenants: (PLACES - self.accounts.len()) as u32,
@@ -309,9 +266,9 @@ impl<A: Allocator> Book<A> {
             charged_segments self.new.accounts ≡ charged_segments self.old.accounts + segments) }
         ensures others { KeepsOthers self.old self.new tenant }
         ensures err { OnErr result (self.new ≡ self.old) }
-        ensures sound { IsSound self.new }
+        ensures sound { IsSoundBook self.new }
     {
-        let place = place_of(&self.guesses, &self.accounts, tenant);
+        let place = self.index.place_of(&self.accounts, tenant);
         let account = &mut self.accounts[place].1;
         let left = account.left();
         if left.segments < segments || left.nodes < nodes {
@@ -323,31 +280,15 @@ impl<A: Allocator> Book<A> {
         Ok(before)
     }
 
-    /// The tenant's account, or None where it isn't there. The guess is looked at first.
+    /// The tenant's account, or None where it isn't there.
     #[inline(always)]
     fn account(&self, tenant: u64) -> Option<&Account>
         ensures account { option_copied result ≡ account_of tenant self.now.accounts }
-        ensures sound { IsSound self.now }
+        ensures sound { IsSoundBook self.now }
     {
-        let accounts: &[(u64, Account)] = &self.accounts;
-        let guess = self.guesses[(tenant % GUESSES) as usize] as usize;
-        if guess < accounts.len() && accounts[guess].0 == tenant {
-            return Some(&accounts[guess].1);
+        match self.index.find(&self.accounts, tenant) {
+            Some(entry) => Some(&entry.1),
+            None => None,
         }
-        self.look_up(tenant)
-    }
-
-    /// The same, by halves.
-    #[cold]
-    #[inline(never)]
-    fn look_up(&self, tenant: u64) -> Option<&Account>
-        ensures account { option_copied result ≡ account_of tenant self.now.accounts }
-        ensures sound { IsSound self.now }
-    {
-        let place = place_of(&self.guesses, &self.accounts, tenant);
-        if place < self.accounts.len() && self.accounts[place].0 == tenant {
-            return Some(&self.accounts[place].1);
-        }
-        None
     }
 }

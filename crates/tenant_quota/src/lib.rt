@@ -8,7 +8,7 @@
 //! 64 bits.
 //!
 //! The invariant that makes a reservation worth something is that the reservations of all tenants
-//! together never exceed the totals, and that no tenant uses more than it reserved (`IsSound`). So a
+//! together never exceed the totals, and that no tenant uses more than it reserved (`IsSoundBook`). So a
 //! segment that a tenant has left is there whatever others do, and each call leaves the accounts of
 //! all other tenants as they were. A reservation may be raised as far as the totals allow; what its
 //! tenant used stays used. Only [`Book::new`] takes memory. Where a tenant's account stands is

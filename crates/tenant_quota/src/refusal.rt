@@ -16,11 +16,11 @@ pub enum Refusal {
 
 impl Refusal {
     ghost use Rattle.std.specs.Prelude.{◌≡◌};
-    ghost use Rattle.tenant_quota.specs.Refusals.{number_of};
+    ghost use Rattle.tenant_quota.specs.Refusals.{refusal_number};
 
     /// The number of the refusal: 1 for Full, 2 for Short, 3 for Lower.
     pub fn number(&self) -> u8
-        ensures { result ≡ number_of self.now }
+        ensures { result ≡ refusal_number self.now }
     {
         match self {
             Refusal::Full => 1,

@@ -1,4 +1,4 @@
-use guesses::Guesses;
+use number_index::Guesses;
 use linked_list_allocator::LocalHeap;
 use std::test::Fail;
 

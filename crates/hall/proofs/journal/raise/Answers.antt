@@ -14,34 +14,34 @@ on-ok (Err error) to it = tt
 pub index_mut-journal-requires : goal.index_mut-journal-requires
 index_mut-journal-requires g c =
     let len = c.as_slice.ensures.len in let same = ap length c.as_slice.ensures.value in
-    let within = at-within c.args.tenant c.args.journals.now.items _ c.place_of-at.result c.requires.there c.as_slice.ensures.value c.place_of-at.ensures in
+    let within = at-within c.args.tenant c.args.journals.now.items _ c.place_of-at.result c.requires.rising c.requires.there c.as_slice.ensures.value c.place_of-at.ensures in
     omega (arith, len, same, within)
 
 pub raise-requires-clause-few : goal.raise-requires-clause-few
 raise-requires-clause-few g c =
-    let stands = at-read c.args.tenant c.args.journals.now.items _ c.place_of-at.result c.index_mut-journal.result.now c.requires.there c.as_slice.ensures.value c.place_of-at.ensures c.index_mut-journal.ensures.value in
+    let stands = at-read c.args.tenant c.args.journals.now.items _ c.place_of-at.result c.index_mut-journal.result.now c.requires.rising c.requires.there c.as_slice.ensures.value c.place_of-at.ensures c.index_mut-journal.ensures.value in
     let raises = ap (λ (steps : List (StepOf LeafAnswer)). raise_count steps) stands.steps in omega (arith, raises, c.requires.few)
 
 pub raise-requires-clause-place : goal.raise-requires-clause-place
 raise-requires-clause-place g c =
-    let stands = at-read c.args.tenant c.args.journals.now.items _ c.place_of-at.result c.index_mut-journal.result.now c.requires.there c.as_slice.ensures.value c.place_of-at.ensures c.index_mut-journal.ensures.value in
+    let stands = at-read c.args.tenant c.args.journals.now.items _ c.place_of-at.result c.index_mut-journal.result.now c.requires.rising c.requires.there c.as_slice.ensures.value c.place_of-at.ensures c.index_mut-journal.ensures.value in
     let raises = ap (λ (steps : List (StepOf LeafAnswer)). raise_count steps) stands.steps in
     let long = ap (λ (steps : List (StepOf LeafAnswer)). length steps) stands.steps in
     omega (arith, raises, long, c.requires.place)
 
 pub raise-requires-clause-taken : goal.raise-requires-clause-taken
 raise-requires-clause-taken g c =
-    let stands = at-read c.args.tenant c.args.journals.now.items _ c.place_of-at.result c.index_mut-journal.result.now c.requires.there c.as_slice.ensures.value c.place_of-at.ensures c.index_mut-journal.ensures.value in
+    let stands = at-read c.args.tenant c.args.journals.now.items _ c.place_of-at.result c.index_mut-journal.result.now c.requires.rising c.requires.there c.as_slice.ensures.value c.place_of-at.ensures c.index_mut-journal.ensures.value in
     rw stands.own c.requires.taken
 
 pub returns-clause-one : goal.returns-clause-one
 returns-clause-one g c =
-    let stands = at-read c.args.tenant c.args.journals.now.items _ c.place_of-at.result c.index_mut-journal.result.now c.requires.there c.as_slice.ensures.value c.place_of-at.ensures c.index_mut-journal.ensures.value in
+    let stands = at-read c.args.tenant c.args.journals.now.items _ c.place_of-at.result c.index_mut-journal.result.now c.requires.rising c.requires.there c.as_slice.ensures.value c.place_of-at.ensures c.index_mut-journal.ensures.value in
     rw stands.own at c.raise.ensures.one
 
 pub returns-clause-written : goal.returns-clause-written
 returns-clause-written g c =
-    let stands = at-read c.args.tenant c.args.journals.now.items _ c.place_of-at.result c.index_mut-journal.result.now c.requires.there c.as_slice.ensures.value c.place_of-at.ensures c.index_mut-journal.ensures.value in
+    let stands = at-read c.args.tenant c.args.journals.now.items _ c.place_of-at.result c.index_mut-journal.result.now c.requires.rising c.requires.there c.as_slice.ensures.value c.place_of-at.ensures c.index_mut-journal.ensures.value in
     on-ok c.raise.result
-    (λ written. at-written c.args.tenant (AdmitMore c.args.tenant c.args.reserve) c.args.journals.now.items _ c.place_of-at.result c.index_mut-journal.result.now c.raise.new.self c.requires.there c.as_slice.ensures.value c.place_of-at.ensures c.index_mut-journal.ensures.value
+    (λ written. at-written c.args.tenant (AdmitMore c.args.tenant c.args.reserve) c.args.journals.now.items _ c.place_of-at.result c.index_mut-journal.result.now c.raise.new.self c.requires.rising c.requires.there c.as_slice.ensures.value c.place_of-at.ensures c.index_mut-journal.ensures.value
     (written ∙ ap (λ (n : ℕ). longer (AdmitMore n c.args.reserve) c.index_mut-journal.result.now) stands.own)) c.raise.ensures.written

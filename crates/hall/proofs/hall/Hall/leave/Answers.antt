@@ -7,13 +7,13 @@ pub remove-journal-requires : goal.remove-journal-requires
 remove-journal-requires g c =
     let off = leaves-off _ _ _ c.args.number c.in-Ok.did c.step.new.self.shared c.self.invariant (rw c.in-Ok.is at c.step.ensures.one) c.step.ensures.known in
     let len = c.as_slice.ensures.len in let same = ap length c.as_slice.ensures.value in
-    let within = at-within c.args.number c.self.inside.journals.items _ c.place_of-at.result off.has c.as_slice.ensures.value c.place_of-at.ensures in
+    let within = at-within c.args.number c.self.inside.journals.items _ c.place_of-at.result c.self.invariant.rising off.has c.as_slice.ensures.value c.place_of-at.ensures in
     omega (arith, len, same, within)
 
 pub invariant_of-self : goal.invariant_of-self
 invariant_of-self g c =
     let off = leaves-off _ _ _ c.args.number c.in-Ok.did c.step.new.self.shared c.self.invariant (rw c.in-Ok.is at c.step.ensures.one) c.step.ensures.known in
-    let by = left-by _ _ _ c.args.number c.step.new.self.shared _ _ c.place_of-at.result c.remove-journal.result c.len.result off c.as_slice.ensures.value c.place_of-at.ensures c.remove-journal.ensures.items c.remove-journal.ensures.value c.len.ensures in
+    let by = left-by _ _ _ c.args.number c.step.new.self.shared _ _ c.place_of-at.result c.remove-journal.result c.len.result c.self.invariant.rising off c.as_slice.ensures.value c.place_of-at.ensures c.remove-journal.ensures.items c.remove-journal.ensures.value c.len.ensures in
     rw (c.step.ensures.procedure, by.0, by.1) off.keeps
 
 pub returns-in-Ok-clause-one : goal.returns-in-Ok-clause-one
@@ -22,7 +22,7 @@ returns-in-Ok-clause-one g c = rw (← c.self.view_is) (rw c.in-Ok.is at c.step.
 pub returns-in-Ok-clause-taken : goal.returns-in-Ok-clause-taken
 returns-in-Ok-clause-taken g c =
     let off = leaves-off _ _ _ c.args.number c.in-Ok.did c.step.new.self.shared c.self.invariant (rw c.in-Ok.is at c.step.ensures.one) c.step.ensures.known in
-    let by = left-by _ _ _ c.args.number c.step.new.self.shared _ _ c.place_of-at.result c.remove-journal.result c.len.result off c.as_slice.ensures.value c.place_of-at.ensures c.remove-journal.ensures.items c.remove-journal.ensures.value c.len.ensures in
+    let by = left-by _ _ _ c.args.number c.step.new.self.shared _ _ c.place_of-at.result c.remove-journal.result c.len.result c.self.invariant.rising off c.as_slice.ensures.value c.place_of-at.ensures c.remove-journal.ensures.items c.remove-journal.ensures.value c.len.ensures in
     rw (← c.self.view_is, c.step.ensures.procedure, by.0, by.1) refl
 
 pub returns-in-Err-clause-one : goal.returns-in-Err-clause-one

@@ -3,8 +3,8 @@ use Rattle.std.proofs.Common.{◌≡◌, ◌+◌, ◌*◌, List, [], ◌∷◌, 
 use Rattle.std.specs.Prelude.{is_err}
 use Rattle.std.proofs.lemmas.Bool.{true≢false}
 use Rattle.sched_rules.specs.declared.step.StepOf.TheVariants.{AdmitMore}
-use Rattle.hall.specs.declared.entry.Entry.{Entry}
-use Rattle.hall.specs.declared.entry.Entry.TheVariants.{Long}
+use Rattle.hall.specs.declared.entry.JournalEntry.{JournalEntry}
+use Rattle.hall.specs.declared.entry.JournalEntry.TheVariants.{Long}
 use Rattle.hall.specs.declared.entry.LongEntry.{LongEntry}
 use Rattle.hall.specs.declared.entry.LongEntry.TheVariants.{Raised}
 use Rattle.hall.specs.Entries.{long_count}
@@ -60,7 +60,7 @@ invariant_of-self-2 g c =
     let before = ap (λ (j : JournalOf). raise_count j.steps) c.self.view_is in
     let made = got c.reserve_exact.result (sym c.is_err.ensures.value ∙ c.if-is_err.false) c.reserve_exact.ensures.ok in
     let more = got c.reserve_exact-2.result (sym c.is_err-2.ensures.value ∙ c.if-is_err-2.false) c.reserve_exact-2.ensures.ok in
-    let pushed = c.push_reserved.ensures.items ∙ ap (λ (es : List Entry). es ++ Long ∷ []) c.reserve_exact.ensures.items in
+    let pushed = c.push_reserved.ensures.items ∙ ap (λ (es : List JournalEntry). es ++ Long ∷ []) c.reserve_exact.ensures.items in
     let added = c.push_reserved-2.ensures.items ∙ ap (λ (ls : List LongEntry). ls ++ Raised c.args.reserve ∷ []) c.reserve_exact-2.ensures.items in
     let places : 16 * c.nodes.result + 770 + (c.self.inside.raises + 1) ≡ places_for c.args.reserve + (raise_count c.args.self.now.steps + 1) = omega (arith, c.nodes.ensures.value, c.self.invariant.3, before) in
     let done =
@@ -81,7 +81,7 @@ returns-clause-written g c =
     let few = long_count-few c.self.inside.entries.items in
     let steps = ap (λ (j : JournalOf). length j.steps) c.self.view_is in
     let before = ap (λ (j : JournalOf). raise_count j.steps) c.self.view_is in
-    let pushed = c.push_reserved.ensures.items ∙ ap (λ (es : List Entry). es ++ Long ∷ []) c.reserve_exact.ensures.items in
+    let pushed = c.push_reserved.ensures.items ∙ ap (λ (es : List JournalEntry). es ++ Long ∷ []) c.reserve_exact.ensures.items in
     let added = c.push_reserved-2.ensures.items ∙ ap (λ (ls : List LongEntry). ls ++ Raised c.args.reserve ∷ []) c.reserve_exact-2.ensures.items in
     let places : 16 * c.nodes.result + 770 + (c.self.inside.raises + 1) ≡ places_for c.args.reserve + (raise_count c.args.self.now.steps + 1) = omega (arith, c.nodes.ensures.value, c.self.invariant.3, before) in
     let done =

@@ -1,6 +1,6 @@
 -- There is room for both entries, and the long one stands for the step.
 use Rattle.std.proofs.Common.{[], ◌∷◌, None, length, length-append, ap, ◌∙◌, arith}
-use Rattle.hall.specs.declared.entry.Entry.TheVariants.{Long}
+use Rattle.hall.specs.declared.entry.JournalEntry.TheVariants.{Long}
 use Rattle.hall.specs.Entries.{long_count}
 use Rattle.hall.specs.Journals.{JournalOf, raise_count}
 use Rattle.hall.proofs.Lists.{counted-after}

@@ -1,15 +1,8 @@
-use Rattle.std.proofs.Common.{arith, sym, ◌∙◌}
-use Rattle.sched_store.proofs.LedgerPlaces.{read-own, read-other, read-past}
+use Rattle.sched_store.proofs.LedgerPlaces.{found-jobs, none-found}
 use Rattle.sched_store.proofs.ledgers.Ledgers.find.Goals as goal
 
-pub returns-then-at-len-clause-none : goal.returns-then-at-len-clause-none
-returns-then-at-len-clause-none g c =
-    rw (← c.self.view_is) (read-past c.args.number c.self.inside.all.items c.place_of-at.result c.self.invariant.1 (rw c.as_slice.ensures.value at c.place_of-at.ensures) (omega arith))
+pub returns-clause-found : goal.returns-clause-found
+returns-clause-found g c = rw (← c.self.view_is) (found-jobs c.args.number c.self.inside.all.items c.find.result (rw c.as_slice.ensures.value at c.find.ensures))
 
-pub returns-then-number-clause-found : goal.returns-then-number-clause-found
-returns-then-number-clause-found g c =
-    rw (← c.self.view_is) (read-own c.args.number c.self.inside.all.items c.place_of-at.result c.index-ledger.result.now (rw c.as_slice.ensures.value at c.place_of-at.ensures) (omega arith) c.index-ledger.ensures (sym c.number.ensures ∙ c.if-number.true))
-
-pub returns-else-number-clause-none : goal.returns-else-number-clause-none
-returns-else-number-clause-none g c =
-    rw (← c.self.view_is) (read-other c.args.number c.self.inside.all.items c.place_of-at.result c.index-ledger.result.now c.self.invariant.1 (rw c.as_slice.ensures.value at c.place_of-at.ensures) (omega arith) c.index-ledger.ensures (λ same. c.if-number.false (c.number.ensures ∙ same)))
+pub returns-clause-none : goal.returns-clause-none
+returns-clause-none g c = rw (← c.self.view_is) (none-found c.args.number c.self.inside.all.items c.find.result (rw c.as_slice.ensures.value at c.find.ensures))

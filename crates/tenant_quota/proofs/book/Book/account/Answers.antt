@@ -1,16 +1,16 @@
--- Where the guess is right, the account is the tenant's.
-use Rattle.std.proofs.Common.{ℕ, Some, sym, ap, ◌∙◌}
-use Rattle.tenant_quota.specs.declared.account.Account.{Account}
-use Rattle.tenant_quota.specs.Accounts.{IsRising}
-use Rattle.tenant_quota.proofs.Places.{count_below-found, own_read}
+-- What the index finds is the tenant's entry.
+use Rattle.std.proofs.Common.{ap, ◌∙◌, sym}
+use Rattle.std.specs.Prelude.{option_copied, option_map}
+use Rattle.tenant_quota.proofs.Places.{read-rising, entry-found}
 use Rattle.tenant_quota.proofs.book.Book.account.Goals as goal
 
-pub returns-then-accounts-guess-clause-account : goal.returns-then-accounts-guess-clause-account
-returns-then-accounts-guess-clause-account g c =
-    let one = c.index-accounts-guess.result in
-    let again = c.index-accounts-guess-then-accounts-guess.is in
-    let rising : IsRising c.deref-accounts.result.now = rw c.deref-accounts.ensures.value c.self.invariant.sound.rising in
-    let place = count_below-found c.args.tenant c.deref-accounts.result.now _ one rising c.if-guess-accounts.true c.if-accounts-guess.true in
-    let own = ap (λ (x : ℕ × Account). x.0) c.index-accounts-guess.is ∙ c.if-accounts-guess.true in
-    let read = own_read c.args.tenant _ c.deref-accounts.result.now one _ place c.if-guess-accounts.true c.index-accounts-guess.is own again in
-    rw (← c.self.view_is, ← c.deref-accounts.ensures.value) (ap (λ (x : ℕ × Account). Some x.1) (sym again) ∙ read)
+pub find-requires : goal.find-requires
+find-requires g c = read-rising c.self.inside.accounts.items _ c.deref.ensures.value c.self.invariant.sound.rising
+
+pub returns-in-Some-clause-account : goal.returns-in-Some-clause-account
+returns-in-Some-clause-account g c =
+    rw (← c.self.view_is) (ap (λ o. option_map (λ e. e.1) (option_copied o)) (sym c.in-Some.is) ∙ entry-found c.args.tenant c.self.inside.accounts.items _ _ c.deref.ensures.value c.find.ensures)
+
+pub returns-in-None-clause-account : goal.returns-in-None-clause-account
+returns-in-None-clause-account g c =
+    rw (← c.self.view_is) (ap (λ o. option_map (λ e. e.1) (option_copied o)) (sym c.in-None.is) ∙ entry-found c.args.tenant c.self.inside.accounts.items _ _ c.deref.ensures.value c.find.ensures)

@@ -3,8 +3,9 @@ use Rattle.std.proofs.Common.{◌≡◌, ℕ, ◌+◌, ◌<◌, ◌≤◌, ◌�
 use Rattle.std.specs.Prelude.{option_map}
 use Rattle.tenant_quota.specs.declared.account.Account.{Account}
 use Rattle.tenant_quota.specs.declared.account.Left.{Left}
-use Rattle.tenant_quota.specs.Accounts.{account_of, count_below, charged_by, left_in, charged_segments, IsWithinReserve}
-use Rattle.tenant_quota.specs.Reservations.{Reservations, HasLeft, IsShort, left_of, opened_of, IsSound}
+use Rattle.tenant_quota.specs.Accounts.{account_of, charged_by, left_in, charged_segments, IsWithinReserve}
+use Rattle.tenant_quota.proofs.Places.{account_place, read-rising}
+use Rattle.tenant_quota.specs.Reservations.{Reservations, HasLeft, IsShort, left_of, opened_of, IsSoundBook}
 use Rattle.tenant_quota.specs.Keeping.{held_by}
 use Rattle.tenant_quota.proofs.Standing.{and_at, and_from, left_is, place_within, stands_for, IsChange, change_by_write, sum_by_write}
 use Rattle.tenant_quota.proofs.book.Book.charge_nodes.Goals as goal
@@ -31,7 +32,7 @@ record Charges (b : Reservations) (t i segments nodes : ℕ) (e : ℕ × Account
   change : IsChange b (record b { accounts = set b.accounts i (e.0, charged_by segments nodes e.1) }) t (charged_by segments nodes)
   sum : charged_segments (set b.accounts i (e.0, charged_by segments nodes e.1)) ≡ charged_segments b.accounts + segments
 
-charges : (b : Reservations) (t i segments nodes : ℕ) (read : List (ℕ × Account)) (e : ℕ × Account) (l : Left) → IsSound b → IsSome (account_of t b.accounts) → read ≡ b.accounts → i ≡ count_below t read → e ≡ get_or b.accounts i e → l ≡ left_in e.1 → segments ≤ l.segments → nodes ≤ l.nodes → Charges b t i segments nodes e
+charges : (b : Reservations) (t i segments nodes : ℕ) (read : List (ℕ × Account)) (e : ℕ × Account) (l : Left) → IsSoundBook b → IsSome (account_of t b.accounts) → read ≡ b.accounts → i ≡ account_place t read → e ≡ get_or b.accounts i e → l ≡ left_in e.1 → segments ≤ l.segments → nodes ≤ l.nodes → Charges b t i segments nodes e
 charges b t i segments nodes read e l sound there same is at left some_left more_left =
     let stands = stands_for b t i read e sound there same is at in
     let left_here = left_is b t e.1 l stands.account left in
@@ -48,7 +49,7 @@ record Refuses (b : Reservations) (t segments nodes : ℕ) : Type 0 where
   lacks : HasLeft b t segments nodes → ⊥
   short : IsShort b t segments nodes
 
-refuses : (b : Reservations) (t i segments nodes : ℕ) (read : List (ℕ × Account)) (e : ℕ × Account) (l : Left) → IsSound b → IsSome (account_of t b.accounts) → read ≡ b.accounts → i ≡ count_below t read → e ≡ get_or b.accounts i e → l ≡ left_in e.1 → (l.segments < segments) ⊎ (l.nodes < nodes) → Refuses b t segments nodes
+refuses : (b : Reservations) (t i segments nodes : ℕ) (read : List (ℕ × Account)) (e : ℕ × Account) (l : Left) → IsSoundBook b → IsSome (account_of t b.accounts) → read ≡ b.accounts → i ≡ account_place t read → e ≡ get_or b.accounts i e → l ≡ left_in e.1 → (l.segments < segments) ⊎ (l.nodes < nodes) → Refuses b t segments nodes
 refuses b t i segments nodes read e l sound there same is at left less =
     let stands = stands_for b t i read e sound there same is at in
     let left_here = left_is b t e.1 l stands.account left in
@@ -57,12 +58,15 @@ refuses b t i segments nodes read e l sound there same is at left less =
       short = and_from (left_of t b) (λ (x : Left). (x.segments < segments) ⊎ (x.nodes < nodes)) l left_here less;
     }
 
-opened_is : (b : Reservations) (t i : ℕ) (read : List (ℕ × Account)) (e : ℕ × Account) → IsSound b → IsSome (account_of t b.accounts) → read ≡ b.accounts → i ≡ count_below t read → e ≡ get_or b.accounts i e → opened_of t b ≡ Some e.1.opened
+opened_is : (b : Reservations) (t i : ℕ) (read : List (ℕ × Account)) (e : ℕ × Account) → IsSoundBook b → IsSome (account_of t b.accounts) → read ≡ b.accounts → i ≡ account_place t read → e ≡ get_or b.accounts i e → opened_of t b ≡ Some e.1.opened
 opened_is b t i read e sound there same is at = ap (option_map (λ (a : Account). a.opened)) (stands_for b t i read e sound there same is at).account
 
 one_less : (a b m n : ℕ) → (a < m) ⊎ ((m ≤ a) × (b < n)) → (a < m) ⊎ (b < n)
 one_less a b m n (inl less) = inl less
 one_less a b m n (inr less) = inr less.1
+
+pub place_of-place-requires : goal.place_of-place-requires
+place_of-place-requires g c = read-rising c.self.inside.accounts.items _ c.deref.ensures.value c.self.invariant.sound.rising
 
 pub index_mut-requires : goal.index_mut-requires
 index_mut-requires g c =

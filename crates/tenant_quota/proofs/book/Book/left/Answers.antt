@@ -4,11 +4,11 @@ use Rattle.std.specs.Prelude.{option_copied}
 use Rattle.tenant_quota.specs.declared.account.Account.{Account}
 use Rattle.tenant_quota.specs.declared.account.Left.{Left}
 use Rattle.tenant_quota.specs.Accounts.{account_of, left_in, IsWithinReserve, charged_segments}
-use Rattle.tenant_quota.specs.Reservations.{Reservations, IsSound}
+use Rattle.tenant_quota.specs.Reservations.{Reservations, IsSoundBook}
 use Rattle.tenant_quota.proofs.Edits.{AllEntries-of, AllEntries-map, sum_by-le_with}
 use Rattle.tenant_quota.proofs.book.Book.left.Goals as goal
 
-left_is_there : (b : Reservations) (t : ℕ) (a : Account) (l : Left) → IsSound b → account_of t b.accounts ≡ Some a → l ≡ left_in a → charged_segments b.accounts + l.segments ≤ b.segments
+left_is_there : (b : Reservations) (t : ℕ) (a : Account) (l : Left) → IsSoundBook b → account_of t b.accounts ≡ Some a → l ≡ left_in a → charged_segments b.accounts + l.segments ≤ b.segments
 left_is_there b t a l sound account left =
     let each = AllEntries-map (λ e. IsWithinReserve e.1) (λ e. e.1.charged ≤ e.1.reserve.segments) (λ e within. within.charged_within) b.accounts sound.within in
     let all = sum_by-le_with (λ e. e.1.charged) (λ e. e.1.reserve.segments) t a b.accounts account each in

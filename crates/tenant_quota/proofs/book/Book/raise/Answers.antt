@@ -5,9 +5,10 @@ use Rattle.std.proofs.lemmas.Bool.{ltb-true, ltb-false}
 use Rattle.tenant_quota.specs.Quota.{Quota, IsAbove, IsNotAbove}
 use Rattle.tenant_quota.specs.declared.account.Account.{Account}
 use Rattle.tenant_quota.specs.declared.book.Rest.{Rest}
-use Rattle.tenant_quota.specs.Reservations.{Reservations, reserve_of, rest_of, HasRoomFor, IsBeyond, CanRaise, IsTooMuch, IsLower, IsSound}
+use Rattle.tenant_quota.specs.Reservations.{Reservations, reserve_of, rest_of, HasRoomFor, IsBeyond, CanRaise, IsTooMuch, IsLower, IsSoundBook}
 use Rattle.tenant_quota.specs.Keeping.{held_by}
 use Rattle.tenant_quota.proofs.Standing.{and_at, and_from, if_from, place_within, stands_for, IsRaise, raise_by_write}
+use Rattle.tenant_quota.proofs.Places.{read-rising}
 use Rattle.tenant_quota.proofs.book.Book.raise.Goals as goal
 
 not_above : (now quota : Quota) → (IsAbove now quota → ⊥) → IsNotAbove now quota
@@ -57,11 +58,11 @@ refused b t quota now is above beyond = record {
   little = λ lower. not_both now quota above (and_at (reserve_of t b) (λ (q : Quota). IsNotAbove q quota) now is lower);
 }
 
-beyond_rest : (b : Reservations) (quota now : Quota) (r : Rest) (segments nodes : ℕ) → IsSound b → r ≡ rest_of b → IsAbove now quota → segments ≡ quota.segments - now.segments → nodes ≡ quota.nodes - now.nodes → (r.segments < segments) ⊎ (r.nodes < nodes) → IsBeyond b now quota
+beyond_rest : (b : Reservations) (quota now : Quota) (r : Rest) (segments nodes : ℕ) → IsSoundBook b → r ≡ rest_of b → IsAbove now quota → segments ≡ quota.segments - now.segments → nodes ≡ quota.nodes - now.nodes → (r.segments < segments) ⊎ (r.nodes < nodes) → IsBeyond b now quota
 beyond_rest b quota now r segments nodes sound rest above segments_are nodes_are (inl less) = let e = ap (λ (x : Rest). x.segments) rest in inl (omega (arith, sound.segments_reserved, above.segments))
 beyond_rest b quota now r segments nodes sound rest above segments_are nodes_are (inr less) = let e = ap (λ (x : Rest). x.nodes) rest in inr (omega (arith, sound.nodes_reserved, above.nodes))
 
-within_rest : (b : Reservations) (quota now : Quota) (r : Rest) (segments nodes : ℕ) → IsSound b → r ≡ rest_of b → IsAbove now quota → segments ≡ quota.segments - now.segments → nodes ≡ quota.nodes - now.nodes → segments ≤ r.segments → nodes ≤ r.nodes → HasRoomFor b now quota
+within_rest : (b : Reservations) (quota now : Quota) (r : Rest) (segments nodes : ℕ) → IsSoundBook b → r ≡ rest_of b → IsAbove now quota → segments ≡ quota.segments - now.segments → nodes ≡ quota.nodes - now.nodes → segments ≤ r.segments → nodes ≤ r.nodes → HasRoomFor b now quota
 within_rest b quota now r segments nodes sound rest above segments_are nodes_are enough many =
     let e = ap (λ (x : Rest). x.segments) rest in
     let f = ap (λ (x : Rest). x.nodes) rest in
@@ -81,6 +82,9 @@ raised b new t quota now is above room raise = record {
   much = λ much. let beyond = (and_at (reserve_of t b) (λ (q : Quota). IsAbove q quota × IsBeyond b q quota) now is much).1 in elim beyond [ inl more ↦ omega (arith, room.segments) | inr more ↦ omega (arith, room.nodes) ];
   raise = raise;
 }
+
+pub place_of-place-requires : goal.place_of-place-requires
+place_of-place-requires g c = read-rising c.self.inside.accounts.items _ c.deref.ensures.value c.self.invariant.sound.rising
 
 pub index_mut-requires : goal.index_mut-requires
 index_mut-requires g c =

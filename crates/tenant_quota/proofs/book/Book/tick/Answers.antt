@@ -2,8 +2,9 @@
 use Rattle.std.proofs.Common.{◌≡◌, ℕ, ◌<◌, length, List, get_or, set, IsSome, ap, sym, ◌∙◌, refl, arith}
 use Rattle.tenant_quota.specs.declared.account.Account.{Account}
 use Rattle.tenant_quota.specs.declared.account.Left.{Left}
-use Rattle.tenant_quota.specs.Accounts.{account_of, count_below, ticked, left_in, charged_segments, IsWithinReserve}
-use Rattle.tenant_quota.specs.Reservations.{Reservations, HasStepLeft, IsOutOfSteps, left_of, IsSound}
+use Rattle.tenant_quota.specs.Accounts.{account_of, ticked, left_in, charged_segments, IsWithinReserve}
+use Rattle.tenant_quota.proofs.Places.{account_place, read-rising}
+use Rattle.tenant_quota.specs.Reservations.{Reservations, HasStepLeft, IsOutOfSteps, left_of, IsSoundBook}
 use Rattle.tenant_quota.specs.Keeping.{held_by}
 use Rattle.tenant_quota.proofs.Standing.{and_at, and_from, left_is, place_within, stands_for, IsChange, change_by_write, sum_by_write}
 use Rattle.tenant_quota.proofs.book.Book.tick.Goals as goal
@@ -29,7 +30,7 @@ record Ticks (b : Reservations) (t i : ℕ) (e : ℕ × Account) : Type 0 where
   change : IsChange b (record b { accounts = set b.accounts i (e.0, ticked e.1) }) t ticked
   sum : charged_segments (set b.accounts i (e.0, ticked e.1)) ≡ charged_segments b.accounts
 
-ticks : (b : Reservations) (t i : ℕ) (read : List (ℕ × Account)) (e : ℕ × Account) (l : Left) → IsSound b → IsSome (account_of t b.accounts) → read ≡ b.accounts → i ≡ count_below t read → e ≡ get_or b.accounts i e → l ≡ left_in e.1 → 0 < l.steps → Ticks b t i e
+ticks : (b : Reservations) (t i : ℕ) (read : List (ℕ × Account)) (e : ℕ × Account) (l : Left) → IsSoundBook b → IsSome (account_of t b.accounts) → read ≡ b.accounts → i ≡ account_place t read → e ≡ get_or b.accounts i e → l ≡ left_in e.1 → 0 < l.steps → Ticks b t i e
 ticks b t i read e l sound there same is at left some_left =
     let stands = stands_for b t i read e sound there same is at in
     let left_here = left_is b t e.1 l stands.account left in
@@ -46,7 +47,7 @@ record Refuses (b : Reservations) (t : ℕ) : Type 0 where
   lacks : HasStepLeft b t → ⊥
   out : IsOutOfSteps b t
 
-refuses : (b : Reservations) (t i : ℕ) (read : List (ℕ × Account)) (e : ℕ × Account) (l : Left) → IsSound b → IsSome (account_of t b.accounts) → read ≡ b.accounts → i ≡ count_below t read → e ≡ get_or b.accounts i e → l ≡ left_in e.1 → l.steps ≡ 0 → Refuses b t
+refuses : (b : Reservations) (t i : ℕ) (read : List (ℕ × Account)) (e : ℕ × Account) (l : Left) → IsSoundBook b → IsSome (account_of t b.accounts) → read ≡ b.accounts → i ≡ account_place t read → e ≡ get_or b.accounts i e → l ≡ left_in e.1 → l.steps ≡ 0 → Refuses b t
 refuses b t i read e l sound there same is at left none =
     let stands = stands_for b t i read e sound there same is at in
     let left_here = left_is b t e.1 l stands.account left in
@@ -54,6 +55,9 @@ refuses b t i read e l sound there same is at left none =
       lacks = λ has. let some = and_at (left_of t b) (λ (x : Left). 0 < x.steps) l left_here has in omega arith;
       out = and_from (left_of t b) (λ (x : Left). x.steps ≡ 0) l left_here none;
     }
+
+pub place_of-place-requires : goal.place_of-place-requires
+place_of-place-requires g c = read-rising c.self.inside.accounts.items _ c.deref.ensures.value c.self.invariant.sound.rising
 
 pub index_mut-requires : goal.index_mut-requires
 index_mut-requires g c =

@@ -1,0 +1,96 @@
+-- Where the thing of a number stands in a list that rises.
+use Rattle.std.proofs.Common.{◌≡◌, ◌≢◌, ℕ, zero, suc, ◌<◌, ◌≤◌, true, false, cond, eqb, ltb, List, [], ◌∷◌, length, get_or, Option, Some, None, refl, ap, sym, ◌∙◌, subst, arith}
+use Rattle.std.proofs.lemmas.Bool.{ltb-true, ltb-false, lt-ltb, eq-eqb, ne_eqb, eqb-true}
+use Rattle.std.proofs.lemmas.List.{get_or_default}
+use Rattle.std.specs.List.Sorted.{IsPartitionedBy, IsPartitionPoint}
+use Rattle.number_index.specs.Places.{count_below, thing_of, AreAbove, AreRising}
+
+pub above-at : {X : Type 0} (number_of : X → ℕ) (n : ℕ) (xs : List X) (k : ℕ) (d : X) → AreAbove number_of n xs → k < length xs → n < number_of (get_or xs k d)
+above-at number_of n [] k d above lt = absurd (omega arith)
+above-at number_of n (x ∷ xs) zero d above lt = above.0
+above-at number_of n (x ∷ xs) (suc k) d above lt = above-at number_of n xs k d above.1 (omega arith)
+
+-- the first number is below this one, or it is not
+pub count_below-cases : {X : Type 0} (number_of : X → ℕ) (n : ℕ) (x : X) (xs : List X) (P : ℕ → Type 0) → (number_of x < n → P (suc (count_below number_of n xs))) → (n ≤ number_of x → P 0) → P (count_below number_of n (x ∷ xs))
+count_below-cases number_of n x xs P below above =
+    elim (ltb (number_of x) n) as (λ b. ltb (number_of x) n ≡ b → P (cond b (suc (count_below number_of n xs)) 0)) [
+      | true ↦ λ is. below (ltb-true (number_of x) n is)
+      | false ↦ λ is. above (ltb-false (number_of x) n is)
+    ] refl
+
+pub count_below-le-length : {X : Type 0} (number_of : X → ℕ) (n : ℕ) (xs : List X) → count_below number_of n xs ≤ length xs
+count_below-le-length number_of n [] = omega arith
+count_below-le-length number_of n (x ∷ xs) = count_below-cases number_of n x xs (λ i. i ≤ suc (length xs)) (λ _. omega (arith, count_below-le-length number_of n xs)) (λ _. omega arith)
+
+-- where a later number is below this one, so are those before it
+pub partitioned-rising : {X : Type 0} (number_of : X → ℕ) (n : ℕ) (xs : List X) → AreRising number_of xs → IsPartitionedBy (λ x. ltb (number_of x) n) xs
+partitioned-rising number_of n [] rising i j d before within low = absurd (omega arith)
+partitioned-rising number_of n (x ∷ xs) rising zero zero d before within low = low
+partitioned-rising number_of n (x ∷ xs) rising zero (suc j) d before within low =
+    let first : number_of x < number_of (get_or xs j d) = above-at number_of (number_of x) xs j d rising.0 (omega (arith, within)) in
+    let below : number_of (get_or xs j d) < n = ltb-true (number_of (get_or xs j d)) n low in
+    lt-ltb (number_of x) n (omega arith)
+partitioned-rising number_of n (x ∷ xs) rising (suc i) zero d before within low = absurd (omega (arith, before))
+partitioned-rising number_of n (x ∷ xs) rising (suc i) (suc j) d before within low =
+    partitioned-rising number_of n xs rising.1 i j d (omega (arith, before)) (omega (arith, within)) low
+
+-- the place before which all are below the number, and from which none is
+pub point-is_count_below : {X : Type 0} (number_of : X → ℕ) (n : ℕ) (xs : List X) (i : ℕ) → IsPartitionPoint (λ x. ltb (number_of x) n ≡ true) (λ x. ltb (number_of x) n ≡ false) xs i → i ≤ length xs → i ≡ count_below number_of n xs
+point-is_count_below number_of n [] i point within = omega arith
+point-is_count_below number_of n (x ∷ xs) zero point within =
+    count_below-cases number_of n x xs (λ k. 0 ≡ k)
+    (λ below. let above : n ≤ number_of x = ltb-false (number_of x) n (point.1 0 x (omega arith) (omega arith)) in absurd (omega arith))
+    (λ _. refl)
+point-is_count_below number_of n (x ∷ xs) (suc i) point within =
+    let rest : i ≡ count_below number_of n xs = point-is_count_below number_of n xs i (λ k d low high. point.0 (suc k) d (omega arith) (omega (arith, high)), λ k d low high. point.1 (suc k) d (omega (arith, low)) (omega (arith, high))) (omega (arith, within)) in
+    count_below-cases number_of n x xs (λ k. suc i ≡ k)
+    (λ below. ap suc rest)
+    (λ above. let below : number_of x < n = ltb-true (number_of x) n (point.0 0 x (omega arith) (omega arith)) in absurd (omega arith))
+
+-- where a thing of this number stands, that is its place
+pub count_below-found : {X : Type 0} (number_of : X → ℕ) (n : ℕ) (xs : List X) (i : ℕ) (d : X) → AreRising number_of xs → i < length xs → number_of (get_or xs i d) ≡ n → i ≡ count_below number_of n xs
+count_below-found number_of n [] i d rising within own = absurd (omega arith)
+count_below-found number_of n (x ∷ xs) zero d rising within own = count_below-cases number_of n x xs (λ k. 0 ≡ k) (λ below. absurd (omega arith)) (λ above. refl)
+count_below-found number_of n (x ∷ xs) (suc i) d rising within own =
+    let first : number_of x < number_of (get_or xs i d) = above-at number_of (number_of x) xs i d rising.0 (omega (arith, within)) in
+    count_below-cases number_of n x xs (λ k. suc i ≡ k)
+    (λ below. ap suc (count_below-found number_of n xs i d rising.1 (omega (arith, within)) own))
+    (λ above. absurd (omega arith))
+
+-- a thing of this number that stands there is the one that is found
+pub thing_of-found : {X : Type 0} (number_of : X → ℕ) (n : ℕ) (xs : List X) (i : ℕ) (x : X) → AreRising number_of xs → i < length xs → x ≡ get_or xs i x → number_of x ≡ n → thing_of number_of n xs ≡ Some x
+thing_of-found number_of n [] i x rising within at own = absurd (omega arith)
+thing_of-found number_of n (y ∷ ys) zero x rising within at own =
+    let own' : number_of y ≡ n = ap number_of (sym at) ∙ own in rw (eq-eqb (number_of y) n own') (ap Some (sym at))
+thing_of-found number_of n (y ∷ ys) (suc i) x rising within at own =
+    let first : number_of y < number_of (get_or ys i x) = above-at number_of (number_of y) ys i x rising.0 (omega (arith, within)) in
+    let here : number_of x ≡ number_of (get_or ys i x) = ap number_of at in
+    rw (ne_eqb (number_of y) n (omega arith)) (thing_of-found number_of n ys i x rising.1 (omega (arith, within)) at own)
+
+-- what is above a number is not of it
+thing_of-above : {X : Type 0} (number_of : X → ℕ) (n m : ℕ) (xs : List X) → n ≤ m → AreAbove number_of m xs → thing_of number_of n xs ≡ None
+thing_of-above number_of n m [] le above = refl
+thing_of-above number_of n m (x ∷ xs) le above =
+    let lt : m < number_of x = above.0 in rw (ne_eqb (number_of x) n (omega arith)) (thing_of-above number_of n m xs le above.1)
+
+-- where another thing stands at the place, or none, there is none of this number
+pub thing_of-absent : {X : Type 0} (number_of : X → ℕ) (n : ℕ) (xs : List X) → AreRising number_of xs → ((d : X) → count_below number_of n xs < length xs → number_of (get_or xs (count_below number_of n xs) d) ≢ n) → thing_of number_of n xs ≡ None
+thing_of-absent number_of n [] rising other = refl
+thing_of-absent number_of n (x ∷ xs) rising other =
+    count_below-cases number_of n x xs (λ i. ((d : _) → i < suc (length xs) → number_of (get_or (x ∷ xs) i d) ≢ n) → thing_of number_of n (x ∷ xs) ≡ None)
+    (λ below others. rw (ne_eqb (number_of x) n (omega arith)) (thing_of-absent number_of n xs rising.1 (λ d within. others d (omega arith))))
+    (λ above others. rw (ne_eqb (number_of x) n (others x (omega arith))) (thing_of-above number_of n (number_of x) xs above rising.0)) other
+
+-- what was read at the place
+
+pub thing_of-read : {X : Type 0} (number_of : X → ℕ) (n : ℕ) (xs : List X) (i : ℕ) (x again : X) → AreRising number_of xs → i < length xs → x ≡ get_or xs i x → again ≡ get_or xs i again → number_of x ≡ n → Some again ≡ thing_of number_of n xs
+thing_of-read number_of n xs i x again rising within at at_again own =
+    let same : x ≡ again = at ∙ get_or_default xs i x again within ∙ sym at_again in
+    sym (thing_of-found number_of n xs i again rising within at_again (ap number_of (sym same) ∙ own))
+
+pub thing_of-other : {X : Type 0} (number_of : X → ℕ) (n : ℕ) (xs : List X) (i : ℕ) (x : X) → AreRising number_of xs → i ≡ count_below number_of n xs → i < length xs → x ≡ get_or xs i x → number_of x ≢ n → thing_of number_of n xs ≡ None
+thing_of-other number_of n xs i x rising place within at other =
+    thing_of-absent number_of n xs rising (λ d below own. other (ap number_of (at ∙ get_or_default xs i x d within ∙ ap (λ k. get_or xs k d) place) ∙ own))
+
+pub thing_of-past : {X : Type 0} (number_of : X → ℕ) (n : ℕ) (xs : List X) (i : ℕ) → AreRising number_of xs → i ≡ count_below number_of n xs → length xs ≤ i → thing_of number_of n xs ≡ None
+thing_of-past number_of n xs i rising place past = thing_of-absent number_of n xs rising (λ d below own. absurd (omega arith))

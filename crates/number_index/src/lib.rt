@@ -1,0 +1,38 @@
+//! Where things stand in lists that are kept elsewhere, each thing under a number: found by a guess.
+//!
+//! A list of tenants' accounts, ledgers, trees or journals rises by the tenants' numbers. Where tenant n
+//! stands in it, or would stand, is how many of them have a number below n (`count_below` of
+//! `specs/Places.antt`). A [`TenantIndex`] answers that for any such list, whose elements have a number
+//! ([`Numbered`]): it looks first where the number is guessed to stand, and searches by halves where
+//! another's thing stands there. [`TenantIndex::place_of`] answers just that count and
+//! [`TenantIndex::find`] just the thing of the number, whatever was guessed. So nothing has to be known
+//! of the guesses, and who changes the list puts them down anew ([`TenantIndex::guess_anew`]), or
+//! leaves it: then more is searched for.
+//!
+//! [`Guesses`] alone is the table of guesses for who compares for himself: where the slots of frames
+//! stand, for one.
+//!
+//! A [`TenantIndex`] stands for a list of 256 guesses, each a byte within it, and takes no memory. A
+//! [`Guesses`] stands for a list of numbers below 2^32, as many as a power of two; only
+//! [`Guesses::new`] takes memory. The guess of a number is what stands at the number's remainder by the
+//! length (`specs/Guesses.antt`), which is its lowest bits: that there are so many guesses is the
+//! invariant of both. Numbers that follow one another, no more than there are guesses, never share one.
+//!
+//! ```text
+//! let mut index = TenantIndex::new();
+//! let tenants = [(3, 'a'), (7, 'b'), (263, 'c')];
+//! index.guess_anew(&tenants);                        // 263 shares its guess with 7
+//! index.place_of(&tenants, 263) == 2
+//! index.place_of(&tenants, 7) == 1                   // searched for
+//! index.place_of(&tenants, 8) == 2                   // where it would stand
+//! index.find(&tenants, 3) == Some(&(3, 'a'))
+//! ```
+#![tactic(auto)]
+
+mod index;
+mod numbered;
+mod table;
+
+pub use index::TenantIndex;
+pub use numbered::Numbered;
+pub use table::{Guesses, MOST};
