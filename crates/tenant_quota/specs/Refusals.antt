@@ -4,7 +4,7 @@ use Rattle.tenant_quota.specs.declared.refusal.Refusal.{Refusal}
 use Rattle.tenant_quota.specs.declared.refusal.Refusal.TheVariants.{Full, Short, Lower}
 
 -- 1 where the book has no room, 2 where the tenant hasn't as much left, 3 where a further reservation isn't above its own
-abbrev pub refusal_number : Refusal → ℕ
-refusal_number Full = 1
-refusal_number Short = 2
-refusal_number Lower = 3
+abbrev pub quota_refusal_number : Refusal → ℕ
+quota_refusal_number Full = 1
+quota_refusal_number Short = 2
+quota_refusal_number Lower = 3

@@ -16,11 +16,11 @@ pub enum Refusal {
 
 impl Refusal {
     ghost use Rattle.std.specs.Prelude.{◌≡◌};
-    ghost use Rattle.tenant_quota.specs.Refusals.{refusal_number};
+    ghost use Rattle.tenant_quota.specs.Refusals.{quota_refusal_number};
 
     /// The number of the refusal: 1 for Full, 2 for Short, 3 for Lower.
     pub fn number(&self) -> u8
-        ensures { result ≡ refusal_number self.now }
+        ensures { result ≡ quota_refusal_number self.now }
     {
         match self {
             Refusal::Full => 1,
