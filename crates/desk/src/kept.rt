@@ -9,7 +9,7 @@ ghost use Rattle.hall.specs.Journals.{is_worker_step};
 ghost use Rattle.hall.specs.Halls.{count_of};
 ghost use Rattle.sched_rules.specs.Headline.{is_admission};
 ghost use Rattle.sched_rules.specs.Views.{left_of, live_of, job_of};
-ghost use Rattle.hall.specs.jamboree_laws.Replies.{IsSearch};
+ghost use Rattle.hall.specs.jamboree_core.Replies.{IsSearch};
 ghost use Rattle.hall.specs.jamboree_core.declared.outcomes.Outcome.{Outcome as OutcomeOf};
 ghost use Rattle.hall.specs.jamboree_core.Outcomes.{IsOutcomeIn};
 ghost use Rattle.desk.specs.Seats.{admit_refusals, reserve_refusals, ask_refusals, cancel_refusals, stepped, asked_at, IsAsked, Shows, IsShown, IsShownOf, IsToldBy};

@@ -15,7 +15,7 @@ use Rattle.sched_rules.specs.Functions.{Functions}
 use Rattle.sched_rules.specs.declared.job.Job.{Job}
 use Rattle.sched_rules.specs.Trees.{Tenant, admitted_with, job_at}
 use Rattle.jamboree_core.proofs.sched_laws_EndedJobs.{step-ended}
-use Rattle.jamboree_core.proofs.jamboree_laws_Possible.{IsOfSearches, tenant-none-bad}
+use Rattle.jamboree_core.proofs.Possible.{IsOfSearches, tenant-none-bad}
 use Rattle.sched_rules.specs.Lone.{Outcome, unless, refusal_in, lone, lone_step, is_lower}
 use Rattle.sched_rules.specs.Runs.{tenant_of}
 use Rattle.sched_rules.specs.Cores.{Shared, tenant_in, judged, unless_beyond, shared_by_nobody, shared_refusal, shared_with, newest_after}
@@ -26,7 +26,7 @@ use Rattle.jamboree_core.proofs.sched_core_Stepping.{one-step, one-admission}
 use Rattle.jamboree_core.specs.jamboree_rules.declared.leaf.Leaf.{Leaf}
 use Rattle.jamboree_core.specs.jamboree_rules.declared.leaf.LeafAnswer.{LeafAnswer}
 use Rattle.jamboree_core.specs.jamboree_rules.Procedure.{jamboree}
-use Rattle.jamboree_core.specs.jamboree_laws.Replies.{IsSearch, AreSearches}
+use Rattle.jamboree_core.specs.Replies.{IsSearch, AreSearches}
 use Rattle.sched_rules.specs.Views.{job_of}
 use Rattle.jamboree_core.specs.sched_laws.Fitted.{origins_of, submits}
 use Rattle.jamboree_core.specs.declared.outcomes.Outcome.{Outcome as Outcomes}

@@ -12,7 +12,7 @@ use Rattle.sched_rules.specs.Views.{job_of}
 use Rattle.jamboree_core.specs.sched_laws.Ended.{HasEnded}
 use Rattle.jamboree_core.specs.jamboree_rules.declared.leaf.LeafAnswer.{LeafAnswer}
 use Rattle.jamboree_core.specs.jamboree_rules.Procedure.{jamboree}
-use Rattle.jamboree_core.specs.jamboree_laws.Replies.{AreSearches}
+use Rattle.jamboree_core.specs.Replies.{AreSearches}
 use Rattle.jamboree_core.specs.Journals.{IsJournalOf}
 use Rattle.number_index.specs.Places.{AreRising}
 use Rattle.hall.specs.Journals.{JournalOf, journal_in, total_length, journals_after, gone_by, owner_of, AreUpTo, AreBegun}

@@ -1,6 +1,5 @@
 pub use Rattle.jamboree_core.specs.jamboree as jamboree
 pub use Rattle.jamboree_core.specs as jamboree_core
-pub use Rattle.jamboree_core.specs.jamboree_laws as jamboree_laws
 pub use Rattle.jamboree_core.specs.jamboree_rules as jamboree_rules
 pub mod Entries
 pub mod Journals

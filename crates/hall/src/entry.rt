@@ -5,7 +5,7 @@
 //! number of a job) stands in a longer entry, in a list of its own; the place of such a step in the
 //! journal holds but the word that it is the next of those (`steps_in` of `specs/Entries.antt`).
 ghost use Rattle.std.specs.Prelude.{◌≡◌, ◌<◌, ◌^◌, ◌∷◌, [], ℕ, true, false};
-ghost use Rattle.jamboree_core.specs.jamboree_laws.Replies.{IsSearch, AreRootWords};
+ghost use Rattle.jamboree_core.specs.Replies.{IsSearch, AreRootWords};
 ghost use Rattle.jamboree_core.specs.jamboree_rules.Places.{frame_size};
 ghost use Rattle.sched_rules.specs.Runs.{tenant_of};
 ghost use Rattle.hall.specs.Entries.{is_long, is_long_step, short_steps, long_step, serial_in};

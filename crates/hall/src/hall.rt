@@ -5,7 +5,7 @@ ghost use Rattle.sched_rules.specs.Cores.{newest_after, shared_refusal};
 ghost use Rattle.sched_rules.specs.Headline.{IsOneStep, is_admission};
 ghost use Rattle.jamboree_core.specs.sched_laws.Fitted.{submits};
 ghost use Rattle.jamboree_core.specs.jamboree_rules.Procedure.{jamboree};
-ghost use Rattle.jamboree_core.specs.jamboree_laws.Replies.{IsSearch};
+ghost use Rattle.jamboree_core.specs.Replies.{IsSearch};
 ghost use Rattle.sched_rules.specs.Runs.{tenant_of};
 ghost use Rattle.tenant_quota.specs.Quota.{IsWithinLimits};
 ghost use Rattle.hall.specs.Journals.{goes_on, raise_in, admitted_journal};

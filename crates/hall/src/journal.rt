@@ -2,7 +2,7 @@
 ghost use Rattle.std.specs.Prelude.{◌≡◌, ◌+◌, ◌++◌, ◌∷◌, ◌<◌, ◌≤◌, ◌^◌, [], true, None, length, IfOk, OnOk, OnErr};
 ghost use Rattle.tenant_quota.specs.Quota.{IsWithinLimits};
 ghost use Rattle.jamboree_core.specs.jamboree_rules.Procedure.{jamboree};
-ghost use Rattle.jamboree_core.specs.jamboree_laws.Replies.{IsSearch};
+ghost use Rattle.jamboree_core.specs.Replies.{IsSearch};
 ghost use Rattle.sched_rules.specs.Cores.{shared_refusal};
 ghost use Rattle.sched_rules.specs.Headline.{IsOneStep, IsKnown};
 ghost use Rattle.sched_rules.specs.Runs.{tenant_of};

@@ -1,5 +1,5 @@
 ghost use Rattle.std.specs.Prelude.{◌<◌};
-ghost use Rattle.jamboree_core.specs.jamboree_laws.Replies.{IsSearch};
+ghost use Rattle.jamboree_core.specs.Replies.{IsSearch};
 
 use super::*;
 use crate::entry::{JournalEntry, LongEntry};

@@ -16,17 +16,17 @@ use Rattle.sched_rules.specs.Cores.{Shared, tenant_in, shared_with}
 use Rattle.sched_rules.specs.Headline.{is_admission, IsKnown, IsOneStep}
 use Rattle.sched_rules.proofs.Tenants.{tenant_in-with_outcome, tenant_in_other-with_outcome}
 use Rattle.sched_rules.proofs.Isolation.{there, more-there, step-taken, shared-after-taken}
-use Rattle.sched_core.specs.sched_laws.Fitted.{submits, origins_of}
-use Rattle.sched_core.proofs.sched_laws_Shaped.{LeftShaped}
-use Rattle.sched_core.proofs.sched_laws_Answers.{lone-shaped}
-use Rattle.sched_core.proofs.sched_laws_Fits.{LeftFits}
-use Rattle.sched_core.proofs.sched_laws_FitAnswers.{step-fits, admission}
-use Rattle.jamboree_laws.specs.jamboree_rules.declared.leaf.Leaf.{Leaf}
-use Rattle.jamboree_laws.specs.jamboree_rules.declared.leaf.LeafAnswer.{LeafAnswer}
-use Rattle.jamboree_laws.specs.jamboree_rules.Fits.{AreFitting, IsRoot}
-use Rattle.jamboree_laws.specs.jamboree_rules.Procedure.{jamboree}
-use Rattle.jamboree_laws.specs.Replies.{IsSearch, AreSearches}
-use Rattle.jamboree_laws.proofs.Replying.{search-fits, lawful}
+use Rattle.sched_laws.specs.Fitted.{submits, origins_of}
+use Rattle.sched_laws.proofs.Shaped.{LeftShaped}
+use Rattle.sched_laws.proofs.Answers.{lone-shaped}
+use Rattle.sched_laws.proofs.Fits.{LeftFits}
+use Rattle.sched_laws.proofs.FitAnswers.{step-fits, admission}
+use Rattle.jamboree_rules.specs.declared.leaf.Leaf.{Leaf}
+use Rattle.jamboree_rules.specs.declared.leaf.LeafAnswer.{LeafAnswer}
+use Rattle.jamboree_rules.specs.Fits.{AreFitting, IsRoot}
+use Rattle.jamboree_rules.specs.Procedure.{jamboree}
+use Rattle.jamboree_core.specs.Replies.{IsSearch, AreSearches}
+use Rattle.jamboree_core.proofs.Replying.{search-fits, lawful}
 use Rattle.jamboree_core.specs.Searching.{TenantSearches}
 use Rattle.jamboree_core.specs.Journals.{StaysTaken, AreTakenFrom, IsJournalOf}
 use Rattle.jamboree_core.proofs.Serving.{searches-asked}

@@ -7,16 +7,16 @@ use Rattle.sched_rules.specs.declared.job.Job.TheVariants.{Live, Done, Spent as 
 use Rattle.sched_rules.specs.Trees.{Tree, Tenant, job_at}
 use Rattle.sched_rules.specs.Cores.{Shared, tenant_in}
 use Rattle.sched_rules.specs.Views.{job_of}
-use Rattle.sched_core.specs.sched_laws.Fitted.{JobsFit, JobFits}
-use Rattle.jamboree_laws.specs.jamboree_rules.Fits.{AreFitting, IsRoot}
-use Rattle.jamboree_laws.specs.Replies.{HoldsReply, AreReplies}
+use Rattle.sched_laws.specs.Fitted.{JobsFit, JobFits}
+use Rattle.jamboree_rules.specs.Fits.{AreFitting, IsRoot}
+use Rattle.jamboree_core.specs.Replies.{HoldsReply, AreReplies}
 use Rattle.sched_rules.specs.declared.step.StepOf.{StepOf}
 use Rattle.jamboree.specs.declared.reply.Reply.{Reply}
 use Rattle.jamboree.specs.Replies.{table_of}
-use Rattle.jamboree_laws.specs.jamboree_rules.declared.leaf.LeafAnswer.{LeafAnswer}
-use Rattle.jamboree_laws.specs.jamboree_rules.Places.{frame_of}
-use Rattle.jamboree_laws.specs.jamboree_rules.Entries.{bounds_of}
-use Rattle.jamboree_laws.specs.jamboree_rules.Procedure.{jamboree}
+use Rattle.jamboree_rules.specs.declared.leaf.LeafAnswer.{LeafAnswer}
+use Rattle.jamboree_rules.specs.Places.{frame_of}
+use Rattle.jamboree_rules.specs.Entries.{bounds_of}
+use Rattle.jamboree_rules.specs.Procedure.{jamboree}
 use Rattle.jamboree_core.specs.declared.outcomes.Outcome.{Outcome}
 use Rattle.jamboree_core.specs.declared.outcomes.Outcome.TheVariants.{Pending, Done as DoneWith, Spent, Cancelled}
 use Rattle.jamboree_core.specs.Journals.{IsJournalOf}

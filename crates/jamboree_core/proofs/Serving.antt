@@ -12,14 +12,14 @@ use Rattle.sched_rules.specs.Runs.{tenant_of, only}
 use Rattle.sched_rules.specs.Cores.{Shared, shared_by_nobody, tenant_in}
 use Rattle.sched_rules.specs.Headline.{IsKnown, IsHeadline, taken}
 use Rattle.sched_rules.proofs.Tenants.{tenant_in-new}
-use Rattle.sched_core.specs.sched_laws.Fitted.{CoreFits, RootsFit, submits, origins_of, origins_after}
-use Rattle.sched_core.proofs.sched_laws_FitAnswers.{nobody-fits}
-use Rattle.jamboree_laws.specs.jamboree_rules.declared.leaf.Leaf.{Leaf}
-use Rattle.jamboree_laws.specs.jamboree_rules.declared.leaf.LeafAnswer.{LeafAnswer}
-use Rattle.jamboree_laws.specs.jamboree_rules.Fits.{AreFitting, IsRoot}
-use Rattle.jamboree_laws.specs.jamboree_rules.Procedure.{jamboree}
-use Rattle.jamboree_laws.specs.Replies.{IsSearch, AreSearches, AreReplies, AreAllSound}
-use Rattle.jamboree_laws.proofs.Replying.{replies-held, all-sound, searches-fit}
+use Rattle.sched_laws.specs.Fitted.{CoreFits, RootsFit, submits, origins_of, origins_after}
+use Rattle.sched_laws.proofs.FitAnswers.{nobody-fits}
+use Rattle.jamboree_rules.specs.declared.leaf.Leaf.{Leaf}
+use Rattle.jamboree_rules.specs.declared.leaf.LeafAnswer.{LeafAnswer}
+use Rattle.jamboree_rules.specs.Fits.{AreFitting, IsRoot}
+use Rattle.jamboree_rules.specs.Procedure.{jamboree}
+use Rattle.jamboree_core.specs.Replies.{IsSearch, AreSearches, AreReplies, AreAllSound}
+use Rattle.jamboree_core.proofs.Replying.{replies-held, all-sound, searches-fit}
 use Rattle.jamboree_core.specs.Searching.{AreAllRootWords, TenantSearches, ServesSearches, CoreSearches, HoldsReplies, submitted_to, IsHeadlineInFull}
 use Rattle.jamboree_core.specs.NewRuns.{IsHeadlineFromNew}
 

@@ -8,11 +8,11 @@ use Rattle.sched_rules.specs.Trees.{Tenant}
 use Rattle.sched_rules.specs.Runs.{only}
 use Rattle.sched_rules.specs.Cores.{Shared, shared_by_nobody, tenant_in}
 use Rattle.sched_rules.specs.Headline.{IsHeadline, taken}
-use Rattle.sched_core.specs.sched_laws.Fitted.{origins_of}
-use Rattle.jamboree_laws.specs.jamboree_rules.declared.leaf.Leaf.{Leaf}
-use Rattle.jamboree_laws.specs.jamboree_rules.declared.leaf.LeafAnswer.{LeafAnswer}
-use Rattle.jamboree_laws.specs.jamboree_rules.Procedure.{jamboree}
-use Rattle.jamboree_laws.specs.Replies.{AreReplies}
+use Rattle.sched_laws.specs.Fitted.{origins_of}
+use Rattle.jamboree_rules.specs.declared.leaf.Leaf.{Leaf}
+use Rattle.jamboree_rules.specs.declared.leaf.LeafAnswer.{LeafAnswer}
+use Rattle.jamboree_rules.specs.Procedure.{jamboree}
+use Rattle.jamboree_core.specs.Replies.{AreReplies}
 
 -- a list of steps on a core with this grain and these totals that has no tenant: no tenant is disturbed, a step is refused only for
 -- its own tenant's state or a busy worker, and each job of a tenant that is done holds the minimax value and the best choice of the

@@ -2,10 +2,10 @@
 use Rattle.std.specs.Prelude.{◌≡◌, ℕ, List, Option, Some, None, slice_index}
 use Rattle.sched_rules.specs.declared.job.Job.{Job}
 use Rattle.sched_rules.specs.declared.job.Job.TheVariants.{Live, Done, Spent as SpentJob, Cancelled as CancelledJob}
-use Rattle.jamboree_laws.specs.jamboree_rules.Fits.{IsKeptRoot}
+use Rattle.jamboree_rules.specs.Fits.{IsKeptRoot}
 use Rattle.jamboree.specs.declared.reply.Reply.{Reply}
-use Rattle.jamboree_laws.specs.jamboree_rules.Places.{frame_of}
-use Rattle.jamboree_laws.specs.jamboree_rules.Entries.{bounds_of}
+use Rattle.jamboree_rules.specs.Places.{frame_of}
+use Rattle.jamboree_rules.specs.Entries.{bounds_of}
 use Rattle.jamboree.specs.Replies.{board_of, depth_of, table_of}
 use Rattle.jamboree_core.specs.declared.outcomes.Outcome.{Outcome}
 use Rattle.jamboree_core.specs.declared.outcomes.Outcome.TheVariants.{Pending, Done as DoneWith, Spent, Cancelled}

@@ -7,12 +7,12 @@ use Rattle.sched_rules.specs.Trees.{Tenant}
 use Rattle.sched_rules.specs.Runs.{only}
 use Rattle.sched_rules.specs.Cores.{Shared, tenant_in}
 use Rattle.sched_rules.specs.Headline.{IsHeadline, taken}
-use Rattle.sched_core.specs.sched_laws.Fitted.{TenantFits, CoreFits, origins_of}
-use Rattle.jamboree_laws.specs.jamboree_rules.declared.leaf.Leaf.{Leaf}
-use Rattle.jamboree_laws.specs.jamboree_rules.declared.leaf.LeafAnswer.{LeafAnswer}
-use Rattle.jamboree_laws.specs.jamboree_rules.Fits.{AreFitting, IsRoot}
-use Rattle.jamboree_laws.specs.jamboree_rules.Procedure.{jamboree}
-use Rattle.jamboree_laws.specs.Replies.{AreRootWords, AreSearches, AreReplies, AreAllSound}
+use Rattle.sched_laws.specs.Fitted.{TenantFits, CoreFits, origins_of}
+use Rattle.jamboree_rules.specs.declared.leaf.Leaf.{Leaf}
+use Rattle.jamboree_rules.specs.declared.leaf.LeafAnswer.{LeafAnswer}
+use Rattle.jamboree_rules.specs.Fits.{AreFitting, IsRoot}
+use Rattle.jamboree_rules.specs.Procedure.{jamboree}
+use Rattle.jamboree_core.specs.Replies.{AreRootWords, AreSearches, AreReplies, AreAllSound}
 
 -- each of these is the words of a search
 abbrev pub AreAllRootWords : List (List ℕ) → Type 0

@@ -1,9 +1,9 @@
 //! The step that asks for a search.
 ghost use Rattle.std.specs.Prelude.{◌≡◌, ◌≤◌};
 ghost use Rattle.sched_rules.specs.declared.step.StepOf.TheVariants.{Submit};
-ghost use Rattle.jamboree_laws.specs.jamboree_rules.declared.leaf.LeafAnswer.{LeafAnswer};
-ghost use Rattle.jamboree_laws.specs.jamboree_rules.Places.{root_words as words_of_root, frame_size};
-ghost use Rattle.jamboree_laws.specs.Replies.{IsSearch};
+ghost use Rattle.jamboree_rules.specs.declared.leaf.LeafAnswer.{LeafAnswer};
+ghost use Rattle.jamboree_rules.specs.Places.{root_words as words_of_root, frame_size};
+ghost use Rattle.jamboree_core.specs.Replies.{IsSearch};
 
 use jamboree::{Jamboree, root_words};
 use position_text::Position;

@@ -1,25 +1,53 @@
-//! What cores and tenants of searches keep, and what they hold.
-ghost use Rattle.std.specs.Prelude.{◌≡◌, ◌≢◌, ℕ, ◌<◌, List, [], ◌∷◌, ◌++◌, Some, Result, Ok};
+//! What every list of searches comes to, and what cores and tenants of searches keep and hold.
+ghost use Rattle.std.specs.Prelude.{◌≡◌, ◌≢◌, ℕ, ◌<◌, List, [], ◌∷◌, ◌++◌, Some, Result, Ok, Err};
 ghost use Rattle.tenant_quota.specs.Quota.{Quota};
 ghost use Rattle.sched_rules.specs.declared.refusal.Refusal.{Refusal};
 ghost use Rattle.sched_rules.specs.declared.step.StepOf.{StepOf};
 ghost use Rattle.sched_rules.specs.declared.step.StepOf.TheVariants.{Admit};
 ghost use Rattle.sched_rules.specs.declared.step.DidOf.{DidOf};
 ghost use Rattle.sched_rules.specs.Trees.{Tenant, admitted_with, job_at};
-ghost use Rattle.sched_rules.specs.Runs.{tenant_of};
+ghost use Rattle.sched_rules.specs.Runs.{tenant_of, only};
 ghost use Rattle.sched_rules.specs.Cores.{Shared, shared_by_nobody, tenant_in};
-ghost use Rattle.sched_rules.specs.Headline.{IsOneStep, IsKnown};
-ghost use Rattle.sched_core.specs.sched_laws.Fitted.{origins_of};
-ghost use Rattle.jamboree_laws.specs.jamboree_rules.declared.leaf.Leaf.{Leaf};
-ghost use Rattle.jamboree_laws.specs.jamboree_rules.declared.leaf.LeafAnswer.{LeafAnswer};
-ghost use Rattle.jamboree_laws.specs.jamboree_rules.Procedure.{jamboree};
-ghost use Rattle.jamboree_laws.specs.Replies.{AreSearches, AreReplies, AreAllSound};
+ghost use Rattle.sched_rules.specs.Headline.{IsOneStep, IsKnown, IsAnswerTo, AreAnswersTo, after_answers, taken};
+ghost use Rattle.sched_laws.specs.Fitted.{origins_of, CoreFits, submits};
+ghost use Rattle.jamboree_rules.specs.declared.leaf.Leaf.{Leaf};
+ghost use Rattle.jamboree_rules.specs.declared.leaf.LeafAnswer.{LeafAnswer};
+ghost use Rattle.jamboree_rules.specs.Procedure.{jamboree};
+ghost use Rattle.jamboree_core.specs.Replies.{AreSearches, AreReplies, AreAllSound};
 ghost use Rattle.jamboree_core.specs.Searching.{TenantSearches, ServesSearches, CoreSearches, HoldsReplies};
 ghost use Rattle.jamboree.specs.declared.reply.Reply.{Reply};
 ghost use Rattle.jamboree.specs.Replies.{table_of};
 ghost use Rattle.jamboree_core.specs.declared.outcomes.Outcome.TheVariants.{Done};
 ghost use Rattle.jamboree_core.specs.Outcomes.{IsOutcomeIn};
 ghost use Rattle.jamboree_core.specs.Journals.{IsJournalOf};
+ghost use Rattle.sched_rules.specs.declared.refusal.Refusal.TheVariants.{BadAct};
+ghost use Rattle.sched_laws.specs.Shapes.{AreShaped};
+ghost use Rattle.jamboree_rules.specs.Fits.{AreFitting, IsRoot};
+
+/// After any list of steps from nobody by any workers for any tenants, whose taken Submits ask for
+/// searches: each job of a tenant that is done holds the minimax value, the best choice and a table of
+/// the board to the depth that its Submit carried, the k-th job those of the k-th taken Submit.
+pub fn every_completed_reply_is_the_minimax_value()
+    ensures { (grain : ℕ) (totals : Quota) (steps : List (StepOf LeafAnswer)) (answers : List (Result (DidOf Leaf) Refusal)) (number : ℕ) (tenant : Tenant) →
+        AreAnswersTo (jamboree grain) (shared_by_nobody totals) steps answers → AreSearches (taken steps answers) →
+        tenant_in (after_answers (jamboree grain) (shared_by_nobody totals) steps answers).tenants number ≡ Some tenant →
+        AreReplies (origins_of (only number (taken steps answers))) tenant.jobs }
+{}
+
+/// After such a list every frame of every tenant is sound.
+pub fn every_frame_is_sound()
+    ensures { (grain : ℕ) (totals : Quota) (steps : List (StepOf LeafAnswer)) (answers : List (Result (DidOf Leaf) Refusal)) (number : ℕ) (tenant : Tenant) →
+        AreAnswersTo (jamboree grain) (shared_by_nobody totals) steps answers → AreSearches (taken steps answers) →
+        tenant_in (after_answers (jamboree grain) (shared_by_nobody totals) steps answers).tenants number ≡ Some tenant →
+        AreAllSound tenant.frames tenant.frames }
+{}
+
+/// Of a core whose jobs are searches, a step that submits nothing isn't refused by BadAct.
+pub fn bad_acts_come_of_submits_alone()
+    ensures { (grain : ℕ) (origins : ℕ → List (List ℕ)) (before : Shared) (step : StepOf LeafAnswer) (answer : Result (DidOf Leaf) Refusal) →
+        AreShaped before.tenants → CoreFits AreFitting IsRoot origins before → submits step ≡ [] →
+        IsAnswerTo (jamboree grain) before step answer → answer ≢ Err BadAct }
+{}
 
 /// A new core's jobs are searches: it has none.
 pub fn a_new_core_has_no_searches()

@@ -1,9 +1,16 @@
 //! Searches on a running core: the headline in full.
 //!
+//! `sched_laws` says of every procedure that its frames keep fitting and that each job holds what it
+//! was asked; `jamboree_rules` says what fits in a Jamboree search and what a returned root then
+//! holds. Here the two are joined: whatever the order of spawns, steals, inlets and aborts, where each
+//! Submit that was taken asks for the search of a board to a depth (`AreSearches` of
+//! `specs/Replies.antt`), each job that is done holds the minimax value, the best choice and a table
+//! of just that board to just that depth, in the order of the Submits (`AreReplies`), and every frame
+//! is sound.
+//!
 //! A core that runs [`Jamboree`](jamboree::Jamboree) serves many tenants, each of whom asks for
 //! searches ([`submit`]). `sched_core` says of every list of steps, for every procedure, that no
-//! tenant is disturbed and that frames keep fitting; `jamboree_laws` says what a fitting search has
-//! come to. Here both are said of one call: after [`run_searches`], or [`step_search`] by
+//! tenant is disturbed. Both are said of one call: after [`run_searches`], or [`step_search`] by
 //! [`step_search`], each tenant is what its own taken steps give, a step is refused only for its own
 //! tenant's state or a busy worker, and every completed reply is the minimax value to its depth,
 //! whatever was spawned, stolen, aborted or answered too late. [`outcome_of`] reads what has become
@@ -15,8 +22,9 @@
 //! What is carried from call to call is that a core's jobs are searches (`CoreSearches` of
 //! `specs/Searching.antt`): its frames fit, and job k of a tenant holds what the k-th of the words
 //! submitted under its number asked. A new core's are, since it has none; and where each Submit asks
-//! for a search, a step keeps it. [`laws`] has what follows from it, and the same for one tenant by
-//! its journal, the list of its own steps that were taken (`specs/Journals.antt`).
+//! for a search, a step keeps it. [`laws`] has what holds of every list of searches, what follows from
+//! that fact, and the same for one tenant by its journal, the list of its own steps that were taken
+//! (`specs/Journals.antt`). The laws are public functions that do nothing.
 //!
 //! ```text
 //! // the opening to depth 0, computed by worker 3: seven steps, all taken, and word 8 is that of 0
@@ -35,6 +43,7 @@
 #![tactic(auto)]
 
 pub use jamboree;
+pub use jamboree_rules::leaf_search;
 pub use sched_core;
 
 mod asking;

@@ -4,10 +4,10 @@ ghost use Rattle.sched_rules.specs.declared.refusal.Refusal.{Refusal as RefusalO
 ghost use Rattle.sched_rules.specs.declared.refusal.Refusal.TheVariants.{BadAct, OutOfMemory};
 ghost use Rattle.sched_rules.specs.declared.step.DidOf.{DidOf};
 ghost use Rattle.sched_rules.specs.Headline.{IsOneStep, IsKnown, is_admission};
-ghost use Rattle.sched_core.specs.sched_laws.Fitted.{origins_after, submits};
-ghost use Rattle.jamboree_laws.specs.jamboree_rules.declared.leaf.Leaf.{Leaf};
-ghost use Rattle.jamboree_laws.specs.jamboree_rules.Procedure.{jamboree};
-ghost use Rattle.jamboree_laws.specs.Replies.{AreSearches, IsSearch};
+ghost use Rattle.sched_laws.specs.Fitted.{origins_after, submits};
+ghost use Rattle.jamboree_rules.specs.declared.leaf.Leaf.{Leaf};
+ghost use Rattle.jamboree_rules.specs.Procedure.{jamboree};
+ghost use Rattle.jamboree_core.specs.Replies.{AreSearches, IsSearch};
 ghost use Rattle.jamboree_core.specs.NewRuns.{IsHeadlineFromNew};
 ghost use Rattle.jamboree_core.specs.Searching.{CoreSearches, IsHeadlineInFull};
 

@@ -1,11 +1,11 @@
 ghost use Rattle.std.specs.Prelude.{◌≤◌};
-ghost use Rattle.jamboree_laws.specs.Replies.{AreSearches};
+ghost use Rattle.jamboree_core.specs.Replies.{AreSearches};
 
 use super::*;
 use driver::{Searched, drive};
 use frame_tree::FrameId;
 use jamboree::{Bound, BoundKind, Jamboree, Leaf, LeafAnswer, Reply};
-use jamboree_laws::leaf_search::{INF, search_full};
+use jamboree_rules::leaf_search::{INF, search_full};
 use orders::{Crew, Draw};
 use othello_board::Board;
 use othello_moves::{Choice, after, choice, choice_count};

@@ -14,14 +14,14 @@ use Rattle.sched_rules.specs.Cores.{Shared, shared_by_nobody, tenant_in}
 use Rattle.sched_rules.specs.Views.{job_of}
 use Rattle.sched_core.specs.sched_laws.Fitted.{CoreFits, JobsFit, RootFits, submits, origins_after}
 use Rattle.sched_core.proofs.sched_laws_FitAnswers.{nobody-fits}
-use Rattle.jamboree_laws.specs.jamboree_rules.Places.{root_words}
-use Rattle.jamboree_laws.specs.jamboree_rules.Fits.{AreFitting, IsRoot, IsKeptRoot}
+use Rattle.jamboree_core.specs.jamboree_rules.Places.{root_words}
+use Rattle.jamboree_core.specs.jamboree_rules.Fits.{AreFitting, IsRoot, IsKeptRoot}
 use Rattle.othello_board.specs.Words.{cells, cells_of}
 use Rattle.jamboree.specs.declared.reply.Reply.{Reply}
 use Rattle.jamboree.specs.Replies.{board_of}
-use Rattle.jamboree_laws.specs.jamboree_rules.declared.leaf.LeafAnswer.{LeafAnswer}
-use Rattle.jamboree_laws.specs.Replies.{IsSearch, IsReplyTo}
-use Rattle.jamboree_laws.proofs.Replying.{search-fits, replies-held}
+use Rattle.jamboree_core.specs.jamboree_rules.declared.leaf.LeafAnswer.{LeafAnswer}
+use Rattle.jamboree_core.specs.Replies.{IsSearch, IsReplyTo}
+use Rattle.jamboree_core.proofs.Replying.{search-fits, replies-held}
 use Rattle.lone_search.specs.Asked.{HasAsked, IsReplyFor}
 
 -- a core with no tenant was asked nothing

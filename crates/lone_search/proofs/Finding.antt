@@ -6,7 +6,7 @@ use Rattle.sched_rules.specs.Cores.{Shared}
 use Rattle.sched_rules.specs.Views.{job_of}
 use Rattle.jamboree.specs.declared.reply.Reply.{Reply}
 use Rattle.jamboree.specs.Replies.{board_of, depth_of}
-use Rattle.jamboree_laws.specs.Replies.{IsReplyTo}
+use Rattle.jamboree_core.specs.Replies.{IsReplyTo}
 use Rattle.lone_search.specs.Asked.{HasAsked, HasReserved, IsReplyFor}
 use Rattle.lone_search.proofs.Asking.{job-there}
 use Rattle.tenant_quota.specs.Quota.{Quota}

@@ -19,11 +19,11 @@ use Rattle.sched_rules.proofs.Tenants.{tenant_in-with_outcome, tenant_in_other-w
 use Rattle.sched_rules.proofs.Isolation.{IsTaken, step-taken, shared-after-taken}
 use Rattle.sched_core.proofs.Stepping.{IsRunning, runs-begin, runs-on}
 use Rattle.sched_core.specs.sched_laws.Fitted.{submits}
-use Rattle.jamboree_laws.specs.jamboree_rules.declared.leaf.Leaf.{Leaf}
-use Rattle.jamboree_laws.specs.jamboree_rules.declared.leaf.LeafAnswer.{LeafAnswer}
-use Rattle.jamboree_laws.specs.jamboree_rules.Procedure.{jamboree}
-use Rattle.jamboree_laws.specs.jamboree_rules.Places.{root_words}
-use Rattle.jamboree_laws.specs.Replies.{IsSearch}
+use Rattle.jamboree_core.specs.jamboree_rules.declared.leaf.Leaf.{Leaf}
+use Rattle.jamboree_core.specs.jamboree_rules.declared.leaf.LeafAnswer.{LeafAnswer}
+use Rattle.jamboree_core.specs.jamboree_rules.Procedure.{jamboree}
+use Rattle.jamboree_core.specs.jamboree_rules.Places.{root_words}
+use Rattle.jamboree_core.specs.Replies.{IsSearch}
 use Rattle.jamboree.specs.declared.procedure.Jamboree.{Jamboree}
 use Rattle.lone_search.specs.Asked.{HasAsked, HasRun, HasReserved, WorksOn, Keeps, IsBegun, IsWork}
 use Rattle.lone_search.proofs.Staying.{Stays, step-stays}

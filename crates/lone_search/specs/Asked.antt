@@ -9,10 +9,10 @@ use Rattle.sched_rules.specs.Trees.{Tenant, admitted_with}
 use Rattle.sched_rules.specs.Cores.{Shared, CoreOf, shared_by_nobody, tenant_in}
 use Rattle.sched_rules.specs.Headline.{AreAnswersTo, after_answers}
 use Rattle.sched_core.specs.sched_laws.Fitted.{CoreFits}
-use Rattle.jamboree_laws.specs.jamboree_rules.declared.leaf.Leaf.{Leaf}
-use Rattle.jamboree_laws.specs.jamboree_rules.declared.leaf.LeafAnswer.{LeafAnswer}
-use Rattle.jamboree_laws.specs.jamboree_rules.Fits.{AreFitting, IsRoot}
-use Rattle.jamboree_laws.specs.jamboree_rules.Procedure.{jamboree}
+use Rattle.jamboree_core.specs.jamboree_rules.declared.leaf.Leaf.{Leaf}
+use Rattle.jamboree_core.specs.jamboree_rules.declared.leaf.LeafAnswer.{LeafAnswer}
+use Rattle.jamboree_core.specs.jamboree_rules.Fits.{AreFitting, IsRoot}
+use Rattle.jamboree_core.specs.jamboree_rules.Procedure.{jamboree}
 use Rattle.jamboree.specs.declared.procedure.Jamboree.{Jamboree}
 use Rattle.jamboree.specs.declared.reply.Reply.{Reply}
 use Rattle.jamboree.specs.Replies.{board_of, depth_of}

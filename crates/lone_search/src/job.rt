@@ -4,13 +4,13 @@ ghost use Rattle.tenant_quota.specs.Quota.{Quota, IsWithinLimits};
 ghost use Rattle.othello_board.specs.Words.{cells};
 ghost use Rattle.othello_eval.specs.Minimax.{minimax, best_choice};
 ghost use Rattle.sched_rules.specs.Cores.{shared_by_nobody};
-ghost use Rattle.jamboree_laws.specs.jamboree_rules.Places.{root_words};
+ghost use Rattle.jamboree_core.specs.jamboree_rules.Places.{root_words};
 ghost use Rattle.lone_search.specs.Asked.{HasAsked, HasReserved, IsBegun, WorksOn};
 ghost use Rattle.lone_search.specs.Found.{IsFoundIn};
 
 use crate::found::{Searched, Way};
 use jamboree::{Jamboree, Reply, root_words};
-use jamboree_laws::leaf_search::search_full;
+use jamboree_core::leaf_search::search_full;
 use position_text::Position;
 use sched_core::{Core, GivenWords, Job, StepOf};
 use std::alloc::{AllocError, Allocator};

@@ -20,7 +20,7 @@
 //! ```
 #![tactic(auto)]
 
-pub use jamboree_laws::leaf_search;
+pub use jamboree_core::leaf_search;
 
 mod found;
 mod job;

@@ -2,7 +2,7 @@
 ghost use Rattle.std.specs.Prelude.{◌≡◌, ◌≤◌, IfOk};
 ghost use Rattle.othello_board.specs.Words.{cells};
 ghost use Rattle.othello_eval.specs.Minimax.{minimax, best_choice};
-ghost use Rattle.jamboree_laws.specs.jamboree_rules.Places.{root_words};
+ghost use Rattle.jamboree_core.specs.jamboree_rules.Places.{root_words};
 ghost use Rattle.lone_search.specs.Found.{IsFoundBy};
 
 use crate::found::Searched;

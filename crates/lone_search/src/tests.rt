@@ -3,7 +3,7 @@ ghost use Rattle.std.specs.Prelude.{◌≤◌};
 use crate::searching::search_within;
 use crate::{Searched, Way, solve_by_core};
 use counted_alloc::Counted;
-use jamboree_laws::leaf_search::search_full;
+use jamboree_core::leaf_search::search_full;
 use linked_list_allocator::LocalHeap;
 use othello_moves::Choice;
 use position_text::{Position, read};

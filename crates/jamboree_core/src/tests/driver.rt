@@ -1,6 +1,6 @@
 //! A core of searches with the frames that became ready, and what workers are at.
-ghost use Rattle.jamboree_laws.specs.jamboree_rules.declared.leaf.LeafAnswer.{LeafAnswer};
-ghost use Rattle.jamboree_laws.specs.Replies.{IsSearch};
+ghost use Rattle.jamboree_rules.specs.declared.leaf.LeafAnswer.{LeafAnswer};
+ghost use Rattle.jamboree_core.specs.Replies.{IsSearch};
 
 use crate::{Outcome, outcome_of, step_search};
 use frame_tree::{FrameId, State};

@@ -1,5 +1,5 @@
-use Rattle.jamboree_laws.proofs.Replying.{search-fits}
-use Rattle.jamboree_laws.proofs.Possible.{answer-none-bad}
+use Rattle.jamboree_core.proofs.Replying.{search-fits}
+use Rattle.jamboree_core.proofs.Possible.{answer-none-bad}
 use Rattle.jamboree_core.proofs.Serving.{after-asked}
 use Rattle.jamboree_core.proofs.running.step_search.Goals as goal
 

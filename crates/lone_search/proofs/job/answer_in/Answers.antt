@@ -3,7 +3,7 @@ use Rattle.std.specs.Prelude.{slice_index}
 use Rattle.std.proofs.lemmas.Int.{to_z-of_z}
 use mir.Val.{SFits}
 use Rattle.othello_eval.specs.Minimax.{minimax, best_choice}
-use Rattle.jamboree_laws.specs.jamboree_rules.Places.{root_words}
+use Rattle.jamboree_core.specs.jamboree_rules.Places.{root_words}
 use Rattle.lone_search.proofs.Asking.{job-done, reply-cells}
 use Rattle.lone_search.proofs.Finding.{job-read, job-found, reply-for}
 use Rattle.lone_search.proofs.job.answer_in.Goals as goal

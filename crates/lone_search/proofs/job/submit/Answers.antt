@@ -1,6 +1,6 @@
 use Rattle.std.proofs.Common.{◌≡◌, ◌∙◌, refl}
-use Rattle.jamboree_laws.specs.jamboree_rules.Places.{root_words}
-use Rattle.jamboree_laws.specs.Replies.{AreRootWords}
+use Rattle.jamboree_core.specs.jamboree_rules.Places.{root_words}
+use Rattle.jamboree_core.specs.Replies.{AreRootWords}
 use Rattle.lone_search.proofs.Working.{submits-on}
 use Rattle.lone_search.proofs.job.submit.Goals as goal
 

@@ -8,7 +8,7 @@ use Rattle.sched_rules.specs.Cores.{Shared}
 use Rattle.sched_rules.specs.Headline.{IsOneStep, IsKnown}
 use Rattle.jamboree_core.specs.jamboree_rules.declared.leaf.Leaf.{Leaf}
 use Rattle.jamboree_core.specs.jamboree_rules.Procedure.{jamboree}
-use Rattle.jamboree_core.specs.jamboree_laws.Replies.{IsSearch}
+use Rattle.jamboree_core.specs.Replies.{IsSearch}
 use Rattle.tenant_quota.specs.Quota.{Quota}
 use Rattle.hall.specs.Journals.{goes_on, raise_in}
 use Rattle.hall.specs.Halls.{HallOf, IsHall}

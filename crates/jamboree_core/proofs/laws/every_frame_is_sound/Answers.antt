@@ -1,6 +1,6 @@
 use Rattle.sched_laws.specs.Fitted.{TenantFits}
-use Rattle.jamboree_laws.proofs.Replying.{searched, all-sound}
-use Rattle.jamboree_laws.proofs.laws.every_frame_is_sound.Goals as goal
+use Rattle.jamboree_core.proofs.Replying.{searched, all-sound}
+use Rattle.jamboree_core.proofs.laws.every_frame_is_sound.Goals as goal
 
 pub returns : goal.returns
 returns c grain totals steps answers number tenant right searches at =

@@ -30,7 +30,7 @@ use Rattle.jamboree_rules.proofs.Keeping.{next-keeps, inlet-keeps}
 use Rattle.jamboree_rules.proofs.Soundness.{fits-sound}
 use Rattle.jamboree_rules.proofs.Answers.{accept-keeps, root-fits, root-value}
 use Rattle.jamboree_rules.proofs.Rooted.{root-whole, root-kept}
-use Rattle.jamboree_laws.specs.Replies.{IsSearch, AreSearches, IsReplyTo, AreReplies, AreAllSound}
+use Rattle.jamboree_core.specs.Replies.{IsSearch, AreSearches, IsReplyTo, AreReplies, AreAllSound}
 
 -- the new root of a search fits
 pub search-fits : (step : StepOf LeafAnswer) → IsSearch step → RootFits AreFitting IsRoot step

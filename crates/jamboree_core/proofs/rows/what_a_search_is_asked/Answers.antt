@@ -1,7 +1,7 @@
 use Rattle.std.proofs.Common.{◌≡◌, ℕ, List, slice_index, bit_and, refl, ap, ◌∙◌, arith}
 use Rattle.jamboree_rules.specs.Places.{root_words}
-use Rattle.jamboree_laws.specs.Replies.{AreRootWords}
-use Rattle.jamboree_laws.proofs.rows.what_a_search_is_asked.Goals as goal
+use Rattle.jamboree_core.specs.Replies.{AreRootWords}
+use Rattle.jamboree_core.proofs.rows.what_a_search_is_asked.Goals as goal
 
 -- the word at a place
 at : (words : List ℕ) (i : ℕ) (are : AreRootWords words) → slice_index words i ≡ slice_index (root_words are.own are.opp are.depth) i

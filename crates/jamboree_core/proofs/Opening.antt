@@ -14,8 +14,8 @@ use Rattle.jamboree_rules.proofs.othello_eval_TableLemmas.{apart}
 use Rattle.jamboree_rules.specs.Places.{frame_of}
 use Rattle.jamboree_rules.specs.Entries.{bounds_of}
 use Rattle.jamboree_rules.specs.Frames.{coded}
-use Rattle.jamboree_laws.specs.Replies.{IsReplyTo}
-use Rattle.jamboree_laws.specs.Rows.{asked, kept}
+use Rattle.jamboree_core.specs.Replies.{IsReplyTo}
+use Rattle.jamboree_core.specs.Rows.{asked, kept}
 
 pub worth : minimax 1 (cells_of 34628173824 68853694464) ≡ negsuc 2
 unfolding squares squares_beside in_order weights minimax

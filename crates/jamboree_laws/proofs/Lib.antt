@@ -1,3 +1,0 @@
-pub mod Replying
-pub mod Opening
-pub mod Possible

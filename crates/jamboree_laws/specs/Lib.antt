@@ -1,3 +1,0 @@
-pub use Rattle.jamboree_rules.specs as jamboree_rules
-pub mod Replies
-pub mod Rows
