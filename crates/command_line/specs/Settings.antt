@@ -2,7 +2,7 @@
 use Rattle.std.specs.Prelude.{ℕ, Bool, ◌&&◌, ◌++◌, Option, Some, None, List, if◌then◌else◌, codes, decimal, nat_le, option_and_then}
 use Rattle.std.specs.Option.{option_map_or}
 use Rattle.clap.specs.Words.{Row, Rule, Text, first_of, new_rule}
-use Rattle.line_words.specs.Words.{number_of}
+use Rattle.protocol.specs.Words.{word_number}
 use Rattle.command_line.specs.declared.settings.Setting.{Setting}
 
 -- an option with a number: its word, its least and its greatest value, and its default, if it has one
@@ -22,7 +22,7 @@ within option n = if nat_le option.least n && nat_le n option.most then Some n e
 
 -- the number that the words give an option, or its default
 abbrev pub number_asked : NumberOption → List Row → Option ℕ
-number_asked option rows = option_map_or number_of (first_of option.name rows) option.default
+number_asked option rows = option_map_or word_number (first_of option.name rows) option.default
 
 -- the same, where it is within the limits
 abbrev pub value_asked : NumberOption → List Row → Option ℕ

@@ -3,7 +3,7 @@ ghost use Rattle.std.specs.Prelude.{◌≡◌, ◌≤◌, IfErr, IfOk, OnErr};
 ghost use Rattle.clap.specs.Words.{found_of, rows_of};
 
 use clap::ArgMatches;
-use line_words::number_of;
+use protocol::word_number;
 use std::fmt::{self, Display};
 
 /// An option of a command that has a number for its value.
@@ -67,7 +67,7 @@ impl Setting {
         ensures { result ≡ number_asked (setting_of self.now) (rows_of (found_of given.now)) }
     {
         match given.get_str(self.name) {
-            Some(text) => number_of(text.as_bytes()),
+            Some(text) => word_number(text.as_bytes()),
             None => self.default,
         }
     }

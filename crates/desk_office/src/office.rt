@@ -5,8 +5,7 @@ ghost use Rattle.desk_office.specs.Offices.{asks_of};
 
 use crate::outcomes::told_answer;
 use desk::{Desk, Hands, Refusal, Seat};
-use position_text::Position;
-use session::{Live, Office, Outcome};
+use session::{Live, Office, Outcome, Question};
 use std::alloc::{Allocator, Global};
 use std::sync::Wait;
 use tenant_quota::{Left, Reserve};
@@ -62,9 +61,9 @@ impl<L: Hands, R: Wait, A: Allocator + Clone> Office for DeskOffice<'_, L, R, A>
         }
     }
 
-    fn ask(&mut self, position: &Position, depth: u8) -> Result<u64, Refusal> {
+    fn ask(&mut self, question: &Question) -> Result<u64, Refusal> {
         match &mut self.seat {
-            Some(seat) => self.desk.ask(self.rt, seat, position, depth),
+            Some(seat) => self.desk.ask(self.rt, seat, &question.position, question.depth),
             None => Err(Refusal::NoTenant),
         }
     }

@@ -1,6 +1,6 @@
 //! Lines, texts of positions, boards and searches at work: tests alone.
 //!
-//! What each call of `line_io`, `line_words`, `position_text`, the crates of the game, `leaf_search` and
+//! What each call of `line_io`, `protocol`, `position_text`, the crates of the game, `leaf_search` and
 //! `jamboree` does is proved in those crates. Here their public calls are run: on examples from outside,
 //! as the known numbers of leaf positions from the opening; on readers and writers that fail, and that
 //! notice where an answer comes too late; and for what no contract says, as which of two scores outside a
@@ -9,7 +9,7 @@
 //!
 //! ```text
 //! let (word, rest) = split_at_space(b"12 X-O").ok_or("no space")?;
-//! number_of(word) == Some(12)
+//! word_number(word) == Some(12)
 //! read(OPENING)? == opening()?
 //! ```
 #![tactic(auto)]

@@ -164,7 +164,7 @@ after_bye before asks false line lines replies later known h = later ((line, tur
 
 line_holds : (q : Request) (before : List (LineText × List ℕ)) (asks : List Asked) (seated : Bool) (line : LineText) (lines : List LineText) (replies : List Reply) → request seated line ≡ q → LaterHold lines → Known seated before asks
     → AllTrue asks (calls_in seated (next_turns q seated lines replies)) → EachDoneIsTrue before (line ∷ lines) (next_turns q seated lines replies)
-line_holds (Fault number) before asks seated line lines replies e later known h = (tt, later ((line, turn_text (Faulted number)) ∷ before) asks seated replies known h)
+line_holds (Fault fault) before asks seated line lines replies e later known h = (tt, later ((line, turn_text (Faulted fault)) ∷ before) asks seated replies known h)
 line_holds (Makes call) before asks seated line lines replies e later known h =
     let reply = next_reply replies in (
       reply_holds before asks reply known.0 h.0,

@@ -22,7 +22,7 @@ use Rattle.session.specs.Sessions.{Called, LeavesIf, Turned, Session, IsAnswered
 -- the turns of a line that asks for this, and of the lines after it
 abbrev pub next_turns : Request → Bool → List LineText → List Reply → List Turn
 next_turns q seated lines replies =
-    by_request q (λ number. Faulted number ∷ turns seated lines replies)
+    by_request q (λ fault. Faulted fault ∷ turns seated lines replies)
     (λ call. Made call (next_reply replies) ∷ turns (seated_after seated (next_reply replies)) lines (later_replies replies))
     (λ job. Tabulated job (next_reply replies) ∷ turns (seated_after seated (next_reply replies)) lines (later_replies replies))
     (λ _. Closed ∷ turns false lines replies)
@@ -45,7 +45,7 @@ module _ {O : Type 0} (does : O → Call → Reply → O → Type 0) where
   -- one line before others
   came-next : (q : Request) (from : O) (seated : Bool) (text : List ℕ) (mid : O) (seated' : Bool) (lines : List LineText) (texts : List (List ℕ)) (to : O) (seated'' : Bool)
       → Turned does q from seated text mid seated' → Came (turns seated' lines) mid seated' texts to seated'' → Came (next_turns q seated lines) from seated (text ∷ texts) to seated''
-  came-next (Fault number) from seated text mid seated' lines texts to seated'' h came =
+  came-next (Fault fault) from seated text mid seated' lines texts to seated'' h came =
       let same = subst (λ o. Came (turns seated lines) o seated texts to seated'') (sym h.0) (subst (λ s. Came (turns s lines) mid s texts to seated'') h.1 came) in
       record { replies = same.replies; are = ap₂ (λ t ts. t ∷ ts) h.2 same.are; made = same.made }
   came-next (Makes call) from seated text mid seated' lines texts to seated'' h came =

@@ -18,7 +18,7 @@ use Rattle.session.specs.Sessions.{Session, calls_for}
 
 -- the asks so far, and what this request asks for, where it is one
 abbrev pub with_request : List Asked → Request → List Asked
-with_request asks (Fault number) = asks
+with_request asks (Fault fault) = asks
 with_request asks (Makes call) = with_ask asks call
 with_request asks (Tabulates job) = asks
 with_request asks Ends = asks
@@ -92,7 +92,7 @@ TableReplyHolds before Gone = Unit {0}
 TableReplyHolds before (Refused number) = Unit {0}
 
 abbrev pub TurnHolds : List (LineText × List ℕ) → Turn → Type 0
-TurnHolds before (Faulted number) = Unit {0}
+TurnHolds before (Faulted fault) = Unit {0}
 TurnHolds before (Made call reply) = ReplyHolds before reply
 TurnHolds before (Tabulated job reply) = TableReplyHolds before reply
 TurnHolds before Closed = Unit {0}

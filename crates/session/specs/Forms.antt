@@ -3,13 +3,13 @@ use Rattle.std.specs.Prelude.{ℕ, List, Option, Some, None, Bool, ◌&&◌, fal
 use Rattle.std.specs.Option.{is_none}
 use Rattle.std.specs.Str.{bytes_eq}
 use Rattle.line_io.specs.Lines.{LineText, Whole, TooLong}
-use Rattle.line_words.specs.Words.{split_at_space, number_of}
+use Rattle.protocol.specs.Words.{split_at_space, word_number}
 
--- a command with its arguments: each number is none where its word is no number, and a position's text is not yet read
+-- a command with its arguments: each number is none where its word is no number; what ASK asks for is not yet read
 pub data Form : Type 0 where
   HelloOf : (segments nodes : Option ℕ) → Form
   ReserveOf : (segments nodes : Option ℕ) → Form
-  AskOf : (depth : Option ℕ) (text : List ℕ) → Form
+  AskOf : (depth text : List ℕ) → Form
   GetOf : (job : Option ℕ) → Form
   WaitOf : (job : Option ℕ) → Form
   CancelOf : (job : Option ℕ) → Form
@@ -29,18 +29,18 @@ bare_form word =
 -- a line of two words
 abbrev pub form_of_one : List ℕ → List ℕ → Option Form
 form_of_one word argument =
-    if bytes_eq word (codes "GET") then Some (GetOf (number_of argument))
-    else (if bytes_eq word (codes "WAIT") then Some (WaitOf (number_of argument))
-    else (if bytes_eq word (codes "CANCEL") then Some (CancelOf (number_of argument))
-    else (if bytes_eq word (codes "TABLE") then Some (TableOf (number_of argument))
+    if bytes_eq word (codes "GET") then Some (GetOf (word_number argument))
+    else (if bytes_eq word (codes "WAIT") then Some (WaitOf (word_number argument))
+    else (if bytes_eq word (codes "CANCEL") then Some (CancelOf (word_number argument))
+    else (if bytes_eq word (codes "TABLE") then Some (TableOf (word_number argument))
     else None)))
 
 -- a line of three words or more: a position is all that follows the second space, and HELLO and RESERVE have just two arguments
 abbrev pub form_of_two : List ℕ → List ℕ → List ℕ → Option Form
 form_of_two word first second =
-    if bytes_eq word (codes "ASK") then Some (AskOf (number_of first) second)
-    else (if bytes_eq word (codes "HELLO") && is_none (split_at_space second) then Some (HelloOf (number_of first) (number_of second))
-    else (if bytes_eq word (codes "RESERVE") && is_none (split_at_space second) then Some (ReserveOf (number_of first) (number_of second))
+    if bytes_eq word (codes "ASK") then Some (AskOf first second)
+    else (if bytes_eq word (codes "HELLO") && is_none (split_at_space second) then Some (HelloOf (word_number first) (word_number second))
+    else (if bytes_eq word (codes "RESERVE") && is_none (split_at_space second) then Some (ReserveOf (word_number first) (word_number second))
     else None))
 
 -- by what follows the first space

@@ -1,10 +1,12 @@
--- Representation: a board on which the definitions are tried, and what is found of a board.
-use Rattle.std.specs.Prelude.{◌++◌, replicate, ◌∷◌, List, ℤ, Option}
+-- Representation: a board on which the definitions are tried, what is found of a board, and the number of a line's fault.
+use Rattle.std.specs.Prelude.{ℕ, ◌++◌, replicate, ◌∷◌, List, ℤ, Option, Some, None}
 use Rattle.othello_board.specs.declared.cells.Cell.{Cell}
 use Rattle.othello_board.specs.declared.cells.Cell.TheVariants.{Empty, Own, Opp}
 use Rattle.othello_moves.specs.declared.choices.Choice.{Choice}
 use Rattle.othello_eval.specs.declared.bound.Bound.{Bound}
+use Rattle.protocol.specs.Faults.{fault_number}
 use Rattle.session.specs.declared.outcome.Finding.{Finding}
+use Rattle.session.specs.Requests.{Request, Fault, Makes, Tabulates, Ends}
 
 -- the opening, seen by Black: White on d4 (27) and e5 (36), Black on e4 (28) and d5 (35)
 abbrev pub opening_board : List Cell
@@ -13,3 +15,10 @@ opening_board = replicate 27 Empty ++ Opp ∷ Own ∷ replicate 6 Empty ++ Own �
 -- a value, a move and the entries beside them
 abbrev pub found : ℤ → Option Choice → List Bound → Finding
 found value choice bounds = record { value = value; choice = choice; bounds = bounds }
+
+-- the number of a fault; none where something is asked for
+abbrev pub faulted : Request → Option ℕ
+faulted (Fault fault) = Some (fault_number fault)
+faulted (Makes call) = None
+faulted (Tabulates job) = None
+faulted Ends = None

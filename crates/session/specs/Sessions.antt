@@ -12,7 +12,8 @@ use Rattle.line_io.specs.Streams.{ReadAnswer, Gave, WriteAnswer}
 use Rattle.line_io.specs.Writes.{writes_of, written_texts, IsCutShort}
 use Rattle.line_io.specs.Runs.{bytes_due, write_result}
 use Rattle.line_io.specs.Talks.{upto, IsTalkEnd}
-use Rattle.line_words.specs.Texts.{error_text}
+use Rattle.protocol.specs.Faults.{fault_number}
+use Rattle.protocol.specs.Texts.{error_text}
 use Rattle.session.specs.declared.faults.SessionFault.{SessionFault}
 use Rattle.session.specs.declared.faults.SessionFault.TheVariants.{Read, Write}
 use Rattle.session.specs.declared.faults.End.{End}
@@ -52,7 +53,7 @@ LeavesIf does false from to = from ≡ to
 
 -- what is done for one request: the office before, whether a tenant is there, the text, and both after it
 abbrev pub Turned : {O : Type 0} → (O → Call → Reply → O → Type 0) → Request → O → Bool → List ℕ → O → Bool → Type 0
-Turned does (Fault number) from seated text to seated' = (from ≡ to) × (seated' ≡ seated) × (text ≡ error_text number)
+Turned does (Fault fault) from seated text to seated' = (from ≡ to) × (seated' ≡ seated) × (text ≡ error_text (fault_number fault))
 Turned does (Makes call) from seated text to seated' =
     (reply : Reply) × does from call reply to × (seated' ≡ seated_after seated reply) × (text ≡ reply_text reply)
 Turned does (Tabulates job) from seated text to seated' =

@@ -6,7 +6,9 @@ use Rattle.std.specs.Fmt.{signed_decimal}
 use Rattle.othello_eval.specs.declared.bound.Bound.{Bound}
 use Rattle.othello_eval.specs.declared.bound.BoundKind.{BoundKind}
 use Rattle.othello_eval.specs.declared.bound.BoundKind.TheVariants.{Low, High, Exact}
-use Rattle.line_words.specs.Texts.{value_text, move_text, error_text}
+use Rattle.protocol.specs.declared.faults.ProtocolFault.{ProtocolFault}
+use Rattle.protocol.specs.Faults.{fault_number}
+use Rattle.protocol.specs.Texts.{value_text, move_text, error_text}
 use Rattle.session.specs.declared.outcome.Outcome.{Outcome}
 use Rattle.session.specs.declared.outcome.Outcome.TheVariants.{Pending, Done, Spent, Cancelled}
 use Rattle.session.specs.Calls.{Call, Get, Leave, Reply, Welcome, Reserved, Job, Told, Ended, Rest, Alive, Gone, Refused}
@@ -14,7 +16,7 @@ use Rattle.session.specs.Requests.{Request, Fault, Makes, Tabulates, Ends, reque
 
 -- what came of a line: a fault, a call with its reply, a Get of a job whose reply is told with its table, or the end of the session
 pub data Turn : Type 0 where
-  Faulted : (number : ℕ) → Turn
+  Faulted : (fault : ProtocolFault) → Turn
   Made : (call : Call) (reply : Reply) → Turn
   Tabulated : (job : ℕ) (reply : Reply) → Turn
   Closed : Turn
@@ -41,8 +43,8 @@ seated_after seated Gone = false
 seated_after seated (Refused number) = seated
 
 -- by what a line asks for
-abbrev pub by_request : {X : Type 0} → Request → (ℕ → X) → (Call → X) → (ℕ → X) → (Unit {0} → X) → X
-by_request (Fault number) fault call table end = fault number
+abbrev pub by_request : {X : Type 0} → Request → (ProtocolFault → X) → (Call → X) → (ℕ → X) → (Unit {0} → X) → X
+by_request (Fault met) fault call table end = fault met
 by_request (Makes made) fault call table end = call made
 by_request (Tabulates job) fault call table end = table job
 by_request Ends fault call table end = end tt
@@ -52,7 +54,7 @@ abbrev pub turns : Bool → List LineText → List Reply → List Turn
 turns seated [] replies = []
 turns seated (line ∷ lines) replies =
     by_request (request seated line)
-    (λ number. Faulted number ∷ turns seated lines replies)
+    (λ fault. Faulted fault ∷ turns seated lines replies)
     (λ call. Made call (next_reply replies) ∷ turns (seated_after seated (next_reply replies)) lines (later_replies replies))
     (λ job. Tabulated job (next_reply replies) ∷ turns (seated_after seated (next_reply replies)) lines (later_replies replies))
     (λ _. Closed ∷ turns false lines replies)
@@ -65,7 +67,7 @@ leaving false = []
 -- the calls of these turns with their replies, in order: a tenant leaves at a line BYE, and where the session ends without one
 abbrev pub calls_in : Bool → List Turn → List (Call × Reply)
 calls_in seated [] = leaving seated
-calls_in seated (Faulted number ∷ more) = calls_in seated more
+calls_in seated (Faulted fault ∷ more) = calls_in seated more
 calls_in seated (Made call reply ∷ more) = (call, reply) ∷ calls_in (seated_after seated reply) more
 calls_in seated (Tabulated job reply ∷ more) = (Get job, reply) ∷ calls_in (seated_after seated reply) more
 calls_in seated (Closed ∷ more) = leaving seated ++ calls_in false more
@@ -129,7 +131,7 @@ table_text (Refused number) = reply_text (Refused number)
 
 -- what a line is answered
 abbrev pub turn_text : Turn → List ℕ
-turn_text (Faulted number) = error_text number
+turn_text (Faulted fault) = error_text (fault_number fault)
 turn_text (Made call reply) = reply_text reply
 turn_text (Tabulated job reply) = table_text reply
 turn_text Closed = codes "BYE"

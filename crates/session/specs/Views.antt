@@ -12,7 +12,7 @@ use Rattle.session.specs.Requests.{Request, Fault, Makes, Tabulates, Ends}
 abbrev pub form_seen : Formed → Form
 form_seen (hello segments nodes) = HelloOf segments nodes
 form_seen (reserve segments nodes) = ReserveOf segments nodes
-form_seen (ask depth text) = AskOf depth text.now
+form_seen (ask depth text) = AskOf depth.now text.now
 form_seen (get job) = GetOf job
 form_seen (wait job) = WaitOf job
 form_seen (cancel job) = CancelOf job
@@ -23,7 +23,7 @@ form_seen bye = ByeForm
 
 -- a request as data
 abbrev pub request_seen : Requested → Request
-request_seen (fault number) = Fault number
+request_seen (fault met) = Fault met
 request_seen (to_hello amounts) = Makes (Hello amounts)
 request_seen (to_reserve amounts) = Makes (Reserve amounts)
 request_seen (to_ask question) = Makes (Ask question.depth (cells question.position.board) question.position.side)

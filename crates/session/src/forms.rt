@@ -3,7 +3,7 @@ ghost use Rattle.std.specs.Prelude.{◌≡◌, option_map};
 ghost use Rattle.session.specs.Forms.{form_of, bare_form, form_of_one, form_of_two};
 ghost use Rattle.session.specs.Views.{form_seen};
 
-use line_words::{number_of, split_at_space};
+use protocol::{split_at_space, word_number};
 
 /// A command with its arguments. A number is none where its word is no number.
 #[derive(Clone, Copy)]
@@ -12,8 +12,8 @@ pub(crate) enum Form<'a> {
     Hello(Option<u32>, Option<u32>),
     /// Segments and nodes to reserve for the tenant that is there.
     Reserve(Option<u32>, Option<u32>),
-    /// A depth, and a position's text.
-    Ask(Option<u32>, &'a [u8]),
+    /// A depth's word, and a position's text.
+    Ask(&'a [u8], &'a [u8]),
     /// A job.
     Get(Option<u32>),
     /// A job.
@@ -50,28 +50,28 @@ fn form_of_one<'a>(word: &[u8], argument: &[u8]) -> Option<Form<'a>>
     ensures { option_map form_seen result ≡ form_of_one word.now argument.now }
 {
     if word == b"GET".as_slice() {
-        Some(Form::Get(number_of(argument)))
+        Some(Form::Get(word_number(argument)))
     } else if word == b"WAIT".as_slice() {
-        Some(Form::Wait(number_of(argument)))
+        Some(Form::Wait(word_number(argument)))
     } else if word == b"CANCEL".as_slice() {
-        Some(Form::Cancel(number_of(argument)))
+        Some(Form::Cancel(word_number(argument)))
     } else if word == b"TABLE".as_slice() {
-        Some(Form::Table(number_of(argument)))
+        Some(Form::Table(word_number(argument)))
     } else {
         None
     }
 }
 
 /// A line of three words or more.
-fn form_of_two<'a>(word: &[u8], first: &[u8], second: &'a [u8]) -> Option<Form<'a>>
+fn form_of_two<'a>(word: &[u8], first: &'a [u8], second: &'a [u8]) -> Option<Form<'a>>
     ensures { option_map form_seen result ≡ form_of_two word.now first.now second.now }
 {
     if word == b"ASK".as_slice() {
-        Some(Form::Ask(number_of(first), second))
+        Some(Form::Ask(first, second))
     } else if word == b"HELLO".as_slice() && split_at_space(second).is_none() {
-        Some(Form::Hello(number_of(first), number_of(second)))
+        Some(Form::Hello(word_number(first), word_number(second)))
     } else if word == b"RESERVE".as_slice() && split_at_space(second).is_none() {
-        Some(Form::Reserve(number_of(first), number_of(second)))
+        Some(Form::Reserve(word_number(first), word_number(second)))
     } else {
         None
     }

@@ -31,7 +31,6 @@ mod forms;
 mod laws;
 mod office;
 mod outcome;
-mod question;
 mod requests;
 pub mod rows;
 mod serving;
@@ -43,6 +42,7 @@ pub use faults::{End, SessionFault};
 pub use laws::each_done_line_is_true;
 pub use office::Office;
 pub use outcome::{Finding, Live, Outcome};
+pub use protocol::Question;
 pub use serving::serve_lines;
 
 #[cfg(test)]

@@ -1,10 +1,10 @@
 //! What a session asks of.
-ghost use Rattle.std.specs.Prelude.{◌≡◌, ◌≤◌, Bool, true};
+ghost use Rattle.std.specs.Prelude.{◌≡◌, Bool, true};
 ghost use Rattle.othello_board.specs.Words.{cells};
 ghost use Rattle.session.specs.Calls.{Call, Hello, Reserve as to_reserve, Ask, Get, Wait, Cancel, AskQuota, AskLive, Leave, Reply, Welcome, Reserved, Job, Told, Ended, Rest, Alive, Gone, reply_of};
 
 use crate::outcome::{Live, Outcome};
-use position_text::Position;
+use protocol::Question;
 use sched_rules::Refusal;
 use tenant_quota::{Left, Reserve};
 
@@ -24,10 +24,9 @@ pub trait Office {
     fn reserve(&mut self, reserve: Reserve) -> Result<(), Refusal>
         ensures { does self.old (to_reserve reserve) (reply_of (λ _. Reserved reserve) result) self.new };
 
-    /// Asks for the value of a position to a depth in plies, and gives the number of the job.
-    fn ask(&mut self, position: &Position, depth: u8) -> Result<u64, Refusal>
-        requires { depth ≤ 12 }
-        ensures { does self.old (Ask depth (cells position.now.board) position.now.side) (reply_of Job result) self.new };
+    /// Asks for the value of a position to a depth, and gives the number of the job.
+    fn ask(&mut self, question: &Question) -> Result<u64, Refusal>
+        ensures { does self.old (Ask question.now.depth (cells question.now.position.board) question.now.position.side) (reply_of Job result) self.new };
 
     /// How a job stands. GET tells of it the value and the move, TABLE what is known of each choice.
     fn get(&mut self, job: u64) -> Result<Outcome, Refusal>

@@ -10,11 +10,11 @@ ghost use Rattle.position_text.specs.declared.positions.Side.TheVariants.{Black}
 ghost use Rattle.session.specs.declared.outcome.Finding.{Finding};
 ghost use Rattle.session.specs.declared.outcome.Outcome.TheVariants.{Pending, Done, Spent, Cancelled};
 ghost use Rattle.session.specs.Calls.{Hello, Reserve, Ask, Get, Wait, Cancel, AskQuota, AskLive, Leave, Welcome, Reserved, Job, Told, Rest, Alive, Gone, Refused};
-ghost use Rattle.session.specs.Requests.{Fault, Makes, Tabulates, Ends, request};
+ghost use Rattle.session.specs.Requests.{Makes, Tabulates, Ends, request};
 ghost use Rattle.session.specs.Turns.{Tabulated, table_text};
 ghost use Rattle.session.specs.Sessions.{calls, out};
 ghost use Rattle.session.specs.DoneLines.{asks_of_lines, TurnHolds};
-ghost use Rattle.session.specs.Rows.{opening_board, found};
+ghost use Rattle.session.specs.Rows.{opening_board, found, faulted};
 
 /// Each command, where a tenant is there, and HELLO where none is. Numbers may begin with zeros.
 pub fn commands_are_read()
@@ -35,43 +35,43 @@ pub fn commands_are_read()
 
 /// Lines that are no command with its arguments, whether a tenant is there or not.
 pub fn foreign_lines_are_faults()
-    ensures long { request true TooLong ≡ Fault 22 }
-    ensures empty { request true (Whole (codes "")) ≡ Fault 21 }
-    ensures small_letters { request true (Whole (codes "get 1")) ≡ Fault 21 }
-    ensures no_argument { request true (Whole (codes "GET")) ≡ Fault 21 }
-    ensures one_more { request true (Whole (codes "GET 1 ")) ≡ Fault 21 }
-    ensures no_table { request true (Whole (codes "TABLE")) ≡ Fault 21 }
-    ensures two_tables { request false (Whole (codes "TABLE 1 2")) ≡ Fault 21 }
-    ensures small_table { request true (Whole (codes "table 1")) ≡ Fault 21 }
-    ensures no_position { request true (Whole (codes "ASK 0")) ≡ Fault 21 }
-    ensures one_amount { request true (Whole (codes "RESERVE 8")) ≡ Fault 21 }
-    ensures three_amounts { request false (Whole (codes "HELLO 1 2 3")) ≡ Fault 21 }
-    ensures longest { request true (Whole (replicate 128 65)) ≡ Fault 21 }
+    ensures long { faulted (request true TooLong) ≡ Some 22 }
+    ensures empty { faulted (request true (Whole (codes ""))) ≡ Some 21 }
+    ensures small_letters { faulted (request true (Whole (codes "get 1"))) ≡ Some 21 }
+    ensures no_argument { faulted (request true (Whole (codes "GET"))) ≡ Some 21 }
+    ensures one_more { faulted (request true (Whole (codes "GET 1 "))) ≡ Some 21 }
+    ensures no_table { faulted (request true (Whole (codes "TABLE"))) ≡ Some 21 }
+    ensures two_tables { faulted (request false (Whole (codes "TABLE 1 2"))) ≡ Some 21 }
+    ensures small_table { faulted (request true (Whole (codes "table 1"))) ≡ Some 21 }
+    ensures no_position { faulted (request true (Whole (codes "ASK 0"))) ≡ Some 21 }
+    ensures one_amount { faulted (request true (Whole (codes "RESERVE 8"))) ≡ Some 21 }
+    ensures three_amounts { faulted (request false (Whole (codes "HELLO 1 2 3"))) ≡ Some 21 }
+    ensures longest { faulted (request true (Whole (replicate 128 65))) ≡ Some 21 }
 {}
 
 /// The first fault of each line: the tenant before the numbers, a depth before its position.
 pub fn faults_come_in_order()
-    ensures before_hello { request false (Whole (codes "GET 1")) ≡ Fault 28 }
-    ensures reserve_before_hello { request false (Whole (codes "RESERVE x 1")) ≡ Fault 28 }
-    ensures table_before_hello { request false (Whole (codes "TABLE x")) ≡ Fault 28 }
-    ensures no_table_number { request true (Whole (codes "TABLE x")) ≡ Fault 23 }
-    ensures nine_table_digits { request true (Whole (codes "TABLE 000000001")) ≡ Fault 23 }
-    ensures many_to_reserve { request true (Whole (codes "RESERVE 4097 1")) ≡ Fault 23 }
-    ensures before_numbers { request false (Whole (codes "WAIT x")) ≡ Fault 28 }
-    ensures again { request true (Whole (codes "HELLO x 1")) ≡ Fault 29 }
-    ensures no_number { request true (Whole (codes "WAIT x")) ≡ Fault 23 }
-    ensures nine_digits { request true (Whole (codes "GET 123456789")) ≡ Fault 23 }
-    ensures no_segment { request false (Whole (codes "HELLO 0 1")) ≡ Fault 23 }
-    ensures many_segments { request false (Whole (codes "HELLO 4097 1")) ≡ Fault 23 }
-    ensures no_node { request false (Whole (codes "HELLO 1 0")) ≡ Fault 23 }
-    ensures many_nodes { request false (Whole (codes "HELLO 1 65537")) ≡ Fault 23 }
+    ensures before_hello { faulted (request false (Whole (codes "GET 1"))) ≡ Some 28 }
+    ensures reserve_before_hello { faulted (request false (Whole (codes "RESERVE x 1"))) ≡ Some 28 }
+    ensures table_before_hello { faulted (request false (Whole (codes "TABLE x"))) ≡ Some 28 }
+    ensures no_table_number { faulted (request true (Whole (codes "TABLE x"))) ≡ Some 23 }
+    ensures nine_table_digits { faulted (request true (Whole (codes "TABLE 000000001"))) ≡ Some 23 }
+    ensures many_to_reserve { faulted (request true (Whole (codes "RESERVE 4097 1"))) ≡ Some 23 }
+    ensures before_numbers { faulted (request false (Whole (codes "WAIT x"))) ≡ Some 28 }
+    ensures again { faulted (request true (Whole (codes "HELLO x 1"))) ≡ Some 29 }
+    ensures no_number { faulted (request true (Whole (codes "WAIT x"))) ≡ Some 23 }
+    ensures nine_digits { faulted (request true (Whole (codes "GET 123456789"))) ≡ Some 23 }
+    ensures no_segment { faulted (request false (Whole (codes "HELLO 0 1"))) ≡ Some 23 }
+    ensures many_segments { faulted (request false (Whole (codes "HELLO 4097 1"))) ≡ Some 23 }
+    ensures no_node { faulted (request false (Whole (codes "HELLO 1 0"))) ≡ Some 23 }
+    ensures many_nodes { faulted (request false (Whole (codes "HELLO 1 65537"))) ≡ Some 23 }
     ensures most { request false (Whole (codes "HELLO 4096 65536")) ≡ Makes (Hello (record { segments = 4096; nodes = 65536 })) }
-    ensures no_depth { request true (Whole (codes "ASK x Z")) ≡ Fault 23 }
-    ensures deep { request true (Whole (codes "ASK 13 Z")) ≡ Fault 27 }
-    ensures short { request true (Whole (codes "ASK 0 ")) ≡ Fault 24 }
-    ensures spaces { request true (Whole (codes "ASK 0  ---------------------------OX------XO--------------------------- X")) ≡ Fault 24 }
-    ensures cell { request true (Whole (codes "ASK 0 ---" ++ 255 ∷ codes "-----------------------OX------XO--------------------------- X")) ≡ Fault 25 }
-    ensures side { request true (Whole (codes "ASK 0 ---------------------------OX------XO--------------------------- Q")) ≡ Fault 26 }
+    ensures no_depth { faulted (request true (Whole (codes "ASK x Z"))) ≡ Some 23 }
+    ensures deep { faulted (request true (Whole (codes "ASK 13 Z"))) ≡ Some 27 }
+    ensures short { faulted (request true (Whole (codes "ASK 0 "))) ≡ Some 24 }
+    ensures spaces { faulted (request true (Whole (codes "ASK 0  ---------------------------OX------XO--------------------------- X"))) ≡ Some 24 }
+    ensures cell { faulted (request true (Whole (codes "ASK 0 ---" ++ 255 ∷ codes "-----------------------OX------XO--------------------------- X"))) ≡ Some 25 }
+    ensures side { faulted (request true (Whole (codes "ASK 0 ---------------------------OX------XO--------------------------- Q"))) ≡ Some 26 }
 {}
 
 /// A job of the opening at depth 0, and what is left after it: nothing follows BYE, and the tenant leaves.

@@ -3,7 +3,6 @@ mod tables;
 
 use crate::*;
 use line_io::{FromReader, FromWriter, ReadFailed, Sink, Source, WriteFailed};
-use position_text::Position;
 use sched_rules::Refusal;
 use std::alloc::Global;
 use std::cell::Cell;
@@ -64,7 +63,7 @@ impl Office for Prepared {
         Ok(())
     }
 
-    fn ask(&mut self, _position: &Position, _depth: u8) -> Result<u64, Refusal> {
+    fn ask(&mut self, _question: &Question) -> Result<u64, Refusal> {
         self.jobs = self.jobs.saturating_add(1);
         Ok(self.jobs)
     }

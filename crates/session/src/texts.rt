@@ -1,12 +1,12 @@
 //! The texts of replies, each without LF. Each function writes over the last answer.
 ghost use Rattle.std.specs.Prelude.{◌≡◌, ◌+◌, ◌≤◌, [], ◌∷◌, ◌++◌, length, codes, decimal};
-ghost use Rattle.line_words.specs.Texts.{error_text, value_text};
+ghost use Rattle.protocol.specs.Texts.{error_text, value_text};
 ghost use Rattle.session.specs.Calls.{Welcome, Reserved, Job, Told, Ended, Rest, Alive, reply_of};
 ghost use Rattle.session.specs.Turns.{reply_text, outcome_text, pair_text, kind_text, entry_text, entries_text, table_outcome_text, table_text};
 
 use crate::outcome::{Finding, Live, Outcome};
 use arrayvec::ArrayVec;
-use line_words::{push_error, push_move, push_number, push_value};
+use protocol::{push_error, push_move, push_number, push_value};
 use othello_eval::{Bound, BoundKind};
 use sched_rules::Refusal;
 use tenant_quota::{Left, Reserve};

@@ -74,10 +74,10 @@ fn answer_request<O: Office>(office: &mut O, seated: &mut bool, text: &mut Text,
     ensures short { length text.new.items ≤ 1114 }
 {
     match request {
-        Request::Fault(number) => write_fault(text, number),
+        Request::Fault(fault) => write_fault(text, fault.number()),
         Request::Hello(reserve) => take_hello(office, seated, text, reserve),
         Request::Reserve(reserve) => write_reserved(text, reserve, office.reserve(reserve)),
-        Request::Ask(question) => write_job(text, office.ask(&question.position, question.depth)),
+        Request::Ask(question) => write_job(text, office.ask(&question)),
         Request::Get(job) => tell_job(office, text, job),
         Request::Wait(job) => tell_ended_job(office, text, job),
         Request::Cancel(job) => write_ended(text, job, office.cancel(job)),

@@ -1,3 +1,1 @@
-pub mod PositionLemmas
-pub mod FaultLemmas
 pub mod RefusalLemmas

@@ -1,51 +1,37 @@
 -- Meaning: what `solve` answers to a line, and to a whole input.
-use Rattle.std.specs.Prelude.{ℕ, ◌≡◌, ◌==◌, Bool, true, false, if◌then◌else◌, nat_le, List, [], ◌∷◌, ◌++◌, map, length, Option, Some, None, Result}
+use Rattle.std.specs.Prelude.{ℕ, ◌≡◌, Bool, true, false, List, [], ◌∷◌, ◌++◌, Option, Some, None, Result, Ok, Err}
 use Rattle.othello_board.specs.declared.cells.Cell.{Cell}
 use Rattle.othello_eval.specs.Minimax.{minimax, best_choice}
-use Rattle.position_text.specs.declared.positions.Side.{Side}
-use Rattle.position_text.specs.declared.marks.Mark.{Mark}
-use Rattle.position_text.specs.Readings.{marks_of, mover_of, seen_by}
 use Rattle.line_io.specs.Lines.{LineText, Whole, TooLong, lines_of}
 use Rattle.line_io.specs.declared.faults.LineFault.{LineFault}
 use Rattle.line_io.specs.Streams.{ReadAnswer, WriteAnswer}
 use Rattle.line_io.specs.Writes.{with_end}
 use Rattle.line_io.specs.Runs.{Run, FunctionRun, answers_to}
-use Rattle.line_words.specs.Words.{split_at_space, number_of}
-use Rattle.line_words.specs.Texts.{value_text, visited_text, error_text}
-
--- 26 where no side is spelled, and else what is replied to the board
-abbrev pub mover_answer : (ℕ → List Cell → List ℕ) → ℕ → List Mark → Option Side → List ℕ
-mover_answer reply depth marks None = error_text 26
-mover_answer reply depth marks (Some side) = reply depth (map (seen_by side) marks)
-
--- 25 where a cell isn't spelled
-abbrev pub marks_answer : (ℕ → List Cell → List ℕ) → ℕ → Option (List Mark) → Option Side → List ℕ
-marks_answer reply depth None mover = error_text 25
-marks_answer reply depth (Some marks) mover = mover_answer reply depth marks mover
-
--- 24 where the position's text hasn't 66 bytes
-abbrev pub position_answer : (ℕ → List Cell → List ℕ) → ℕ → List ℕ → List ℕ
-position_answer reply depth text =
-    if length text == 66 then marks_answer reply depth (marks_of text) (mover_of text) else error_text 24
-
--- 23 where the depth is no number, 27 where it is over 12
-abbrev pub depth_answer : (ℕ → List Cell → List ℕ) → Option ℕ → List ℕ → List ℕ
-depth_answer reply None text = error_text 23
-depth_answer reply (Some depth) text = if nat_le depth 12 then position_answer reply depth text else error_text 27
+use Rattle.protocol.specs.declared.faults.ProtocolFault.{ProtocolFault}
+use Rattle.protocol.specs.declared.faults.ProtocolFault.TheVariants.{NoCommand, LongLine}
+use Rattle.protocol.specs.Faults.{fault_number}
+use Rattle.protocol.specs.Questions.{QuestionOf, question}
+use Rattle.protocol.specs.Words.{split_at_space}
+use Rattle.protocol.specs.Texts.{value_text, visited_text, error_text}
 
 -- 21 where there is no space; the position is all that follows the first space
-abbrev pub words_answer : (ℕ → List Cell → List ℕ) → Option (List ℕ × List ℕ) → List ℕ
-words_answer reply None = error_text 21
-words_answer reply (Some words) = depth_answer reply (number_of words.0) words.1
+abbrev pub words_question : Option (List ℕ × List ℕ) → Result QuestionOf ProtocolFault
+words_question None = Err NoCommand
+words_question (Some words) = question words.0 words.1
 
--- the answer to a line of at most 128 bytes, where this is replied to a depth and a board
-abbrev pub line_answer : (ℕ → List Cell → List ℕ) → List ℕ → List ℕ
-line_answer reply bytes = words_answer reply (split_at_space bytes)
+-- what a line asks for, or its first fault: 22 where it is too long
+abbrev pub line_question : LineText → Result QuestionOf ProtocolFault
+line_question (Whole bytes) = words_question (split_at_space bytes)
+line_question TooLong = Err LongLine
 
--- the answer to a line: 22 where it is too long
+-- what is replied to a depth and a board, and a fault by its number
+abbrev pub question_answer : (ℕ → List Cell → List ℕ) → Result QuestionOf ProtocolFault → List ℕ
+question_answer reply (Ok asked) = reply asked.depth asked.board
+question_answer reply (Err fault) = error_text (fault_number fault)
+
+-- the answer to a line, where this is replied to a depth and a board
 abbrev pub answer_to : (ℕ → List Cell → List ℕ) → LineText → List ℕ
-answer_to reply (Whole bytes) = line_answer reply bytes
-answer_to reply TooLong = error_text 22
+answer_to reply line = question_answer reply (line_question line)
 
 -- the minimax value of a board to a depth, and its best choice
 abbrev pub solved : ℕ → List Cell → List ℕ

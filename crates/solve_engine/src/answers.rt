@@ -1,23 +1,23 @@
 //! The texts of answers, each without LF.
 ghost use Rattle.std.specs.Prelude.{◌≡◌, ◌≤◌, length};
-ghost use Rattle.line_words.specs.Texts.{value_text, visited_text, error_text};
+ghost use Rattle.protocol.specs.Texts.{value_text, visited_text, error_text};
 
 use arrayvec::ArrayVec;
-use line_words::{push_error, push_move, push_number, push_value};
+use protocol::{push_error, push_move, push_number, push_value};
 use othello_moves::Choice;
 
 /// The most bytes of an answer with its LF.
 const ANSWER_BYTES: usize = 40;
 
 /// An answer: of at most 37 bytes, and an LF.
-pub(crate) type Text = ArrayVec<u8, ANSWER_BYTES>;
+pub(crate) type SolveText = ArrayVec<u8, ANSWER_BYTES>;
 
 /// A value and a move, with a space between them.
-pub(crate) fn value_text(value: i32, choice: Option<Choice>) -> Text
+pub(crate) fn value_text(value: i32, choice: Option<Choice>) -> SolveText
     ensures text { result.items ≡ value_text value choice }
     ensures short { length result.items ≤ 16 }
 {
-    let mut text = Text::new();
+    let mut text = SolveText::new();
     push_value(&mut text, value);
     text.push(b' ');
     push_move(&mut text, choice);
@@ -25,7 +25,7 @@ pub(crate) fn value_text(value: i32, choice: Option<Choice>) -> Text
 }
 
 /// A value, a move and the number of positions that were entered.
-pub(crate) fn visited_text(value: i32, choice: Option<Choice>, visited: u64) -> Text
+pub(crate) fn visited_text(value: i32, choice: Option<Choice>, visited: u64) -> SolveText
     ensures text { result.items ≡ visited_text value choice visited }
     ensures short { length result.items ≤ 37 }
 {
@@ -36,11 +36,11 @@ pub(crate) fn visited_text(value: i32, choice: Option<Choice>, visited: u64) -> 
 }
 
 /// The fault of this number.
-pub(crate) fn error_text(number: u8) -> Text
+pub(crate) fn error_text(number: u8) -> SolveText
     ensures text { result.items ≡ error_text number }
     ensures short { length result.items ≤ 7 }
 {
-    let mut text = Text::new();
+    let mut text = SolveText::new();
     push_error(&mut text, number);
     text
 }

@@ -4,49 +4,47 @@ ghost use Rattle.line_io.specs.Views.{text_of};
 ghost use Rattle.line_io.specs.Runs.{FunctionRun};
 ghost use Rattle.solve_engine.specs.Solving.{solve_out_unless, IsSolvedLine, IsVisitedLine, SolvedRun, VisitedRun};
 
-use crate::answers::{Text, error_text, value_text, visited_text};
-use crate::requests::read_request;
+use crate::answers::{SolveText, error_text, value_text, visited_text};
+use crate::requests::read_line;
 use line_io::{
     Answer, FromReader, FromWriter, Line, LineFault, Sink, Source, answer_lines,
     known_runs_are_exact,
 };
 use lone_search::leaf_search::search_full;
 use lone_search::solve_by_core;
+use sched_rules::Refusal;
 use std::alloc::{AllocError, Allocator};
 use std::io::{Read, Write};
 
 /// Ends each answer.
 const LF: u8 = 10;
 
-/// The fault of a line for which there was no memory.
-const NO_MEMORY: u8 = 19;
-
 /// The answer to a line, each search being one job of a core that is made for it.
-fn solve_line<A: Allocator + Copy>(alloc: A, grain: u8, line: Line<'_>) -> Text
+fn solve_line<A: Allocator + Copy>(alloc: A, grain: u8, line: Line<'_>) -> SolveText
     requires { grain ≤ 6 }
     ensures text { IsSolvedLine (text_of line.entry) result.items }
     ensures short { length result.items ≤ 37 }
 {
-    match read_request(line) {
-        Ok(request) => match solve_by_core(alloc, &request.position, request.depth, grain) {
+    match read_line(line) {
+        Ok(asked) => match solve_by_core(alloc, &asked.position, asked.depth, grain) {
             Ok(found) => value_text(found.value, found.choice),
-            Err(AllocError) => error_text(NO_MEMORY),
+            Err(AllocError) => error_text(Refusal::OutOfMemory.number()),
         },
-        Err(fault) => error_text(fault),
+        Err(fault) => error_text(fault.number()),
     }
 }
 
 /// The answer to a line, each search being a serial one, with the number of positions that it entered.
-fn visited_line(line: Line<'_>) -> Text
+fn visited_line(line: Line<'_>) -> SolveText
     ensures text { IsVisitedLine (text_of line.entry) result.items }
     ensures short { length result.items ≤ 37 }
 {
-    match read_request(line) {
-        Ok(request) => {
-            let found = search_full(request.position.board, request.depth);
+    match read_line(line) {
+        Ok(asked) => {
+            let found = search_full(asked.position.board, asked.depth);
             visited_text(found.score, found.choice, found.visited)
         }
-        Err(fault) => error_text(fault),
+        Err(fault) => error_text(fault.number()),
     }
 }
 
@@ -55,7 +53,7 @@ fn visited_line(line: Line<'_>) -> Text
 struct Solver<A> {
     alloc: A,
     grain: u8,
-    text: Text,
+    text: SolveText,
     ghost fine: { grain ≤ 6 },
 }
 
@@ -77,7 +75,7 @@ impl<A: Allocator + Copy> Answer for Solver<A> {
 /// Answers each line by its value, its move and the number of positions that the search entered.
 #[derive(Drop)]
 struct VisitedSolver {
-    text: Text,
+    text: SolveText,
 }
 
 impl Answer for VisitedSolver {
@@ -117,7 +115,7 @@ pub fn solve<A: Allocator + Copy, S: Source, K: Sink>(
     let mut solver = Solver {
         alloc,
         grain,
-        text: Text::new(),
+        text: SolveText::new(),
     };
     answer_lines(source, sink, &mut solver)
 }
@@ -144,6 +142,6 @@ pub fn solve_bytes<A: Allocator + Copy, R: Read, W: Write>(
 pub fn solve_visited<S: Source, K: Sink>(source: &mut S, sink: &mut K) -> Result<(), LineFault>
     ensures { VisitedRun S.gives K.takes source.old sink.old source.new sink.new result }
 {
-    let mut counter = VisitedSolver { text: Text::new() };
+    let mut counter = VisitedSolver { text: SolveText::new() };
     answer_lines(source, sink, &mut counter)
 }

@@ -1,6 +1,6 @@
-//! The example of `line_words`.
+//! The example of `protocol`.
 use arrayvec::ArrayVec;
-use line_words::{number_of, push_move, push_value, split_at_space};
+use protocol::{word_number, push_move, push_value, split_at_space};
 use othello_moves::Choice;
 use std::test::Fail;
 
@@ -8,7 +8,7 @@ use std::test::Fail;
 fn words_are_read_and_written(rt: HostRuntime) -> Result<(), Fail> {
     let (word, rest) = split_at_space(b"12 X-O").ok_or("no space")?;
     assert_eq!(rt; rest, b"X-O".as_slice());
-    assert_eq!(rt; number_of(word), Some(12));
+    assert_eq!(rt; word_number(word), Some(12));
     let mut text: ArrayVec<u8, 32> = ArrayVec::new();
     push_value(&mut text, -3);
     text.push(b' ');

@@ -1,8 +1,8 @@
 use Rattle.std.proofs.Common.{ap, ap₂, sym, ◌∙◌, true, false, rules, w32}
 use Rattle.std.proofs.lemmas.Int.{to_z-of_z}
 use mir.Val.{SFits}
-use Rattle.line_words.specs.Texts.{value_text}
-use Rattle.solve_engine.specs.Solving.{solved_unless}
+use Rattle.protocol.specs.Texts.{value_text, error_text}
+use Rattle.solve_engine.specs.Solving.{question_answer, solved_unless}
 use Rattle.solve_engine.proofs.solving.solve_line.Goals as goal
 
 pub returns-in-Ok-solve_by_core-clause-text : goal.returns-in-Ok-solve_by_core-clause-text
@@ -13,12 +13,12 @@ returns-in-Ok-solve_by_core-clause-text g c =
       c.value_text.ensures.text
           ∙ ap (λ v. value_text v found.found.choice) (to_z-of_z w32 found.found.value fits)
           ∙ ap₂ value_text found.ensures.value found.ensures.choice
-          ∙ sym (c.in-Ok.ensures.ok (solved_unless false)),
+          ∙ ap (question_answer (solved_unless false)) c.in-Ok.ensures,
     )
 
 pub returns-in-Err-solve_by_core-clause-text : goal.returns-in-Err-solve_by_core-clause-text
-returns-in-Err-solve_by_core-clause-text g c = (true, c.error_text.ensures.text ∙ sym (c.in-Ok.ensures.ok (solved_unless true)))
+returns-in-Err-solve_by_core-clause-text g c = (true, c.error_text.ensures.text ∙ ap error_text c.number.ensures ∙ ap (question_answer (solved_unless true)) c.in-Ok.ensures)
 
 pub returns-in-Err-clause-text : goal.returns-in-Err-clause-text
 returns-in-Err-clause-text g c =
-    (false, c.error_text-in-Err.ensures.text ∙ sym (c.in-Err.ensures.err (solved_unless false)))
+    (false, c.error_text-in-Err.ensures.text ∙ ap error_text c.number-in-Err.ensures ∙ ap (question_answer (solved_unless false)) c.in-Err.ensures)

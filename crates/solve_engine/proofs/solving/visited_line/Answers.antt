@@ -1,8 +1,8 @@
 use Rattle.std.proofs.Common.{ap, ap₂, sym, ◌∙◌, rules, w32}
 use Rattle.std.proofs.lemmas.Int.{to_z-of_z}
 use mir.Val.{SFits}
-use Rattle.line_words.specs.Texts.{visited_text}
-use Rattle.solve_engine.specs.Solving.{solved_with_count}
+use Rattle.protocol.specs.Texts.{visited_text}
+use Rattle.solve_engine.specs.Solving.{question_answer, solved_with_count}
 use Rattle.solve_engine.proofs.solving.visited_line.Goals as goal
 
 pub returns-in-Ok-clause-text : goal.returns-in-Ok-clause-text
@@ -13,5 +13,5 @@ returns-in-Ok-clause-text c =
       c.visited_text.ensures.text
           ∙ ap (λ v. visited_text v found.result.choice found.result.visited) (to_z-of_z w32 found.result.score fits)
           ∙ ap₂ (λ v m. visited_text v m found.result.visited) found.ensures.score found.ensures.choice
-          ∙ sym (c.in-Ok.ensures.ok (solved_with_count found.result.visited)),
+          ∙ ap (question_answer (solved_with_count found.result.visited)) c.in-Ok.ensures,
     )

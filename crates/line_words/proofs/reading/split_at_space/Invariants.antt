@@ -1,7 +1,0 @@
-use Rattle.std.proofs.Common.{◌≡◌, take, drop}
-use Rattle.line_words.specs.Words.{split_at_space}
-use Rattle.line_words.proofs.WordLemmas.{behind}
-use Rattle.line_words.proofs.reading.split_at_space.Given as goal
-
-abbrev pub invariant-loop-i : goal.invariant-loop-i
-invariant-loop-i l = behind (take l.i l.line) (split_at_space (drop l.i l.line)) ≡ split_at_space l.line

@@ -1,0 +1,59 @@
+-- What the text of a position asks for, by what reading it gives.
+use Rattle.std.proofs.Common.{◌≡◌, ◌≢◌, ◌↔◌, ℕ, cond, List, map, length, Option, Some, None, IsSome, Result, Ok, Err, refl, ap, ◌∙◌}
+use Rattle.std.proofs.lemmas.Bool.{ne_eqb, eq-eqb}
+use Rattle.othello_board.specs.declared.cells.Cell.{Cell}
+use Rattle.othello_board.specs.Words.{cells}
+use Rattle.position_text.specs.declared.positions.Position.{Position}
+use Rattle.position_text.specs.declared.positions.Side.{Side}
+use Rattle.position_text.specs.declared.marks.Mark.{Mark}
+use Rattle.position_text.specs.declared.faults.TextFault.{TextFault}
+use Rattle.position_text.specs.declared.faults.TextFault.TheVariants.{Length, BadCell, BadSide}
+use Rattle.position_text.specs.Spelling.{Spells, IsBadCell, IsBadSide, mark_of}
+use Rattle.position_text.specs.Readings.{marks_of, mover_of}
+use Rattle.position_text.proofs.ReadingLemmas.{marks_of-spelled, mover_of-spelled, seen_of-spelled, marks_of-bad_cell, marks_of-bad_side, mover_of-bad_side}
+use Rattle.protocol.specs.declared.faults.ProtocolFault.{ProtocolFault}
+use Rattle.protocol.specs.declared.faults.ProtocolFault.TheVariants.{PositionLength, PositionSide}
+use Rattle.protocol.specs.Faults.{position_fault}
+use Rattle.protocol.specs.Questions.{QuestionOf, mover_question, marks_question, position_question}
+
+-- what is asked of a board, and a fault
+abbrev pub asks : ℕ → List Cell → Side → Result QuestionOf ProtocolFault
+asks depth board side = Ok (record { depth = depth; board = board; side = side })
+
+abbrev pub faulty : ProtocolFault → Result QuestionOf ProtocolFault
+faulty fault = Err fault
+
+-- 66 bytes
+long_enough : (depth : ℕ) (text : List ℕ) → length text ≡ 66 → position_question depth text ≡ marks_question depth (marks_of text) (mover_of text)
+long_enough depth text len = ap (λ t. cond t (marks_question depth (marks_of text) (mover_of text)) (faulty PositionLength)) (eq-eqb (length text) 66 len)
+
+-- the position that is spelled
+pub spelled_question : (depth : ℕ) (text : List ℕ) (p : Position) → Spells text p → position_question depth text ≡ asks depth (cells p.board) p.side
+spelled_question depth text p s =
+    long_enough depth text s.len
+    ∙ ap (λ m. marks_question depth m (mover_of text)) (marks_of-spelled text p s)
+    ∙ ap (mover_question depth (map (mark_of p.side) (cells p.board))) (mover_of-spelled text p s)
+    ∙ ap (λ board. asks depth board p.side) (seen_of-spelled p)
+
+-- marks without a mover
+no_mover : (depth : ℕ) (marks : Option (List Mark)) → IsSome marks → marks_question depth marks None ≡ faulty PositionSide
+no_mover depth None some = cc some
+no_mover depth (Some marks) some = refl
+
+-- a fault that was met
+abbrev pub Faulted : TextFault → Result Position TextFault
+Faulted fault = Err fault
+
+pub fault_question : (depth : ℕ) (text : List ℕ) (fault : TextFault)
+    → (Faulted fault ≡ Err Length) ↔ (length text ≢ 66) → ((at : ℕ) → (Faulted fault ≡ Err (BadCell at)) ↔ IsBadCell text at) → (Faulted fault ≡ Err BadSide) ↔ IsBadSide text
+    → position_question depth text ≡ faulty (position_fault fault)
+fault_question depth text Length len cell side =
+    ap (λ t. cond t (marks_question depth (marks_of text) (mover_of text)) (faulty PositionLength)) (ne_eqb (length text) 66 (len.0 refl))
+fault_question depth text (BadCell at) len cell side =
+    let bad = (cell at).0 refl in
+    long_enough depth text bad.len ∙ ap (λ m. marks_question depth m (mover_of text)) (marks_of-bad_cell text at bad)
+fault_question depth text BadSide len cell side =
+    let bad = side.0 refl in
+    long_enough depth text bad.len
+    ∙ ap (marks_question depth (marks_of text)) (mover_of-bad_side text bad)
+    ∙ no_mover depth (marks_of text) (marks_of-bad_side text bad)

@@ -1,0 +1,5 @@
+pub mod Words
+pub mod Texts
+pub mod Faults
+pub mod Questions
+pub mod Views

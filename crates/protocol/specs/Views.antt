@@ -1,0 +1,15 @@
+-- Representation: a question of the code as data.
+use Rattle.std.specs.Prelude.{Result, Ok, Err}
+use Rattle.othello_board.specs.Words.{cells}
+use Rattle.protocol.specs.declared.faults.ProtocolFault.{ProtocolFault}
+use Rattle.protocol.specs.declared.questions.Question.{Question}
+use Rattle.protocol.specs.Questions.{QuestionOf}
+
+-- a question with its board as a list of cells
+abbrev pub question_of : Question → QuestionOf
+question_of question = record { depth = question.depth; board = cells question.position.board; side = question.position.side }
+
+-- what was read, a question or a fault
+abbrev pub read_as : Result Question ProtocolFault → Result QuestionOf ProtocolFault
+read_as (Ok question) = Ok (question_of question)
+read_as (Err fault) = Err fault

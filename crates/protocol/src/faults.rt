@@ -1,0 +1,74 @@
+//! Why a line asks for nothing.
+use position_text::TextFault;
+use thiserror::Error;
+
+/// Why a line of `solve` or of a session asks for nothing: its first fault. The answer to it is `ERR` and the fault's
+/// number. Numbers below these are those of the scheduling core's refusals.
+#[derive(Clone, Copy, Debug, PartialEq, Eq, Error)]
+pub enum ProtocolFault {
+    /// 21: in a line of `solve` there is no space; in one of a session the word is unknown, or has another number of
+    /// arguments.
+    #[error("no such command")]
+    NoCommand,
+    /// 22: the line has more than 128 bytes.
+    #[error("the line is too long")]
+    LongLine,
+    /// 23: a word that is to be a number isn't 1 to 8 digits, or a reservation is outside its limits.
+    #[error("not a number within the limits")]
+    NoNumber,
+    /// 24: the position's text hasn't 66 bytes.
+    #[error("the position hasn't 66 bytes")]
+    PositionLength,
+    /// 25: one of the text's first 64 bytes spells no cell.
+    #[error("a byte of the position spells no cell")]
+    PositionCell,
+    /// 26: no space stands after the cells, or no spelling of a side after the space.
+    #[error("no space and side after the cells")]
+    PositionSide,
+    /// 27: the depth is over 12.
+    #[error("the depth is over 12")]
+    TooDeep,
+    /// 28: no tenant is there, and the line is neither HELLO nor BYE.
+    #[error("no HELLO yet")]
+    NoHello,
+    /// 29: the line is HELLO, and a tenant is there.
+    #[error("HELLO again")]
+    HelloAgain,
+}
+
+impl ProtocolFault {
+    ghost use Rattle.std.specs.Prelude.{◌≡◌};
+    ghost use Rattle.protocol.specs.Faults.{fault_number};
+
+    /// The number of the fault, 21 to 29.
+    pub fn number(self) -> u8
+        ensures { result ≡ fault_number self }
+    {
+        match self {
+            ProtocolFault::NoCommand => 21,
+            ProtocolFault::LongLine => 22,
+            ProtocolFault::NoNumber => 23,
+            ProtocolFault::PositionLength => 24,
+            ProtocolFault::PositionCell => 25,
+            ProtocolFault::PositionSide => 26,
+            ProtocolFault::TooDeep => 27,
+            ProtocolFault::NoHello => 28,
+            ProtocolFault::HelloAgain => 29,
+        }
+    }
+}
+
+impl From<TextFault> for ProtocolFault {
+    ghost use Rattle.std.specs.Prelude.{◌≡◌};
+    ghost use Rattle.protocol.specs.Faults.{position_fault};
+
+    ghost from_gives = { λ text fault. fault ≡ position_fault text };
+
+    fn from(fault: TextFault) -> ProtocolFault {
+        match fault {
+            TextFault::Length => ProtocolFault::PositionLength,
+            TextFault::BadCell(_) => ProtocolFault::PositionCell,
+            TextFault::BadSide => ProtocolFault::PositionSide,
+        }
+    }
+}

@@ -1,0 +1,14 @@
+//! What is asked of a position.
+ghost use Rattle.std.specs.Prelude.{◌≤◌};
+
+use position_text::Position;
+
+/// A position, and the depth to which its value is asked for.
+#[derive(Clone, Copy, Debug, PartialEq, Eq)]
+pub struct Question {
+    /// The depth in plies, 0 to 12.
+    pub depth: u8,
+    /// The position.
+    pub position: Position,
+    ghost shallow: { depth ≤ 12 },
+}

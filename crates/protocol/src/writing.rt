@@ -1,0 +1,58 @@
+//! Numbers, values, moves and faults, at the end of a text.
+ghost use Rattle.std.specs.Prelude.{◌≡◌, ◌+◌, ◌≤◌, ◌++◌, length, decimal};
+ghost use Rattle.std.specs.Fmt.{signed_decimal};
+ghost use Rattle.protocol.specs.Texts.{move_text, error_text};
+
+use arrayvec::ArrayVec;
+use itoa::Buffer;
+use othello_moves::Choice;
+
+/// Appends a number in decimal: at most 20 digits.
+pub fn push_number<const ROOM: usize>(text: &mut ArrayVec<u8, ROOM>, number: u64)
+    requires { length text.old.items + 20 ≤ ROOM }
+    ensures text { text.new.items ≡ text.old.items ++ decimal number }
+    ensures short { length text.new.items ≤ length text.old.items + 20 }
+{
+    let mut buffer = Buffer::new();
+    text.try_extend_from_slice(buffer.format(number).as_bytes())
+        .unwrap();
+}
+
+/// Appends a value in decimal, with `-` where it is negative: at most 11 bytes.
+pub fn push_value<const ROOM: usize>(text: &mut ArrayVec<u8, ROOM>, value: i32)
+    requires { length text.old.items + 11 ≤ ROOM }
+    ensures text { text.new.items ≡ text.old.items ++ signed_decimal value }
+    ensures short { length text.new.items ≤ length text.old.items + 11 }
+{
+    let mut buffer = Buffer::new();
+    text.try_extend_from_slice(buffer.format(value).as_bytes())
+        .unwrap();
+}
+
+/// Appends a move: a1 to h8, pass, or - for none.
+pub fn push_move<const ROOM: usize>(text: &mut ArrayVec<u8, ROOM>, choice: Option<Choice>)
+    requires { length text.old.items + 4 ≤ ROOM }
+    ensures text { text.new.items ≡ text.old.items ++ move_text choice }
+    ensures short { length text.new.items ≤ length text.old.items + 4 }
+{
+    match choice {
+        None => text.push(b'-'),
+        Some(Choice::Pass) => text.try_extend_from_slice(b"pass").unwrap(),
+        Some(Choice::Square(square)) => {
+            text.push(b'a' + square % 8);
+            text.push(b'1' + square / 8);
+        }
+    }
+}
+
+/// Appends a fault: `ERR` and its number.
+pub fn push_error<const ROOM: usize>(text: &mut ArrayVec<u8, ROOM>, fault: u8)
+    requires { length text.old.items + 7 ≤ ROOM }
+    ensures text { text.new.items ≡ text.old.items ++ error_text fault }
+    ensures short { length text.new.items ≤ length text.old.items + 7 }
+{
+    let mut buffer = Buffer::new();
+    text.try_extend_from_slice(b"ERR ").unwrap();
+    text.try_extend_from_slice(buffer.format(fault).as_bytes())
+        .unwrap();
+}
