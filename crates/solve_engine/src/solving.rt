@@ -29,7 +29,7 @@ fn solve_line<A: Allocator + Copy>(alloc: A, grain: u8, line: Line<'_>) -> Text
 {
     match read_request(line) {
         Ok(request) => match solve_by_core(alloc, &request.position, request.depth, grain) {
-            Ok(found) => value_text(found.value, found.choice),
+            Ok(found) => value_text(found.answer.value, found.answer.choice),
             Err(AllocError) => error_text(NO_MEMORY),
         },
         Err(fault) => error_text(fault),
