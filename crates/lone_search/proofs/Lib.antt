@@ -1,4 +1,3 @@
 pub mod Staying
 pub mod Asking
 pub mod Working
-pub mod Finding

@@ -1,5 +1,5 @@
--- A tenant stays, with what it reserved, where a step of it is a worker's.
-use Rattle.std.proofs.Common.{◌≡◌, ℕ, inl, inr, List, [], ◌∷◌, Option, Some, None, Result, Ok, Err, refl, subst}
+-- What a worker offers is a worker's step or Spend, and where that is taken its tenant stays, with what it reserved.
+use Rattle.std.proofs.Common.{◌≡◌, ℕ, inl, inr, true, false, ◌==◌, if◌then◌else◌, IfSome, List, [], ◌∷◌, Option, Some, None, Result, Ok, Err, refl, sym, subst}
 use Rattle.std.specs.Prelude.{not, ◌||◌, ◌&&◌}
 use Rattle.std.proofs.lemmas.Bool.{cases_Bool}
 use Rattle.frame_tree.specs.declared.names.FrameId.{FrameId}
@@ -14,8 +14,42 @@ use Rattle.sched_rules.specs.declared.step.StepOf.TheVariants.{Take, Steal, Adva
 use Rattle.sched_rules.specs.Functions.{Functions}
 use Rattle.sched_rules.specs.Trees.{Tenant, has_child, words_in}
 use Rattle.sched_rules.specs.Lone.{Outcome, unless, lone_step, counted, holding, take_tests, steal_tests, taken_by, act_of, advance_tests, then_done, advanced, answer_tests, answered, inlet_tests, does_wait, staying, taken_in, inlet_under, finish_tests, finished, is_spendable, spent}
-use Rattle.sched_core.proofs.sched_laws_Shaped.{unless-passed, frame-found}
-use Rattle.lone_search.specs.Asked.{IsWork}
+use Rattle.jamboree_core.proofs.sched_laws_Shaped.{unless-passed, frame-found}
+use Rattle.jamboree_core.specs.jamboree_rules.declared.leaf.LeafAnswer.{LeafAnswer}
+use Rattle.pool_rules.specs.declared.turn.Deed.{Deed}
+use Rattle.pool_rules.specs.declared.turn.Deed.TheVariants.{Get, Run, Bring, TakeIn, Finish as FinishRoot}
+use Rattle.pool_rules.specs.declared.turn.Holding.{Holding}
+use Rattle.pool_rules.specs.declared.turn.Holding.TheVariants.{Nothing, Next, Computing, Short}
+use Rattle.pool_rules.specs.Turns.{step_of, offered}
+
+-- the steps of a worker, and Spend
+abbrev pub IsWork : {A : Type 0} → StepOf A → Type 0
+IsWork (Take worker name) = Unit {0}
+IsWork (Steal worker from name) = Unit {0}
+IsWork (Advance worker name) = Unit {0}
+IsWork (Answer worker name answer) = Unit {0}
+IsWork (Inlet worker name) = Unit {0}
+IsWork (Finish worker name) = Unit {0}
+IsWork (Spend name) = Unit {0}
+IsWork _ = ⊥
+
+-- for each deed
+deed-work : (worker : ℕ) (deed : Deed) → IsWork (step_of worker deed)
+deed-work worker (Get task) = elim (task.home == worker) as (λ own. IsWork {A = LeafAnswer} (if own then Take worker task.frame else Steal worker task.home task.frame)) [ true ↦ tt | false ↦ tt ]
+deed-work worker (Run frame) = tt
+deed-work worker (Bring frame answer) = tt
+deed-work worker (TakeIn frame) = tt
+deed-work worker (FinishRoot frame) = tt
+
+-- for all that it may hold
+held-work : (worker : ℕ) (held : Holding) → IfSome (offered worker held) (λ step. IsWork step)
+held-work worker Nothing = tt
+held-work worker (Next deed) = deed-work worker deed
+held-work worker (Computing frame leaf) = tt
+held-work worker (Short deed) = tt
+
+pub offers-work : (worker : ℕ) (held : Holding) (step : StepOf LeafAnswer) → Some step ≡ offered worker held → IsWork step
+offers-work worker held step same = subst (λ offer. IfSome offer (λ step. IsWork step)) (sym same) (held-work worker held)
 
 -- a tenant is left, which reserves what it did
 abbrev pub Stays : Tenant → Option Tenant → Type 0

@@ -1,6 +1,5 @@
 -- What a search keeps: it begins by an admission and a Submit, and goes on by a worker's steps.
-use Rattle.std.proofs.Common.{◌≡◌, ◌≢◌, ℕ, ◌+◌, ◌≤◌, inl, inr, Bool, true, false, eqb, ltb, leb, List, [], ◌∷◌, ◌++◌, Option, Some, None, Result, Ok, Err, refl, ap, sym, ◌∙◌, subst, arith}
-use Rattle.std.specs.Prelude.{is_ok, not, ◌&&◌, nat_le, nat_lt}
+use Rattle.std.proofs.Common.{◌≡◌, ◌≢◌, ℕ, ◌+◌, inl, inr, false, eqb, ltb, [], ◌∷◌, ◌++◌, Option, Some, None, Result, Ok, Err, refl, ap, sym, ◌∙◌, arith}
 use Rattle.std.proofs.lemmas.Bool.{cases_Bool, eqb-true, eqb-false}
 use Rattle.std.proofs.lemmas.Bool.Decides.{nat_tests}
 use Rattle.tenant_quota.specs.Quota.{Quota, IsWithinLimits}
@@ -9,25 +8,24 @@ use Rattle.sched_rules.specs.declared.step.StepOf.{StepOf}
 use Rattle.sched_rules.specs.declared.step.StepOf.TheVariants.{Admit, Submit, Take, Steal, Advance, Answer, Inlet, Finish, Spend}
 use Rattle.sched_rules.specs.declared.step.DidOf.{DidOf}
 use Rattle.sched_rules.specs.declared.step.DidOf.TheVariants.{Admitted}
-use Rattle.sched_rules.specs.Functions.{Functions}
 use Rattle.sched_rules.specs.Trees.{Tenant, admitted_with, left}
 use Rattle.sched_rules.specs.Lone.{Outcome, lone, lone_step, lone_refusal, refusal_in, submitted}
 use Rattle.sched_rules.specs.Runs.{tenant_of, answer_of}
 use Rattle.sched_rules.specs.Cores.{Shared, CoreOf, shared_by_nobody, shared_with, tenant_in}
-use Rattle.sched_rules.specs.Headline.{IsAnswerTo, IsOneStep, IsKnown, AreAnswersTo, after_answers}
+use Rattle.sched_rules.specs.Headline.{IsOneStep, IsKnown}
 use Rattle.sched_rules.proofs.Tenants.{tenant_in-with_outcome, tenant_in_other-with_outcome}
 use Rattle.sched_rules.proofs.Isolation.{IsTaken, step-taken, shared-after-taken}
-use Rattle.sched_core.proofs.Stepping.{IsRunning, runs-begin, runs-on}
-use Rattle.sched_core.specs.sched_laws.Fitted.{submits}
+use Rattle.jamboree_core.proofs.sched_core_Stepping.{IsRunning, runs-begin, runs-on}
+use Rattle.jamboree_core.specs.sched_laws.Fitted.{submits}
 use Rattle.jamboree_core.specs.jamboree_rules.declared.leaf.Leaf.{Leaf}
 use Rattle.jamboree_core.specs.jamboree_rules.declared.leaf.LeafAnswer.{LeafAnswer}
 use Rattle.jamboree_core.specs.jamboree_rules.Procedure.{jamboree}
 use Rattle.jamboree_core.specs.jamboree_rules.Places.{root_words}
 use Rattle.jamboree_core.specs.Replies.{IsSearch}
-use Rattle.jamboree.specs.declared.procedure.Jamboree.{Jamboree}
-use Rattle.lone_search.specs.Asked.{HasAsked, HasRun, HasReserved, WorksOn, Keeps, IsBegun, IsWork}
-use Rattle.lone_search.proofs.Staying.{Stays, step-stays}
-use Rattle.lone_search.proofs.Asking.{StepFits, step-asks, submit-asks, nothing-asked}
+use Rattle.jamboree_core.specs.jamboree.declared.procedure.Jamboree.{Jamboree}
+use Rattle.lone_search.specs.Asked.{HasRun, HasReserved, WorksOn, Keeps, IsBegun}
+use Rattle.lone_search.proofs.Staying.{IsWork, Stays, step-stays}
+use Rattle.lone_search.proofs.Asking.{StepSearches, step-asks, submit-asks, nothing-asked}
 
 -- a worker's step submits nothing
 work-submits : {A : Type 0} (step : StepOf A) → IsWork step → submits step ≡ []
@@ -93,20 +91,20 @@ reserved-on grain quota before step (Ok did) after work known has one =
 
 -- a worker's step keeps what is worked on
 pub step-keeps : (before after : CoreOf Jamboree) (step : StepOf LeafAnswer) (answer : Result (DidOf Leaf) Refusal) → IsWork step → IsKnown before.shared → after.procedure ≡ before.procedure →
-    IsOneStep (jamboree before.procedure.grain) before.shared step answer after.shared → StepFits before.shared step answer after.shared → Keeps before after
-step-keeps before after step answer work known same one fitting task works =
+    IsOneStep (jamboree before.procedure.grain) before.shared step answer after.shared → StepSearches before.shared step answer after.shared → Keeps before after
+step-keeps before after step answer work known same one searching task works =
     let own : IsOneStep (jamboree task.grain) before.shared step answer after.shared = rw works.grain at one in
     record {
       grain = ap (λ (p : Jamboree). p.grain) same ∙ works.grain;
       run = run-on task.grain task.quota before.shared step answer after.shared works.run own;
       reserved = reserved-on task.grain task.quota before.shared step answer after.shared work known works.reserved own;
-      asked = step-asks task.asked before.shared after.shared step answer (work-submits step work) (work-search step work) fitting works.asked;
+      asked = step-asks task.asked before.shared after.shared step answer (work-submits step work) (work-search step work) searching works.asked;
     }
 
 -- the tenant comes
 pub begins : (quota : Quota) (before after : CoreOf Jamboree) (did : DidOf Leaf) → before.shared ≡ shared_by_nobody quota → IsKnown before.shared → after.procedure ≡ before.procedure →
-    IsOneStep {A = LeafAnswer} (jamboree before.procedure.grain) before.shared (Admit 1 quota) (Ok did) after.shared → StepFits {A = LeafAnswer} before.shared (Admit 1 quota) (Ok did) after.shared → IsBegun before.procedure.grain quota after
-begins quota before after did is known same one fitting =
+    IsOneStep {A = LeafAnswer} (jamboree before.procedure.grain) before.shared (Admit 1 quota) (Ok did) after.shared → StepSearches {A = LeafAnswer} before.shared (Admit 1 quota) (Ok did) after.shared → IsBegun before.procedure.grain quota after
+begins quota before after did is known same one searching =
     let grain = before.procedure.grain in
     let t = step-taken {A = LeafAnswer} (jamboree grain) before.shared (Admit 1 quota) did known one.answered in
     let left = (left-in grain before.shared (Admit 1 quota) did after.shared one t).0 refl in
@@ -116,7 +114,7 @@ begins quota before after did is known same one fitting =
         grain = ap (λ (p : Jamboree). p.grain) same;
         run = run-on grain quota before.shared (Admit 1 quota) (Ok did) after.shared (run-begins grain quota before.shared is) one;
         reserved = record { tenant = admitted_with quota; there = fresh; reserve = refl };
-        asked = step-asks [] before.shared after.shared (Admit 1 quota) (Ok did) refl tt fitting (nothing-asked quota before.shared is);
+        asked = step-asks [] before.shared after.shared (Admit 1 quota) (Ok did) refl tt searching (nothing-asked quota before.shared is);
       };
       fresh = fresh;
     }
@@ -139,20 +137,20 @@ submit-taken grain quota own opp depth limits = rw (some-nodes quota limits, som
 
 pub submits-on : (grain : ℕ) (quota : Quota) (own opp depth : ℕ) (before after : CoreOf Jamboree) (answer : Result (DidOf Leaf) Refusal) → IsWithinLimits quota → IsKnown before.shared → after.procedure ≡ before.procedure →
     IsSearch {A = LeafAnswer} (Submit 1 (root_words own opp depth) 12) →
-    IsOneStep {A = LeafAnswer} (jamboree before.procedure.grain) before.shared (Submit 1 (root_words own opp depth) 12) answer after.shared → StepFits {A = LeafAnswer} before.shared (Submit 1 (root_words own opp depth) 12) answer after.shared →
+    IsOneStep {A = LeafAnswer} (jamboree before.procedure.grain) before.shared (Submit 1 (root_words own opp depth) 12) answer after.shared → StepSearches {A = LeafAnswer} before.shared (Submit 1 (root_words own opp depth) 12) answer after.shared →
     IsBegun grain quota before → WorksOn (record { grain = grain; quota = quota; asked = root_words own opp depth ∷ [] }) after
-submits-on grain quota own opp depth before after answer limits known same search one fitting begun =
-    by answer (rw begun.works.grain at one) fitting
+submits-on grain quota own opp depth before after answer limits known same search one searching begun =
+    by answer (rw begun.works.grain at one) searching
   where
-    by : (answer : Result (DidOf Leaf) Refusal) → IsOneStep {A = LeafAnswer} (jamboree grain) before.shared (Submit 1 (root_words own opp depth) 12) answer after.shared → StepFits {A = LeafAnswer} before.shared (Submit 1 (root_words own opp depth) 12) answer after.shared →
+    by : (answer : Result (DidOf Leaf) Refusal) → IsOneStep {A = LeafAnswer} (jamboree grain) before.shared (Submit 1 (root_words own opp depth) 12) answer after.shared → StepSearches {A = LeafAnswer} before.shared (Submit 1 (root_words own opp depth) 12) answer after.shared →
         WorksOn (record { grain = grain; quota = quota; asked = root_words own opp depth ∷ [] }) after
-    by (Err refusal) one fitting =
+    by (Err refusal) one searching =
         let comes : lone {A = LeafAnswer} (jamboree grain) (tenant_in before.shared.tenants 1) (Submit 1 (root_words own opp depth) 12) ≡ Ok (submitted (admitted_with quota) 1 (root_words own opp depth) 12) =
         ap (λ (o : Option Tenant). lone {A = LeafAnswer} (jamboree grain) o (Submit 1 (root_words own opp depth) 12)) begun.fresh ∙ submit-taken grain quota own opp depth limits in
         let none : lone_refusal {A = LeafAnswer} (jamboree grain) (tenant_in before.shared.tenants 1) (Submit 1 (root_words own opp depth) 12) ≡ None = ap refusal_in comes in
         let told = (one.answered.1 refl).else_taken none refl ∙ ap answer_of comes in
         absurd cc
-    by (Ok did) one fitting =
+    by (Ok did) one searching =
         let t = step-taken {A = LeafAnswer} (jamboree grain) before.shared (Submit 1 (root_words own opp depth) 12) did known one.answered in
         let left = (left-in grain before.shared (Submit 1 (root_words own opp depth) 12) did after.shared one t).0 refl in
         let comes : lone_step {A = LeafAnswer} (jamboree grain) (admitted_with quota) (Submit 1 (root_words own opp depth) 12) ≡ Ok t.outcome =
@@ -163,5 +161,5 @@ submits-on grain quota own opp depth before after answer limits known same searc
           grain = ap (λ (p : Jamboree). p.grain) same ∙ begun.works.grain;
           run = run-on grain quota before.shared (Submit 1 (root_words own opp depth) 12) (Ok did) after.shared begun.works.run one;
           reserved = record { tenant = _; there = left ∙ ap (λ (o : Outcome Leaf). o.0) is; reserve = refl };
-          asked = submit-asks (root_words own opp depth) 12 before.shared after.shared did search fitting begun.works.asked;
+          asked = submit-asks (root_words own opp depth) 12 before.shared after.shared did search searching begun.works.asked;
         }

@@ -1,27 +1,23 @@
 -- Meaning: what a core of one tenant keeps while its job is worked on.
-use Rattle.std.specs.Prelude.{◌≡◌, ℕ, List, [], ◌∷◌, Some, Result, slice_index}
+use Rattle.std.specs.Prelude.{◌≡◌, ℕ, List, [], Some, Result}
 use Rattle.tenant_quota.specs.Quota.{Quota}
 use Rattle.sched_rules.specs.declared.refusal.Refusal.{Refusal}
 use Rattle.sched_rules.specs.declared.step.StepOf.{StepOf}
-use Rattle.sched_rules.specs.declared.step.StepOf.TheVariants.{Take, Steal, Advance, Answer, Inlet, Finish, Spend}
 use Rattle.sched_rules.specs.declared.step.DidOf.{DidOf}
 use Rattle.sched_rules.specs.Trees.{Tenant, admitted_with}
 use Rattle.sched_rules.specs.Cores.{Shared, CoreOf, shared_by_nobody, tenant_in}
 use Rattle.sched_rules.specs.Headline.{AreAnswersTo, after_answers}
-use Rattle.sched_core.specs.sched_laws.Fitted.{CoreFits}
 use Rattle.jamboree_core.specs.jamboree_rules.declared.leaf.Leaf.{Leaf}
 use Rattle.jamboree_core.specs.jamboree_rules.declared.leaf.LeafAnswer.{LeafAnswer}
-use Rattle.jamboree_core.specs.jamboree_rules.Fits.{AreFitting, IsRoot}
 use Rattle.jamboree_core.specs.jamboree_rules.Procedure.{jamboree}
-use Rattle.jamboree.specs.declared.procedure.Jamboree.{Jamboree}
-use Rattle.jamboree.specs.declared.reply.Reply.{Reply}
-use Rattle.jamboree.specs.Replies.{board_of, depth_of}
+use Rattle.jamboree_core.specs.jamboree.declared.procedure.Jamboree.{Jamboree}
+use Rattle.jamboree_core.specs.Searching.{CoreSearches}
 
--- every frame fits, and the jobs of tenant 1 were asked with these words, in order
+-- the jobs are searches, and those of tenant 1 were asked with these words, in order
 pub record HasAsked (asked : List (List ℕ)) (shared : Shared) : Type 0 where
   pub origins : ℕ → List (List ℕ)
   pub are : origins 1 ≡ asked
-  pub fits : CoreFits AreFitting IsRoot origins shared
+  pub searches : CoreSearches origins shared
 
 -- a core of these totals, with this grain, came to this by steps that were each rightly answered
 pub record HasRun (grain : ℕ) (totals : Quota) (shared : Shared) : Type 0 where
@@ -57,20 +53,3 @@ Keeps before after = (task : Task) → WorksOn task before → WorksOn task afte
 pub record IsBegun (grain : ℕ) (quota : Quota) (core : CoreOf Jamboree) : Type 0 where
   pub works : WorksOn (record { grain = grain; quota = quota; asked = [] }) core
   pub fresh : tenant_in core.shared.tenants 1 ≡ Some (admitted_with quota)
-
--- the steps of a worker, and Spend
-abbrev pub IsWork : {A : Type 0} → StepOf A → Type 0
-IsWork (Take worker name) = Unit {0}
-IsWork (Steal worker from name) = Unit {0}
-IsWork (Advance worker name) = Unit {0}
-IsWork (Answer worker name answer) = Unit {0}
-IsWork (Inlet worker name) = Unit {0}
-IsWork (Finish worker name) = Unit {0}
-IsWork (Spend name) = Unit {0}
-IsWork _ = ⊥
-
--- the reply is to the board and the depth of these words
-pub record IsReplyFor (words : List ℕ) (reply : Reply) : Type 0 where
-  pub own : (board_of reply).own ≡ slice_index words 0
-  pub opp : (board_of reply).opp ≡ slice_index words 1
-  pub depth : depth_of reply ≡ slice_index words 2

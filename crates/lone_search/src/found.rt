@@ -1,6 +1,6 @@
 //! What a search finds, and how.
 
-use othello_moves::Choice;
+use othello_eval::Valued;
 use tenant_quota::Left;
 
 /// How an answer was found.
@@ -18,10 +18,9 @@ pub enum Way {
 /// What a search found.
 #[derive(Clone, Copy, Debug, PartialEq, Eq)]
 pub struct Searched {
-    /// The minimax value, from -128,000 to 128,000, seen by the side to move.
-    pub value: i32,
-    /// The best choice, the first that attains the value; none at depth 0 and in a finished game.
-    pub choice: Option<Choice>,
+    /// The minimax value, from -128,000 to 128,000, seen by the side to move, and the best choice, the first that
+    /// attains the value; none at depth 0 and in a finished game.
+    pub answer: Valued,
     /// How it was found.
     pub way: Way,
     /// What the core's tenant, which reserves all of it, had left at the end.

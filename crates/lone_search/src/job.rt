@@ -9,10 +9,13 @@ ghost use Rattle.lone_search.specs.Asked.{HasAsked, HasReserved, IsBegun, WorksO
 ghost use Rattle.lone_search.specs.Found.{IsFoundIn};
 
 use crate::found::{Searched, Way};
-use jamboree::{Jamboree, Reply, root_words};
+use jamboree_core::jamboree::Jamboree;
 use jamboree_core::leaf_search::search_full;
+use jamboree_core::sched_core::Core;
+use jamboree_core::{Outcome, outcome_of, step_search, submit};
+use othello_eval::Valued;
 use position_text::Position;
-use sched_core::{Core, GivenWords, Job, StepOf};
+use sched_rules::StepOf;
 use std::alloc::{AllocError, Allocator};
 use tenant_quota::{Left, Reserve};
 
@@ -22,9 +25,6 @@ pub(crate) const TENANT: u64 = 1;
 /// The number of its only job.
 const JOB: u64 = 1;
 
-/// The words of a root.
-const ROOT_SIZE: usize = 12;
-
 /// The tenant comes and reserves all that the core has, where there is memory for its places. At Ok it is there.
 pub(crate) fn admit<A: Allocator + Clone>(
     core: &mut Core<Jamboree, A>,
@@ -33,7 +33,7 @@ pub(crate) fn admit<A: Allocator + Clone>(
     requires { core.old.shared ≡ shared_by_nobody reserve }
     ensures { IfOk result (λ done. IsBegun core.old.procedure.grain reserve core.new) }
 {
-    match core.step(&StepOf::Admit(TENANT, reserve)) {
+    match step_search(core, &StepOf::Admit(TENANT, reserve)) {
         Ok(_) => Ok(()),
         // Nothing but memory can be wanting: nobody came before, and the core has what is reserved.
         Err(_) => Err(AllocError),
@@ -41,7 +41,7 @@ pub(crate) fn admit<A: Allocator + Clone>(
 }
 
 /// The job comes.
-pub(crate) fn submit<A: Allocator + Clone>(
+pub(crate) fn ask<A: Allocator + Clone>(
     core: &mut Core<Jamboree, A>,
     position: &Position,
     depth: u8,
@@ -50,8 +50,7 @@ pub(crate) fn submit<A: Allocator + Clone>(
     ensures { (grain : ℕ) (quota : Quota) → IsWithinLimits quota → IsBegun grain quota core.old
         → WorksOn (record { grain = grain; quota = quota; asked = root_words position.now.board.own position.now.board.opp depth ∷ [] }) core.new }
 {
-    let words = GivenWords::new(&root_words(position, depth)).unwrap();
-    let _ = core.step(&StepOf::Submit(TENANT, words, ROOT_SIZE));
+    let _ = step_search(core, &submit(TENANT, position, depth));
 }
 
 /// What the job came to: its reply, if it is done, and else what one serial search finds.
@@ -63,40 +62,40 @@ pub(crate) fn answer_in<A: Allocator>(
     requires shallow { depth ≤ 12 }
     requires there { (quota : Quota) × HasReserved quota core.now.shared }
     requires asked { HasAsked (root_words position.now.board.own position.now.board.opp depth ∷ []) core.now.shared }
-    ensures value { result.value ≡ minimax depth (cells position.now.board) }
-    ensures choice { result.choice ≡ best_choice depth (cells position.now.board) }
+    ensures value { result.answer.value ≡ minimax depth (cells position.now.board) }
+    ensures choice { result.answer.choice ≡ best_choice depth (cells position.now.board) }
     ensures found { IsFoundIn core.now.shared result }
 {
     let left = core.left(TENANT).unwrap();
-    let job = core.job(TENANT, JOB).unwrap();
-    match job {
-        Job::Done(words) => {
-            let reply = Reply::read(words.as_slice());
-            Searched {
+    match outcome_of(core, TENANT, JOB).unwrap() {
+        Outcome::Done(reply) => Searched {
+            answer: Valued {
                 value: reply.value(),
                 choice: reply.choice(),
-                way: Way::Done,
-                left,
-            }
-        }
-        Job::Spent => search_serially(position, depth, Way::Spent, left),
-        Job::Live(_) => search_serially(position, depth, Way::Stopped, left),
-        Job::Cancelled => search_serially(position, depth, Way::Stopped, left),
+            },
+            way: Way::Done,
+            left,
+        },
+        Outcome::Spent => search_serially(position, depth, Way::Spent, left),
+        Outcome::Pending => search_serially(position, depth, Way::Stopped, left),
+        Outcome::Cancelled => search_serially(position, depth, Way::Stopped, left),
     }
 }
 
 /// What one serial search finds, beside how the job stands and what is left.
 fn search_serially(position: &Position, depth: u8, way: Way, left: Left) -> Searched
     requires { depth ≤ 12 }
-    ensures value { result.value ≡ minimax depth (cells position.now.board) }
-    ensures choice { result.choice ≡ best_choice depth (cells position.now.board) }
+    ensures value { result.answer.value ≡ minimax depth (cells position.now.board) }
+    ensures choice { result.answer.choice ≡ best_choice depth (cells position.now.board) }
     ensures way { result.way ≡ way }
     ensures left { result.left ≡ left }
 {
     let found = search_full(position.board, depth);
     Searched {
-        value: found.score,
-        choice: found.choice,
+        answer: Valued {
+            value: found.score,
+            choice: found.choice,
+        },
         way,
         left,
     }

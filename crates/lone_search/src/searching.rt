@@ -6,11 +6,11 @@ ghost use Rattle.jamboree_core.specs.jamboree_rules.Places.{root_words};
 ghost use Rattle.lone_search.specs.Found.{IsFoundBy};
 
 use crate::found::Searched;
-use crate::job::{admit, answer_in, submit};
+use crate::job::{admit, answer_in, ask};
 use crate::worker::work;
-use jamboree::Jamboree;
+use jamboree_core::jamboree::Jamboree;
+use jamboree_core::sched_core::{Config, Core};
 use position_text::Position;
-use sched_core::{Config, Core};
 use std::alloc::{AllocError, Allocator};
 use tenant_quota::Reserve;
 
@@ -35,8 +35,8 @@ pub fn solve_by_core<A: Allocator + Clone>(
 ) -> Result<Searched, AllocError>
     requires shallow { depth ≤ 12 }
     requires fine { grain ≤ 6 }
-    ensures value { IfOk result (λ found. found.value ≡ minimax depth (cells position.now.board)) }
-    ensures choice { IfOk result (λ found. found.choice ≡ best_choice depth (cells position.now.board)) }
+    ensures value { IfOk result (λ found. found.answer.value ≡ minimax depth (cells position.now.board)) }
+    ensures choice { IfOk result (λ found. found.answer.choice ≡ best_choice depth (cells position.now.board)) }
     ensures found { IfOk result (λ found.
         IsFoundBy grain (record { segments = 4096; nodes = 65536 }) (root_words position.now.board.own position.now.board.opp depth) found) }
 {
@@ -54,14 +54,14 @@ pub(crate) fn search_within<A: Allocator + Clone>(
 ) -> Result<Searched, AllocError>
     requires shallow { depth ≤ 12 }
     requires fine { grain ≤ 6 }
-    ensures value { IfOk result (λ found. found.value ≡ minimax depth (cells position.now.board)) }
-    ensures choice { IfOk result (λ found. found.choice ≡ best_choice depth (cells position.now.board)) }
+    ensures value { IfOk result (λ found. found.answer.value ≡ minimax depth (cells position.now.board)) }
+    ensures choice { IfOk result (λ found. found.answer.choice ≡ best_choice depth (cells position.now.board)) }
     ensures found { IfOk result (λ found. IsFoundBy grain reserve (root_words position.now.board.own position.now.board.opp depth) found) }
 {
     let config = Config::new(reserve.segments(), reserve.nodes()).unwrap();
     let mut core = Core::new(alloc, config, Jamboree { grain })?;
     admit(&mut core, reserve)?;
-    submit(&mut core, position, depth);
+    ask(&mut core, position, depth);
     work(&mut core, MOST_TURNS);
     Ok(answer_in(&core, position, depth))
 }

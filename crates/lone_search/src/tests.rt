@@ -5,6 +5,7 @@ use crate::{Searched, Way, solve_by_core};
 use counted_alloc::Counted;
 use jamboree_core::leaf_search::search_full;
 use linked_list_allocator::LocalHeap;
+use othello_eval::Valued;
 use othello_moves::Choice;
 use position_text::{Position, read};
 use std::alloc::AllocError;
@@ -36,8 +37,10 @@ fn nodes_and_steps_of_one_job(rt: HostRuntime) -> Result<(), Fail> {
     assert_eq!(rt;
         found,
         Searched {
-            value: -3,
-            choice: Some(Choice::Square(19)),
+            answer: Valued {
+                value: -3,
+                choice: Some(Choice::Square(19)),
+            },
             way: Way::Done,
             left,
         }
@@ -56,7 +59,10 @@ fn every_small_reservation_is_answered(rt: HostRuntime) -> Result<(), Fail> {
         for nodes in 1..33 {
             let reserve = Reserve::new(segments, nodes).ok_or("no reservation")?;
             let found = search_within(rt.alloc(), reserve, &position, 2, 0)?;
-            assert_eq!(rt; (found.value, found.choice), (-4, Some(Choice::Square(19))));
+            assert_eq!(rt;
+                (found.answer.value, found.answer.choice),
+                (-4, Some(Choice::Square(19)))
+            );
             assert_eq!(rt; found.left.segments, segments);
             match found.way {
                 Way::Done => done = done.saturating_add(1),
@@ -77,7 +83,10 @@ fn every_grain_finds_the_same(rt: HostRuntime) -> Result<(), Fail> {
         let serial = search_full(position.board, depth);
         for grain in 0..7 {
             let found = solve_by_core(rt.alloc(), &position, depth, grain)?;
-            assert_eq!(rt; (found.value, found.choice), (serial.score, serial.choice));
+            assert_eq!(rt;
+                (found.answer.value, found.answer.choice),
+                (serial.score, serial.choice)
+            );
         }
     }
     Ok(())
@@ -129,7 +138,7 @@ fn deep_searches_are_done_by_a_core(rt: HostRuntime) -> Result<(), Fail> {
     for depth in 7..13 {
         let found = solve_by_core(rt.alloc(), &position, depth, 0)?;
         assert_eq!(rt;
-            (found.value, found.choice),
+            (found.answer.value, found.answer.choice),
             (52_000, Some(Choice::Square(0)))
         );
         assert_eq!(rt; found.way, Way::Done, "depth {depth}");

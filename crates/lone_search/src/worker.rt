@@ -1,151 +1,83 @@
-//! The worker's turns, each a few steps of the core.
+//! The worker's turns, each one step of the core.
 //!
-//! The worker is without a frame, or runs one. Without one it takes the tenant's ready frame of the greatest serial:
-//! one that its own steps made ready, or the root, which stands ready in the hall. It advances its frame until the
-//! frame waits or has returned; it computes what the frame asks for, brings the answer, and goes on. A returned child
-//! is taken in by its parent, a returned root ends the job. Where the quota is at its end the job is given up.
-ghost use Rattle.lone_search.specs.Asked.{IsWork, Keeps};
+//! What a worker does next is decided by `pool_rules` ([`Holding`]); this one has the core to itself. Without a frame
+//! it takes the tenant's ready frame of the greatest serial: one that its own steps made ready, or the root, which
+//! stands ready in the hall; so it needs no list of its tasks. What its frame asks for it computes between two steps.
+//! Where the quota is at its end it offers the job to be spent, once: nobody else can give anything back.
+ghost use Rattle.lone_search.specs.Asked.{Keeps};
 
 use crate::job::TENANT;
-use frame_tree::FrameId;
-use jamboree::{Jamboree, Leaf, LeafAnswer};
-use sched_core::{Core, Did, DidOf, Refusal, Step, StepOf, Worker};
+use jamboree_core::jamboree::{Jamboree, LeafAnswer};
+use jamboree_core::sched_core::Core;
+use jamboree_core::step_search;
+use pool_rules::{Deed, Holding, Task};
+use sched_rules::Worker;
 use std::alloc::Allocator;
 
 /// The worker's number.
 const WORKER: u8 = 1;
 
-/// What the worker does next.
-#[derive(Drop)]
-enum Next {
-    /// It takes a ready frame.
-    Pick,
-    /// It advances the frame that it runs.
-    Advance(FrameId),
-    /// Nothing: the job has ended, or it can't go on.
-    Stop,
-}
-
-/// Works until the job has ended or can't go on, for at most so many turns. Each turn but the last takes one of the
-/// tenant's steps at least.
+/// Works until the job has ended or can't go on, for at most so many turns. Each turn but the last two takes one of
+/// the tenant's steps.
 pub(crate) fn work<A: Allocator + Clone>(core: &mut Core<Jamboree, A>, turns: u32)
     ensures { Keeps core.old core.new }
 {
     let Some(worker) = Worker::new(WORKER) else {
         return;
     };
-    let mut next = Next::Pick;
+    let mut held = Holding::Nothing;
     for _turn in 0..turns {
-        next = match next {
-            Next::Pick => pick(core, worker),
-            Next::Advance(frame) => advance(core, worker, frame),
-            Next::Stop => return,
+        let Some(next) = turn(core, worker, held) else {
+            return;
         };
+        held = next;
     }
 }
 
-/// Takes a step of the worker's, if it isn't refused.
+/// One turn, and what the worker holds after it; None where the job has ended, or can't go on.
+fn turn<A: Allocator + Clone>(
+    core: &mut Core<Jamboree, A>,
+    worker: Worker,
+    held: Holding,
+) -> Option<Holding>
+    ensures { Keeps core.old core.new }
+{
+    let ready = match held {
+        Holding::Nothing => newest_task(core)?,
+        Holding::Computing(frame, leaf) => {
+            Holding::Next(Deed::Bring(frame, LeafAnswer::compute(leaf)))
+        }
+        Holding::Next(_) | Holding::Short(_) => held,
+    };
+    offer(core, worker, ready)
+}
+
+/// To get the tenant's ready frame of the greatest serial, if one is ready.
+fn newest_task<A: Allocator + Clone>(core: &Core<Jamboree, A>) -> Option<Holding> {
+    let (frame, home) = core.newest_ready(TENANT)?;
+    Some(Holding::Next(Deed::Get(Task { frame, home })))
+}
+
+/// Offers the step of what the worker holds, if it has one; what it holds after it.
 fn offer<A: Allocator + Clone>(
     core: &mut Core<Jamboree, A>,
-    step: &Step<Jamboree>,
-) -> Result<Did<Jamboree>, Refusal>
-    requires { IsWork step.now }
-    ensures { Keeps core.old core.new }
-{
-    core.step(step)
-}
-
-/// Takes the ready frame of the greatest serial: by Take where it is the worker's own, else by Steal.
-fn pick<A: Allocator + Clone>(core: &mut Core<Jamboree, A>, worker: Worker) -> Next
-    ensures { Keeps core.old core.new }
-{
-    let Some((frame, home)) = core.newest_ready(TENANT) else {
-        return Next::Stop;
-    };
-    let step = if home == worker.number() {
-        StepOf::Take(worker, frame)
-    } else {
-        StepOf::Steal(worker, home, frame)
-    };
-    match offer(core, &step) {
-        Ok(_) => Next::Advance(frame),
-        Err(_) => give_up(core, frame),
-    }
-}
-
-/// Advances the frame that the worker runs.
-fn advance<A: Allocator + Clone>(
-    core: &mut Core<Jamboree, A>,
     worker: Worker,
-    frame: FrameId,
-) -> Next
+    held: Holding,
+) -> Option<Holding>
     ensures { Keeps core.old core.new }
 {
-    match offer(core, &StepOf::Advance(worker, frame)) {
-        Ok(did) => go_on(core, worker, frame, did),
-        Err(_) => give_up(core, frame),
-    }
+    let step = held.step(worker)?;
+    let answer = step_search(core, &step);
+    let refused = answer.is_err();
+    goes_on(refused, held.turned(worker, answer).holding)
 }
 
-/// Goes on after what an Advance did.
-fn go_on<A: Allocator + Clone>(
-    core: &mut Core<Jamboree, A>,
-    worker: Worker,
-    frame: FrameId,
-    did: Did<Jamboree>,
-) -> Next
-    ensures { Keeps core.old core.new }
-{
-    match did {
-        DidOf::Went | DidOf::Grew | DidOf::Spawned(_) => Next::Advance(frame),
-        DidOf::Waited => Next::Pick,
-        DidOf::Computing(leaf) => compute(core, worker, frame, leaf),
-        DidOf::Returned(is_root) => come_back(core, worker, frame, is_root),
-        _ => Next::Stop,
+/// What the worker goes on with after its turn. A refusal for want of quota leaves it the offer to spend the job; after
+/// any other it doesn't go on, and so not where the job may not be spent either.
+fn goes_on(refused: bool, next: Holding) -> Option<Holding> {
+    match next {
+        Holding::Short(_) => Some(next),
+        _ if refused => None,
+        _ => Some(next),
     }
-}
-
-/// Computes what the frame asks for, and brings the answer.
-fn compute<A: Allocator + Clone>(
-    core: &mut Core<Jamboree, A>,
-    worker: Worker,
-    frame: FrameId,
-    leaf: Leaf,
-) -> Next
-    ensures { Keeps core.old core.new }
-{
-    let answer = LeafAnswer::compute(leaf);
-    match offer(core, &StepOf::Answer(worker, frame, answer)) {
-        Ok(_) => Next::Advance(frame),
-        Err(_) => give_up(core, frame),
-    }
-}
-
-/// Ends the job of a root that has returned, or has its parent take in a child that has.
-fn come_back<A: Allocator + Clone>(
-    core: &mut Core<Jamboree, A>,
-    worker: Worker,
-    frame: FrameId,
-    is_root: bool,
-) -> Next
-    ensures { Keeps core.old core.new }
-{
-    let step = if is_root {
-        StepOf::Finish(worker, frame)
-    } else {
-        StepOf::Inlet(worker, frame)
-    };
-    match offer(core, &step) {
-        Ok(DidOf::TakenIn(_, _)) => Next::Pick,
-        Ok(_) => Next::Stop,
-        Err(_) => give_up(core, frame),
-    }
-}
-
-/// Gives up the frame's job, if it is spent.
-fn give_up<A: Allocator + Clone>(core: &mut Core<Jamboree, A>, frame: FrameId) -> Next
-    ensures { Keeps core.old core.new }
-{
-    let _ = offer(core, &StepOf::Spend(frame));
-    Next::Stop
 }

@@ -27,7 +27,7 @@ fn solve_line<A: Allocator + Copy>(alloc: A, grain: u8, line: Line<'_>) -> Solve
 {
     match read_line(line) {
         Ok(asked) => match solve_by_core(alloc, &asked.position, asked.depth, grain) {
-            Ok(found) => value_text(found.value, found.choice),
+            Ok(found) => value_text(found.answer.value, found.answer.choice),
             Err(AllocError) => error_text(Refusal::OutOfMemory.number()),
         },
         Err(fault) => error_text(fault.number()),

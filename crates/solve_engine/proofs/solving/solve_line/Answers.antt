@@ -8,10 +8,10 @@ use Rattle.solve_engine.proofs.solving.solve_line.Goals as goal
 pub returns-in-Ok-solve_by_core-clause-text : goal.returns-in-Ok-solve_by_core-clause-text
 returns-in-Ok-solve_by_core-clause-text g c =
     let found = c.in-Ok-solve_by_core in
-    let fits : SFits w32 found.found.value = search rules in (
+    let fits : SFits w32 found.found.answer.value = search rules in (
       false,
       c.value_text.ensures.text
-          ∙ ap (λ v. value_text v found.found.choice) (to_z-of_z w32 found.found.value fits)
+          ∙ ap (λ v. value_text v found.found.answer.choice) (to_z-of_z w32 found.found.answer.value fits)
           ∙ ap₂ value_text found.ensures.value found.ensures.choice
           ∙ ap (question_answer (solved_unless false)) c.in-Ok.ensures,
     )
