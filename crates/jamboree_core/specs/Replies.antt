@@ -25,18 +25,8 @@ pub record AreRootWords (words : List ℕ) : Type 0 where
 
 -- a step, if it submits a job, asks for a search
 abbrev pub IsSearch : {A : Type 0} → StepOf A → Type 0
-IsSearch (Admit number quota) = Unit {0}
-IsSearch (AdmitMore number quota) = Unit {0}
 IsSearch (Submit number words size) = AreRootWords words × (size ≡ frame_size)
-IsSearch (Take worker name) = Unit {0}
-IsSearch (Steal worker from name) = Unit {0}
-IsSearch (Advance worker name) = Unit {0}
-IsSearch (Answer worker name answer) = Unit {0}
-IsSearch (Inlet worker name) = Unit {0}
-IsSearch (Finish worker name) = Unit {0}
-IsSearch (Spend name) = Unit {0}
-IsSearch (Cancel number job) = Unit {0}
-IsSearch (Leave number) = Unit {0}
+IsSearch _ = Unit {0}
 
 -- so does each of a list
 abbrev pub AreSearches : {A : Type 0} → List (StepOf A) → Type 0
