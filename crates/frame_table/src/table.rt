@@ -8,10 +8,10 @@ ghost use Rattle.std.specs.Prelude.{◌≡◌, ◌≢◌, ℕ, ◌+◌, ◌<◌,
 ghost use Rattle.std.specs.Borrow.{sem};
 ghost use Rattle.frame_tree.specs.Frames.{frame_at, has_frame, path_in, root_of, children_of, frames_under, frames_without, values_of, with_state, ready_frames, AllBelow, entry_of, newest_ready_of, names_of, new_frame, one_if_ready, HasValue, IsTree, IsReadyAt};
 ghost use Rattle.frame_table.specs.Tables.{frames_of, places_of, tenant_count, KeepsOthers, KeepsOtherTenants, serial_of, IsParentIn, has_tenant, IsAt, IsTreeOf, HasNoTree, AreApartTrees, first_ready_of};
-ghost use Rattle.frame_tree.specs.Places.{RisesBy, IsPlaceFor};
+ghost use Rattle.frame_tree.specs.Places.{RisesBy};
 
 use frame_tree::{Children, Entry, FrameId, Frames, State, TenantFrames};
-use number_index::Guesses;
+use number_index::{Numbered, TenantIndex};
 use std::alloc::{AllocError, Allocator, Global};
 use std::marker::Model;
 
@@ -21,15 +21,12 @@ pub const TENANTS: usize = 64;
 /// How many places a tenant can have.
 pub const PLACES: usize = 4096;
 
-/// How many places there are for guesses of where tenants' trees stand.
-const GUESSES: usize = 256;
-
 /// The frames of many tenants, each with a value.
 #[derive(Drop)]
 pub struct FrameTable<T, A: Allocator = Global> {
     alloc: A,
     trees: Vec<TenantFrames<T, A>, A>,
-    guesses: Guesses<A>,
+    index: TenantIndex,
     removed: Vec<T, A>,
     ready: usize,
 }
@@ -46,6 +43,18 @@ impl<T, A: Allocator> Model for FrameTable<T, A> {
     ghost invariant = { λ t. IsSoundTable t.trees.items (vec_capacity t.removed) t.ready × (64 ≤ vec_capacity t.trees) };
 }
 
+// A tree stands among all by its tenant's number.
+impl<T: Copy, A: Allocator> Numbered for TenantFrames<T, A> {
+    ghost use Rattle.frame_table.specs.Tables.{owner_of};
+
+    ghost number_of = { owner_of };
+
+    #[inline(always)]
+    fn number(&self) -> u64 {
+        self.tenant()
+    }
+}
+
 impl<T: Copy, A: Allocator> FrameTable<T, A> {
     ghost use Rattle.frame_table.specs.Ending.{EndsAborted, EndsEmptied};
 
@@ -58,12 +67,11 @@ impl<T: Copy, A: Allocator> FrameTable<T, A> {
         ensures places { IfOk result (λ table. (tenant : ℕ) → places_of table tenant ≡ 0) }
     {
         let trees = Vec::with_capacity(alloc.clone()?, TENANTS)?;
-        let guesses = Guesses::new(alloc.clone()?, GUESSES)?;
         let removed = Vec::new(alloc.clone()?);
         Ok(FrameTable {
             alloc,
             trees,
-            guesses,
+            index: TenantIndex::new(),
             removed,
             ready: 0,
         })
@@ -81,7 +89,7 @@ impl<T: Copy, A: Allocator> FrameTable<T, A> {
         ensures places { result ≡ places_of self.now tenant }
         ensures none { result ≡ 0 → frames_of self.now tenant ≡ [] }
     {
-        match find_tree(self.trees.as_slice(), &self.guesses, tenant) {
+        match find_tree(self.trees.as_slice(), &self.index, tenant) {
             Some(tree) => tree.places(),
             None => 0,
         }
@@ -91,7 +99,7 @@ impl<T: Copy, A: Allocator> FrameTable<T, A> {
     pub fn frame_count(&self, tenant: u64) -> usize
         ensures { result ≡ length (frames_of self.now tenant) }
     {
-        match find_tree(self.trees.as_slice(), &self.guesses, tenant) {
+        match find_tree(self.trees.as_slice(), &self.index, tenant) {
             Some(tree) => tree.len(),
             None => 0,
         }
@@ -109,7 +117,7 @@ impl<T: Copy, A: Allocator> FrameTable<T, A> {
     pub fn ready_count(&self, tenant: u64) -> usize
         ensures { result ≡ length (ready_frames (frames_of self.now tenant)) }
     {
-        match find_tree(self.trees.as_slice(), &self.guesses, tenant) {
+        match find_tree(self.trees.as_slice(), &self.index, tenant) {
             Some(tree) => tree.ready(),
             None => 0,
         }
@@ -121,9 +129,9 @@ impl<T: Copy, A: Allocator> FrameTable<T, A> {
         ensures entry { result ≡ entry_of f.tenant (frame_at (frames_of self.now f.tenant) f.serial) }
         ensures tree { IsTree (frames_of self.now f.tenant) }
     {
-        match guessed_tree(self.trees.as_slice(), &self.guesses, f.tenant) {
+        match guessed_tree(self.trees.as_slice(), &self.index, f.tenant) {
             Some(tree) => tree.find(f.serial),
-            None => search_frame(self.trees.as_slice(), f.tenant, f.serial),
+            None => search_frame(self.trees.as_slice(), &self.index, f.tenant, f.serial),
         }
     }
 
@@ -131,7 +139,7 @@ impl<T: Copy, A: Allocator> FrameTable<T, A> {
     pub fn contains(&self, f: FrameId) -> bool
         ensures { IsTrue result ↔ IsTrue (has_frame (frames_of self.now f.tenant) f.serial) }
     {
-        match find_tree(self.trees.as_slice(), &self.guesses, f.tenant) {
+        match find_tree(self.trees.as_slice(), &self.index, f.tenant) {
             Some(tree) => tree.contains(f.serial),
             None => false,
         }
@@ -146,7 +154,7 @@ impl<T: Copy, A: Allocator> FrameTable<T, A> {
         ensures otherwise { AllBelow f.serial (frames_of self.now f.tenant) → IsParentIn (frames_of self.now f.tenant) f.tenant parent
             → length (frames_of self.now f.tenant) < places_of self.now f.tenant → IsTrue result }
     {
-        match find_tree(self.trees.as_slice(), &self.guesses, f.tenant) {
+        match find_tree(self.trees.as_slice(), &self.index, f.tenant) {
             Some(tree) => {
                 may_follow(tree, f.tenant, parent)
                     && tree.len() < tree.places()
@@ -161,7 +169,7 @@ impl<T: Copy, A: Allocator> FrameTable<T, A> {
         requires { IsTrue (has_frame (frames_of self.now f.tenant) f.serial) }
         ensures { result ≡ record { tenant = f.tenant; serial = root_of (path_in (frames_of self.now f.tenant) f.serial) } }
     {
-        let at = known_tenant(self.trees.as_slice(), &self.guesses, f.tenant);
+        let at = known_tenant(self.trees.as_slice(), &self.index, f.tenant);
         let tree = &self.trees[at];
         FrameId {
             tenant: f.tenant,
@@ -175,9 +183,9 @@ impl<T: Copy, A: Allocator> FrameTable<T, A> {
         ensures child { IsTrue result ↔ (0 < length (children_of (frames_of self.now f.tenant) f.serial)) }
         ensures leaf { result ≡ false → children_of (frames_of self.now f.tenant) f.serial ≡ [] }
     {
-        match guessed_tree(self.trees.as_slice(), &self.guesses, f.tenant) {
+        match guessed_tree(self.trees.as_slice(), &self.index, f.tenant) {
             Some(tree) => tree.has_child(f.serial),
-            None => search_child(self.trees.as_slice(), f.tenant, f.serial),
+            None => search_child(self.trees.as_slice(), &self.index, f.tenant, f.serial),
         }
     }
 
@@ -185,7 +193,7 @@ impl<T: Copy, A: Allocator> FrameTable<T, A> {
     pub fn children(&self, f: FrameId) -> Children<'_, T, A>
         ensures { result ≡ names_of f.tenant (children_of (frames_of self.now f.tenant) f.serial) }
     {
-        Children::of(f, find_tree(self.trees.as_slice(), &self.guesses, f.tenant))
+        Children::of(f, find_tree(self.trees.as_slice(), &self.index, f.tenant))
     }
 
     /// The names of a tenant's frames, by rising serial.
@@ -195,7 +203,7 @@ impl<T: Copy, A: Allocator> FrameTable<T, A> {
     {
         Frames::of(
             tenant,
-            find_tree(self.trees.as_slice(), &self.guesses, tenant),
+            find_tree(self.trees.as_slice(), &self.index, tenant),
         )
     }
 
@@ -203,7 +211,7 @@ impl<T: Copy, A: Allocator> FrameTable<T, A> {
     pub fn newest_ready(&self, tenant: u64) -> Option<(FrameId, u8)>
         ensures { result ≡ newest_ready_of tenant (frames_of self.now tenant) }
     {
-        match find_tree(self.trees.as_slice(), &self.guesses, tenant) {
+        match find_tree(self.trees.as_slice(), &self.index, tenant) {
             Some(tree) => tree.newest_ready(),
             None => None,
         }
@@ -263,11 +271,11 @@ impl<T: Copy, A: Allocator> FrameTable<T, A> {
         self.removed.clear();
         self.removed.reserve(segments)?;
         let tree = TenantFrames::new(alloc, tenant, segments)?;
-        let at = place_for(self.trees.as_slice(), tenant);
+        let at = self.index.place_of(self.trees.as_slice(), tenant);
         if self.trees.insert(at, tree).is_err() {
             unreachable!()
         }
-        guess_again(&mut self.guesses, self.trees.as_slice());
+        self.index.guess_anew(self.trees.as_slice());
         Ok(())
     }
 
@@ -287,7 +295,7 @@ impl<T: Copy, A: Allocator> FrameTable<T, A> {
         let alloc = self.alloc.clone()?;
         self.removed.clear();
         self.removed.reserve(segments)?;
-        let at = known_tenant(self.trees.as_slice(), &self.guesses, tenant);
+        let at = known_tenant(self.trees.as_slice(), &self.index, tenant);
         let tree = &mut self.trees[at];
         tree.raise(alloc, segments)?;
         Ok(())
@@ -302,9 +310,9 @@ impl<T: Copy, A: Allocator> FrameTable<T, A> {
         ensures kept { KeepsOtherTenants self.old self.new tenant }
         ensures count { tenant_count self.new + 1 ≡ tenant_count self.old }
     {
-        let at = known_tenant(self.trees.as_slice(), &self.guesses, tenant);
+        let at = known_tenant(self.trees.as_slice(), &self.index, tenant);
         self.trees.remove(at);
-        guess_again(&mut self.guesses, self.trees.as_slice());
+        self.index.guess_anew(self.trees.as_slice());
     }
 
     /// Adds a frame that is ready at this home, in one of its tenant's places. Takes no memory.
@@ -319,7 +327,7 @@ impl<T: Copy, A: Allocator> FrameTable<T, A> {
         ensures others { (serial : ℕ) → serial ≢ f.serial → has_frame (frames_of self.new f.tenant) serial ≡ has_frame (frames_of self.old f.tenant) serial }
         ensures kept { KeepsOthers self.old self.new f.tenant }
     {
-        let at = known_tenant(self.trees.as_slice(), &self.guesses, f.tenant);
+        let at = known_tenant(self.trees.as_slice(), &self.index, f.tenant);
         let above = parent_serial(parent);
         let tree = &mut self.trees[at];
         tree.add(f.serial, above, home, value);
@@ -333,7 +341,7 @@ impl<T: Copy, A: Allocator> FrameTable<T, A> {
         ensures frames { frames_of self.new f.tenant ≡ with_state f.serial state (frames_of self.old f.tenant) }
         ensures kept { KeepsOthers self.old self.new f.tenant }
     {
-        let at = known_tenant(self.trees.as_slice(), &self.guesses, f.tenant);
+        let at = known_tenant(self.trees.as_slice(), &self.index, f.tenant);
         let tree = &mut self.trees[at];
         let was = tree.set_state(f.serial, state);
         self.ready = recount(self.ready, was, state);
@@ -346,7 +354,7 @@ impl<T: Copy, A: Allocator> FrameTable<T, A> {
         ensures* ends { sem 𝓛 (EndsAborted T.row A.row A.Allocator self.entry f) }
         ensures values { result.now ≡ values_of (frames_under f.serial (frames_of self.old f.tenant)) }
     {
-        let at = known_tenant(self.trees.as_slice(), &self.guesses, f.tenant);
+        let at = known_tenant(self.trees.as_slice(), &self.index, f.tenant);
         let tree = &mut self.trees[at];
         let before = tree.ready();
         self.removed.clear();
@@ -362,7 +370,7 @@ impl<T: Copy, A: Allocator> FrameTable<T, A> {
         ensures* ends { sem 𝓛 (EndsEmptied T.row A.row A.Allocator self.entry tenant) }
         ensures values { result.now ≡ values_of (frames_of self.old tenant) }
     {
-        let at = known_tenant(self.trees.as_slice(), &self.guesses, tenant);
+        let at = known_tenant(self.trees.as_slice(), &self.index, tenant);
         let tree = &mut self.trees[at];
         let before = tree.ready();
         self.removed.clear();
@@ -380,7 +388,7 @@ impl<T: Copy, A: Allocator> FrameTable<T, A> {
         ensures value { HasValue (frame_at (frames_of self.old f.tenant) f.serial) result }
         ensures kept { KeepsOthers self.old self.new f.tenant }
     {
-        let at = known_tenant(self.trees.as_slice(), &self.guesses, f.tenant);
+        let at = known_tenant(self.trees.as_slice(), &self.index, f.tenant);
         let tree = &mut self.trees[at];
         let (was, value) = tree.remove(f.serial);
         self.ready = recount(self.ready, was, State::Returned);
@@ -413,22 +421,6 @@ fn may_follow<T: Copy, A: Allocator>(
     }
 }
 
-/// Where the tree of a tenant stands, or would stand.
-fn place_for<T: Copy, A: Allocator>(trees: &[TenantFrames<T, A>], tenant: u64) -> usize
-    requires { RisesBy (λ tree. tree.tenant) trees.now }
-    ensures within { result ≤ length trees.now }
-    ensures place { IsPlaceFor (λ tree. tree.tenant) trees.now tenant result }
-{
-    trees.partition_point(|tree| tree.tenant() < tenant)
-}
-
-/// Guesses anew where the trees stand.
-fn guess_again<T: Copy, A: Allocator>(guesses: &mut Guesses<A>, trees: &[TenantFrames<T, A>]) {
-    for (at, tree) in trees.iter().enumerate() {
-        guesses.put(tree.tenant(), at);
-    }
-}
-
 /// How many frames are ready after one went from a state to another.
 #[inline(always)]
 fn recount(ready: usize, was: State, now: State) -> usize
@@ -446,69 +438,17 @@ fn recount(ready: usize, was: State, now: State) -> usize
     count
 }
 
-/// Where a tenant's tree stands, if that is where it is guessed to.
-#[inline(always)]
-fn guessed_place<T: Copy, A: Allocator>(
-    trees: &[TenantFrames<T, A>],
-    guesses: &Guesses<A>,
-    tenant: u64,
-) -> Option<usize>
-    requires { RisesBy (λ tree. tree.tenant) trees.now }
-    ensures within { IfSome result (λ at. at < length trees.now) }
-    ensures found { IfSome result (IsAt trees.now tenant) }
-{
-    let guess = guesses.guess(tenant);
-    if guess < trees.len() && trees[guess].tenant() == tenant {
-        return Some(guess);
-    }
-    None
-}
-
-/// Where a tenant's tree stands: where it is guessed to, or else where a search finds it.
-fn tenant_place<T: Copy, A: Allocator>(
-    trees: &[TenantFrames<T, A>],
-    guesses: &Guesses<A>,
-    tenant: u64,
-) -> Option<usize>
-    requires { RisesBy (λ tree. tree.tenant) trees.now }
-    ensures within { IfSome result (λ at. at < length trees.now) }
-    ensures found { IfSome result (IsAt trees.now tenant) }
-    ensures none { IfNone result (has_tenant trees.now tenant ≡ false) }
-{
-    match guessed_place(trees, guesses, tenant) {
-        Some(at) => Some(at),
-        None => search_tenant(trees, tenant),
-    }
-}
-
-/// Where a tenant's tree stands, wherever it was guessed.
-fn search_tenant<T: Copy, A: Allocator>(trees: &[TenantFrames<T, A>], tenant: u64) -> Option<usize>
-    requires { RisesBy (λ tree. tree.tenant) trees.now }
-    ensures within { IfSome result (λ at. at < length trees.now) }
-    ensures found { IfSome result (IsAt trees.now tenant) }
-    ensures none { IfNone result (has_tenant trees.now tenant ≡ false) }
-{
-    let at = place_for(trees, tenant);
-    if at < trees.len() && trees[at].tenant() == tenant {
-        return Some(at);
-    }
-    None
-}
-
 /// A tenant's tree.
 fn find_tree<'a, T: Copy, A: Allocator>(
     trees: &'a [TenantFrames<T, A>],
-    guesses: &Guesses<A>,
+    index: &TenantIndex,
     tenant: u64,
 ) -> Option<&'a TenantFrames<T, A>>
     requires { RisesBy (λ tree. tree.tenant) trees.now }
     ensures found { IfSome result (λ tree. IsTreeOf trees.now tenant tree.now) }
     ensures none { IfNone result (HasNoTree trees.now tenant) }
 {
-    match tenant_place(trees, guesses, tenant) {
-        Some(at) => Some(&trees[at]),
-        None => None,
-    }
+    index.find(trees, tenant)
 }
 
 /// A tenant's tree, if it stands where it is guessed to. A step asks by this, and leaves the search to
@@ -516,28 +456,13 @@ fn find_tree<'a, T: Copy, A: Allocator>(
 #[inline(always)]
 fn guessed_tree<'a, T: Copy, A: Allocator>(
     trees: &'a [TenantFrames<T, A>],
-    guesses: &Guesses<A>,
+    index: &TenantIndex,
     tenant: u64,
 ) -> Option<&'a TenantFrames<T, A>>
     requires { RisesBy (λ tree. tree.tenant) trees.now }
     ensures { IfSome result (λ tree. IsTreeOf trees.now tenant tree.now) }
 {
-    match guessed_place(trees, guesses, tenant) {
-        Some(at) => Some(&trees[at]),
-        None => None,
-    }
-}
-
-/// A tenant's tree, wherever it was guessed.
-fn search_tree<T: Copy, A: Allocator>(
-    trees: &[TenantFrames<T, A>],
-    tenant: u64,
-) -> Option<&TenantFrames<T, A>>
-    requires { RisesBy (λ tree. tree.tenant) trees.now }
-    ensures found { IfSome result (λ tree. IsTreeOf trees.now tenant tree.now) }
-    ensures none { IfNone result (HasNoTree trees.now tenant) }
-{
-    match search_tenant(trees, tenant) {
+    match index.guessed(trees, tenant) {
         Some(at) => Some(&trees[at]),
         None => None,
     }
@@ -548,6 +473,7 @@ fn search_tree<T: Copy, A: Allocator>(
 #[inline(never)]
 fn search_frame<T: Copy, A: Allocator>(
     trees: &[TenantFrames<T, A>],
+    index: &TenantIndex,
     tenant: u64,
     serial: u64,
 ) -> Option<Entry<T>>
@@ -555,7 +481,7 @@ fn search_frame<T: Copy, A: Allocator>(
     ensures entry { result ≡ entry_of tenant (frame_at (frames_of trees.now tenant) serial) }
     ensures tree { IsTree (frames_of trees.now tenant) }
 {
-    match search_tree(trees, tenant) {
+    match find_tree(trees, index, tenant) {
         Some(tree) => tree.find(serial),
         None => None,
     }
@@ -566,6 +492,7 @@ fn search_frame<T: Copy, A: Allocator>(
 #[inline(never)]
 fn search_child<T: Copy, A: Allocator>(
     trees: &[TenantFrames<T, A>],
+    index: &TenantIndex,
     tenant: u64,
     serial: u64,
 ) -> bool
@@ -573,7 +500,7 @@ fn search_child<T: Copy, A: Allocator>(
     ensures child { IsTrue result ↔ (0 < length (children_of (frames_of trees.now tenant) serial)) }
     ensures leaf { result ≡ false → children_of (frames_of trees.now tenant) serial ≡ [] }
 {
-    match search_tree(trees, tenant) {
+    match find_tree(trees, index, tenant) {
         Some(tree) => tree.has_child(serial),
         None => false,
     }
@@ -583,7 +510,7 @@ fn search_child<T: Copy, A: Allocator>(
 #[inline(always)]
 fn known_tenant<T: Copy, A: Allocator>(
     trees: &[TenantFrames<T, A>],
-    guesses: &Guesses<A>,
+    index: &TenantIndex,
     tenant: u64,
 ) -> usize
     requires rise { RisesBy (λ tree. tree.tenant) trees.now }
@@ -591,25 +518,7 @@ fn known_tenant<T: Copy, A: Allocator>(
     ensures within { result < length trees.now }
     ensures found { IsAt trees.now tenant result }
 {
-    match guessed_place(trees, guesses, tenant) {
-        Some(at) => at,
-        None => search_known(trees, tenant),
-    }
-}
-
-/// Where the tree of a tenant stands that has places, wherever it was guessed.
-#[cold]
-#[inline(never)]
-fn search_known<T: Copy, A: Allocator>(trees: &[TenantFrames<T, A>], tenant: u64) -> usize
-    requires rise { RisesBy (λ tree. tree.tenant) trees.now }
-    requires there { has_tenant trees.now tenant ≡ true }
-    ensures within { result < length trees.now }
-    ensures found { IsAt trees.now tenant result }
-{
-    match search_tenant(trees, tenant) {
-        Some(at) => at,
-        None => unreachable!(),
-    }
+    index.place_of(trees, tenant)
 }
 
 /// The newest ready frame of the first tenant that has one.

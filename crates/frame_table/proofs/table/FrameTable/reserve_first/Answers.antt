@@ -1,8 +1,18 @@
-use Rattle.std.proofs.Common.{◌<◌, length, IsOk, not, sym, ap, vec_capacity, ◌∙◌, arith}
+use Rattle.std.proofs.Common.{◌<◌, ◌≤◌, length, IsOk, not, sym, ap, vec_capacity, ◌∙◌, arith}
 use Rattle.std.proofs.lemmas.Bool.{false≢true}
 use Rattle.frame_tree.specs.Frames.{TenantTree}
 use Rattle.frame_table.proofs.Tenants.{reserve_sound, reserve_here, insert_keeps, more_room}
+use Rattle.frame_table.proofs.Placing.{rising-trees, place-found}
 use Rattle.frame_table.proofs.table.FrameTable.reserve_first.Goals as goal
+
+pub place_of-at-requires : goal.place_of-at-requires
+place_of-at-requires g c = rw c.as_slice.ensures.value (rising-trees c.self.inside.trees.items c.self.invariant.0.rise)
+
+pub insert-requires : goal.insert-requires
+insert-requires g c =
+    let placed = place-found c.self.inside.trees.items _ c.args.tenant c.place_of-at.result c.self.invariant.0.rise c.as_slice.ensures.value c.place_of-at.ensures in
+    let within : c.place_of-at.result ≤ length c.self.inside.trees.items = placed.0 in
+    omega (arith, within, c.self.inside.trees.ok.0)
 
 pub invariant_of-self-in_err-tree : goal.invariant_of-self-in_err-tree
 invariant_of-self-in_err-tree g c =
@@ -12,11 +22,10 @@ pub invariant_of-self-2 : goal.invariant_of-self-2
 invariant_of-self-2 g c =
     let fresh = rw (← c.self.view_is) at c.requires.fresh in
     let free : length c.self.inside.trees.items < 64 = rw (← c.self.view_is) at c.requires.free in
-    let within = rw c.as_slice.ensures.value at c.place_for-at.ensures.within in
-    let place = rw c.as_slice.ensures.value at c.place_for-at.ensures.place in
+    let placed = place-found c.self.inside.trees.items _ c.args.tenant c.place_of-at.result c.self.invariant.0.rise c.as_slice.ensures.value c.place_of-at.ensures in
     let done : IsOk c.insert.result = c.insert.ensures.succeeds (omega (arith, free, c.self.invariant.1, c.self.inside.trees.ok.0)) in (
-      rw (c.insert.ensures.items, done) (reserve_sound _ _ _ _ c.args.tenant c.args.segments c.place_for-at.result c.in_ok-tree.tree c.self.invariant.0
-          (omega (arith, c.clear.ensures.capacity, c.reserve.ensures.capacity)) (omega (arith, c.in_ok-reserve.ensures.ok, c.clear.ensures.len)) c.requires.some c.requires.few free fresh c.in_ok-tree.ensures within place),
+      rw (c.insert.ensures.items, done) (reserve_sound _ _ _ _ c.args.tenant c.args.segments c.place_of-at.result c.in_ok-tree.tree c.self.invariant.0
+          (omega (arith, c.clear.ensures.capacity, c.reserve.ensures.capacity)) (omega (arith, c.in_ok-reserve.ensures.ok, c.clear.ensures.len)) c.requires.some c.requires.few free fresh c.in_ok-tree.ensures placed.0 placed.1),
       omega (arith, c.insert.ensures.capacity, c.self.invariant.1),
     )
 
@@ -25,7 +34,7 @@ returns-clause-places g c =
     let fresh = rw (← c.self.view_is) at c.requires.fresh in
     let free : length c.self.inside.trees.items < 64 = rw (← c.self.view_is) at c.requires.free in
     let done : IsOk c.insert.result = c.insert.ensures.succeeds (omega (arith, free, c.self.invariant.1, c.self.inside.trees.ok.0)) in
-    let here = reserve_here _ _ _ c.args.tenant c.args.segments c.place_for-at.result c.in_ok-tree.tree c.self.invariant.0 fresh c.in_ok-tree.ensures in
+    let here = reserve_here _ _ _ c.args.tenant c.args.segments c.place_of-at.result c.in_ok-tree.tree c.self.invariant.0 fresh c.in_ok-tree.ensures in
     rw (c.insert.ensures.items, done) (here.places ∙ ap (λ (z : TenantTree g.row.T.Denot). z.places) c.in_ok-tree.ensures)
 
 pub returns-clause-frames : goal.returns-clause-frames
@@ -33,14 +42,14 @@ returns-clause-frames g c =
     let fresh = rw (← c.self.view_is) at c.requires.fresh in
     let free : length c.self.inside.trees.items < 64 = rw (← c.self.view_is) at c.requires.free in
     let done : IsOk c.insert.result = c.insert.ensures.succeeds (omega (arith, free, c.self.invariant.1, c.self.inside.trees.ok.0)) in
-    let here = reserve_here _ _ _ c.args.tenant c.args.segments c.place_for-at.result c.in_ok-tree.tree c.self.invariant.0 fresh c.in_ok-tree.ensures in
+    let here = reserve_here _ _ _ c.args.tenant c.args.segments c.place_of-at.result c.in_ok-tree.tree c.self.invariant.0 fresh c.in_ok-tree.ensures in
     rw (c.insert.ensures.items, done) (here.frames ∙ ap (λ (z : TenantTree g.row.T.Denot). z.frames) c.in_ok-tree.ensures)
 
 pub returns-clause-kept : goal.returns-clause-kept
 returns-clause-kept g c =
     let free : length c.self.inside.trees.items < 64 = rw (← c.self.view_is) at c.requires.free in
     let done : IsOk c.insert.result = c.insert.ensures.succeeds (omega (arith, free, c.self.invariant.1, c.self.inside.trees.ok.0)) in
-    rw (← c.self.view_is, c.insert.ensures.items, done) (insert_keeps c.self.inside.trees.items c.args.tenant c.place_for-at.result c.in_ok-tree.tree (ap (λ (z : TenantTree g.row.T.Denot). z.tenant) c.in_ok-tree.ensures))
+    rw (← c.self.view_is, c.insert.ensures.items, done) (insert_keeps c.self.inside.trees.items c.args.tenant c.place_of-at.result c.in_ok-tree.tree (ap (λ (z : TenantTree g.row.T.Denot). z.tenant) c.in_ok-tree.ensures))
 
 pub unreachable-requires : goal.unreachable-requires
 unreachable-requires g c =
