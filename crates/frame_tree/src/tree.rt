@@ -16,7 +16,8 @@ use crate::slot::Slot;
 use std::alloc::{AllocError, Allocator, Global};
 use std::marker::Model;
 
-/// The frames of one tenant.
+/// The frames of one tenant, each with a value: no more than it has places, of which there are at most
+/// 4,096.
 #[derive(Drop)]
 pub struct TenantFrames<T, A: Allocator = Global> {
     tenant: u64,

@@ -12,7 +12,7 @@ use Rattle.othello_moves.specs.declared.choices.Choice.TheVariants.{Square, Pass
 use Rattle.othello_moves.specs.Choices.{choices, IsAllowed}
 use Rattle.othello_moves.proofs.AllowedLemmas.{choices_allowed}
 use Rattle.jamboree_rules.specs.othello_eval.Minimax.{minimax, best_choice, choice_value, int_equal}
-use Rattle.jamboree_rules.proofs.othello_eval_MinimaxLemmas.{best_choice-leaf, best_choice-deeper}
+use Rattle.jamboree_rules.proofs.EvalLemmas.MinimaxLemmas.{best_choice-leaf, best_choice-deeper}
 use Rattle.jamboree_rules.specs.sched_rules.Laws.{HasReturned}
 use Rattle.jamboree_rules.specs.othello_eval.Tables.{entered, IsTable}
 use Rattle.jamboree_rules.specs.Frames.{Frame, board, coded}

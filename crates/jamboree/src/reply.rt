@@ -5,7 +5,7 @@ ghost use Rattle.othello_board.specs.Words.{cells};
 ghost use Rattle.othello_moves.specs.Choices.{choices};
 ghost use Rattle.jamboree_rules.specs.othello_eval.Minimax.{minimax, best_choice};
 ghost use Rattle.jamboree_rules.specs.othello_eval.Tables.{entered, IsTable};
-ghost use Rattle.jamboree_rules.proofs.othello_eval_TableProps.{table-prop};
+ghost use Rattle.jamboree_rules.proofs.EvalLemmas.TableProps.{table-prop};
 ghost use Rattle.jamboree.specs.Knowledge.{bounds_by};
 
 use crate::entry::Known;

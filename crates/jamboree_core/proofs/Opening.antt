@@ -10,7 +10,7 @@ use Rattle.jamboree_rules.specs.othello_eval.Values.{weights}
 use Rattle.jamboree_rules.specs.othello_eval.Minimax.{minimax, best_choice}
 use Rattle.jamboree_rules.specs.othello_eval.Tables.{IsTrueBound, IsExactIfBest, IsTable}
 use Rattle.jamboree_rules.specs.othello_eval.Rows.{equal_moves}
-use Rattle.jamboree_rules.proofs.othello_eval_TableLemmas.{apart}
+use Rattle.jamboree_rules.proofs.EvalLemmas.TableLemmas.{apart}
 use Rattle.jamboree_rules.specs.Places.{frame_of}
 use Rattle.jamboree_rules.specs.Entries.{bounds_of}
 use Rattle.jamboree_rules.specs.Frames.{coded}

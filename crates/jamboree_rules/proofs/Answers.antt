@@ -5,7 +5,7 @@ use Rattle.std.proofs.lemmas.Int.{ints, by_lt_z}
 use Rattle.sched_rules.specs.cactus_stack.Nodes.{padded}
 use Rattle.leaf_search.specs.othello_eval.Minimax.{best_choice}
 use Rattle.leaf_search.specs.othello_eval.Values.{IsWithin}
-use Rattle.leaf_search.proofs.othello_eval_MinimaxLemmas.{minimax_within}
+use Rattle.leaf_search.proofs.EvalLemmas.MinimaxLemmas.{minimax_within}
 use Rattle.leaf_search.specs.Bounds.{IsBound}
 use Rattle.sched_rules.specs.Functions.{Functions}
 use Rattle.sched_rules.specs.Trees.{stored, is_outside}

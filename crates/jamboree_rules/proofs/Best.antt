@@ -9,8 +9,8 @@ use Rattle.othello_moves.specs.declared.choices.Choice.TheVariants.{Pass}
 use Rattle.othello_moves.specs.Choices.{choices}
 use Rattle.leaf_search.specs.othello_eval.Values.{final_value}
 use Rattle.leaf_search.specs.othello_eval.Minimax.{minimax, best_choice, choice_value, greatest_or, int_equal}
-use Rattle.leaf_search.proofs.othello_eval_MinimaxLemmas.{minimax-deeper, best_choice-deeper}
-use Rattle.leaf_search.proofs.othello_eval_GreatestLemmas.{int_equal-same, int_equal-below}
+use Rattle.leaf_search.proofs.EvalLemmas.MinimaxLemmas.{minimax-deeper, best_choice-deeper}
+use Rattle.leaf_search.proofs.EvalLemmas.GreatestLemmas.{int_equal-same, int_equal-below}
 use Rattle.jamboree_rules.specs.Fits.{IsFound}
 use Rattle.jamboree_rules.proofs.Searching.{IsGreatest}
 use Rattle.jamboree_rules.specs.Frames.{Frame, board, choice_at, code_at, coded, value_at, value}

@@ -1,6 +1,4 @@
-pub use Rattle.leaf_search.proofs.othello_eval_TableLemmas as othello_eval_TableLemmas
-pub use Rattle.leaf_search.proofs.othello_eval_TableProps as othello_eval_TableProps
-pub use Rattle.leaf_search.proofs.othello_eval_MinimaxLemmas as othello_eval_MinimaxLemmas
+pub mod EvalLemmas
 pub mod Packing
 pub mod Searching
 pub mod Tabling
