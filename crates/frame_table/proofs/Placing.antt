@@ -59,8 +59,8 @@ tree-of_thing (y ∷ ys) t x is = elim (cases_Bool (eqb y.tenant t)) [
       let own : y ≡ x = cc in
       record {
         named = ap owner_of (sym own) ∙ eqb-true y.tenant t same;
-        frames = rw same (ap (λ (z : Tree _). z.frames) own);
-        places = rw same (ap (λ (z : Tree _). z.places) own);
+        frames = rw same (ap (λ (z : TenantTree _). z.frames) own);
+        places = rw same (ap (λ (z : TenantTree _). z.places) own);
       })
   | inr other ↦ (let rest = tree-of_thing ys t x (rw other at is) in
       record { named = rest.named; frames = rw other rest.frames; places = rw other rest.places })
