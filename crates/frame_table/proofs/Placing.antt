@@ -6,8 +6,8 @@ use Rattle.std.proofs.lemmas.Bool.{cases_Bool, false≢true, eqb-true, eqb-false
 use Rattle.number_index.specs.Places.{count_below, thing_of, AreAbove, AreRising}
 use Rattle.number_index.proofs.Places.{count_below-cases, count_below-le-length}
 use Rattle.frame_tree.specs.Places.{AllAboveBy, RisesBy, AllFromBy, IsPlaceFor}
-use Rattle.frame_tree.specs.Frames.{TenantTree}
-use Rattle.frame_table.specs.Tables.{owner_of, has_tenant, IsAt, IsTreeOf, HasNoTree}
+use Rattle.frame_tree.specs.Frames.{TenantTree, owner_of}
+use Rattle.frame_table.specs.Tables.{has_tenant, IsAt, IsTreeOf, HasNoTree}
 
 -- the trees rise as the index asks
 above-trees : {T : Type 0} (n : ℕ) (xs : List (TenantTree T)) → AllAboveBy (λ tree. tree.tenant) n xs → AreAbove owner_of n xs

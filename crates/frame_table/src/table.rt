@@ -11,7 +11,7 @@ ghost use Rattle.frame_table.specs.Tables.{frames_of, places_of, tenant_count, K
 ghost use Rattle.frame_tree.specs.Places.{RisesBy};
 
 use frame_tree::{Children, Entry, FrameId, Frames, State, TenantFrames};
-use number_index::{Numbered, TenantIndex};
+use number_index::TenantIndex;
 use std::alloc::{AllocError, Allocator, Global};
 use std::marker::Model;
 
@@ -41,18 +41,6 @@ impl<T, A: Allocator> Model for FrameTable<T, A> {
     ghost view = { λ t. t.trees.items };
 
     ghost invariant = { λ t. IsSoundTable t.trees.items (vec_capacity t.removed) t.ready × (64 ≤ vec_capacity t.trees) };
-}
-
-// A tree stands among all by its tenant's number.
-impl<T: Copy, A: Allocator> Numbered for TenantFrames<T, A> {
-    ghost use Rattle.frame_table.specs.Tables.{owner_of};
-
-    ghost number_of = { owner_of };
-
-    #[inline(always)]
-    fn number(&self) -> u64 {
-        self.tenant()
-    }
 }
 
 impl<T: Copy, A: Allocator> FrameTable<T, A> {

@@ -20,6 +20,10 @@ pub record TenantTree (T : Type 0) : Type 0 where
   pub places : ℕ
   pub frames : List (Frame T)
 
+-- whose tree it is
+abbrev pub owner_of : {T : Type 0} → TenantTree T → ℕ
+owner_of tree = tree.tenant
+
 -- the frame with this serial, if there is one
 abbrev pub frame_at : {T : Type 0} → List (Frame T) → ℕ → Option (Frame T)
 frame_at [] serial = None

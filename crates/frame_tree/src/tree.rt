@@ -13,6 +13,7 @@ use crate::ready::ReadyFrames;
 use crate::serials::Serials;
 use crate::shelf::Shelf;
 use crate::slot::Slot;
+use number_index::Numbered;
 use std::alloc::{AllocError, Allocator, Global};
 use std::marker::Model;
 
@@ -37,6 +38,18 @@ impl<T, A: Allocator> Model for TenantFrames<T, A> {
     ghost view = { λ t. record { tenant = t.tenant; places = t.shelf.places; frames = frames_from [] t.shelf.slots } };
 
     ghost invariant = { λ t. IsTenant t.shelf.slots t.shelf.places t.serials t.ready };
+}
+
+// A tree stands among all by its tenant's number.
+impl<T: Copy, A: Allocator> Numbered for TenantFrames<T, A> {
+    ghost use Rattle.frame_tree.specs.Frames.{owner_of};
+
+    ghost number_of = { owner_of };
+
+    #[inline(always)]
+    fn number(&self) -> u64 {
+        self.tenant()
+    }
 }
 
 impl<T: Copy, A: Allocator> TenantFrames<T, A> {

@@ -1,7 +1,7 @@
 -- What stands at the guessed place is the tenant's tree.
 use Rattle.std.proofs.Common.{ap, ◌∙◌}
 use Rattle.number_index.proofs.Places.{thing_of-found}
-use Rattle.frame_table.specs.Tables.{owner_of}
+use Rattle.frame_tree.specs.Frames.{owner_of}
 use Rattle.frame_table.proofs.Placing.{rising-trees, tree-of_thing}
 use Rattle.frame_table.proofs.table.guessed_tree.Goals as goal
 
