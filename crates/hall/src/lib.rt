@@ -20,8 +20,8 @@
 //! the journal, and lets the core grow last; so does an AdmitMore, whose entry is written after the core's step.
 //! So where a growth or the core refuses, nothing has changed. A journal has 16 places for each node that its
 //! tenant reserves, 770 more, and one for each AdmitMore: each counted step takes a sixteenth of a node, and
-//! the rest are the admission and what 256 jobs can need. A tenant's journal is found by
-//! an index (`number_index`).
+//! the rest are the admission and what 256 jobs can need. A tenant's journal is found by an index of them
+//! (`number_index`).
 //!
 //! ```text
 //! let mut hall = Hall::new(alloc, config, 2)?;

@@ -20,12 +20,12 @@
 //!
 //! ```text
 //! let mut index = TenantIndex::new();
-//! let tenants = [(3, 'a'), (7, 'b'), (263, 'c')];
+//! let tenants = [(3, 30), (7, 70), (263, 2630)];
 //! index.guess_anew(&tenants);                        // 263 shares its guess with 7
 //! index.place_of(&tenants, 263) == 2
 //! index.place_of(&tenants, 7) == 1                   // searched for
 //! index.place_of(&tenants, 8) == 2                   // where it would stand
-//! index.find(&tenants, 3) == Some(&(3, 'a'))
+//! index.find(&tenants, 3) == Some(&(3, 30))
 //! ```
 #![tactic(auto)]
 

@@ -5,7 +5,7 @@ use Rattle.tenant_quota.specs.Accounts.{reserved_segments, reserved_nodes}
 use Rattle.tenant_quota.specs.Reservations.{Reservations, IsSoundBook}
 use Rattle.tenant_quota.specs.declared.book.Book.TheInside.{Inside}
 
--- the totals and the accounts; the kept sums, the capacity and the guesses aren't seen
+-- the totals and the accounts; the kept sums, the capacity and the index aren't seen
 abbrev pub held_by : {A : Type 0} → Inside A → Reservations
 held_by {A} b = record { segments = b.segments; nodes = b.nodes; accounts = b.accounts.items }
 

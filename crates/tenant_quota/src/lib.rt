@@ -11,9 +11,8 @@
 //! together never exceed the totals, and that no tenant uses more than it reserved (`IsSoundBook`). So a
 //! segment that a tenant has left is there whatever others do, and each call leaves the accounts of
 //! all other tenants as they were. A reservation may be raised as far as the totals allow; what its
-//! tenant used stays used. Only [`Book::new`] takes memory. Where a tenant's account stands is
-//! guessed, by one of 256 bytes at the remainder of its number, and looked at; where another's account
-//! stands there it is searched for by halves.
+//! tenant used stays used. Only [`Book::new`] takes memory. A tenant's account is found by an index of
+//! the accounts (`number_index`), which looks first where it is guessed to stand.
 //!
 //! ```text
 //! let mut book = Book::new(alloc, 8, 32)?;

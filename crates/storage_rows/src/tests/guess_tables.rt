@@ -1,8 +1,33 @@
-use number_index::Guesses;
+ghost use Rattle.number_index.specs.Places.{AreRising};
+
 use linked_list_allocator::LocalHeap;
+use number_index::{Guesses, TenantIndex};
+use std::process::Abort;
 use std::test::Fail;
 
-/// The example of the crate's head, but for the numbers that were never put down.
+/// The example of the crate's head.
+#[test]
+fn a_tenant_is_found_whatever_is_guessed(rt: HostRuntime) -> Result<(), Fail> {
+    let mut index = TenantIndex::new();
+    let tenants = [(3u64, 30u32), (7, 70), (263, 2630)];
+    found_there(&rt, &index, &tenants);
+    index.guess_anew(&tenants);
+    found_there(&rt, &index, &tenants);
+    Ok(())
+}
+
+/// Where the three stand, and the one that isn't there would; each is found, and that one isn't.
+fn found_there(rt: &impl Abort, index: &TenantIndex, tenants: &[(u64, u32)])
+    requires { AreRising (λ pair. pair.0) tenants.now }
+{
+    assert_eq!(rt; index.place_of(tenants, 263), 2);
+    assert_eq!(rt; index.place_of(tenants, 7), 1);
+    assert_eq!(rt; index.place_of(tenants, 8), 2);
+    assert_eq!(rt; index.find(tenants, 3), Some(&(3, 30)));
+    assert_eq!(rt; index.find(tenants, 8), None);
+}
+
+/// A number takes the guess of another that shares its place.
 #[test]
 fn a_number_takes_the_guess_of_one_that_shares_its_place(rt: HostRuntime) -> Result<(), Fail> {
     let mut guesses = Guesses::new(rt.alloc(), 6)?;
