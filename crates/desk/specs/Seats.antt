@@ -5,20 +5,20 @@ use Rattle.sched_rules.specs.declared.refusal.Refusal.TheVariants.{NoTenant, NoS
 use Rattle.hall.specs.jamboree.Replies.{board_of, depth_of}
 use Rattle.hall.specs.jamboree_core.declared.outcomes.Outcome.{Outcome}
 use Rattle.hall.specs.jamboree_core.declared.outcomes.Outcome.TheVariants.{Pending, Done, Spent, Cancelled}
-use Rattle.desk.specs.declared.seat.Asked.{Asked}
+use Rattle.desk.specs.declared.seat.SeatAsked.{SeatAsked}
 
 -- a seat: its tenant, the number of its own steps, and what it asked, from job 1 on
 pub record SeatOf : Type 0 where
   pub tenant : ℕ
   pub share : ℕ
-  pub asked : List Asked
+  pub asked : List SeatAsked
 
 -- the seat after one more of its steps
 abbrev pub stepped : SeatOf → SeatOf
 stepped seat = record { tenant = seat.tenant; share = seat.share + 1; asked = seat.asked }
 
 -- the seat after it asked this
-abbrev pub with_asked : Asked → SeatOf → SeatOf
+abbrev pub with_asked : SeatAsked → SeatOf → SeatOf
 with_asked asked seat = record { tenant = seat.tenant; share = seat.share + 1; asked = seat.asked ++ asked ∷ [] }
 
 -- as what an admission can be refused: 64 tenants are there or too little is left, all 2^62 numbers were given, no memory
@@ -40,35 +40,35 @@ cancel_refusals = NoTenant ∷ NoJob ∷ []
 
 -- how a seat's ask is answered: it stands in the list then, whose new length is the number of the job; or the seat is as it was, and the
 -- refusal is NoJobsLeft where the list is full
-abbrev pub IsAsked : Asked → SeatOf → Result ℕ Refusal → SeatOf → Type 0
+abbrev pub IsAsked : SeatAsked → SeatOf → Result ℕ Refusal → SeatOf → Type 0
 IsAsked asked before (Ok job) after = (after ≡ with_asked asked before) × (job ≡ length after.asked) × (length before.asked ≢ 256)
 IsAsked asked before (Err refusal) after = (after ≡ before) × (length before.asked ≡ 256 → refusal ≡ NoJobsLeft)
 
 -- what was asked by the job of this number, from 1 on; nothing where the number is 0 or over the length
-abbrev pub asked_at : List Asked → ℕ → Option Asked
-asked_at [] job = None
-asked_at (asked ∷ later) job = if job == 1 then Some asked else asked_at later (job - 1)
+abbrev pub seat_asked_at : List SeatAsked → ℕ → Option SeatAsked
+seat_asked_at [] job = None
+seat_asked_at (asked ∷ later) job = if job == 1 then Some asked else seat_asked_at later (job - 1)
 
 -- a job that is shown as done is so by a reply to just what was asked
-abbrev pub Shows : Asked → Outcome → Type 0
+abbrev pub Shows : SeatAsked → Outcome → Type 0
 Shows asked Pending = Unit {0}
 Shows asked (Done reply) = ((board_of reply).own ≡ asked.board.own) × ((board_of reply).opp ≡ asked.board.opp) × (depth_of reply ≡ asked.depth)
 Shows asked Spent = Unit {0}
 Shows asked Cancelled = Unit {0}
 
 -- what is shown of a job: NoJob exactly where nothing was asked under its number
-abbrev pub IsShown : Option Asked → Result Outcome Refusal → Type 0
+abbrev pub IsShown : Option SeatAsked → Result Outcome Refusal → Type 0
 IsShown None answer = answer ≡ Err NoJob
 IsShown (Some asked) (Ok outcome) = Shows asked outcome
 IsShown (Some asked) (Err refusal) = ⊥
 
 -- what is told of a job is shown where it fits what was asked; else the job is shown as pending
-abbrev pub IsShownOf : Asked → Option Outcome → Outcome → Type 0
+abbrev pub IsShownOf : SeatAsked → Option Outcome → Outcome → Type 0
 IsShownOf asked None shown = shown ≡ Pending
 IsShownOf asked (Some told) shown = (Shows asked told → shown ≡ told) × ((Shows asked told → ⊥) → shown ≡ Pending)
 
 -- so it is answered, where something was asked
-abbrev pub IsToldBy : Option Asked → Option Outcome → Result Outcome Refusal → Type 0
+abbrev pub IsToldBy : Option SeatAsked → Option Outcome → Result Outcome Refusal → Type 0
 IsToldBy None told answer = Unit {0}
 IsToldBy (Some asked) told (Ok shown) = IsShownOf asked told shown
 IsToldBy (Some asked) told (Err refusal) = ⊥

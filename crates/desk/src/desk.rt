@@ -3,7 +3,7 @@ ghost use Rattle.std.specs.Prelude.{◌≡◌, ◌≢◌, ◌+◌, ◌≤◌, []
 ghost use Rattle.sched_rules.specs.declared.refusal.Refusal.TheVariants.{NoJob, NoTenant, OutOfMemory};
 ghost use Rattle.hall.specs.Journals.{is_worker_step};
 ghost use Rattle.hall.specs.Halls.{count_of};
-ghost use Rattle.desk.specs.Seats.{admit_refusals, reserve_refusals, ask_refusals, cancel_refusals, stepped, asked_at, IsAsked, IsShown};
+ghost use Rattle.desk.specs.Seats.{admit_refusals, reserve_refusals, ask_refusals, cancel_refusals, stepped, seat_asked_at, IsAsked, IsShown};
 
 use crate::change::Change;
 use crate::kept::Kept;
@@ -105,14 +105,14 @@ impl<L: Hands, A: Allocator + Clone> Desk<L, A> {
     /// What became of a job. Refused as `NoJob` exactly where its number is 0 or over the length of the
     /// seat's list; shown as done only with a reply to what stands there.
     pub fn get<R: Wait>(&self, rt: &R, seat: &Seat<L>, job: u64) -> Result<Outcome, Refusal>
-        ensures { IsShown (asked_at seat.now.asked job) result }
+        ensures { IsShown (seat_asked_at seat.now.asked job) result }
     {
         self.enter(rt).get(seat, job)
     }
 
     /// What became of a job once it has ended, or the desk was closed; refused as `get` is.
     pub fn wait<R: Wait>(&self, rt: &R, seat: &Seat<L>, job: u64) -> Result<Outcome, Refusal>
-        ensures { IsShown (asked_at seat.now.asked job) result }
+        ensures { IsShown (seat_asked_at seat.now.asked job) result }
     {
         let tenant = seat.tenant();
         let kept = self
@@ -125,7 +125,7 @@ impl<L: Hands, A: Allocator + Clone> Desk<L, A> {
     /// or it has ended, and else at most as `NoTenant`.
     pub fn cancel<R: Wait>(&self, rt: &R, seat: &mut Seat<L>, job: u64) -> Result<(), Refusal>
         ensures share { MatchResult result (λ _. seat.new ≡ stepped seat.old) (λ _. seat.new ≡ seat.old) }
-        ensures none { asked_at seat.old.asked job ≡ None → result ≡ Err NoJob }
+        ensures none { seat_asked_at seat.old.asked job ≡ None → result ≡ Err NoJob }
         ensures refused { IfErr result (Contains cancel_refusals) }
     {
         self.enter(rt).cancel(seat, job)?;

@@ -12,10 +12,10 @@ ghost use Rattle.sched_rules.specs.Views.{left_of, live_of, job_of};
 ghost use Rattle.hall.specs.jamboree_core.Replies.{IsSearch};
 ghost use Rattle.hall.specs.jamboree_core.declared.outcomes.Outcome.{Outcome as OutcomeOf};
 ghost use Rattle.hall.specs.jamboree_core.Outcomes.{IsOutcomeIn};
-ghost use Rattle.desk.specs.Seats.{admit_refusals, reserve_refusals, ask_refusals, cancel_refusals, stepped, asked_at, IsAsked, Shows, IsShown, IsShownOf, IsToldBy};
+ghost use Rattle.desk.specs.Seats.{admit_refusals, reserve_refusals, ask_refusals, cancel_refusals, stepped, seat_asked_at, IsAsked, Shows, IsShown, IsShownOf, IsToldBy};
 ghost use Rattle.desk.specs.Counts.{IsOffered, IsLeft, IsAsOpen, IsNext, with_kept, found_or_no_tenant, waits_on, has_news};
 
-use crate::seat::{Asked, JOBS, Seat};
+use crate::seat::{JOBS, Seat, SeatAsked};
 use crate::shares::{Badge, Hands, PARTS};
 use arrayvec::ArrayVec;
 use frame_tree::FrameId;
@@ -172,7 +172,7 @@ impl<L: Hands, A: Allocator + Clone> Kept<L, A> {
         let search = submit(seat.tenant, position, depth);
         self.take(&mut seat.mine, &search)?;
         seat.steps += 1;
-        seat.asked.push(Asked {
+        seat.asked.push(SeatAsked {
             board: position.board,
             depth,
         });
@@ -182,14 +182,14 @@ impl<L: Hands, A: Allocator + Clone> Kept<L, A> {
     /// Cancels a seat's job.
     pub(crate) fn cancel(&mut self, seat: &mut Seat<L>, job: u64) -> Result<(), Refusal>
         ensures share { MatchResult result (λ _. seat.new ≡ stepped seat.old) (λ _. seat.new ≡ seat.old) }
-        ensures none { asked_at seat.old.asked job ≡ None → (result ≡ Err NoJob) × (self.new ≡ self.old) }
+        ensures none { seat_asked_at seat.old.asked job ≡ None → (result ≡ Err NoJob) × (self.new ≡ self.old) }
         ensures step { MatchResult result
             (λ _. (did : DidOf LeafOf) × IsOffered self.old.hall (Cancel seat.old.tenant job) (Ok did) self.new.hall)
-            (λ refusal. asked_at seat.old.asked job ≢ None → IsOffered self.old.hall (Cancel seat.old.tenant job) (Err refusal) self.new.hall) }
+            (λ refusal. seat_asked_at seat.old.asked job ≢ None → IsOffered self.old.hall (Cancel seat.old.tenant job) (Err refusal) self.new.hall) }
         ensures others { IsAsOpen self.old self.new }
         ensures refused { IfErr result (Contains cancel_refusals) }
     {
-        if asked_at(seat.asked.as_slice(), job).is_none() {
+        if seat_asked_at(seat.asked.as_slice(), job).is_none() {
             return Err(Refusal::NoJob);
         }
         let step = StepOf::Cancel(seat.tenant, job);
@@ -220,11 +220,11 @@ impl<L: Hands, A: Allocator + Clone> Kept<L, A> {
 
     /// What became of a seat's job.
     pub(crate) fn get(&self, seat: &Seat<L>, job: u64) -> Result<Outcome, Refusal>
-        ensures shown { IsShown (asked_at seat.now.asked job) result }
-        ensures told { (told : Option OutcomeOf) × IsOutcomeIn (job_of self.now.hall.shared seat.now.tenant job) told × IsToldBy (asked_at seat.now.asked job) told result }
+        ensures shown { IsShown (seat_asked_at seat.now.asked job) result }
+        ensures told { (told : Option OutcomeOf) × IsOutcomeIn (job_of self.now.hall.shared seat.now.tenant job) told × IsToldBy (seat_asked_at seat.now.asked job) told result }
     {
         let told = self.hall.outcome(seat.tenant(), job);
-        match asked_at(seat.asked(), job) {
+        match seat_asked_at(seat.asked(), job) {
             Some(asked) => Ok(shown(asked, told)),
             None => Err(Refusal::NoJob),
         }
@@ -394,8 +394,8 @@ impl<L: Hands, A: Allocator + Clone> Kept<L, A> {
 }
 
 /// What was asked by the job of this number, from 1 on.
-fn asked_at(asked: &[Asked], job: u64) -> Option<&Asked>
-    ensures { option_copied result ≡ asked_at asked.now job }
+fn seat_asked_at(asked: &[SeatAsked], job: u64) -> Option<&SeatAsked>
+    ensures { option_copied result ≡ seat_asked_at asked.now job }
 {
     if job == 0 {
         return None;
@@ -409,7 +409,7 @@ fn asked_at(asked: &[Asked], job: u64) -> Option<&Asked>
 }
 
 /// What is shown of a job that asked this: done only with a reply to just that.
-fn shown(asked: &Asked, told: Option<Outcome>) -> Outcome
+fn shown(asked: &SeatAsked, told: Option<Outcome>) -> Outcome
     ensures fits { Shows asked.now result }
     ensures told { IsShownOf asked.now told result }
 {

@@ -47,7 +47,7 @@ pub use hall::{
     Config, Did, DidOf, Hall, Jamboree, Leaf, LeafAnswer, Outcome, Refusal, Reply, Step, StepOf,
     Worker,
 };
-pub use seat::{Asked, Seat};
+pub use seat::{Seat, SeatAsked};
 pub use shares::{Badge, Hands, PARTS};
 
 #[cfg(test)]

@@ -12,7 +12,7 @@ pub(crate) const JOBS: usize = 256;
 
 /// What was asked: a board, seen by the player to move, and a depth of 0 to 12 plies.
 #[derive(Clone, Copy, Debug, PartialEq, Eq)]
-pub struct Asked {
+pub struct SeatAsked {
     /// The board.
     pub board: Board,
     /// The depth.
@@ -20,9 +20,9 @@ pub struct Asked {
 }
 
 // An `ArrayVec` fills its free places with some value.
-impl Default for Asked {
-    fn default() -> Asked {
-        Asked {
+impl Default for SeatAsked {
+    fn default() -> SeatAsked {
+        SeatAsked {
             board: Board { own: 0, opp: 0 },
             depth: 0,
         }
@@ -36,7 +36,7 @@ pub struct Seat<L: Hands> {
     pub(crate) tenant: u64,
     pub(crate) mine: Share<L>,
     pub(crate) steps: u128,
-    pub(crate) asked: ArrayVec<Asked, JOBS>,
+    pub(crate) asked: ArrayVec<SeatAsked, JOBS>,
 }
 
 // Clauses see the tenant, the share and the list.
@@ -67,7 +67,7 @@ impl<L: Hands> Seat<L> {
     }
 
     /// What it asked, from job 1 on; at most 256.
-    pub fn asked(&self) -> &[Asked]
+    pub fn asked(&self) -> &[SeatAsked]
         ensures asked { result.now ≡ self.now.asked }
         ensures few { length result.now ≤ 256 }
     {

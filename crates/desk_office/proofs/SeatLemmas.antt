@@ -16,24 +16,19 @@ use Rattle.sched_rules.specs.declared.refusal.Refusal.TheVariants.{NoJob}
 use Rattle.sched_rules.specs.Refusals.{refusal_number}
 use Rattle.tenant_quota.specs.Quota.{Quota}
 use Rattle.session.specs.Calls.{Call, Cancel, Reserve, Reserved, Ended, Told as ToldOf, Refused, reply_of}
-use Rattle.session.specs.Asks.{Asked as SessionAsked, asked_at, asks_after, IsFound, IsToldOf, KeepsAsks, SaysTrue, ShowsFound}
-use Rattle.session.specs.declared.outcome.Finding.{Finding}
-use Rattle.session.specs.declared.outcome.Outcome.{Outcome as Told}
-use Rattle.desk.specs.declared.seat.Asked.{Asked}
-use Rattle.desk.specs.Seats.{SeatOf, cancel_refusals, reserve_refusals, stepped, IsShown, asked_at as seat_asked_at}
-use Rattle.desk_office.specs.Offices.{ask_of, asks_of, told, told_answer}
+use Rattle.session.specs.Asks.{Asked, asked_at, asks_after, IsAnalysisOf, IsToldOf, KeepsAsks, SaysTrue, ShowsFound}
+use Rattle.session.specs.declared.standings.Standing.{Standing}
+use Rattle.desk.specs.declared.seat.SeatAsked.{SeatAsked}
+use Rattle.desk.specs.Seats.{SeatOf, cancel_refusals, reserve_refusals, stepped, IsShown, seat_asked_at}
+use Rattle.desk_office.specs.Offices.{ask_of, asks_of, analysis_of, standing_of, told_answer}
 
 -- what was asked under a number
-asked_at-map : (asks : List Asked) (job : ℕ) → asked_at (map ask_of asks) job ≡ option_map ask_of (seat_asked_at asks job)
+asked_at-map : (asks : List SeatAsked) (job : ℕ) → asked_at (map ask_of asks) job ≡ option_map ask_of (seat_asked_at asks job)
 asked_at-map [] job = refl
 asked_at-map (a ∷ more) job =
     elim (job == 1) as (λ t. (if t then Some (ask_of a) else asked_at (map ask_of more) (job - 1)) ≡ option_map ask_of (if t then Some a else seat_asked_at more (job - 1))) [ true ↦ refl | false ↦ asked_at-map more (job - 1) ]
 
--- what a reply is told as
-abbrev finding_of : Reply → Finding
-finding_of reply = record { value = minimax (depth_of reply) (cells (board_of reply)); choice = best_choice (depth_of reply) (cells (board_of reply)); bounds = table_of reply }
-
-found : (asks : List Asked) (job : ℕ) (reply : Reply) (o : Option Asked) → seat_asked_at asks job ≡ o → IsShown o (Ok (Done reply)) → IsFound (map ask_of asks) job (finding_of reply)
+found : (asks : List SeatAsked) (job : ℕ) (reply : Reply) (o : Option SeatAsked) → seat_asked_at asks job ≡ o → IsShown o (Ok (Done reply)) → IsAnalysisOf (map ask_of asks) job (analysis_of reply)
 found asks job reply None e h = absurd (cc h)
 found asks job reply (Some a) e h =
     let board : cells (board_of reply) ≡ cells a.board = ap₂ cells_of h.0 h.1 in
@@ -46,31 +41,31 @@ found asks job reply (Some a) e h =
     }
 
 -- a job that is shown is shown with what was found for it
-shown_found : (asks : List Asked) (job : ℕ) (outcome : Outcome) → IsShown (seat_asked_at asks job) (Ok outcome) → ShowsFound (map ask_of asks) job (told outcome)
+shown_found : (asks : List SeatAsked) (job : ℕ) (outcome : Outcome) → IsShown (seat_asked_at asks job) (Ok outcome) → ShowsFound (map ask_of asks) job (standing_of outcome)
 shown_found asks job Pending h = tt
 shown_found asks job (Done reply) h = found asks job reply (seat_asked_at asks job) refl h
 shown_found asks job Spent h = tt
 shown_found asks job Cancelled h = tt
 
 -- how a job stands is told where something was asked under its number, and else refused
-told_of : (job : ℕ) (o : Option Asked) (answer : Result Outcome Refusal) → IsShown o answer → IsToldOf job (option_map ask_of o) (reply_of (ToldOf job) (told_answer answer))
+told_of : (job : ℕ) (o : Option SeatAsked) (answer : Result Outcome Refusal) → IsShown o answer → IsToldOf job (option_map ask_of o) (reply_of (ToldOf job) (told_answer answer))
 told_of job None (Ok outcome) h = absurd (cc h)
 told_of job None (Err refusal) h = let is : refusal ≡ NoJob = cc h in ap (λ r. Refused (refusal_number r)) is
-told_of job (Some asked) (Ok outcome) h = (told outcome, refl)
+told_of job (Some asked) (Ok outcome) h = (standing_of outcome, refl)
 told_of job (Some asked) (Err refusal) h = absurd h
 
 -- what a seat's list makes of an answer
-says : (asks : List Asked) (job : ℕ) (answer : Result Outcome Refusal) → IsShown (seat_asked_at asks job) answer → SaysTrue (map ask_of asks) (reply_of (ToldOf job) (told_answer answer))
+says : (asks : List SeatAsked) (job : ℕ) (answer : Result Outcome Refusal) → IsShown (seat_asked_at asks job) answer → SaysTrue (map ask_of asks) (reply_of (ToldOf job) (told_answer answer))
 says asks job (Ok outcome) h = shown_found asks job outcome h
 says asks job (Err refusal) h = tt
 
 -- an answer about a job changes no ask
-pub same_asks : (asks : List SessionAsked) (call : Call) (job : ℕ) (said : Result Told Refusal) → asks ≡ asks_after asks call (reply_of (ToldOf job) said)
+pub same_asks : (asks : List Asked) (call : Call) (job : ℕ) (said : Result Standing Refusal) → asks ≡ asks_after asks call (reply_of (ToldOf job) said)
 same_asks asks call job (Ok outcome) = refl
 same_asks asks call job (Err refusal) = refl
 
 -- what the seat that is there shows of a job
-pub seat_shows : (here : Option SeatOf) (seat : SeatOf) (job : ℕ) (answer : Result Outcome Refusal) (said : Result Told Refusal) → here ≡ Some seat → IsShown (seat_asked_at seat.asked job) answer → said ≡ told_answer answer
+pub seat_shows : (here : Option SeatOf) (seat : SeatOf) (job : ℕ) (answer : Result Outcome Refusal) (said : Result Standing Refusal) → here ≡ Some seat → IsShown (seat_asked_at seat.asked job) answer → said ≡ told_answer answer
     → SaysTrue (asks_of here) (reply_of (ToldOf job) said) × IsToldOf job (asked_at (asks_of here) job) (reply_of (ToldOf job) said)
 seat_shows here seat job answer said is shown says_so =
     let tells : IsToldOf job (asked_at (map ask_of seat.asked) job) (reply_of (ToldOf job) (told_answer answer)) =
@@ -83,7 +78,7 @@ refused_by : (refusals : List Refusal) (refusal : Refusal) → Contains refusals
 refused_by refusals refusal h = (h.0, subst (λ n. h.0 < n) (sym (length-map refusals refusal_number)) h.1, get_or-map refusal_number refusals h.0 refusal ∙ ap refusal_number h.2)
 
 -- nothing is asked under a number where the seat has nothing
-unasked : (o : Option Asked) → option_map ask_of o ≡ None → o ≡ None
+unasked : (o : Option SeatAsked) → option_map ask_of o ≡ None → o ≡ None
 unasked None h = refl
 unasked (Some asked) h = absurd (cc h)
 

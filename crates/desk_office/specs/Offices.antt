@@ -3,13 +3,15 @@ use Rattle.std.specs.Prelude.{List, [], map, Option, Some, None, Result, Ok, Err
 use Rattle.othello_board.specs.Words.{cells}
 use Rattle.othello_eval.specs.Minimax.{minimax, best_choice}
 use Rattle.sched_rules.specs.declared.refusal.Refusal.{Refusal}
+use Rattle.desk.specs.jamboree.declared.reply.Reply.{Reply}
 use Rattle.desk.specs.jamboree.Replies.{board_of, depth_of, table_of}
 use Rattle.desk.specs.jamboree_core.declared.outcomes.Outcome.{Outcome}
 use Rattle.desk.specs.jamboree_core.declared.outcomes.Outcome.TheVariants.{Pending, Done, Spent, Cancelled}
-use Rattle.session.specs.declared.outcome.Outcome.{Outcome as Told}
-use Rattle.session.specs.declared.outcome.Outcome.TheVariants.{Pending as pending, Done as done, Spent as spent, Cancelled as cancelled}
+use Rattle.session.specs.declared.standings.Analysis.{Analysis}
+use Rattle.session.specs.declared.standings.Standing.{Standing}
+use Rattle.session.specs.declared.standings.Standing.TheVariants.{Pending as pending, Done as done, Spent as spent, Cancelled as cancelled}
 use Rattle.session.specs.Asks.{Asked}
-use Rattle.desk.specs.declared.seat.Asked.{Asked as SeatAsked}
+use Rattle.desk.specs.declared.seat.SeatAsked.{SeatAsked}
 use Rattle.desk.specs.Seats.{SeatOf}
 
 -- what was asked, as a list of cells and a depth
@@ -21,14 +23,18 @@ abbrev pub asks_of : Option SeatOf → List Asked
 asks_of None = []
 asks_of (Some seat) = map ask_of seat.asked
 
--- how a job stands: a reply is told by the minimax value and the best choice of its board to its depth, and by its table
-abbrev pub told : Outcome → Told
-told Pending = pending
-told (Done reply) = done (record { value = minimax (depth_of reply) (cells (board_of reply)); choice = best_choice (depth_of reply) (cells (board_of reply)); bounds = table_of reply })
-told Spent = spent
-told Cancelled = cancelled
+-- a reply is told by the minimax value and the best choice of its board to its depth, and by its table
+abbrev pub analysis_of : Reply → Analysis
+analysis_of reply = record { best = record { value = minimax (depth_of reply) (cells (board_of reply)); choice = best_choice (depth_of reply) (cells (board_of reply)) }; bounds = table_of reply }
+
+-- how a job stands
+abbrev pub standing_of : Outcome → Standing
+standing_of Pending = pending
+standing_of (Done reply) = done (analysis_of reply)
+standing_of Spent = spent
+standing_of Cancelled = cancelled
 
 -- what is answered of a job
-abbrev pub told_answer : Result Outcome Refusal → Result Told Refusal
-told_answer (Ok outcome) = Ok (told outcome)
+abbrev pub told_answer : Result Outcome Refusal → Result Standing Refusal
+told_answer (Ok outcome) = Ok (standing_of outcome)
 told_answer (Err refusal) = Err refusal

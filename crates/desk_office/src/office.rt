@@ -5,7 +5,7 @@ ghost use Rattle.desk_office.specs.Offices.{asks_of};
 
 use crate::outcomes::told_answer;
 use desk::{Desk, Hands, Refusal, Seat};
-use session::{Live, Office, Outcome, Question};
+use session::{Live, Office, Question, Standing};
 use std::alloc::{Allocator, Global};
 use std::sync::Wait;
 use tenant_quota::{Left, Reserve};
@@ -63,19 +63,21 @@ impl<L: Hands, R: Wait, A: Allocator + Clone> Office for DeskOffice<'_, L, R, A>
 
     fn ask(&mut self, question: &Question) -> Result<u64, Refusal> {
         match &mut self.seat {
-            Some(seat) => self.desk.ask(self.rt, seat, &question.position, question.depth),
+            Some(seat) => self
+                .desk
+                .ask(self.rt, seat, &question.position, question.depth),
             None => Err(Refusal::NoTenant),
         }
     }
 
-    fn get(&mut self, job: u64) -> Result<Outcome, Refusal> {
+    fn get(&mut self, job: u64) -> Result<Standing, Refusal> {
         match &self.seat {
             Some(seat) => told_answer(self.desk.get(self.rt, seat, job)),
             None => Err(Refusal::NoJob),
         }
     }
 
-    fn wait(&mut self, job: u64) -> Result<Outcome, Refusal> {
+    fn wait(&mut self, job: u64) -> Result<Standing, Refusal> {
         match &self.seat {
             Some(seat) => told_answer(self.desk.wait(self.rt, seat, job)),
             None => Err(Refusal::NoJob),

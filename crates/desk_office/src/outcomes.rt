@@ -1,10 +1,11 @@
 //! How a job stands, as a session tells it.
 ghost use Rattle.std.specs.Prelude.{◌≡◌};
 ghost use Rattle.desk.specs.jamboree.Replies.{table_of};
-ghost use Rattle.desk_office.specs.Offices.{told, told_answer};
+ghost use Rattle.desk_office.specs.Offices.{standing_of, told_answer};
 
 use desk::{Outcome, Refusal, Reply};
-use session::{Bounds, Finding, Outcome as Told};
+use othello_eval::Valued;
+use session::{Analysis, Bounds, Standing};
 
 /// What a reply says of each choice.
 fn bounds_of(reply: &Reply) -> Bounds
@@ -20,24 +21,26 @@ fn bounds_of(reply: &Reply) -> Bounds
 }
 
 /// How a job stands: a reply is told by its value, its choice and what it says of each choice.
-fn told(outcome: Outcome) -> Told
-    ensures { result ≡ told outcome }
+fn standing_of(outcome: Outcome) -> Standing
+    ensures { result ≡ standing_of outcome }
 {
     match outcome {
-        Outcome::Pending => Told::Pending,
-        Outcome::Done(reply) => Told::Done(Finding {
-            value: reply.value(),
-            choice: reply.choice(),
+        Outcome::Pending => Standing::Pending,
+        Outcome::Done(reply) => Standing::Done(Analysis {
+            best: Valued {
+                value: reply.value(),
+                choice: reply.choice(),
+            },
             bounds: bounds_of(&reply),
         }),
-        Outcome::Spent => Told::Spent,
-        Outcome::Cancelled => Told::Cancelled,
+        Outcome::Spent => Standing::Spent,
+        Outcome::Cancelled => Standing::Cancelled,
     }
 }
 
 /// What a desk answers of a job, as a session tells it.
-pub(crate) fn told_answer(answer: Result<Outcome, Refusal>) -> Result<Told, Refusal>
+pub(crate) fn told_answer(answer: Result<Outcome, Refusal>) -> Result<Standing, Refusal>
     ensures { result ≡ told_answer answer }
 {
-    Ok(told(answer?))
+    Ok(standing_of(answer?))
 }

@@ -7,10 +7,10 @@ use Rattle.line_io.specs.declared.cutting.Line.TheVariants.{Whole as whole_line,
 use Rattle.line_io.specs.Lines.{LineText, Whole, TooLong}
 
 -- the number of a fault
-abbrev pub number_of : LineFault → ℕ
-number_of Read = 1
-number_of Write = 2
-number_of TooMuch = 3
+abbrev pub line_fault_number : LineFault → ℕ
+line_fault_number Read = 1
+line_fault_number Write = 2
+line_fault_number TooMuch = 3
 
 -- a line as data
 abbrev pub text_of : Line → LineText

@@ -1,6 +1,6 @@
 //! Why a run ended before its input did.
 ghost use Rattle.std.specs.Prelude.{◌≡◌};
-ghost use Rattle.line_io.specs.Views.{number_of};
+ghost use Rattle.line_io.specs.Views.{line_fault_number};
 ghost use Rattle.line_io.specs.declared.faults.LineFault.TheVariants.{Read, Write};
 
 use thiserror::Error;
@@ -30,7 +30,7 @@ pub enum LineFault {
 impl LineFault {
     /// The number of the fault.
     pub fn number(self) -> u8
-        ensures { result ≡ number_of self }
+        ensures { result ≡ line_fault_number self }
     {
         match self {
             LineFault::Read => 1,

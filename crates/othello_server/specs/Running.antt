@@ -12,7 +12,7 @@ use Rattle.command_line.specs.declared.options.Options.TheVariants.{Serve, Solve
 use Rattle.command_line.specs.declared.faults.WordsFault.{WordsFault}
 use Rattle.command_line.specs.CommandLine.{options_asked, program}
 use Rattle.command_line.specs.Faults.{IsRefusal, status_of}
-use Rattle.othello_server.specs.declared.asked.Asked.{Asked}
+use Rattle.othello_server.specs.declared.service.Service.{Service}
 
 -- the words are read as what they ask for, and refused only for a fault that they have or for want of memory
 abbrev pub IsReadOf : List Text → Result Options WordsFault → Type 0
@@ -20,7 +20,7 @@ IsReadOf words (Ok options) = (options_asked words ≡ Some options) × (fault_o
 IsReadOf words (Err fault) = IsRefusal words fault
 
 -- what a server runs with: each amount as the options say it; nothing where they ask for no server
-abbrev pub IsAskedBy : Options → Option Asked → Type 0
+abbrev pub IsAskedBy : Options → Option Service → Type 0
 IsAskedBy (Solve grain visited) None = Unit {0}
 IsAskedBy (Solve grain visited) (Some asked) = ⊥
 IsAskedBy (Serve sessions port workers segments nodes grain) None = ⊥

@@ -15,8 +15,8 @@
 //! ```
 #![tactic(auto)]
 
-mod asked;
 mod running;
+mod service;
 mod serving;
 
 use line_io::{FromReader, FromWriter};

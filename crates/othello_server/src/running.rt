@@ -6,7 +6,7 @@ ghost use Rattle.command_line.specs.declared.faults.WordsFault.{WordsFault};
 ghost use Rattle.command_line.specs.Faults.{status_of};
 ghost use Rattle.othello_server.specs.Running.{IsAnsweredRun, IsFollowed, IsReadOf, status_of_run};
 
-use crate::asked::Asked;
+use crate::service::Service;
 use crate::serving::serve_as_asked;
 use command_line::{Options, WordsFault};
 use line_io::{FromReader, FromWriter, LineFault, Sink, Source, write_text};
@@ -81,7 +81,7 @@ where
             answer(alloc, grain, visited, source, sink, errors)
         }
         Ok(options) => {
-            let asked = Asked::of(options).unwrap();
+            let asked = Service::of(options).unwrap();
             let blank = Blank::new(PARTS);
             serve_as_asked::<Brand, R, K, E>(rt, alloc, blank, asked, sink, errors)
         }

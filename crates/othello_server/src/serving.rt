@@ -3,8 +3,8 @@ ghost use Rattle.std.specs.Prelude.{◌≡◌, ◌≤◌, true, Ok};
 ghost use Rattle.line_io.specs.Writes.{IsWritten};
 ghost use Rattle.othello_server.specs.Running.{IsServed, ended_text, listening_text};
 
-use crate::asked::Asked;
 use crate::running::{DONE, FAILED, say};
+use crate::service::Service;
 use command_line::Options;
 use line_io::{Sink, write_text};
 use sched_rules::Worker;
@@ -22,13 +22,13 @@ use tcp_server::steal_pool::Open;
 /// What is said where a line could not be written.
 const UNWRITTEN: &str = "the output could not be written";
 
-impl Asked {
+impl Service {
     ghost use Rattle.command_line.specs.CommandLine.{IsWithinLimits};
     ghost use Rattle.othello_server.specs.Running.{IsAskedBy};
 
     /// What a server is asked to be by these options: each amount as it was read. `None` exactly where they ask for
     /// no server.
-    pub fn of(options: Options) -> Option<Asked>
+    pub fn of(options: Options) -> Option<Service>
         requires { IsWithinLimits options }
         ensures { IsAskedBy options result }
     {
@@ -41,7 +41,7 @@ impl Asked {
                 segments,
                 nodes,
                 grain,
-            } => Some(Asked {
+            } => Some(Service {
                 sessions,
                 port,
                 workers: Worker::new(workers).unwrap(),
@@ -59,7 +59,7 @@ pub fn serve_as_asked<L, R, K: Sink, E: Sink>(
     rt: &R,
     alloc: Global,
     blank: Blank,
-    asked: Asked,
+    asked: Service,
     sink: &mut K,
     errors: &mut E,
 ) -> u8

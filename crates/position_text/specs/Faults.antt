@@ -4,7 +4,7 @@ use Rattle.position_text.specs.declared.faults.TextFault.{TextFault}
 use Rattle.position_text.specs.declared.faults.TextFault.TheVariants.{Length, BadCell, BadSide}
 
 -- 1 for the length, 2 for a bad cell, 3 for a bad side
-abbrev pub number_of : TextFault → ℕ
-number_of Length = 1
-number_of (BadCell at) = 2
-number_of BadSide = 3
+abbrev pub text_fault_number : TextFault → ℕ
+text_fault_number Length = 1
+text_fault_number (BadCell at) = 2
+text_fault_number BadSide = 3

@@ -17,11 +17,11 @@ pub enum TextFault {
 
 impl TextFault {
     ghost use Rattle.std.specs.Prelude.{◌≡◌};
-    ghost use Rattle.position_text.specs.Faults.{number_of};
+    ghost use Rattle.position_text.specs.Faults.{text_fault_number};
 
     /// The number of the fault: 1 for Length, 2 for BadCell, 3 for BadSide.
     pub fn number(&self) -> u8
-        ensures { result ≡ number_of self.now }
+        ensures { result ≡ text_fault_number self.now }
     {
         match self {
             TextFault::Length => 1,

@@ -2,16 +2,16 @@
 use Rattle.std.proofs.Common.{◌≡◌, ℕ, ◌+◌, List, [], ◌∷◌, ◌++◌, length, Bool, true, false, Option, Some, None, refl, sym, ap, ◌∙◌}
 use Rattle.line_io.specs.Lines.{LineText, Whole, TooLong}
 use Rattle.tenant_quota.specs.Quota.{Quota}
-use Rattle.session.specs.declared.outcome.Outcome.{Outcome}
-use Rattle.session.specs.declared.outcome.Outcome.TheVariants.{Pending, Done, Spent, Cancelled}
-use Rattle.session.specs.Calls.{Call, Hello, Get, Reply, Welcome, Reserved, Job, Told, Ended, Rest, Alive, Gone, Refused}
+use Rattle.session.specs.declared.standings.Standing.{Standing}
+use Rattle.session.specs.declared.standings.Standing.TheVariants.{Pending, Done, Spent, Cancelled}
+use Rattle.session.specs.Calls.{Call, Hello, Get, OfficeReply, Welcome, Reserved, Job, Told, Ended, Rest, Alive, Gone, Refused}
 use Rattle.session.specs.Forms.{Form, HelloOf, ReserveOf, AskOf, GetOf, WaitOf, CancelOf, TableOf, QuotaForm, LiveForm, ByeForm, form_of}
 use Rattle.session.specs.Requests.{Request, Fault, Makes, Tabulates, Ends, request, form_request, quota_of, quota_request}
 use Rattle.session.specs.Turns.{Faulted, Closed, turns, turn_text, reply_text, table_text, calls_in, leaving, next_reply, later_replies, seated_after}
 use Rattle.session.specs.Sessions.{calls_for}
 use Rattle.session.specs.Asks.{Asked, asked_at, with_ask, asks_after, SaysTrue, ShowsFound, AllTrue}
 use Rattle.session.proofs.Served.{next_turns}
-use Rattle.session.specs.DoneLines.{with_request, asks_of_lines, OutcomeHolds, ReplyHolds, TableHolds, TableReplyHolds, EachDoneIsTrue}
+use Rattle.session.specs.DoneLines.{with_request, asks_of_lines, StandingHolds, ReplyHolds, TableHolds, TableReplyHolds, EachDoneIsTrue}
 
 -- ---- where no tenant is there, nothing is asked for
 
@@ -78,36 +78,36 @@ still_empty false (Whole bytes) asks call h empty = sym (early_same (form_of byt
 abbrev Known : Bool → List (LineText × List ℕ) → List Asked → Type 0
 Known seated before asks = (asks ≡ asks_of_lines before) × EmptyWithout seated asks
 
-outcome_holds : (before : List (LineText × List ℕ)) (asks : List Asked) (job : ℕ) (outcome : Outcome) → asks ≡ asks_of_lines before → ShowsFound asks job outcome → OutcomeHolds before job outcome
-outcome_holds before asks job Pending known h = tt
-outcome_holds before asks job (Done finding) known h =
+standing_holds : (before : List (LineText × List ℕ)) (asks : List Asked) (job : ℕ) (standing : Standing) → asks ≡ asks_of_lines before → ShowsFound asks job standing → StandingHolds before job standing
+standing_holds before asks job Pending known h = tt
+standing_holds before asks job (Done analysis) known h =
     record { asked = h.asked; is = ap (λ a. asked_at a job) (sym known) ∙ h.is; value = h.value; choice = h.choice }
-outcome_holds before asks job Spent known h = tt
-outcome_holds before asks job Cancelled known h = tt
+standing_holds before asks job Spent known h = tt
+standing_holds before asks job Cancelled known h = tt
 
-reply_holds : (before : List (LineText × List ℕ)) (asks : List Asked) (reply : Reply) → asks ≡ asks_of_lines before → SaysTrue asks reply → ReplyHolds before reply
+reply_holds : (before : List (LineText × List ℕ)) (asks : List Asked) (reply : OfficeReply) → asks ≡ asks_of_lines before → SaysTrue asks reply → ReplyHolds before reply
 reply_holds before asks (Welcome quota) known h = tt
 reply_holds before asks (Reserved quota) known h = tt
 reply_holds before asks (Job number) known h = h ∙ ap (λ a. length a + 1) known
-reply_holds before asks (Told job outcome) known h = outcome_holds before asks job outcome known h
+reply_holds before asks (Told job standing) known h = standing_holds before asks job standing known h
 reply_holds before asks (Ended job) known h = tt
 reply_holds before asks (Rest left) known h = tt
 reply_holds before asks (Alive live) known h = tt
 reply_holds before asks Gone known h = tt
 reply_holds before asks (Refused number) known h = tt
 
-table_holds : (before : List (LineText × List ℕ)) (asks : List Asked) (job : ℕ) (outcome : Outcome) → asks ≡ asks_of_lines before → ShowsFound asks job outcome → TableHolds before job outcome
+table_holds : (before : List (LineText × List ℕ)) (asks : List Asked) (job : ℕ) (standing : Standing) → asks ≡ asks_of_lines before → ShowsFound asks job standing → TableHolds before job standing
 table_holds before asks job Pending known h = tt
-table_holds before asks job (Done finding) known h =
+table_holds before asks job (Done analysis) known h =
     record { asked = h.asked; is = ap (λ a. asked_at a job) (sym known) ∙ h.is; table = h.table }
 table_holds before asks job Spent known h = tt
 table_holds before asks job Cancelled known h = tt
 
-table_reply_holds : (before : List (LineText × List ℕ)) (asks : List Asked) (reply : Reply) → asks ≡ asks_of_lines before → SaysTrue asks reply → TableReplyHolds before reply
+table_reply_holds : (before : List (LineText × List ℕ)) (asks : List Asked) (reply : OfficeReply) → asks ≡ asks_of_lines before → SaysTrue asks reply → TableReplyHolds before reply
 table_reply_holds before asks (Welcome quota) known h = tt
 table_reply_holds before asks (Reserved quota) known h = tt
 table_reply_holds before asks (Job number) known h = h ∙ ap (λ a. length a + 1) known
-table_reply_holds before asks (Told job outcome) known h = table_holds before asks job outcome known h
+table_reply_holds before asks (Told job standing) known h = table_holds before asks job standing known h
 table_reply_holds before asks (Ended job) known h = tt
 table_reply_holds before asks (Rest left) known h = tt
 table_reply_holds before asks (Alive live) known h = tt
@@ -115,38 +115,38 @@ table_reply_holds before asks Gone known h = tt
 table_reply_holds before asks (Refused number) known h = tt
 
 -- how a job stands begins with none of the words that change the asks
-told_same : (before : List (LineText × List ℕ)) (line : LineText) (job : ℕ) (outcome : Outcome) → asks_of_lines ((line, reply_text (Told job outcome)) ∷ before) ≡ asks_of_lines before
+told_same : (before : List (LineText × List ℕ)) (line : LineText) (job : ℕ) (standing : Standing) → asks_of_lines ((line, reply_text (Told job standing)) ∷ before) ≡ asks_of_lines before
 told_same before line job Pending = refl
-told_same before line job (Done finding) = refl
+told_same before line job (Done analysis) = refl
 told_same before line job Spent = refl
 told_same before line job Cancelled = refl
 
-table_told_same : (before : List (LineText × List ℕ)) (line : LineText) (job : ℕ) (outcome : Outcome) → asks_of_lines ((line, table_text (Told job outcome)) ∷ before) ≡ asks_of_lines before
+table_told_same : (before : List (LineText × List ℕ)) (line : LineText) (job : ℕ) (standing : Standing) → asks_of_lines ((line, table_text (Told job standing)) ∷ before) ≡ asks_of_lines before
 table_told_same before line job Pending = refl
-table_told_same before line job (Done finding) = refl
+table_told_same before line job (Done analysis) = refl
 table_told_same before line job Spent = refl
 table_told_same before line job Cancelled = refl
 
-next_known : (before : List (LineText × List ℕ)) (asks : List Asked) (line : LineText) (call : Call) (reply : Reply) (seated : Bool) → request seated line ≡ Makes call → Known seated before asks
+next_known : (before : List (LineText × List ℕ)) (asks : List Asked) (line : LineText) (call : Call) (reply : OfficeReply) (seated : Bool) → request seated line ≡ Makes call → Known seated before asks
     → Known (seated_after seated reply) ((line, reply_text reply) ∷ before) (asks_after asks call reply)
 next_known before asks line call (Welcome quota) seated e known = (refl, tt)
 next_known before asks line call (Reserved quota) seated e known = known
 next_known before asks line call (Job number) seated e known =
     (asks_seated seated line asks call e ∙ ap (λ a. with_request a (request true line)) known.0, still_empty seated line asks call e known.1)
-next_known before asks line call (Told k outcome) seated e known = (known.0 ∙ sym (told_same before line k outcome), known.1)
+next_known before asks line call (Told k standing) seated e known = (known.0 ∙ sym (told_same before line k standing), known.1)
 next_known before asks line call (Ended k) seated e known = known
 next_known before asks line call (Rest left) seated e known = known
 next_known before asks line call (Alive live) seated e known = known
 next_known before asks line call Gone seated e known = (refl, refl)
 next_known before asks line call (Refused number) seated e known = known
 
-table_known : (before : List (LineText × List ℕ)) (asks : List Asked) (line : LineText) (job : ℕ) (reply : Reply) (seated : Bool) → request seated line ≡ Tabulates job → Known seated before asks
+table_known : (before : List (LineText × List ℕ)) (asks : List Asked) (line : LineText) (job : ℕ) (reply : OfficeReply) (seated : Bool) → request seated line ≡ Tabulates job → Known seated before asks
     → Known (seated_after seated reply) ((line, table_text reply) ∷ before) (asks_after asks (Get job) reply)
 table_known before asks line job (Welcome quota) seated e known = (refl, tt)
 table_known before asks line job (Reserved quota) seated e known = known
 table_known before asks line job (Job number) seated e known =
     (table_same seated line asks job e ∙ ap (λ a. with_request a (request true line)) known.0, known.1)
-table_known before asks line job (Told k outcome) seated e known = (known.0 ∙ sym (table_told_same before line k outcome), known.1)
+table_known before asks line job (Told k standing) seated e known = (known.0 ∙ sym (table_told_same before line k standing), known.1)
 table_known before asks line job (Ended k) seated e known = known
 table_known before asks line job (Rest left) seated e known = known
 table_known before asks line job (Alive live) seated e known = known
@@ -155,14 +155,14 @@ table_known before asks line job (Refused number) seated e known = known
 
 -- what holds of the lines after this one, whatever came before them
 abbrev LaterHold : List LineText → Type 0
-LaterHold lines = (before : List (LineText × List ℕ)) (asks : List Asked) (seated : Bool) (replies : List Reply) → Known seated before asks → AllTrue asks (calls_in seated (turns seated lines replies)) → EachDoneIsTrue before lines (turns seated lines replies)
+LaterHold lines = (before : List (LineText × List ℕ)) (asks : List Asked) (seated : Bool) (replies : List OfficeReply) → Known seated before asks → AllTrue asks (calls_in seated (turns seated lines replies)) → EachDoneIsTrue before lines (turns seated lines replies)
 
-after_bye : (before : List (LineText × List ℕ)) (asks : List Asked) (seated : Bool) (line : LineText) (lines : List LineText) (replies : List Reply) → LaterHold lines → Known seated before asks → AllTrue asks (leaving seated ++ calls_in false (turns false lines replies))
+after_bye : (before : List (LineText × List ℕ)) (asks : List Asked) (seated : Bool) (line : LineText) (lines : List LineText) (replies : List OfficeReply) → LaterHold lines → Known seated before asks → AllTrue asks (leaving seated ++ calls_in false (turns false lines replies))
     → EachDoneIsTrue ((line, turn_text Closed) ∷ before) lines (turns false lines replies)
 after_bye before asks true line lines replies later known h = later ((line, turn_text Closed) ∷ before) [] false replies (refl, refl) h.1
 after_bye before asks false line lines replies later known h = later ((line, turn_text Closed) ∷ before) asks false replies (known.1, known.1) h
 
-line_holds : (q : Request) (before : List (LineText × List ℕ)) (asks : List Asked) (seated : Bool) (line : LineText) (lines : List LineText) (replies : List Reply) → request seated line ≡ q → LaterHold lines → Known seated before asks
+line_holds : (q : Request) (before : List (LineText × List ℕ)) (asks : List Asked) (seated : Bool) (line : LineText) (lines : List LineText) (replies : List OfficeReply) → request seated line ≡ q → LaterHold lines → Known seated before asks
     → AllTrue asks (calls_in seated (next_turns q seated lines replies)) → EachDoneIsTrue before (line ∷ lines) (next_turns q seated lines replies)
 line_holds (Fault fault) before asks seated line lines replies e later known h = (tt, later ((line, turn_text (Faulted fault)) ∷ before) asks seated replies known h)
 line_holds (Makes call) before asks seated line lines replies e later known h =
@@ -183,5 +183,5 @@ lines_hold (line ∷ lines) before asks seated replies known h =
     line_holds (request seated line) before asks seated line lines replies refl (lines_hold lines) known h
 
 -- where all calls of a session's lines from no ask on are true, each JOB line and each DONE line is
-pub each_done : (lines : List LineText) (replies : List Reply) → AllTrue [] (calls_for lines replies) → EachDoneIsTrue [] lines (turns false lines replies)
+pub each_done : (lines : List LineText) (replies : List OfficeReply) → AllTrue [] (calls_for lines replies) → EachDoneIsTrue [] lines (turns false lines replies)
 each_done lines replies h = lines_hold lines [] [] false replies (refl, refl) h

@@ -4,7 +4,7 @@ use Rattle.std.proofs.lemmas.List.{length-append, append_assoc}
 use Rattle.std.proofs.Math.Seq.{take-append_seam, set-append_seam}
 use Rattle.othello_eval.specs.declared.bound.Bound.{Bound}
 use Rattle.session.specs.declared.bounds.Bounds.TheInside.{Inside}
-use Rattle.session.specs.Places.{no_bound, held, IsHeld}
+use Rattle.session.specs.Places.{no_bound, bounds_held, IsHeld}
 
 -- entries in their places
 abbrev in_places : List Bound → ℕ → Inside
@@ -14,8 +14,8 @@ in_places places count = record { places = places; count = count }
 abbrev with_one : Inside → Bound → Inside
 with_one b x = in_places (slice_set b.places b.count x) (b.count + 1)
 
-held_is_held : (bounds : List Bound) → length bounds ≤ 64 → IsHeld (held bounds)
-held_is_held bounds few = record { same = ap held (take-append_seam bounds (replicate (64 - length bounds) no_bound)); few = few }
+held_is_held : (bounds : List Bound) → length bounds ≤ 64 → IsHeld (bounds_held bounds)
+held_is_held bounds few = record { same = ap bounds_held (take-append_seam bounds (replicate (64 - length bounds) no_bound)); few = few }
 
 one_more_place : (n : ℕ) → n < 64 → 64 - n ≡ suc (63 - n)
 one_more_place n h = omega (arith, h)
@@ -23,7 +23,7 @@ one_more_place n h = omega (arith, h)
 one_place_less : (bounds : List Bound) (x : Bound) → 63 - length bounds ≡ 64 - length (bounds ++ x ∷ [])
 one_place_less bounds x = let more = length-append bounds (x ∷ []) in omega (arith, more)
 
-held_with_one : (bounds : List Bound) (x : Bound) → length bounds < 64 → with_one (held bounds) x ≡ held (bounds ++ x ∷ [])
+held_with_one : (bounds : List Bound) (x : Bound) → length bounds < 64 → with_one (bounds_held bounds) x ≡ bounds_held (bounds ++ x ∷ [])
 held_with_one bounds x room =
     ap₂ in_places
     (ap (λ k. slice_set (bounds ++ replicate k no_bound) (length bounds) x) (one_more_place (length bounds) room)

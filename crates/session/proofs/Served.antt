@@ -13,24 +13,24 @@ use Rattle.session.specs.declared.faults.End.{End}
 use Rattle.session.specs.declared.faults.End.TheVariants.{Bye, EndOfInput}
 use Rattle.session.specs.declared.faults.SessionFault.{SessionFault}
 use Rattle.session.specs.declared.faults.SessionFault.TheVariants.{Read, Write}
-use Rattle.session.specs.Calls.{Call, Reply}
+use Rattle.session.specs.Calls.{Call, OfficeReply}
 use Rattle.session.specs.Forms.{is_bye}
 use Rattle.session.specs.Requests.{Request, Fault, Makes, Tabulates, Ends, request}
-use Rattle.session.specs.Turns.{Turn, Faulted, Made, Tabulated, Closed, turns, turn_text, calls_in, leaving, by_request, next_reply, later_replies, seated_after}
+use Rattle.session.specs.Turns.{LineTurn, Faulted, Made, Tabulated, Closed, turns, turn_text, calls_in, leaving, by_request, next_reply, later_replies, seated_after}
 use Rattle.session.specs.Sessions.{Called, LeavesIf, Turned, Session, IsAnsweredOf, IsWrittenOf, session_lines, talk_result, texts_for, calls_for}
 
 -- the turns of a line that asks for this, and of the lines after it
-abbrev pub next_turns : Request → Bool → List LineText → List Reply → List Turn
+abbrev pub next_turns : Request → Bool → List LineText → List OfficeReply → List LineTurn
 next_turns q seated lines replies =
     by_request q (λ fault. Faulted fault ∷ turns seated lines replies)
     (λ call. Made call (next_reply replies) ∷ turns (seated_after seated (next_reply replies)) lines (later_replies replies))
     (λ job. Tabulated job (next_reply replies) ∷ turns (seated_after seated (next_reply replies)) lines (later_replies replies))
     (λ _. Closed ∷ turns false lines replies)
 
-module _ {O : Type 0} (does : O → Call → Reply → O → Type 0) where
+module _ {O : Type 0} (does : O → Call → OfficeReply → O → Type 0) where
   -- where replies give these turns, the texts are theirs, and the office is led through their calls, once a tenant that is there has left
-  pub record Came (turned : List Reply → List Turn) (from : O) (seated : Bool) (texts : List (List ℕ)) (to : O) (seated' : Bool) : Type 0 where
-    pub replies : List Reply
+  pub record Came (turned : List OfficeReply → List LineTurn) (from : O) (seated : Bool) (texts : List (List ℕ)) (to : O) (seated' : Bool) : Type 0 where
+    pub replies : List OfficeReply
     pub are : texts ≡ map turn_text (turned replies)
     pub made : (end : O) → LeavesIf does seated' to end → Leads (Called does) from (calls_in seated (turned replies)) end
 
@@ -38,7 +38,7 @@ module _ {O : Type 0} (does : O → Call → Reply → O → Type 0) where
   leaves true from to h = (to, h, refl)
   leaves false from to h = h
 
-  leaves-more : (seated : Bool) (from mid to : O) (more : List (Call × Reply)) → LeavesIf does seated from mid → Leads (Called does) mid more to → Leads (Called does) from (leaving seated ++ more) to
+  leaves-more : (seated : Bool) (from mid to : O) (more : List (Call × OfficeReply)) → LeavesIf does seated from mid → Leads (Called does) mid more to → Leads (Called does) from (leaving seated ++ more) to
   leaves-more true from mid to more h k = (mid, h, k)
   leaves-more false from mid to more h k = subst (λ o. Leads (Called does) o more to) (sym h) k
 

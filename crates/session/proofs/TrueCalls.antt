@@ -4,20 +4,20 @@ use Rattle.line_io.specs.Leads.{Leads}
 use Rattle.line_io.specs.Streams.{ReadAnswer, WriteAnswer}
 use Rattle.session.specs.declared.faults.End.{End}
 use Rattle.session.specs.declared.faults.SessionFault.{SessionFault}
-use Rattle.session.specs.Calls.{Call, Reply}
+use Rattle.session.specs.Calls.{Call, OfficeReply}
 use Rattle.session.specs.Sessions.{Called, Session, calls_for}
 use Rattle.session.specs.Asks.{Asked, asks_after, KeepsAsks, AllTrue}
 use Rattle.session.specs.DoneLines.{TrueSession}
 use Rattle.session.proofs.DoneLemmas.{each_done}
 
 -- calls through which the asks are led are true
-all_true : (asks : List Asked) (made : List (Call × Reply)) (asks' : List Asked) → Leads (Called KeepsAsks) asks made asks' → AllTrue asks made
+all_true : (asks : List Asked) (made : List (Call × OfficeReply)) (asks' : List Asked) → Leads (Called KeepsAsks) asks made asks' → AllTrue asks made
 all_true asks [] asks' h = tt
 all_true asks (made ∷ more) asks' h = (h.1.1, all_true (asks_after asks made.0 made.1) more asks' (subst (λ z. Leads (Called KeepsAsks) z more asks') h.1.0 h.2), h.1.2)
 
-module _ {O : Type 0} (does : O → Call → Reply → O → Type 0) (asks : O → List Asked) (keeps : (from : O) (call : Call) (reply : Reply) (to : O) → does from call reply to → KeepsAsks (asks from) call reply (asks to)) where
+module _ {O : Type 0} (does : O → Call → OfficeReply → O → Type 0) (asks : O → List Asked) (keeps : (from : O) (call : Call) (reply : OfficeReply) (to : O) → does from call reply to → KeepsAsks (asks from) call reply (asks to)) where
   -- a chain of calls, seen by the asks of its states
-  asks-led : (from : O) (made : List (Call × Reply)) (to : O) → Leads (Called does) from made to → Leads (Called KeepsAsks) (asks from) made (asks to)
+  asks-led : (from : O) (made : List (Call × OfficeReply)) (to : O) → Leads (Called does) from made to → Leads (Called KeepsAsks) (asks from) made (asks to)
   asks-led from [] to h = ap asks h
   asks-led from (made ∷ more) to h = (asks h.0, keeps from made.0 made.1 h.0 h.1, asks-led h.0 more to h.2)
 

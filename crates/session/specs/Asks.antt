@@ -3,10 +3,10 @@ use Rattle.std.specs.Prelude.{◌≡◌, ℕ, ◌+◌, ◌-◌, ◌==◌, List, 
 use Rattle.othello_board.specs.declared.cells.Cell.{Cell}
 use Rattle.othello_eval.specs.Minimax.{minimax, best_choice}
 use Rattle.othello_eval.specs.Tables.{IsTable}
-use Rattle.session.specs.declared.outcome.Finding.{Finding}
-use Rattle.session.specs.declared.outcome.Outcome.{Outcome}
-use Rattle.session.specs.declared.outcome.Outcome.TheVariants.{Pending, Done, Spent, Cancelled}
-use Rattle.session.specs.Calls.{Call, Hello, Reserve, Ask, Get, Wait, Cancel, AskQuota, AskLive, Leave, Reply, Welcome, Reserved, Job, Told, Ended, Rest, Alive, Gone, Refused}
+use Rattle.session.specs.declared.standings.Analysis.{Analysis}
+use Rattle.session.specs.declared.standings.Standing.{Standing}
+use Rattle.session.specs.declared.standings.Standing.TheVariants.{Pending, Done, Spent, Cancelled}
+use Rattle.session.specs.Calls.{Call, Hello, Reserve, Ask, Get, Wait, Cancel, AskQuota, AskLive, Leave, OfficeReply, Welcome, Reserved, Job, Told, Ended, Rest, Alive, Gone, Refused}
 
 -- a board, and the depth to which its value was asked for
 pub record Asked : Type 0 where
@@ -27,11 +27,11 @@ with_ask asks Leave = asks
 
 -- the asks that were answered by JOB, after one more call and its reply: a new tenant has none, and one
 -- that has left
-abbrev pub asks_after : List Asked → Call → Reply → List Asked
+abbrev pub asks_after : List Asked → Call → OfficeReply → List Asked
 asks_after asks call (Welcome quota) = []
 asks_after asks call (Reserved quota) = asks
 asks_after asks call (Job number) = with_ask asks call
-asks_after asks call (Told job outcome) = asks
+asks_after asks call (Told job standing) = asks
 asks_after asks call (Ended job) = asks
 asks_after asks call (Rest left) = asks
 asks_after asks call (Alive live) = asks
@@ -44,26 +44,26 @@ asked_at [] job = None
 asked_at (asked ∷ later) job = if job == 1 then Some asked else asked_at later (job - 1)
 
 -- a value and a move are the minimax value and the best choice of what was asked as this job, and the entries beside them its table
-pub record IsFound (asks : List Asked) (job : ℕ) (finding : Finding) : Type 0 where
+pub record IsAnalysisOf (asks : List Asked) (job : ℕ) (analysis : Analysis) : Type 0 where
   pub asked : Asked
   pub is : asked_at asks job ≡ Some asked
-  pub value : finding.value ≡ minimax asked.depth asked.board
-  pub choice : finding.choice ≡ best_choice asked.depth asked.board
-  pub table : IsTable asked.depth asked.board finding.bounds
+  pub value : analysis.best.value ≡ minimax asked.depth asked.board
+  pub choice : analysis.best.choice ≡ best_choice asked.depth asked.board
+  pub table : IsTable asked.depth asked.board analysis.bounds
 
 -- a job that is shown as done is shown with what was found for it
-abbrev pub ShowsFound : List Asked → ℕ → Outcome → Type 0
+abbrev pub ShowsFound : List Asked → ℕ → Standing → Type 0
 ShowsFound asks job Pending = Unit {0}
-ShowsFound asks job (Done finding) = IsFound asks job finding
+ShowsFound asks job (Done analysis) = IsAnalysisOf asks job analysis
 ShowsFound asks job Spent = Unit {0}
 ShowsFound asks job Cancelled = Unit {0}
 
--- what a reply to a call says of the asks before it: a new job has the next number, a done one its finding
-abbrev pub SaysTrue : List Asked → Reply → Type 0
+-- what a reply to a call says of the asks before it: a new job has the next number, a done one its analysis
+abbrev pub SaysTrue : List Asked → OfficeReply → Type 0
 SaysTrue asks (Welcome quota) = Unit {0}
 SaysTrue asks (Reserved quota) = Unit {0}
 SaysTrue asks (Job number) = number ≡ length asks + 1
-SaysTrue asks (Told job outcome) = ShowsFound asks job outcome
+SaysTrue asks (Told job standing) = ShowsFound asks job standing
 SaysTrue asks (Ended job) = Unit {0}
 SaysTrue asks (Rest left) = Unit {0}
 SaysTrue asks (Alive live) = Unit {0}
@@ -71,18 +71,18 @@ SaysTrue asks Gone = Unit {0}
 SaysTrue asks (Refused number) = Unit {0}
 
 -- what is replied of a job by what was asked under its number: how the job stands, and the refusal 17 exactly where nothing was
-abbrev pub IsToldOf : ℕ → Option Asked → Reply → Type 0
+abbrev pub IsToldOf : ℕ → Option Asked → OfficeReply → Type 0
 IsToldOf job None reply = reply ≡ Refused 17
-IsToldOf job (Some asked) reply = (outcome : Outcome) × (reply ≡ Told job outcome)
+IsToldOf job (Some asked) reply = (standing : Standing) × (reply ≡ Told job standing)
 
 -- a reply that is a refusal has one of these numbers
-abbrev pub RefusedBy : List ℕ → Reply → Type 0
+abbrev pub RefusedBy : List ℕ → OfficeReply → Type 0
 RefusedBy numbers (Refused number) = Contains numbers number
 RefusedBy numbers _ = Unit {0}
 
 -- when a call is refused, and by which numbers: ASK by 13 where 256 jobs were asked, GET and WAIT by 17 exactly where nothing was asked
 -- under their number, CANCEL by 17 there too. No call but HELLO and RESERVE is refused by 19
-abbrev pub IsRefusedWhere : List Asked → Call → Reply → Type 0
+abbrev pub IsRefusedWhere : List Asked → Call → OfficeReply → Type 0
 IsRefusedWhere asks (Hello quota) reply = RefusedBy (14 ∷ 18 ∷ 19 ∷ []) reply
 IsRefusedWhere asks (Reserve quota) reply = RefusedBy (1 ∷ 20 ∷ 14 ∷ 19 ∷ []) reply
 IsRefusedWhere asks (Ask depth board side) reply = RefusedBy (1 ∷ 13 ∷ 11 ∷ 10 ∷ []) reply × (length asks ≡ 256 → reply ≡ Refused 13)
@@ -94,11 +94,11 @@ IsRefusedWhere asks AskLive reply = RefusedBy (1 ∷ []) reply
 IsRefusedWhere asks Leave reply = reply ≡ Gone
 
 -- what a call of such an office may reply, by its asks before and after it
-abbrev pub KeepsAsks : List Asked → Call → Reply → List Asked → Type 0
+abbrev pub KeepsAsks : List Asked → Call → OfficeReply → List Asked → Type 0
 KeepsAsks asks call reply asks' = (asks' ≡ asks_after asks call reply) × SaysTrue asks reply × IsRefusedWhere asks call reply
 
 -- of these calls, in order, each ASK that is answered by JOB gets the next number, each DONE shows the minimax value, the best choice and a
 -- table of what was asked by the ASK that was answered by JOB and its number, and each is refused where its asks say so
-abbrev pub AllTrue : List Asked → List (Call × Reply) → Type 0
+abbrev pub AllTrue : List Asked → List (Call × OfficeReply) → Type 0
 AllTrue asks [] = Unit {0}
 AllTrue asks (made ∷ more) = SaysTrue asks made.1 × AllTrue (asks_after asks made.0 made.1) more × IsRefusedWhere asks made.0 made.1

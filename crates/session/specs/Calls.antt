@@ -6,8 +6,8 @@ use Rattle.tenant_quota.specs.Quota.{Quota}
 use Rattle.tenant_quota.specs.declared.account.Left.{Left}
 use Rattle.sched_rules.specs.declared.refusal.Refusal.{Refusal}
 use Rattle.sched_rules.specs.Refusals.{refusal_number}
-use Rattle.session.specs.declared.outcome.Outcome.{Outcome}
-use Rattle.session.specs.declared.outcome.Live.{Live}
+use Rattle.session.specs.declared.standings.Standing.{Standing}
+use Rattle.session.specs.declared.standings.Live.{Live}
 
 -- a call of the office
 pub data Call : Type 0 where
@@ -23,18 +23,18 @@ pub data Call : Type 0 where
 
 -- a reply of the office: what was reserved for a new tenant, and for one that is there, the number of a new job, how a job stands, that a job is cancelled, what is left,
 -- what is alive, that the tenant is gone, or the number of a refusal
-pub data Reply : Type 0 where
-  Welcome : (quota : Quota) → Reply
-  Reserved : (quota : Quota) → Reply
-  Job : (number : ℕ) → Reply
-  Told : (job : ℕ) (outcome : Outcome) → Reply
-  Ended : (job : ℕ) → Reply
-  Rest : (left : Left) → Reply
-  Alive : (live : Live) → Reply
-  Gone : Reply
-  Refused : (number : ℕ) → Reply
+pub data OfficeReply : Type 0 where
+  Welcome : (quota : Quota) → OfficeReply
+  Reserved : (quota : Quota) → OfficeReply
+  Job : (number : ℕ) → OfficeReply
+  Told : (job : ℕ) (standing : Standing) → OfficeReply
+  Ended : (job : ℕ) → OfficeReply
+  Rest : (left : Left) → OfficeReply
+  Alive : (live : Live) → OfficeReply
+  Gone : OfficeReply
+  Refused : (number : ℕ) → OfficeReply
 
 -- the reply that a call's result is
-abbrev pub reply_of : {X : Type 0} → (X → Reply) → Result X Refusal → Reply
+abbrev pub reply_of : {X : Type 0} → (X → OfficeReply) → Result X Refusal → OfficeReply
 reply_of said (Ok x) = said x
 reply_of said (Err refusal) = Refused (refusal_number refusal)

@@ -7,13 +7,13 @@ use Rattle.othello_eval.specs.Tables.{IsTable}
 use Rattle.line_io.specs.Streams.{ReadAnswer, WriteAnswer}
 use Rattle.session.specs.declared.faults.End.{End}
 use Rattle.session.specs.declared.faults.SessionFault.{SessionFault}
-use Rattle.session.specs.declared.outcome.Finding.{Finding}
-use Rattle.session.specs.declared.outcome.Outcome.{Outcome}
-use Rattle.session.specs.declared.outcome.Outcome.TheVariants.{Pending, Done, Spent, Cancelled}
+use Rattle.session.specs.declared.standings.Analysis.{Analysis}
+use Rattle.session.specs.declared.standings.Standing.{Standing}
+use Rattle.session.specs.declared.standings.Standing.TheVariants.{Pending, Done, Spent, Cancelled}
 use Rattle.session.specs.Asks.{Asked, asked_at, with_ask, KeepsAsks, AllTrue}
-use Rattle.session.specs.Calls.{Reply, Welcome, Reserved, Job, Told, Ended, Rest, Alive, Gone, Refused}
+use Rattle.session.specs.Calls.{OfficeReply, Welcome, Reserved, Job, Told, Ended, Rest, Alive, Gone, Refused}
 use Rattle.session.specs.Requests.{Request, Fault, Makes, Tabulates, Ends, request}
-use Rattle.session.specs.Turns.{Turn, Faulted, Made, Tabulated, Closed, turns, turn_text}
+use Rattle.session.specs.Turns.{LineTurn, Faulted, Made, Tabulated, Closed, turns, turn_text}
 use Rattle.session.specs.Sessions.{Session, calls_for}
 
 -- the asks so far, and what this request asks for, where it is one
@@ -40,39 +40,39 @@ asks_of_lines (said ∷ before) = asks_then (asks_of_lines before) said
 
 -- a value and a move are the minimax value and the best choice of what was asked for by the ASK line of this number, of those that were answered
 -- by JOB
-pub record IsTrueDone (before : List (LineText × List ℕ)) (job : ℕ) (finding : Finding) : Type 0 where
+pub record IsTrueDone (before : List (LineText × List ℕ)) (job : ℕ) (analysis : Analysis) : Type 0 where
   pub asked : Asked
   pub is : asked_at (asks_of_lines before) job ≡ Some asked
-  pub value : finding.value ≡ minimax asked.depth asked.board
-  pub choice : finding.choice ≡ best_choice asked.depth asked.board
+  pub value : analysis.best.value ≡ minimax asked.depth asked.board
+  pub choice : analysis.best.choice ≡ best_choice asked.depth asked.board
 
 -- where a job is shown as done, that is so
-abbrev pub OutcomeHolds : List (LineText × List ℕ) → ℕ → Outcome → Type 0
-OutcomeHolds before job Pending = Unit {0}
-OutcomeHolds before job (Done finding) = IsTrueDone before job finding
-OutcomeHolds before job Spent = Unit {0}
-OutcomeHolds before job Cancelled = Unit {0}
+abbrev pub StandingHolds : List (LineText × List ℕ) → ℕ → Standing → Type 0
+StandingHolds before job Pending = Unit {0}
+StandingHolds before job (Done analysis) = IsTrueDone before job analysis
+StandingHolds before job Spent = Unit {0}
+StandingHolds before job Cancelled = Unit {0}
 
 -- entries are a table of what was asked for by the ASK line of this number, of those that were answered by JOB: one for each choice, in their
 -- order, each true, and the best choice's exact
-pub record IsTrueTable (before : List (LineText × List ℕ)) (job : ℕ) (finding : Finding) : Type 0 where
+pub record IsTrueTable (before : List (LineText × List ℕ)) (job : ℕ) (analysis : Analysis) : Type 0 where
   pub asked : Asked
   pub is : asked_at (asks_of_lines before) job ≡ Some asked
-  pub table : IsTable asked.depth asked.board finding.bounds
+  pub table : IsTable asked.depth asked.board analysis.bounds
 
 -- where a job's table is shown, that is so
-abbrev pub TableHolds : List (LineText × List ℕ) → ℕ → Outcome → Type 0
+abbrev pub TableHolds : List (LineText × List ℕ) → ℕ → Standing → Type 0
 TableHolds before job Pending = Unit {0}
-TableHolds before job (Done finding) = IsTrueTable before job finding
+TableHolds before job (Done analysis) = IsTrueTable before job analysis
 TableHolds before job Spent = Unit {0}
 TableHolds before job Cancelled = Unit {0}
 
 -- and where a line is answered by JOB, the number is that of the next ask
-abbrev pub ReplyHolds : List (LineText × List ℕ) → Reply → Type 0
+abbrev pub ReplyHolds : List (LineText × List ℕ) → OfficeReply → Type 0
 ReplyHolds before (Welcome quota) = Unit {0}
 ReplyHolds before (Reserved quota) = Unit {0}
 ReplyHolds before (Job number) = number ≡ length (asks_of_lines before) + 1
-ReplyHolds before (Told job outcome) = OutcomeHolds before job outcome
+ReplyHolds before (Told job standing) = StandingHolds before job standing
 ReplyHolds before (Ended job) = Unit {0}
 ReplyHolds before (Rest left) = Unit {0}
 ReplyHolds before (Alive live) = Unit {0}
@@ -80,18 +80,18 @@ ReplyHolds before Gone = Unit {0}
 ReplyHolds before (Refused number) = Unit {0}
 
 -- the same of a reply that is told with its table
-abbrev pub TableReplyHolds : List (LineText × List ℕ) → Reply → Type 0
+abbrev pub TableReplyHolds : List (LineText × List ℕ) → OfficeReply → Type 0
 TableReplyHolds before (Welcome quota) = Unit {0}
 TableReplyHolds before (Reserved quota) = Unit {0}
 TableReplyHolds before (Job number) = number ≡ length (asks_of_lines before) + 1
-TableReplyHolds before (Told job outcome) = TableHolds before job outcome
+TableReplyHolds before (Told job standing) = TableHolds before job standing
 TableReplyHolds before (Ended job) = Unit {0}
 TableReplyHolds before (Rest left) = Unit {0}
 TableReplyHolds before (Alive live) = Unit {0}
 TableReplyHolds before Gone = Unit {0}
 TableReplyHolds before (Refused number) = Unit {0}
 
-abbrev pub TurnHolds : List (LineText × List ℕ) → Turn → Type 0
+abbrev pub TurnHolds : List (LineText × List ℕ) → LineTurn → Type 0
 TurnHolds before (Faulted fault) = Unit {0}
 TurnHolds before (Made call reply) = ReplyHolds before reply
 TurnHolds before (Tabulated job reply) = TableReplyHolds before reply
@@ -99,7 +99,7 @@ TurnHolds before Closed = Unit {0}
 
 -- what came of these lines, one after another: the k-th ASK that is answered by JOB is answered by JOB k, and each DONE k bears the minimax
 -- value and the best choice of what that line asked for, and each TABLE k its table. The lines before these come first, the last of them foremost, each with its answer
-abbrev pub EachDoneIsTrue : List (LineText × List ℕ) → List LineText → List Turn → Type 0
+abbrev pub EachDoneIsTrue : List (LineText × List ℕ) → List LineText → List LineTurn → Type 0
 EachDoneIsTrue before [] turned = Unit {0}
 EachDoneIsTrue before (line ∷ lines) [] = Unit {0}
 EachDoneIsTrue before (line ∷ lines) (turn ∷ turned) = TurnHolds before turn × EachDoneIsTrue ((line, turn_text turn) ∷ before) lines turned

@@ -4,6 +4,6 @@ use Rattle.session.specs.declared.faults.SessionFault.{SessionFault}
 use Rattle.session.specs.declared.faults.SessionFault.TheVariants.{Read, Write}
 
 -- 1 for a failed read, 2 for a failed write
-abbrev pub number_of : SessionFault → ℕ
-number_of Read = 1
-number_of Write = 2
+abbrev pub session_fault_number : SessionFault → ℕ
+session_fault_number Read = 1
+session_fault_number Write = 2

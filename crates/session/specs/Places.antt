@@ -10,10 +10,10 @@ abbrev pub no_bound : Bound
 no_bound = record { choice = Pass; score = pos 0; kind = Exact }
 
 -- the entries, and in all places after them no entry
-abbrev pub held : List Bound → Inside
-held bounds = record { places = bounds ++ replicate (64 - length bounds) no_bound; count = length bounds }
+abbrev pub bounds_held : List Bound → Inside
+bounds_held bounds = record { places = bounds ++ replicate (64 - length bounds) no_bound; count = length bounds }
 
 -- just the first entries are held, so many as are counted
 pub record IsHeld (b : Inside) : Type 0 where
-  pub same : held (take b.count b.places) ≡ b
+  pub same : bounds_held (take b.count b.places) ≡ b
   pub few : b.count ≤ 64

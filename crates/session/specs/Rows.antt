@@ -5,7 +5,7 @@ use Rattle.othello_board.specs.declared.cells.Cell.TheVariants.{Empty, Own, Opp}
 use Rattle.othello_moves.specs.declared.choices.Choice.{Choice}
 use Rattle.othello_eval.specs.declared.bound.Bound.{Bound}
 use Rattle.protocol.specs.Faults.{fault_number}
-use Rattle.session.specs.declared.outcome.Finding.{Finding}
+use Rattle.session.specs.declared.standings.Analysis.{Analysis}
 use Rattle.session.specs.Requests.{Request, Fault, Makes, Tabulates, Ends}
 
 -- the opening, seen by Black: White on d4 (27) and e5 (36), Black on e4 (28) and d5 (35)
@@ -13,8 +13,8 @@ abbrev pub opening_board : List Cell
 opening_board = replicate 27 Empty ++ Opp ∷ Own ∷ replicate 6 Empty ++ Own ∷ Opp ∷ replicate 27 Empty
 
 -- a value, a move and the entries beside them
-abbrev pub found : ℤ → Option Choice → List Bound → Finding
-found value choice bounds = record { value = value; choice = choice; bounds = bounds }
+abbrev pub found : ℤ → Option Choice → List Bound → Analysis
+found value choice bounds = record { best = record { value = value; choice = choice }; bounds = bounds }
 
 -- the number of a fault; none where something is asked for
 abbrev pub faulted : Request → Option ℕ

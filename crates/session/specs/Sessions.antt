@@ -18,7 +18,7 @@ use Rattle.session.specs.declared.faults.SessionFault.{SessionFault}
 use Rattle.session.specs.declared.faults.SessionFault.TheVariants.{Read, Write}
 use Rattle.session.specs.declared.faults.End.{End}
 use Rattle.session.specs.declared.faults.End.TheVariants.{Bye, EndOfInput}
-use Rattle.session.specs.Calls.{Call, Get, Leave, Reply, Gone}
+use Rattle.session.specs.Calls.{Call, Get, Leave, OfficeReply, Gone}
 use Rattle.session.specs.Forms.{is_bye}
 use Rattle.session.specs.Requests.{Request, Fault, Makes, Tabulates, Ends}
 use Rattle.session.specs.Turns.{turns, calls_in, turn_text, reply_text, table_text, seated_after}
@@ -28,36 +28,36 @@ abbrev pub session_lines : List ℕ → List LineText
 session_lines bytes = upto is_bye (lines_of bytes)
 
 -- the calls made of the office for these lines, each with its reply
-abbrev pub calls_for : List LineText → List Reply → List (Call × Reply)
+abbrev pub calls_for : List LineText → List OfficeReply → List (Call × OfficeReply)
 calls_for lines replies = calls_in false (turns false lines replies)
 
 -- the answers to these lines
-abbrev pub texts_for : List LineText → List Reply → List (List ℕ)
+abbrev pub texts_for : List LineText → List OfficeReply → List (List ℕ)
 texts_for lines replies = map turn_text (turns false lines replies)
 
 -- the calls made of the office for an input, and what is written for it, where the office replies this
-abbrev pub calls : List ℕ → List Reply → List (Call × Reply)
+abbrev pub calls : List ℕ → List OfficeReply → List (Call × OfficeReply)
 calls bytes replies = calls_for (session_lines bytes) replies
 
-abbrev pub out : List ℕ → List Reply → List ℕ
+abbrev pub out : List ℕ → List OfficeReply → List ℕ
 out bytes replies = written_texts (texts_for (session_lines bytes) replies)
 
 -- one call and its reply
-abbrev pub Called : {O : Type 0} → (O → Call → Reply → O → Type 0) → O → Call × Reply → O → Type 0
+abbrev pub Called : {O : Type 0} → (O → Call → OfficeReply → O → Type 0) → O → Call × OfficeReply → O → Type 0
 Called does from made to = does from made.0 made.1 to
 
 -- a tenant that is there leaves, and else nothing is asked
-abbrev pub LeavesIf : {O : Type 0} → (O → Call → Reply → O → Type 0) → Bool → O → O → Type 0
+abbrev pub LeavesIf : {O : Type 0} → (O → Call → OfficeReply → O → Type 0) → Bool → O → O → Type 0
 LeavesIf does true from to = does from Leave Gone to
 LeavesIf does false from to = from ≡ to
 
 -- what is done for one request: the office before, whether a tenant is there, the text, and both after it
-abbrev pub Turned : {O : Type 0} → (O → Call → Reply → O → Type 0) → Request → O → Bool → List ℕ → O → Bool → Type 0
+abbrev pub Turned : {O : Type 0} → (O → Call → OfficeReply → O → Type 0) → Request → O → Bool → List ℕ → O → Bool → Type 0
 Turned does (Fault fault) from seated text to seated' = (from ≡ to) × (seated' ≡ seated) × (text ≡ error_text (fault_number fault))
 Turned does (Makes call) from seated text to seated' =
-    (reply : Reply) × does from call reply to × (seated' ≡ seated_after seated reply) × (text ≡ reply_text reply)
+    (reply : OfficeReply) × does from call reply to × (seated' ≡ seated_after seated reply) × (text ≡ reply_text reply)
 Turned does (Tabulates job) from seated text to seated' =
-    (reply : Reply) × does from (Get job) reply to × (seated' ≡ seated_after seated reply) × (text ≡ table_text reply)
+    (reply : OfficeReply) × does from (Get job) reply to × (seated' ≡ seated_after seated reply) × (text ≡ table_text reply)
 Turned does Ends from seated text to seated' = LeavesIf does seated from to × (seated' ≡ false) × (text ≡ reply_text Gone)
 
 -- how a session ended, as the end of its talk
@@ -80,11 +80,11 @@ IsWrittenOf (Err _) bytes texts = (rest : List ℕ) × (bytes ++ rest ≡ writte
 
 -- these blocks were read, these lines of them answered, with these replies of the office, and these pieces written. At fault 1 the
 -- bytes after the last LF are no line. At fault 2 the last of the answered lines is the one whose answer wasn't written
-pub record Session {S K O : Type 0} (gives : S → ReadAnswer → S → Type 0) (takes : K → WriteAnswer → K → Type 0) (does : O → Call → Reply → O → Type 0) (source : S) (sink : K) (office : O) (source' : S) (sink' : K) (office' : O) (r : Result End SessionFault) : Type 0 where
+pub record Session {S K O : Type 0} (gives : S → ReadAnswer → S → Type 0) (takes : K → WriteAnswer → K → Type 0) (does : O → Call → OfficeReply → O → Type 0) (source : S) (sink : K) (office : O) (source' : S) (sink' : K) (office' : O) (r : Result End SessionFault) : Type 0 where
   pub blocks : List (List ℕ)
   pub last : List ReadAnswer
   pub answered : List LineText
-  pub replies : List Reply
+  pub replies : List OfficeReply
   pub pieces : List (List ℕ)
   pub reads : Leads gives source (map Gave blocks ++ last) source'
   pub ends : IsTalkEnd is_bye (talk_result r) (concat blocks) last

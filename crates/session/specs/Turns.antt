@@ -9,33 +9,33 @@ use Rattle.othello_eval.specs.declared.bound.BoundKind.TheVariants.{Low, High, E
 use Rattle.protocol.specs.declared.faults.ProtocolFault.{ProtocolFault}
 use Rattle.protocol.specs.Faults.{fault_number}
 use Rattle.protocol.specs.Texts.{value_text, move_text, error_text}
-use Rattle.session.specs.declared.outcome.Outcome.{Outcome}
-use Rattle.session.specs.declared.outcome.Outcome.TheVariants.{Pending, Done, Spent, Cancelled}
-use Rattle.session.specs.Calls.{Call, Get, Leave, Reply, Welcome, Reserved, Job, Told, Ended, Rest, Alive, Gone, Refused}
+use Rattle.session.specs.declared.standings.Standing.{Standing}
+use Rattle.session.specs.declared.standings.Standing.TheVariants.{Pending, Done, Spent, Cancelled}
+use Rattle.session.specs.Calls.{Call, Get, Leave, OfficeReply, Welcome, Reserved, Job, Told, Ended, Rest, Alive, Gone, Refused}
 use Rattle.session.specs.Requests.{Request, Fault, Makes, Tabulates, Ends, request}
 
 -- what came of a line: a fault, a call with its reply, a Get of a job whose reply is told with its table, or the end of the session
-pub data Turn : Type 0 where
-  Faulted : (fault : ProtocolFault) → Turn
-  Made : (call : Call) (reply : Reply) → Turn
-  Tabulated : (job : ℕ) (reply : Reply) → Turn
-  Closed : Turn
+pub data LineTurn : Type 0 where
+  Faulted : (fault : ProtocolFault) → LineTurn
+  Made : (call : Call) (reply : OfficeReply) → LineTurn
+  Tabulated : (job : ℕ) (reply : OfficeReply) → LineTurn
+  Closed : LineTurn
 
 -- the next of the replies: each call takes one. The number 0 is no office's
-abbrev pub next_reply : List Reply → Reply
+abbrev pub next_reply : List OfficeReply → OfficeReply
 next_reply [] = Refused 0
 next_reply (r ∷ rs) = r
 
-abbrev pub later_replies : List Reply → List Reply
+abbrev pub later_replies : List OfficeReply → List OfficeReply
 later_replies [] = []
 later_replies (r ∷ rs) = rs
 
 -- whether a tenant is there after a reply: it comes by a taken HELLO alone
-abbrev pub seated_after : Bool → Reply → Bool
+abbrev pub seated_after : Bool → OfficeReply → Bool
 seated_after seated (Welcome quota) = true
 seated_after seated (Reserved quota) = seated
 seated_after seated (Job number) = seated
-seated_after seated (Told job outcome) = seated
+seated_after seated (Told job standing) = seated
 seated_after seated (Ended job) = seated
 seated_after seated (Rest left) = seated
 seated_after seated (Alive live) = seated
@@ -50,7 +50,7 @@ by_request (Tabulates job) fault call table end = table job
 by_request Ends fault call table end = end tt
 
 -- what comes of these lines, where a tenant is there or not, and the office replies this
-abbrev pub turns : Bool → List LineText → List Reply → List Turn
+abbrev pub turns : Bool → List LineText → List OfficeReply → List LineTurn
 turns seated [] replies = []
 turns seated (line ∷ lines) replies =
     by_request (request seated line)
@@ -60,12 +60,12 @@ turns seated (line ∷ lines) replies =
     (λ _. Closed ∷ turns false lines replies)
 
 -- a tenant that is there leaves
-abbrev pub leaving : Bool → List (Call × Reply)
+abbrev pub leaving : Bool → List (Call × OfficeReply)
 leaving true = (Leave, Gone) ∷ []
 leaving false = []
 
 -- the calls of these turns with their replies, in order: a tenant leaves at a line BYE, and where the session ends without one
-abbrev pub calls_in : Bool → List Turn → List (Call × Reply)
+abbrev pub calls_in : Bool → List LineTurn → List (Call × OfficeReply)
 calls_in seated [] = leaving seated
 calls_in seated (Faulted fault ∷ more) = calls_in seated more
 calls_in seated (Made call reply ∷ more) = (call, reply) ∷ calls_in (seated_after seated reply) more
@@ -77,18 +77,18 @@ abbrev pub pair_text : ℕ → ℕ → List ℕ
 pair_text first second = decimal first ++ codes " " ++ decimal second
 
 -- how a job stands
-abbrev pub outcome_text : ℕ → Outcome → List ℕ
-outcome_text job Pending = codes "PENDING " ++ decimal job
-outcome_text job (Done finding) = codes "DONE " ++ decimal job ++ codes " " ++ value_text finding.value finding.choice
-outcome_text job Spent = codes "SPENT " ++ decimal job
-outcome_text job Cancelled = codes "CANCELLED " ++ decimal job
+abbrev pub standing_text : ℕ → Standing → List ℕ
+standing_text job Pending = codes "PENDING " ++ decimal job
+standing_text job (Done analysis) = codes "DONE " ++ decimal job ++ codes " " ++ value_text analysis.best.value analysis.best.choice
+standing_text job Spent = codes "SPENT " ++ decimal job
+standing_text job Cancelled = codes "CANCELLED " ++ decimal job
 
 -- a reply
-abbrev pub reply_text : Reply → List ℕ
+abbrev pub reply_text : OfficeReply → List ℕ
 reply_text (Welcome quota) = codes "WELCOME " ++ pair_text quota.segments quota.nodes
 reply_text (Reserved quota) = codes "RESERVED " ++ pair_text quota.segments quota.nodes
 reply_text (Job number) = codes "JOB " ++ decimal number
-reply_text (Told job outcome) = outcome_text job outcome
+reply_text (Told job standing) = standing_text job standing
 reply_text (Ended job) = codes "CANCELLED " ++ decimal job
 reply_text (Rest left) = codes "QUOTA " ++ pair_text left.segments left.nodes ++ codes " " ++ decimal left.steps
 reply_text (Alive live) = codes "LIVE " ++ pair_text live.frames live.words
@@ -111,15 +111,15 @@ entries_text [] = []
 entries_text (bound ∷ more) = entry_text bound ++ entries_text more
 
 -- how a job stands, told with its table where it is done
-abbrev pub table_outcome_text : ℕ → Outcome → List ℕ
-table_outcome_text job Pending = outcome_text job Pending
-table_outcome_text job (Done finding) = codes "TABLE " ++ decimal job ++ entries_text finding.bounds
-table_outcome_text job Spent = outcome_text job Spent
-table_outcome_text job Cancelled = outcome_text job Cancelled
+abbrev pub table_standing_text : ℕ → Standing → List ℕ
+table_standing_text job Pending = standing_text job Pending
+table_standing_text job (Done analysis) = codes "TABLE " ++ decimal job ++ entries_text analysis.bounds
+table_standing_text job Spent = standing_text job Spent
+table_standing_text job Cancelled = standing_text job Cancelled
 
 -- a reply, told with the table of a job that is done
-abbrev pub table_text : Reply → List ℕ
-table_text (Told job outcome) = table_outcome_text job outcome
+abbrev pub table_text : OfficeReply → List ℕ
+table_text (Told job standing) = table_standing_text job standing
 table_text (Welcome quota) = reply_text (Welcome quota)
 table_text (Reserved quota) = reply_text (Reserved quota)
 table_text (Job number) = reply_text (Job number)
@@ -130,7 +130,7 @@ table_text Gone = reply_text Gone
 table_text (Refused number) = reply_text (Refused number)
 
 -- what a line is answered
-abbrev pub turn_text : Turn → List ℕ
+abbrev pub turn_text : LineTurn → List ℕ
 turn_text (Faulted fault) = error_text (fault_number fault)
 turn_text (Made call reply) = reply_text reply
 turn_text (Tabulated job reply) = table_text reply

@@ -29,13 +29,13 @@ impl Model for Bounds {
 
     ghost Value = { List Bound };
 
-    ghost use Rattle.session.specs.Places.{held, IsHeld};
+    ghost use Rattle.session.specs.Places.{bounds_held, IsHeld};
 
     ghost view = { λ b. take b.count b.places };
 
     ghost invariant = { IsHeld };
 
-    ghost inverse = { held };
+    ghost inverse = { bounds_held };
 
     ghost inverse_ok = { λ b h. h.same };
 }

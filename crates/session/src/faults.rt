@@ -1,6 +1,6 @@
 //! How a session ends.
 ghost use Rattle.std.specs.Prelude.{◌≡◌};
-ghost use Rattle.session.specs.Ends.{number_of};
+ghost use Rattle.session.specs.Ends.{session_fault_number};
 
 use thiserror::Error;
 
@@ -27,7 +27,7 @@ pub enum SessionFault {
 impl SessionFault {
     /// The number of the fault.
     pub fn number(self) -> u8
-        ensures { result ≡ number_of self }
+        ensures { result ≡ session_fault_number self }
     {
         match self {
             SessionFault::Read => 1,

@@ -3,7 +3,7 @@ ghost use Rattle.std.specs.Prelude.{◌≡◌, List, [], Result};
 ghost use Rattle.session.specs.declared.faults.End.{End};
 ghost use Rattle.session.specs.declared.faults.SessionFault.{SessionFault};
 ghost use Rattle.session.specs.Asks.{Asked, KeepsAsks};
-ghost use Rattle.session.specs.Calls.{Call, Reply};
+ghost use Rattle.session.specs.Calls.{Call, OfficeReply};
 ghost use Rattle.session.specs.DoneLines.{TrueSession};
 ghost use Rattle.session.specs.Sessions.{Session};
 
@@ -14,7 +14,7 @@ use line_io::{Sink, Source};
 /// of what was asked by the ASK line that was answered by JOB and its number, and each TABLE line its table.
 pub fn each_done_line_is_true<S: Source, K: Sink, O: Office>()
     ensures { (asks : O → List Asked)
-        → ((from : O) (call : Call) (reply : Reply) (to : O) → O.does from call reply to → KeepsAsks (asks from) call reply (asks to))
+        → ((from : O) (call : Call) (reply : OfficeReply) (to : O) → O.does from call reply to → KeepsAsks (asks from) call reply (asks to))
         → (source source' : S) (sink sink' : K) (office office' : O) (r : Result End SessionFault)
         → asks office ≡ []
         → Session S.gives K.takes O.does source sink office source' sink' office' r

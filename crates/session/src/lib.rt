@@ -30,10 +30,10 @@ mod faults;
 mod forms;
 mod laws;
 mod office;
-mod outcome;
 mod requests;
 pub mod rows;
 mod serving;
+mod standings;
 mod texts;
 mod turns;
 
@@ -41,9 +41,9 @@ pub use bounds::Bounds;
 pub use faults::{End, SessionFault};
 pub use laws::each_done_line_is_true;
 pub use office::Office;
-pub use outcome::{Finding, Live, Outcome};
 pub use protocol::Question;
 pub use serving::serve_lines;
+pub use standings::{Analysis, Live, Standing};
 
 #[cfg(test)]
 mod tests;

@@ -1,9 +1,9 @@
 //! What a session asks of.
 ghost use Rattle.std.specs.Prelude.{◌≡◌, Bool, true};
 ghost use Rattle.othello_board.specs.Words.{cells};
-ghost use Rattle.session.specs.Calls.{Call, Hello, Reserve as to_reserve, Ask, Get, Wait, Cancel, AskQuota, AskLive, Leave, Reply, Welcome, Reserved, Job, Told, Ended, Rest, Alive, Gone, reply_of};
+ghost use Rattle.session.specs.Calls.{Call, Hello, Reserve as to_reserve, Ask, Get, Wait, Cancel, AskQuota, AskLive, Leave, OfficeReply, Welcome, Reserved, Job, Told, Ended, Rest, Alive, Gone, reply_of};
 
-use crate::outcome::{Live, Outcome};
+use crate::standings::{Live, Standing};
 use protocol::Question;
 use sched_rules::Refusal;
 use tenant_quota::{Left, Reserve};
@@ -11,7 +11,7 @@ use tenant_quota::{Left, Reserve};
 /// The desk's calls for one tenant. Each refusal is the scheduling core's.
 pub trait Office {
     /// What a call may do and reply, and the states before and after it.
-    ghost does: { Self → Call → Reply → Self → Type 0 };
+    ghost does: { Self → Call → OfficeReply → Self → Type 0 };
 
     /// Whether what is known of the office's type allows that a tenant leaves: as a rule it does.
     ghost ready: { Bool } = { true };
@@ -29,11 +29,11 @@ pub trait Office {
         ensures { does self.old (Ask question.now.depth (cells question.now.position.board) question.now.position.side) (reply_of Job result) self.new };
 
     /// How a job stands. GET tells of it the value and the move, TABLE what is known of each choice.
-    fn get(&mut self, job: u64) -> Result<Outcome, Refusal>
+    fn get(&mut self, job: u64) -> Result<Standing, Refusal>
         ensures { does self.old (Get job) (reply_of (Told job) result) self.new };
 
     /// The same, once the job has ended.
-    fn wait(&mut self, job: u64) -> Result<Outcome, Refusal>
+    fn wait(&mut self, job: u64) -> Result<Standing, Refusal>
         ensures { does self.old (Wait job) (reply_of (Told job) result) self.new };
 
     /// Cancels a job that hasn't ended.

@@ -7,8 +7,8 @@ ghost use Rattle.othello_eval.specs.Tables.{IsTable};
 ghost use Rattle.othello_eval.specs.Rows.{entry, equal_moves, corner_and_edge, to_pass};
 ghost use Rattle.line_io.specs.Lines.{Whole, TooLong};
 ghost use Rattle.position_text.specs.declared.positions.Side.TheVariants.{Black};
-ghost use Rattle.session.specs.declared.outcome.Finding.{Finding};
-ghost use Rattle.session.specs.declared.outcome.Outcome.TheVariants.{Pending, Done, Spent, Cancelled};
+ghost use Rattle.session.specs.declared.standings.Analysis.{Analysis};
+ghost use Rattle.session.specs.declared.standings.Standing.TheVariants.{Pending, Done, Spent, Cancelled};
 ghost use Rattle.session.specs.Calls.{Hello, Reserve, Ask, Get, Wait, Cancel, AskQuota, AskLive, Leave, Welcome, Reserved, Job, Told, Rest, Alive, Gone, Refused};
 ghost use Rattle.session.specs.Requests.{Makes, Tabulates, Ends, request};
 ghost use Rattle.session.specs.Turns.{Tabulated, table_text};
@@ -167,10 +167,10 @@ pub fn a_table_is_asked_for()
 /// What a TABLE line is worth: where the opening was asked for to depth 1 as job 1, and nothing else, the entries of job 1 are a
 /// table of the opening to depth 1, and no other job has any.
 pub fn a_table_is_of_what_was_asked()
-    ensures opening { (finding : Finding)
-        → TurnHolds ((Whole (codes "ASK 1 ---------------------------OX------XO--------------------------- X"), codes "JOB 1") ∷ (Whole (codes "HELLO 4 8"), codes "WELCOME 4 8") ∷ []) (Tabulated 1 (Told 1 (Done finding)))
-        → IsTable 1 opening_board finding.bounds }
-    ensures unasked { (finding : Finding)
-        → TurnHolds ((Whole (codes "ASK 1 ---------------------------OX------XO--------------------------- X"), codes "JOB 1") ∷ (Whole (codes "HELLO 4 8"), codes "WELCOME 4 8") ∷ []) (Tabulated 2 (Told 2 (Done finding)))
+    ensures opening { (analysis : Analysis)
+        → TurnHolds ((Whole (codes "ASK 1 ---------------------------OX------XO--------------------------- X"), codes "JOB 1") ∷ (Whole (codes "HELLO 4 8"), codes "WELCOME 4 8") ∷ []) (Tabulated 1 (Told 1 (Done analysis)))
+        → IsTable 1 opening_board analysis.bounds }
+    ensures unasked { (analysis : Analysis)
+        → TurnHolds ((Whole (codes "ASK 1 ---------------------------OX------XO--------------------------- X"), codes "JOB 1") ∷ (Whole (codes "HELLO 4 8"), codes "WELCOME 4 8") ∷ []) (Tabulated 2 (Told 2 (Done analysis)))
         → ⊥ }
 {}

@@ -7,7 +7,7 @@ ghost use Rattle.session.specs.Sessions.{Turned, Session, talk_result};
 
 use crate::faults::{End, SessionFault};
 use crate::office::Office;
-use crate::texts::Text;
+use crate::texts::SessionText;
 use crate::turns::{leave_if, take_turn};
 use line_io::{Answer, Ends, Line, LineFault, Sink, Source, TalkEnd, talk_lines};
 use std::sync::Wait;
@@ -19,7 +19,7 @@ const LF: u8 = 10;
 struct Clerk<'a, O: Office> {
     office: &'a mut O,
     seated: bool,
-    text: Text,
+    text: SessionText,
     ghost ready: { O.ready ≡ true },
 }
 
@@ -34,7 +34,7 @@ impl<'a, O: Office> Clerk<'a, O> {
         Clerk {
             office,
             seated: false,
-            text: Text::new(),
+            text: SessionText::new(),
         }
     }
 }

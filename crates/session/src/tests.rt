@@ -3,6 +3,7 @@ mod tables;
 
 use crate::*;
 use line_io::{FromReader, FromWriter, ReadFailed, Sink, Source, WriteFailed};
+use othello_eval::Valued;
 use sched_rules::Refusal;
 use std::alloc::Global;
 use std::cell::Cell;
@@ -17,17 +18,17 @@ use tenant_quota::{Left, Reserve};
 #[derive(Drop)]
 struct Prepared {
     hello: Result<(), Refusal>,
-    outcome: Outcome,
+    standing: Standing,
     left: Left,
     jobs: u64,
     here: bool,
 }
 
 impl Prepared {
-    fn new(outcome: Outcome, segments: u32, nodes: u32, steps: u32) -> Prepared {
+    fn new(standing: Standing, segments: u32, nodes: u32, steps: u32) -> Prepared {
         Prepared {
             hello: Ok(()),
-            outcome,
+            standing,
             left: Left {
                 segments,
                 nodes,
@@ -38,11 +39,11 @@ impl Prepared {
         }
     }
 
-    fn told(&self, job: u64) -> Result<Outcome, Refusal> {
+    fn told(&self, job: u64) -> Result<Standing, Refusal> {
         if job == 0 || job > self.jobs {
             return Err(Refusal::NoJob);
         }
-        Ok(self.outcome)
+        Ok(self.standing)
     }
 }
 
@@ -68,17 +69,17 @@ impl Office for Prepared {
         Ok(self.jobs)
     }
 
-    fn get(&mut self, job: u64) -> Result<Outcome, Refusal> {
+    fn get(&mut self, job: u64) -> Result<Standing, Refusal> {
         self.told(job)
     }
 
-    fn wait(&mut self, job: u64) -> Result<Outcome, Refusal> {
+    fn wait(&mut self, job: u64) -> Result<Standing, Refusal> {
         self.told(job)
     }
 
     fn cancel(&mut self, job: u64) -> Result<(), Refusal> {
         self.told(job)?;
-        self.outcome = Outcome::Cancelled;
+        self.standing = Standing::Cancelled;
         Ok(())
     }
 
@@ -99,9 +100,11 @@ impl Office for Prepared {
 }
 
 /// A finished job of the opening at depth 0.
-const NOTHING_TO_PLAY: Outcome = Outcome::Done(Finding {
-    value: 0,
-    choice: None,
+const NOTHING_TO_PLAY: Standing = Standing::Done(Analysis {
+    best: Valued {
+        value: 0,
+        choice: None,
+    },
     bounds: Bounds::NONE,
 });
 
@@ -141,7 +144,7 @@ QUOTA
 
 #[test]
 fn a_spent_job_is_cancelled_no_more(rt: HostRuntime) {
-    let mut office = Prepared::new(Outcome::Spent, 8, 0, 14);
+    let mut office = Prepared::new(Standing::Spent, 8, 0, 14);
     let (result, answers) = served(
         &rt,
         rt.alloc(),
@@ -167,7 +170,7 @@ LIVE
 
 #[test]
 fn foreign_lines_get_their_faults(rt: HostRuntime) {
-    let mut office = Prepared::new(Outcome::Pending, 4, 8, 128);
+    let mut office = Prepared::new(Standing::Pending, 4, 8, 128);
     let (result, answers) = served(
         &rt,
         rt.alloc(),
@@ -235,7 +238,7 @@ fn a_line_too_long_is_answered_at_the_end_too(rt: HostRuntime) {
         (long.as_slice(), b"ERR 22\n".as_slice()),
         (&long[..128], b"ERR 21\n"),
     ] {
-        let mut office = Prepared::new(Outcome::Pending, 4, 8, 128);
+        let mut office = Prepared::new(Standing::Pending, 4, 8, 128);
         let (result, answers) = served(&rt, rt.alloc(), &mut office, line);
         assert_eq!(rt; result, Ok(End::EndOfInput));
         assert_eq!(rt; answers.as_slice(), answer);

@@ -2,12 +2,12 @@
 ghost use Rattle.std.specs.Prelude.{◌≡◌, ◌+◌, ◌≤◌, [], ◌∷◌, ◌++◌, length, codes, decimal};
 ghost use Rattle.protocol.specs.Texts.{error_text, value_text};
 ghost use Rattle.session.specs.Calls.{Welcome, Reserved, Job, Told, Ended, Rest, Alive, reply_of};
-ghost use Rattle.session.specs.Turns.{reply_text, outcome_text, pair_text, kind_text, entry_text, entries_text, table_outcome_text, table_text};
+ghost use Rattle.session.specs.Turns.{reply_text, standing_text, pair_text, kind_text, entry_text, entries_text, table_standing_text, table_text};
 
-use crate::outcome::{Finding, Live, Outcome};
+use crate::standings::{Analysis, Live, Standing};
 use arrayvec::ArrayVec;
-use protocol::{push_error, push_move, push_number, push_value};
 use othello_eval::{Bound, BoundKind};
+use protocol::{push_error, push_move, push_number, push_value};
 use sched_rules::Refusal;
 use tenant_quota::{Left, Reserve};
 
@@ -15,10 +15,10 @@ use tenant_quota::{Left, Reserve};
 const ANSWER_BYTES: usize = 1115;
 
 /// The last answer: of at most 1,114 bytes, and an LF. A session has one, which no call hands on by value.
-pub(crate) type Text = ArrayVec<u8, ANSWER_BYTES>;
+pub(crate) type SessionText = ArrayVec<u8, ANSWER_BYTES>;
 
 /// A word of at most 10 bytes with the space after it.
-fn write_word(text: &mut Text, word: &[u8])
+fn write_word(text: &mut SessionText, word: &[u8])
     requires { length word.now ≤ 10 }
     ensures { text.new.items ≡ word.now }
 {
@@ -27,7 +27,7 @@ fn write_word(text: &mut Text, word: &[u8])
 }
 
 /// A word and a number.
-fn write_numbered(text: &mut Text, word: &[u8], number: u64)
+fn write_numbered(text: &mut SessionText, word: &[u8], number: u64)
     requires { length word.now ≤ 10 }
     ensures text { text.new.items ≡ word.now ++ decimal number }
     ensures short { length text.new.items ≤ length word.now + 20 }
@@ -37,7 +37,7 @@ fn write_numbered(text: &mut Text, word: &[u8], number: u64)
 }
 
 /// A word and two numbers.
-fn write_pair(text: &mut Text, word: &[u8], first: u64, second: u64)
+fn write_pair(text: &mut SessionText, word: &[u8], first: u64, second: u64)
     requires { length word.now ≤ 10 }
     ensures text { text.new.items ≡ word.now ++ pair_text first second }
     ensures short { length text.new.items ≤ 51 }
@@ -48,27 +48,27 @@ fn write_pair(text: &mut Text, word: &[u8], first: u64, second: u64)
 }
 
 /// The value and the move of a job.
-fn write_finding(text: &mut Text, job: u64, finding: &Finding)
-    ensures text { text.new.items ≡ codes "DONE " ++ decimal job ++ codes " " ++ value_text finding.now.value finding.now.choice }
+fn write_analysis(text: &mut SessionText, job: u64, analysis: &Analysis)
+    ensures text { text.new.items ≡ codes "DONE " ++ decimal job ++ codes " " ++ value_text analysis.now.best.value analysis.now.best.choice }
     ensures short { length text.new.items ≤ 72 }
 {
     write_numbered(text, b"DONE ", job);
     text.push(b' ');
-    push_value(text, finding.value);
+    push_value(text, analysis.best.value);
     text.push(b' ');
-    push_move(text, finding.choice);
+    push_move(text, analysis.best.choice);
 }
 
 /// How a job stands.
-fn write_outcome(text: &mut Text, job: u64, outcome: &Outcome)
-    ensures text { text.new.items ≡ outcome_text job outcome.now }
+fn write_standing(text: &mut SessionText, job: u64, standing: &Standing)
+    ensures text { text.new.items ≡ standing_text job standing.now }
     ensures short { length text.new.items ≤ 72 }
 {
-    match outcome {
-        Outcome::Pending => write_numbered(text, b"PENDING ", job),
-        Outcome::Done(finding) => write_finding(text, job, finding),
-        Outcome::Spent => write_numbered(text, b"SPENT ", job),
-        Outcome::Cancelled => write_numbered(text, b"CANCELLED ", job),
+    match standing {
+        Standing::Pending => write_numbered(text, b"PENDING ", job),
+        Standing::Done(analysis) => write_analysis(text, job, analysis),
+        Standing::Spent => write_numbered(text, b"SPENT ", job),
+        Standing::Cancelled => write_numbered(text, b"CANCELLED ", job),
     }
 }
 
@@ -84,7 +84,7 @@ fn kind_byte(kind: BoundKind) -> u8
 }
 
 /// Appends an entry of a table: at most 17 bytes.
-fn push_entry(text: &mut Text, bound: &Bound)
+fn push_entry(text: &mut SessionText, bound: &Bound)
     requires { length text.old.items + 17 ≤ 1114 }
     ensures text { text.new.items ≡ text.old.items ++ entry_text bound.now }
     ensures short { length text.new.items ≤ length text.old.items + 17 }
@@ -96,7 +96,7 @@ fn push_entry(text: &mut Text, bound: &Bound)
 }
 
 /// Appends the entries of a table.
-fn push_entries(text: &mut Text, bounds: &[Bound])
+fn push_entries(text: &mut SessionText, bounds: &[Bound])
     requires few { length bounds.now ≤ 64 }
     requires room { length text.old.items ≤ 26 }
     ensures text { text.new.items ≡ text.old.items ++ entries_text bounds.now }
@@ -108,27 +108,27 @@ fn push_entries(text: &mut Text, bounds: &[Bound])
 }
 
 /// The table of a job.
-fn write_table(text: &mut Text, job: u64, finding: &Finding)
-    ensures text { text.new.items ≡ codes "TABLE " ++ decimal job ++ entries_text finding.now.bounds }
+fn write_table(text: &mut SessionText, job: u64, analysis: &Analysis)
+    ensures text { text.new.items ≡ codes "TABLE " ++ decimal job ++ entries_text analysis.now.bounds }
     ensures short { length text.new.items ≤ 1114 }
 {
     write_numbered(text, b"TABLE ", job);
-    push_entries(text, finding.bounds.as_slice());
+    push_entries(text, analysis.bounds.as_slice());
 }
 
 /// How a job stands, with its table where it is done.
-fn write_table_outcome(text: &mut Text, job: u64, outcome: &Outcome)
-    ensures text { text.new.items ≡ table_outcome_text job outcome.now }
+fn write_table_standing(text: &mut SessionText, job: u64, standing: &Standing)
+    ensures text { text.new.items ≡ table_standing_text job standing.now }
     ensures short { length text.new.items ≤ 1114 }
 {
-    match outcome {
-        Outcome::Done(finding) => write_table(text, job, finding),
-        _ => write_outcome(text, job, outcome),
+    match standing {
+        Standing::Done(analysis) => write_table(text, job, analysis),
+        _ => write_standing(text, job, standing),
     }
 }
 
 /// The fault of this number.
-pub(crate) fn write_fault(text: &mut Text, number: u8)
+pub(crate) fn write_fault(text: &mut SessionText, number: u8)
     ensures text { text.new.items ≡ error_text number }
     ensures short { length text.new.items ≤ 72 }
 {
@@ -137,7 +137,7 @@ pub(crate) fn write_fault(text: &mut Text, number: u8)
 }
 
 /// The reply to HELLO.
-pub(crate) fn write_welcome(text: &mut Text, reserve: Reserve, reply: Result<(), Refusal>)
+pub(crate) fn write_welcome(text: &mut SessionText, reserve: Reserve, reply: Result<(), Refusal>)
     ensures text { text.new.items ≡ reply_text (reply_of (λ _. Welcome reserve) reply) }
     ensures short { length text.new.items ≤ 72 }
 {
@@ -153,7 +153,7 @@ pub(crate) fn write_welcome(text: &mut Text, reserve: Reserve, reply: Result<(),
 }
 
 /// The reply to RESERVE.
-pub(crate) fn write_reserved(text: &mut Text, reserve: Reserve, reply: Result<(), Refusal>)
+pub(crate) fn write_reserved(text: &mut SessionText, reserve: Reserve, reply: Result<(), Refusal>)
     ensures text { text.new.items ≡ reply_text (reply_of (λ _. Reserved reserve) reply) }
     ensures short { length text.new.items ≤ 72 }
 {
@@ -169,7 +169,7 @@ pub(crate) fn write_reserved(text: &mut Text, reserve: Reserve, reply: Result<()
 }
 
 /// The reply to ASK.
-pub(crate) fn write_job(text: &mut Text, reply: Result<u64, Refusal>)
+pub(crate) fn write_job(text: &mut SessionText, reply: Result<u64, Refusal>)
     ensures text { text.new.items ≡ reply_text (reply_of Job reply) }
     ensures short { length text.new.items ≤ 72 }
 {
@@ -180,29 +180,29 @@ pub(crate) fn write_job(text: &mut Text, reply: Result<u64, Refusal>)
 }
 
 /// The reply to GET and WAIT.
-pub(crate) fn write_told(text: &mut Text, job: u64, reply: &Result<Outcome, Refusal>)
+pub(crate) fn write_told(text: &mut SessionText, job: u64, reply: &Result<Standing, Refusal>)
     ensures text { text.new.items ≡ reply_text (reply_of (Told job) reply.now) }
     ensures short { length text.new.items ≤ 72 }
 {
     match reply {
-        Ok(outcome) => write_outcome(text, job, outcome),
+        Ok(standing) => write_standing(text, job, standing),
         Err(refusal) => write_fault(text, refusal.number()),
     }
 }
 
 /// The reply to TABLE.
-pub(crate) fn write_table_reply(text: &mut Text, job: u64, reply: &Result<Outcome, Refusal>)
+pub(crate) fn write_table_reply(text: &mut SessionText, job: u64, reply: &Result<Standing, Refusal>)
     ensures text { text.new.items ≡ table_text (reply_of (Told job) reply.now) }
     ensures short { length text.new.items ≤ 1114 }
 {
     match reply {
-        Ok(outcome) => write_table_outcome(text, job, outcome),
+        Ok(standing) => write_table_standing(text, job, standing),
         Err(refusal) => write_fault(text, refusal.number()),
     }
 }
 
 /// The reply to CANCEL.
-pub(crate) fn write_ended(text: &mut Text, job: u64, reply: Result<(), Refusal>)
+pub(crate) fn write_ended(text: &mut SessionText, job: u64, reply: Result<(), Refusal>)
     ensures text { text.new.items ≡ reply_text (reply_of (λ _. Ended job) reply) }
     ensures short { length text.new.items ≤ 72 }
 {
@@ -213,7 +213,7 @@ pub(crate) fn write_ended(text: &mut Text, job: u64, reply: Result<(), Refusal>)
 }
 
 /// The segments, nodes and steps that are left.
-fn write_left(text: &mut Text, left: Left)
+fn write_left(text: &mut SessionText, left: Left)
     ensures text { text.new.items ≡ reply_text (Rest left) }
     ensures short { length text.new.items ≤ 72 }
 {
@@ -228,7 +228,7 @@ fn write_left(text: &mut Text, left: Left)
 }
 
 /// The reply to QUOTA.
-pub(crate) fn write_quota(text: &mut Text, reply: Result<Left, Refusal>)
+pub(crate) fn write_quota(text: &mut SessionText, reply: Result<Left, Refusal>)
     ensures text { text.new.items ≡ reply_text (reply_of Rest reply) }
     ensures short { length text.new.items ≤ 72 }
 {
@@ -239,7 +239,7 @@ pub(crate) fn write_quota(text: &mut Text, reply: Result<Left, Refusal>)
 }
 
 /// The reply to LIVE.
-pub(crate) fn write_live(text: &mut Text, reply: Result<Live, Refusal>)
+pub(crate) fn write_live(text: &mut SessionText, reply: Result<Live, Refusal>)
     ensures text { text.new.items ≡ reply_text (reply_of Alive reply) }
     ensures short { length text.new.items ≤ 72 }
 {
@@ -250,7 +250,7 @@ pub(crate) fn write_live(text: &mut Text, reply: Result<Live, Refusal>)
 }
 
 /// The answer to BYE.
-pub(crate) fn write_bye(text: &mut Text)
+pub(crate) fn write_bye(text: &mut SessionText)
     ensures text { text.new.items ≡ codes "BYE" }
     ensures short { length text.new.items ≤ 72 }
 {

@@ -1,7 +1,7 @@
 //! One line of a session: what it asks of the office, and its answer.
 ghost use Rattle.std.specs.Prelude.{◌≡◌, ◌≤◌, Bool, true, length};
 ghost use Rattle.line_io.specs.Views.{text_of};
-ghost use Rattle.session.specs.Calls.{Hello, Reply, Welcome, reply_of};
+ghost use Rattle.session.specs.Calls.{Hello, OfficeReply, Welcome, reply_of};
 ghost use Rattle.session.specs.Requests.{request};
 ghost use Rattle.session.specs.Sessions.{Turned, LeavesIf};
 ghost use Rattle.session.specs.Views.{request_seen};
@@ -9,8 +9,8 @@ ghost use Rattle.session.specs.Views.{request_seen};
 use crate::office::Office;
 use crate::requests::{Request, read_request};
 use crate::texts::{
-    Text, write_bye, write_ended, write_fault, write_job, write_live, write_quota, write_reserved,
-    write_table_reply, write_told, write_welcome,
+    SessionText, write_bye, write_ended, write_fault, write_job, write_live, write_quota,
+    write_reserved, write_table_reply, write_told, write_welcome,
 };
 use line_io::Line;
 use tenant_quota::Reserve;
@@ -26,7 +26,12 @@ pub(crate) fn leave_if<O: Office>(office: &mut O, seated: bool)
 }
 
 /// A new tenant.
-fn take_hello<O: Office>(office: &mut O, seated: &mut bool, text: &mut Text, reserve: Reserve)
+fn take_hello<O: Office>(
+    office: &mut O,
+    seated: &mut bool,
+    text: &mut SessionText,
+    reserve: Reserve,
+)
     ensures turn { Turned O.does (request_seen (Request.Hello reserve)) office.old seated.old text.new.items office.new seated.new }
     ensures short { length text.new.items ≤ 1114 }
 {
@@ -41,7 +46,7 @@ fn take_hello<O: Office>(office: &mut O, seated: &mut bool, text: &mut Text, res
 // told so much stands in a function of its own, and other requests don't pay.
 
 /// How a job stands.
-fn tell_job<O: Office>(office: &mut O, text: &mut Text, job: u64)
+fn tell_job<O: Office>(office: &mut O, text: &mut SessionText, job: u64)
     ensures turn { (seated : Bool) → Turned O.does (request_seen (Request.Get job)) office.old seated text.new.items office.new seated }
     ensures short { length text.new.items ≤ 1114 }
 {
@@ -50,7 +55,7 @@ fn tell_job<O: Office>(office: &mut O, text: &mut Text, job: u64)
 }
 
 /// The same, once the job has ended.
-fn tell_ended_job<O: Office>(office: &mut O, text: &mut Text, job: u64)
+fn tell_ended_job<O: Office>(office: &mut O, text: &mut SessionText, job: u64)
     ensures turn { (seated : Bool) → Turned O.does (request_seen (Request.Wait job)) office.old seated text.new.items office.new seated }
     ensures short { length text.new.items ≤ 1114 }
 {
@@ -59,7 +64,7 @@ fn tell_ended_job<O: Office>(office: &mut O, text: &mut Text, job: u64)
 }
 
 /// How a job stands, with its table where it is done.
-fn tell_table<O: Office>(office: &mut O, text: &mut Text, job: u64)
+fn tell_table<O: Office>(office: &mut O, text: &mut SessionText, job: u64)
     ensures turn { (seated : Bool) → Turned O.does (request_seen (Request.Table job)) office.old seated text.new.items office.new seated }
     ensures short { length text.new.items ≤ 1114 }
 {
@@ -68,7 +73,12 @@ fn tell_table<O: Office>(office: &mut O, text: &mut Text, job: u64)
 }
 
 /// The answer to a request.
-fn answer_request<O: Office>(office: &mut O, seated: &mut bool, text: &mut Text, request: Request)
+fn answer_request<O: Office>(
+    office: &mut O,
+    seated: &mut bool,
+    text: &mut SessionText,
+    request: Request,
+)
     requires { O.ready ≡ true }
     ensures turn { Turned O.does (request_seen request) office.old seated.old text.new.items office.new seated.new }
     ensures short { length text.new.items ≤ 1114 }
@@ -96,7 +106,7 @@ fn answer_request<O: Office>(office: &mut O, seated: &mut bool, text: &mut Text,
 pub(crate) fn take_turn<O: Office>(
     office: &mut O,
     seated: &mut bool,
-    text: &mut Text,
+    text: &mut SessionText,
     line: Line<'_>,
 )
     requires { O.ready ≡ true }

@@ -3,8 +3,8 @@ ghost use Rattle.std.specs.Prelude.{◌≡◌, ◌≤◌, length};
 ghost use Rattle.protocol.specs.Texts.{value_text, visited_text, error_text};
 
 use arrayvec::ArrayVec;
-use protocol::{push_error, push_move, push_number, push_value};
 use othello_moves::Choice;
+use protocol::{push_error, push_move, push_number, push_value};
 
 /// The most bytes of an answer with its LF.
 const ANSWER_BYTES: usize = 40;

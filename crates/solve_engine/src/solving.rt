@@ -142,6 +142,8 @@ pub fn solve_bytes<A: Allocator + Copy, R: Read, W: Write>(
 pub fn solve_visited<S: Source, K: Sink>(source: &mut S, sink: &mut K) -> Result<(), LineFault>
     ensures { VisitedRun S.gives K.takes source.old sink.old source.new sink.new result }
 {
-    let mut counter = VisitedSolver { text: SolveText::new() };
+    let mut counter = VisitedSolver {
+        text: SolveText::new(),
+    };
     answer_lines(source, sink, &mut counter)
 }

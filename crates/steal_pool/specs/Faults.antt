@@ -4,6 +4,6 @@ use Rattle.steal_pool.specs.declared.pool.PoolFault.{PoolFault}
 use Rattle.steal_pool.specs.declared.pool.PoolFault.TheVariants.{OutOfMemory, NoThread}
 
 -- why no pool ran, by number
-abbrev pub number_of : PoolFault → ℕ
-number_of OutOfMemory = 1
-number_of NoThread = 2
+abbrev pub pool_fault_number : PoolFault → ℕ
+pool_fault_number OutOfMemory = 1
+pool_fault_number NoThread = 2

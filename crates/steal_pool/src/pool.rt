@@ -26,11 +26,11 @@ pub enum PoolFault {
 
 impl PoolFault {
     ghost use Rattle.std.specs.Prelude.{◌≡◌};
-    ghost use Rattle.steal_pool.specs.Faults.{number_of};
+    ghost use Rattle.steal_pool.specs.Faults.{pool_fault_number};
 
     /// The number of the fault, 1 or 2.
     pub fn number(&self) -> u8
-        ensures { result ≡ number_of self.now }
+        ensures { result ≡ pool_fault_number self.now }
     {
         match self {
             PoolFault::OutOfMemory => 1,

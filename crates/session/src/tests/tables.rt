@@ -2,7 +2,7 @@
 use super::{NOTHING_TO_PLAY, Prepared, served};
 use crate::*;
 use line_io::{FromReader, Sink, WriteFailed};
-use othello_eval::{Bound, BoundKind};
+use othello_eval::{Bound, BoundKind, Valued};
 use othello_moves::Choice;
 use std::alloc::Global;
 use std::sync::Wait;
@@ -18,16 +18,18 @@ fn square(number: u8, kind: BoundKind, score: i32) -> Bound {
 }
 
 /// A job that is done, with these entries, of at most 64.
-fn done(value: i32, choice: Choice, entries: &[Bound]) -> Outcome {
+fn done(value: i32, choice: Choice, entries: &[Bound]) -> Standing {
     let mut bounds = Bounds::NONE;
     for entry in entries.iter().take(64) {
         if bounds.as_slice().len() < 64 {
             bounds.push(*entry);
         }
     }
-    Outcome::Done(Finding {
-        value,
-        choice: Some(choice),
+    Standing::Done(Analysis {
+        best: Valued {
+            value,
+            choice: Some(choice),
+        },
         bounds,
     })
 }
@@ -49,8 +51,8 @@ fn entries_are_kept_in_their_order(rt: HostRuntime) {
 }
 
 /// Serves `TABLE 1` and `GET 1` of a job that stands so, and gives the answers to both.
-fn shown<R: Wait>(rt: &R, alloc: Global, outcome: Outcome) -> Vec<u8> {
-    let mut office = Prepared::new(outcome, 4, 7, 123);
+fn shown<R: Wait>(rt: &R, alloc: Global, standing: Standing) -> Vec<u8> {
+    let mut office = Prepared::new(standing, 4, 7, 123);
     let (_, answers) = served(
         rt,
         alloc,
@@ -114,18 +116,18 @@ fn a_pass_and_each_kind_are_shown(rt: HostRuntime) {
 
 #[test]
 fn other_jobs_have_no_table(rt: HostRuntime) {
-    for (outcome, due) in [
+    for (standing, due) in [
         (
-            Outcome::Pending,
+            Standing::Pending,
             b"WELCOME 4 8\nJOB 1\nPENDING 1\nPENDING 1\n".as_slice(),
         ),
-        (Outcome::Spent, b"WELCOME 4 8\nJOB 1\nSPENT 1\nSPENT 1\n"),
+        (Standing::Spent, b"WELCOME 4 8\nJOB 1\nSPENT 1\nSPENT 1\n"),
         (
-            Outcome::Cancelled,
+            Standing::Cancelled,
             b"WELCOME 4 8\nJOB 1\nCANCELLED 1\nCANCELLED 1\n",
         ),
     ] {
-        let answers = shown(&rt, rt.alloc(), outcome);
+        let answers = shown(&rt, rt.alloc(), standing);
         assert_eq!(rt; answers.as_slice(), due);
     }
 }
@@ -182,7 +184,7 @@ impl Sink for Last {
 }
 
 /// A table of 64 entries that are as long as an entry can be.
-fn longest() -> Outcome {
+fn longest() -> Standing {
     let entry = Bound {
         choice: Choice::Pass,
         score: i32::MIN,

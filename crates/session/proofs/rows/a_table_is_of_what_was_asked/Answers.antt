@@ -13,6 +13,6 @@ same a b h = cc h
 pub returns : goal.returns
 unfolding digits squares
 returns c = record {
-  opening = λ finding h. subst (λ a. IsTable a.depth a.board finding.bounds) (same (record { board = opening_board; depth = 1 }) h.asked h.is) h.table;
-  unasked = λ finding h. absurd (cc h.is);
+  opening = λ analysis h. subst (λ a. IsTable a.depth a.board analysis.bounds) (same (record { board = opening_board; depth = 1 }) h.asked h.is) h.table;
+  unasked = λ analysis h. absurd (cc h.is);
 }

@@ -1,4 +1,4 @@
-use Rattle.std.proofs.Common.{ap, ap₂, sym, ◌∙◌, true, false, rules, w32}
+use Rattle.std.proofs.Common.{ap, ap₂, ◌∙◌, true, false, rules, w32}
 use Rattle.std.proofs.lemmas.Int.{to_z-of_z}
 use mir.Val.{SFits}
 use Rattle.protocol.specs.Texts.{value_text, error_text}

@@ -1,6 +1,6 @@
 use Rattle.std.proofs.Common.{sym, arith}
 use Rattle.desk.proofs.Asking.{at-zero, at-past, at-read}
-use Rattle.desk.proofs.kept.asked_at.Goals as goal
+use Rattle.desk.proofs.kept.seat_asked_at.Goals as goal
 
 pub returns-then-job-eq0 : goal.returns-then-job-eq0
 returns-then-job-eq0 c = rw c.if-job-eq0.true (sym (at-zero c.args.asked.now))

@@ -6,7 +6,7 @@ use tcp_server::desk::Config;
 
 /// What a server is asked to be.
 #[derive(Clone, Copy)]
-pub struct Asked {
+pub struct Service {
     /// How many sessions it serves.
     pub sessions: u16,
     /// Its port; at 0 the system chooses one.

@@ -1,14 +1,14 @@
 //! What an office tells of a job, and of what its tenant has.
 use crate::bounds::Bounds;
-use othello_moves::Choice;
+use othello_eval::Valued;
 
 /// How a job stands.
 #[derive(Clone, Copy, Debug, PartialEq, Eq)]
-pub enum Outcome {
+pub enum Standing {
     /// It hasn't ended.
     Pending,
     /// It has ended with a value.
-    Done(Finding),
+    Done(Analysis),
     /// It has used up its tenant's reservation.
     Spent,
     /// It was cancelled.
@@ -17,11 +17,9 @@ pub enum Outcome {
 
 /// The value of a position to a depth, the move that attains it, and what is known of each choice.
 #[derive(Clone, Copy, Debug, PartialEq, Eq)]
-pub struct Finding {
-    /// The value, from -128,000 to 128,000, seen by the side to move.
-    pub value: i32,
-    /// The move; none at depth 0 and where the game is over.
-    pub choice: Option<Choice>,
+pub struct Analysis {
+    /// The value, from -128,000 to 128,000, and the move.
+    pub best: Valued,
     /// An entry for each choice, in their order; none at depth 0 and where the game is over.
     pub bounds: Bounds,
 }
