@@ -1,6 +1,6 @@
 -- What a job keeps of a returned root.
 use Rattle.std.specs.Prelude.{◌≡◌, ℕ, zero, suc, ◌<◌, ◌≤◌, ◌==◌, Bool, true, false, ℤ, List, [], ◌∷◌, length, drop, slice_index, Option, Some, None, find, All, IfSome, cond, if◌then◌else◌, bit_and, refl}
-use Rattle.std.proofs.Common.{take, to_z, of_z, w32, sym, ◌∙◌, ap, subst, arith}
+use Rattle.std.proofs.Common.{to_z, of_z, w32, sym, ◌∙◌, ap, subst, arith}
 use Rattle.std.proofs.lemmas.Int.{ints}
 use Rattle.std.proofs.lemmas.Bool.{lt-ltb}
 use Rattle.std.proofs.lemmas.List.{length-map, length-drop, take_all}

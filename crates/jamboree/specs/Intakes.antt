@@ -4,15 +4,15 @@ use Rattle.jamboree_rules.specs.sched_rules.declared.act.InletAct.{InletAct}
 use Rattle.jamboree_rules.specs.Places.{Best, Chosen, Phase, Status, rest_with, pairs_of}
 use Rattle.jamboree.specs.declared.intake.Intake.{Intake}
 use Rattle.jamboree.specs.declared.intake.Said.{Said}
-use Rattle.jamboree.specs.declared.intake.Finding.{Finding}
-use Rattle.jamboree.specs.declared.intake.Finding.TheVariants.{Nothing, Ended, Low, Failed, Raised, Kept}
+use Rattle.jamboree.specs.declared.intake.Verdict.{Verdict}
+use Rattle.jamboree.specs.declared.intake.Verdict.TheVariants.{Nothing, Ended, Low, Failed, Raised, Kept}
 
 -- the rest of an entry that says this
 abbrev pub rest_said : Said → ℕ
 rest_said said = rest_with said.known.kind said.known.score
 
--- what is stored of a finding
-abbrev pub stores_for : Finding → List (ℕ × ℕ)
+-- what is stored of a verdict
+abbrev pub stores_for : Verdict → List (ℕ × ℕ)
 stores_for Nothing = []
 stores_for (Ended told code) = pairs_of (Best told.best ∷ Chosen code ∷ Status told.said.number 2 (rest_said told.said) ∷ Phase 4 ∷ [])
 stores_for (Low told) = pairs_of (Best told.best ∷ Status told.said.number 2 (rest_said told.said) ∷ [])
@@ -22,4 +22,4 @@ stores_for (Kept told) = pairs_of (Best told.best ∷ Status told.said.number 2 
 
 -- the inlet of an intake
 abbrev pub inlet_for : Intake → InletAct
-inlet_for intake = record { stores = stores_for intake.finding; abort = intake.abort; wake = true }
+inlet_for intake = record { stores = stores_for intake.verdict; abort = intake.abort; wake = true }

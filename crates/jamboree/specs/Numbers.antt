@@ -6,30 +6,30 @@ use Rattle.jamboree.specs.declared.phases.Role.{Role}
 use Rattle.jamboree.specs.declared.phases.Role.TheVariants.{Root, FirstChild, Test, Again}
 use Rattle.jamboree.specs.declared.phases.Status.{Status}
 use Rattle.jamboree.specs.declared.phases.Status.TheVariants.{NotSpawned, Runs, Settled, Failed, RunsAgain}
-use Rattle.jamboree_rules.specs.Frames.{Frame}
+use Rattle.jamboree_rules.specs.Frames.{Frame, phase_new, phase_computing, phase_first, phase_tests, phase_done, role_root, role_first_child, role_test, role_again, status_not_spawned, status_runs, status_settled, status_failed, status_runs_again}
 
 -- the number of a phase
 abbrev pub phase_number : Phase → ℕ
-phase_number New = 0
-phase_number Computing = 1
-phase_number First = 2
-phase_number Tests = 3
-phase_number Done = 4
+phase_number New = phase_new
+phase_number Computing = phase_computing
+phase_number First = phase_first
+phase_number Tests = phase_tests
+phase_number Done = phase_done
 
 -- the number of a role
 abbrev pub role_number : Role → ℕ
-role_number Root = 0
-role_number FirstChild = 1
-role_number Test = 2
-role_number Again = 3
+role_number Root = role_root
+role_number FirstChild = role_first_child
+role_number Test = role_test
+role_number Again = role_again
 
 -- the number of a status
 abbrev pub status_number : Status → ℕ
-status_number NotSpawned = 0
-status_number Runs = 1
-status_number Settled = 2
-status_number Failed = 3
-status_number RunsAgain = 4
+status_number NotSpawned = status_not_spawned
+status_number Runs = status_runs
+status_number Settled = status_settled
+status_number Failed = status_failed
+status_number RunsAgain = status_runs_again
 
 -- the frame of these parts
 abbrev pub frame_by : (own opp depth : ℕ) (alpha beta : ℤ) → Role → ℕ → Phase → ℤ → (choice count spawned : ℕ) → (statuses rests : List ℕ) → Frame

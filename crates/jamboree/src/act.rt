@@ -4,8 +4,8 @@ ghost use Rattle.jamboree.specs.Intakes.{inlet_for, rest_said, stores_for};
 ghost use Rattle.jamboree.specs.Plans.{act_for, spawn_of};
 
 use crate::codes::NONE;
-use crate::entry::Rest;
-use crate::intake::{Finding, Intake, Said};
+use crate::entry::EntryRest;
+use crate::intake::{Intake, Said, Verdict};
 use crate::phases::{Phase, Status};
 use crate::plan::{NewChild, Plan};
 use crate::view::{Changes, spawn};
@@ -99,14 +99,14 @@ fn without_stores(after: Then) -> Act
 impl Said {
     /// The rest of the choice's entry then.
     #[inline(always)]
-    fn rest(&self) -> Rest
+    fn rest(&self) -> EntryRest
         ensures { result.word ≡ rest_said self.now }
     {
-        Rest::saying(self.known)
+        EntryRest::saying(self.known)
     }
 }
 
-impl Finding {
+impl Verdict {
     /// What is stored of it.
     #[inline(always)]
     fn stores(self) -> Stores
@@ -114,27 +114,27 @@ impl Finding {
     {
         let mut changes = Changes::new();
         match self {
-            Finding::Nothing => {}
-            Finding::Ended(told, code) => {
+            Verdict::Nothing => {}
+            Verdict::Ended(told, code) => {
                 changes.best(told.best);
                 changes.chosen(code);
                 changes.status(told.said.number, Status::Settled, told.said.rest());
                 changes.phase(Phase::Done);
             }
-            Finding::Low(told) => {
+            Verdict::Low(told) => {
                 changes.best(told.best);
                 changes.status(told.said.number, Status::Settled, told.said.rest());
             }
-            Finding::Failed(said) => {
+            Verdict::Failed(said) => {
                 changes.status(said.number, Status::Failed, said.rest());
             }
-            Finding::Raised(told, code) => {
+            Verdict::Raised(told, code) => {
                 changes.best(told.best);
                 changes.chosen(code);
                 changes.status(told.said.number, Status::Settled, told.said.rest());
                 changes.phase(Phase::Tests);
             }
-            Finding::Kept(told) => {
+            Verdict::Kept(told) => {
                 changes.best(told.best);
                 changes.status(told.said.number, Status::Settled, told.said.rest());
                 changes.phase(Phase::Tests);
@@ -151,7 +151,7 @@ impl Intake {
         ensures { result ≡ inlet_for self }
     {
         InletAct {
-            stores: self.finding.stores(),
+            stores: self.verdict.stores(),
             abort: self.abort,
             wake: true,
         }

@@ -22,28 +22,28 @@ pub(crate) struct Known {
 
 /// The rest of an entry as it stands there.
 #[derive(Clone, Copy)]
-pub(crate) struct Rest {
+pub(crate) struct EntryRest {
     word: u64,
     ghost fits: { word ≤ 2305843009213693951 },
 }
 
-impl Rest {
+impl EntryRest {
     /// What stands above the status in an entry.
     #[inline(always)]
-    pub(crate) fn of(entry: u64) -> Rest
+    pub(crate) fn of(entry: u64) -> EntryRest
         ensures { result.word ≡ rest_of entry }
     {
-        Rest { word: entry / 8 }
+        EntryRest { word: entry / 8 }
     }
 
     /// The rest that says this.
     #[inline(always)]
-    pub(crate) fn saying(known: Known) -> Rest
+    pub(crate) fn saying(known: Known) -> EntryRest
         requires low { negsuc 999999 ≤ℤ known.score }
         requires high { known.score ≤ℤ pos 1000000 }
         ensures { result.word ≡ rest_with known.kind known.score }
     {
-        Rest {
+        EntryRest {
             word: kind_number(known.kind) + 4 * word_of_score(known.score),
         }
     }
@@ -115,5 +115,5 @@ pub(crate) fn is_entry_of(entry: u64, status: Status) -> bool
 pub(crate) fn is_entry(entry: u64) -> bool
     ensures { result ≡ is_entry entry }
 {
-    entry % 8 <= 4 && Rest::of(entry).is_rest()
+    entry % 8 <= 4 && EntryRest::of(entry).is_rest()
 }

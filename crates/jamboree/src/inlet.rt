@@ -12,7 +12,7 @@ ghost use Rattle.jamboree.specs.Views.{frame_in};
 use crate::codes::code_at;
 use crate::entry::Known;
 use crate::frame::View;
-use crate::intake::{Finding, Intake, Said, Told};
+use crate::intake::{Intake, Said, Settling, Verdict};
 use crate::next::floor;
 use crate::phases::Role;
 use jamboree_rules::othello_eval::BoundKind;
@@ -23,7 +23,7 @@ pub(crate) fn wakes() -> Intake
     ensures { inlet_for result ≡ wakes }
 {
     Intake {
-        finding: Finding::Nothing,
+        verdict: Verdict::Nothing,
         abort: false,
     }
 }
@@ -83,14 +83,14 @@ pub(crate) fn takes_in(frame: &View, child: &View) -> Intake
     ensures { inlet_for result ≡ inlet_of (frame_in frame.now) (frame_in child.now) }
 {
     Intake {
-        finding: finding_of(frame, child),
+        verdict: verdict_of(frame, child),
         abort: frame.beta <= seen(child),
     }
 }
 
 /// What the child's score says, by its role.
 #[inline(always)]
-fn finding_of(frame: &View, child: &View) -> Finding
+fn verdict_of(frame: &View, child: &View) -> Verdict
     requires { may_be_child (frame_in frame.now) (frame_in child.now) ≡ true }
     ensures { stores_for result ≡ pairs_of (changes_of (frame_in frame.now) (frame_in child.now)) }
 {
@@ -118,14 +118,14 @@ fn finding_of(frame: &View, child: &View) -> Finding
 
 /// A score of at least beta is the frame's, with the child's choice, and the frame is done.
 #[inline(always)]
-fn ended(frame: &View, child: &View) -> Finding
+fn ended(frame: &View, child: &View) -> Verdict
     requires { may_be_child (frame_in frame.now) (frame_in child.now) ≡ true }
     ensures { (test low higher : Bool) → stores_for result ≡ pairs_of (changes_by true test low higher (frame_in frame.now) (frame_in child.now)) }
 {
     let said = said(frame, child);
     let code = code_at(frame.board, said.number);
     let best = seen(child);
-    Finding::Ended(Told { best, said }, code)
+    Verdict::Ended(Settling { best, said }, code)
 }
 
 /// What the child says of its choice.
@@ -147,7 +147,7 @@ fn said(frame: &View, child: &View) -> Said
 
 /// The greater of the best score and the child's, beside what the child says of its choice.
 #[inline(always)]
-fn told(frame: &View, child: &View) -> Told
+fn told(frame: &View, child: &View) -> Settling
     requires { may_be_child (frame_in frame.now) (frame_in child.now) ≡ true }
     ensures best { result.best ≡ int_max frame.now.best (seen (frame_in child.now)) }
     ensures number { result.said.number ≡ child.now.number }
@@ -156,43 +156,43 @@ fn told(frame: &View, child: &View) -> Told
 {
     let said = said(frame, child);
     let best = best_of(frame, child);
-    Told { best, said }
+    Settling { best, said }
 }
 
 /// A test that isn't above its window settles its choice.
 #[inline(always)]
-fn low(frame: &View, child: &View) -> Finding
+fn low(frame: &View, child: &View) -> Verdict
     requires { may_be_child (frame_in frame.now) (frame_in child.now) ≡ true }
     ensures { (higher : Bool) → stores_for result ≡ pairs_of (changes_by false true true higher (frame_in frame.now) (frame_in child.now)) }
 {
-    Finding::Low(told(frame, child))
+    Verdict::Low(told(frame, child))
 }
 
 /// A test above its window has failed: its score says only that the choice is worth more.
 #[inline(always)]
-fn failed(frame: &View, child: &View) -> Finding
+fn failed(frame: &View, child: &View) -> Verdict
     requires { may_be_child (frame_in frame.now) (frame_in child.now) ≡ true }
     ensures { (higher : Bool) → stores_for result ≡ pairs_of (changes_by false true false higher (frame_in frame.now) (frame_in child.now)) }
 {
-    Finding::Failed(said(frame, child))
+    Verdict::Failed(said(frame, child))
 }
 
 /// A search in full that is above the floor gives the best score and its choice.
 #[inline(always)]
-fn raised(frame: &View, child: &View) -> Finding
+fn raised(frame: &View, child: &View) -> Verdict
     requires { may_be_child (frame_in frame.now) (frame_in child.now) ≡ true }
     ensures { (low : Bool) → stores_for result ≡ pairs_of (changes_by false false low true (frame_in frame.now) (frame_in child.now)) }
 {
     let told = told(frame, child);
     let code = code_at(frame.board, told.said.number);
-    Finding::Raised(told, code)
+    Verdict::Raised(told, code)
 }
 
 /// A search in full that isn't settles its choice.
 #[inline(always)]
-fn kept(frame: &View, child: &View) -> Finding
+fn kept(frame: &View, child: &View) -> Verdict
     requires { may_be_child (frame_in frame.now) (frame_in child.now) ≡ true }
     ensures { (low : Bool) → stores_for result ≡ pairs_of (changes_by false false low false (frame_in frame.now) (frame_in child.now)) }
 {
-    Finding::Kept(told(frame, child))
+    Verdict::Kept(told(frame, child))
 }

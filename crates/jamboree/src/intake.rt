@@ -15,7 +15,7 @@ pub(crate) struct Said {
 
 /// What it says of a choice that is settled, and the best score of the frame then.
 #[derive(Drop)]
-pub(crate) struct Told {
+pub(crate) struct Settling {
     pub(crate) best: i32,
     pub(crate) said: Said,
     ghost low: { negsuc 199999 ≤ℤ best },
@@ -24,24 +24,24 @@ pub(crate) struct Told {
 
 /// What a child's score says of its choice. A word beside it is the choice's code.
 #[derive(Drop)]
-pub(crate) enum Finding {
+pub(crate) enum Verdict {
     /// Nothing: it is no child of the frame.
     Nothing,
     /// The score is at least beta, and the frame is done.
-    Ended(Told, u64),
+    Ended(Settling, u64),
     /// The test was low.
-    Low(Told),
+    Low(Settling),
     /// The test of the choice has failed.
     Failed(Said),
     /// The search in full is above the floor.
-    Raised(Told, u64),
+    Raised(Settling, u64),
     /// The search in full isn't.
-    Kept(Told),
+    Kept(Settling),
 }
 
 /// What an inlet stores, and whether it ends all else below the frame. It wakes the frame.
 #[derive(Drop)]
 pub(crate) struct Intake {
-    pub(crate) finding: Finding,
+    pub(crate) verdict: Verdict,
     pub(crate) abort: bool,
 }

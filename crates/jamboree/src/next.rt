@@ -8,7 +8,7 @@ ghost use Rattle.jamboree.specs.Numbers.{role_number};
 ghost use Rattle.jamboree.specs.Plans.{act_for, spawn_of};
 ghost use Rattle.jamboree.specs.Views.{frame_in, frame_with, entries_of, statuses_in};
 
-use crate::entry::Rest;
+use crate::entry::EntryRest;
 use crate::frame::View;
 use crate::phases::{Phase, Role};
 use crate::plan::{NewChild, Plan};
@@ -119,7 +119,7 @@ fn tests(frame: &View, words: &Words) -> Plan
 /// To search a choice again, above the greater of alpha and the best score. What is known of it
 /// stays.
 #[inline(always)]
-fn search_again(frame: &View, number: usize, rest: Rest) -> Plan
+fn search_again(frame: &View, number: usize, rest: EntryRest) -> Plan
     requires deep { 0 < frame.now.depth }
     requires choices { frame.now.count ≡ length (choices (cells frame.now.board)) }
     requires inside { number < frame.now.count }
@@ -132,7 +132,7 @@ fn search_again(frame: &View, number: usize, rest: Rest) -> Plan
 /// To test the next choice, just above the greater of alpha and the best score. What is known of it
 /// stays.
 #[inline(always)]
-fn test(frame: &View, number: usize, rest: Rest) -> Plan
+fn test(frame: &View, number: usize, rest: EntryRest) -> Plan
     requires deep { 0 < frame.now.depth }
     requires choices { frame.now.count ≡ length (choices (cells frame.now.board)) }
     requires next { number ≡ (frame_in frame.now).spawned }

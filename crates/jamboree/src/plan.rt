@@ -3,7 +3,7 @@
 //! An act is a large value, so what decides answers a plan, and the act is made of it once, at the end.
 ghost use Rattle.std.specs.Prelude.{◌≤◌, ◌≤ℤ◌, pos, negsuc};
 
-use crate::entry::Rest;
+use crate::entry::EntryRest;
 use crate::phases::Role;
 use othello_board::Board;
 
@@ -42,7 +42,7 @@ pub(crate) enum Plan {
     /// It has this board, and so many choices to search.
     Counts(Board, usize),
     /// The first search of a choice, or its test, starts. What is known of the choice stays.
-    Starts(NewChild, Rest),
+    Starts(NewChild, EntryRest),
     /// A choice is searched again. What is known of it stays.
-    Again(NewChild, Rest),
+    Again(NewChild, EntryRest),
 }

@@ -5,7 +5,7 @@ ghost use Rattle.jamboree_rules.specs.Entries.{bounds_of};
 ghost use Rattle.jamboree.specs.Knowledge.{known_of, bound_by};
 
 use crate::codes::decoded;
-use crate::entry::{Known, Rest};
+use crate::entry::{EntryRest, Known};
 use crate::reply::{MOST, Reply};
 use crate::score::score_of_word;
 use crate::view::{kept_entries, read_kept};
@@ -25,7 +25,7 @@ fn known_in(entries: &[u64]) -> [Known; MOST]
     };
     let mut known = [nothing; MOST];
     for (number, entry) in entries.iter().enumerate() {
-        known[number] = Rest::of(*entry).known();
+        known[number] = EntryRest::of(*entry).known();
     }
     known
 }

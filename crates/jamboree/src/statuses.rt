@@ -4,7 +4,7 @@ ghost use Rattle.jamboree_rules.specs.Places.{status_of, are_entries};
 ghost use Rattle.jamboree_rules.specs.Acts.{first_open};
 ghost use Rattle.jamboree.specs.Views.{statuses_in, rests_in};
 
-use crate::entry::{Rest, is_entry, is_entry_of};
+use crate::entry::{EntryRest, is_entry, is_entry_of};
 use crate::phases::Status;
 use crate::view::{SIZE, entries, entry, first_number};
 use cactus_stack::{Words, charge};
@@ -74,9 +74,9 @@ pub(crate) fn has_failed(words: &Words, number: usize) -> bool
 }
 
 /// The rest of the entry of this number: what is known of the choice.
-pub(crate) fn rest_at(words: &Words, number: usize) -> Rest
+pub(crate) fn rest_at(words: &Words, number: usize) -> EntryRest
     requires { number ≤ 128 }
     ensures { result.word ≡ slice_index (rests_in words.now) number }
 {
-    Rest::of(entry(words, number).unwrap_or(0))
+    EntryRest::of(entry(words, number).unwrap_or(0))
 }

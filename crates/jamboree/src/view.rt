@@ -14,7 +14,7 @@ ghost use Rattle.jamboree_rules.specs.Leaves.{any_leaf, leaf_in, leaf_from};
 ghost use Rattle.jamboree.specs.Numbers.{role_number, phase_number, status_number};
 ghost use Rattle.jamboree.specs.Views.{head_of, frame_from, frame_with, entries_of, entries_in};
 
-use crate::entry::Rest;
+use crate::entry::EntryRest;
 use crate::frame::View;
 use crate::phases::{Phase, Role, Status};
 use crate::score::{score_of_word, word_of_score};
@@ -388,7 +388,7 @@ impl Changes {
 
     /// The status of a choice, too, and what is known of it.
     #[inline(always)]
-    pub(crate) fn status(&mut self, number: usize, status: Status, rest: Rest)
+    pub(crate) fn status(&mut self, number: usize, status: Status, rest: EntryRest)
         requires room { length self.old < 8 }
         requires small { number ≤ 255 }
         ensures { self.new ≡ self.old ++ pair_of (ToStatus number (status_number status) rest.word) ∷ [] }
@@ -421,7 +421,7 @@ pub(crate) fn spawn(depth: u8, alpha: i32, beta: i32, role: Role, number: usize)
 
 /// What a job keeps of its returned root, by name: of the first twelve words.
 #[derive(Clone, Copy)]
-pub(crate) struct Kept {
+pub(crate) struct KeptRoot {
     pub(crate) own: u64,
     pub(crate) opp: u64,
     pub(crate) depth: u64,
@@ -430,11 +430,11 @@ pub(crate) struct Kept {
 }
 
 /// What a job keeps of the first twelve words of its returned root.
-pub(crate) fn read_kept(words: &[u64]) -> Kept
+pub(crate) fn read_kept(words: &[u64]) -> KeptRoot
     requires { 12 ≤ length words.now }
     ensures { result ≡ record { own = slice_index words.now 0; opp = slice_index words.now 1; depth = slice_index words.now 2; best = slice_index words.now 8; choice = slice_index words.now 9 } }
 {
-    Kept {
+    KeptRoot {
         own: words[0],
         opp: words[1],
         depth: words[2],

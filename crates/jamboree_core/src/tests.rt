@@ -2,7 +2,7 @@ ghost use Rattle.std.specs.Prelude.{◌≤◌};
 ghost use Rattle.jamboree_core.specs.Replies.{AreSearches};
 
 use super::*;
-use driver::{Searched, drive};
+use driver::{SearchCore, drive};
 use frame_tree::FrameId;
 use jamboree::{Bound, BoundKind, Jamboree, Leaf, LeafAnswer, Reply};
 use jamboree_rules::leaf_search::{INF, search_full};
@@ -33,7 +33,7 @@ fn opening() -> Result<Position, Fail> {
 fn search_out(
     rt: &impl Abort,
     alloc: Global,
-    searched: &mut Searched,
+    searched: &mut SearchCore,
     tenant: u64,
     reserve: Reserve,
     depth: u8,
@@ -66,7 +66,7 @@ fn the_opening_to_depth_1(rt: HostRuntime) -> Result<(), Fail> {
         nodes: 3,
         steps: 96,
     };
-    let mut searched = Searched::new(rt.alloc(), 0)?;
+    let mut searched = SearchCore::new(rt.alloc(), 0)?;
     search_out(&rt, rt.alloc(), &mut searched, 1, reserve, 1)?;
     assert_eq!(rt; searched.core.left(1), Some(left));
     assert_eq!(rt;
@@ -101,7 +101,7 @@ fn entry(outcome: Option<Outcome>, number: usize) -> Option<Bound> {
 #[test]
 fn a_table_of_the_opening(rt: HostRuntime) -> Result<(), Fail> {
     let reserve = Reserve::new(8, 8).ok_or("a reservation")?;
-    let mut searched = Searched::new(rt.alloc(), 6)?;
+    let mut searched = SearchCore::new(rt.alloc(), 6)?;
     search_out(&rt, rt.alloc(), &mut searched, 1, reserve, 1)?;
     let outcome = searched.outcome(1, 1);
     let mut number = 0usize;
@@ -128,7 +128,7 @@ fn a_table_of_the_opening(rt: HostRuntime) -> Result<(), Fail> {
 }
 
 /// Two more jobs of tenant 1 are asked, and the first of them is cancelled.
-fn ask_two_more(rt: &impl Abort, searched: &mut Searched) -> Result<(), Fail> {
+fn ask_two_more(rt: &impl Abort, searched: &mut SearchCore) -> Result<(), Fail> {
     let position = opening()?;
     assert!(rt; searched.step(&submit(1, &position, 0)).is_ok());
     assert!(rt; searched.step(&submit(1, &position, 0)).is_ok());
@@ -137,7 +137,7 @@ fn ask_two_more(rt: &impl Abort, searched: &mut Searched) -> Result<(), Fail> {
 }
 
 /// What has become of three jobs; there is no job 0 or 4, and no tenant 2.
-fn three_outcomes(rt: &impl Abort, searched: &Searched) -> Result<(), Fail> {
+fn three_outcomes(rt: &impl Abort, searched: &SearchCore) -> Result<(), Fail> {
     let reply = (opening()?.board, 1, -3, Some(Choice::Square(19)));
     assert_eq!(rt; told(searched.outcome(1, 1)), Some(reply));
     assert_eq!(rt; searched.outcome(1, 2), Some(Outcome::Cancelled));
@@ -156,7 +156,7 @@ fn three_outcomes(rt: &impl Abort, searched: &Searched) -> Result<(), Fail> {
 #[test]
 fn outcomes(rt: HostRuntime) -> Result<(), Fail> {
     let reserve = Reserve::new(8, 8).ok_or("a reservation")?;
-    let mut searched = Searched::new(rt.alloc(), 0)?;
+    let mut searched = SearchCore::new(rt.alloc(), 0)?;
     search_out(&rt, rt.alloc(), &mut searched, 1, reserve, 1)?;
     ask_two_more(&rt, &mut searched)?;
     three_outcomes(&rt, &searched)
@@ -167,7 +167,7 @@ fn outcomes(rt: HostRuntime) -> Result<(), Fail> {
 fn is_done_with(
     rt: &impl Abort,
     alloc: Global,
-    searched: &mut Searched,
+    searched: &mut SearchCore,
     tenant: u64,
     reserve: Reserve,
 ) -> Result<bool, Fail> {
@@ -188,7 +188,7 @@ fn is_done_with(
 fn enough(
     rt: &impl Abort,
     alloc: Global,
-    searched: &mut Searched,
+    searched: &mut SearchCore,
     segments: u32,
 ) -> Result<u32, Fail> {
     let mut done = 0u32;
@@ -208,7 +208,7 @@ fn enough(
 /// one segment is never enough, and eight are with nodes enough.
 #[test]
 fn every_reservation(rt: HostRuntime) -> Result<(), Fail> {
-    let mut searched = Searched::new(rt.alloc(), 0)?;
+    let mut searched = SearchCore::new(rt.alloc(), 0)?;
     for segments in 1..9 {
         let done = enough(&rt, rt.alloc(), &mut searched, segments)?;
         assert!(rt; (segments > 1 || done == 0) && (segments < 8 || done > 0));
@@ -316,7 +316,7 @@ fn drawn_positions(draw: &mut Draw) -> Result<[Position; 4], Fail> {
 /// Admits a tenant for each position, who asks for its search to depth 3.
 fn ask_all(
     rt: &impl Abort,
-    searched: &mut Searched,
+    searched: &mut SearchCore,
     crew: &mut Crew,
     positions: &[Position; 4],
 ) -> Result<(), Fail> {
@@ -332,7 +332,7 @@ fn ask_all(
 }
 
 /// Whether the first job of each of four tenants has ended.
-fn have_ended(searched: &Searched) -> bool {
+fn have_ended(searched: &SearchCore) -> bool {
     for tenant in 1..5 {
         if searched.outcome(tenant, 1) == Some(Outcome::Pending) {
             return false;
@@ -342,7 +342,7 @@ fn have_ended(searched: &Searched) -> bool {
 }
 
 /// Turns until all jobs have ended.
-fn go_on(searched: &mut Searched, crew: &mut Crew, draw: &mut Draw) -> Result<(), AllocError> {
+fn go_on(searched: &mut SearchCore, crew: &mut Crew, draw: &mut Draw) -> Result<(), AllocError> {
     for _ in 0..100_000 {
         if have_ended(searched) {
             return Ok(());
@@ -353,7 +353,7 @@ fn go_on(searched: &mut Searched, crew: &mut Crew, draw: &mut Draw) -> Result<()
 }
 
 /// Each job is done, with what the serial search finds.
-fn are_right(rt: &impl Abort, searched: &Searched, positions: &[Position; 4]) {
+fn are_right(rt: &impl Abort, searched: &SearchCore, positions: &[Position; 4]) {
     let mut tenant = 0u64;
     for position in positions {
         tenant = tenant.wrapping_add(1);
@@ -368,7 +368,7 @@ fn are_right(rt: &impl Abort, searched: &Searched, positions: &[Position; 4]) {
 fn one_order(rt: &impl Abort, alloc: Global, draw: &mut Draw, grain: u8) -> Result<u32, Fail> {
     let positions = drawn_positions(draw)?;
     let mut crew = Crew::new(alloc)?;
-    let mut searched = Searched::new(alloc, grain)?;
+    let mut searched = SearchCore::new(alloc, grain)?;
     ask_all(rt, &mut searched, &mut crew, &positions)?;
     go_on(&mut searched, &mut crew, draw)?;
     are_right(rt, &searched, &positions);

@@ -11,7 +11,7 @@ use Rattle.sched_rules.specs.declared.act.Act.{Act}
 use Rattle.sched_rules.specs.declared.act.InletAct.{InletAct}
 use Rattle.sched_rules.specs.declared.act.Then.{Then}
 use Rattle.sched_rules.specs.declared.act.Then.TheVariants.{Grow, Spawn, Wait, Compute, Return}
-use Rattle.jamboree_rules.specs.Frames.{Frame, board, choice_at, code_at, rest_at, floor, least, own_word, opp_word, may_be_child}
+use Rattle.jamboree_rules.specs.Frames.{Frame, phase_computing, phase_done, phase_first, phase_new, phase_tests, role_again, role_first_child, role_test, status_failed, status_runs, status_runs_again, status_settled, board, choice_at, code_at, rest_at, floor, least, own_word, opp_word, may_be_child}
 use Rattle.jamboree_rules.specs.Places.{frame_of, is_formed, is_placed, Change, OwnBits, OppBits, Phase, Best, Chosen, Count, Spawned, Status, rest_with, pairs_of, given_words, frame_size}
 
 -- to return without a store, which is what words of no frame do
@@ -22,11 +22,11 @@ returns = record { stores = []; after = Return }
 abbrev pub spawns : Frame → ℕ → ℕ → ℤ → ℤ → Then
 spawns f role i alpha beta = Spawn (given_words (f.depth - plies (choice_at f i)) alpha beta role i) frame_size
 
--- phase 0: the frame knows its board now. It is computed outside, or it has n choices to search
+-- a new frame knows its board now. It is computed outside, or it has n choices to search
 abbrev pub opening : Bool → ℕ → ℕ → ℕ → Act
-opening true own opp n = record { stores = pairs_of (OwnBits own ∷ OppBits opp ∷ Phase 1 ∷ []); after = Compute }
+opening true own opp n = record { stores = pairs_of (OwnBits own ∷ OppBits opp ∷ Phase phase_computing ∷ []); after = Compute }
 opening false own opp n = record {
-  stores = pairs_of (OwnBits own ∷ OppBits opp ∷ Phase 2 ∷ Best least ∷ Chosen 65 ∷ Count n ∷ Spawned 0 ∷ []);
+  stores = pairs_of (OwnBits own ∷ OppBits opp ∷ Phase phase_first ∷ Best least ∷ Chosen 65 ∷ Count n ∷ Spawned 0 ∷ []);
   after = Grow n;
 }
 
@@ -34,40 +34,40 @@ opening false own opp n = record {
 abbrev pub is_computed : ℕ → Frame → List Cell → Bool
 is_computed grain f b = nat_le f.depth grain || (length (choices b) == 0)
 
--- phase 0 of a frame whose board has these two words
+-- a new frame whose board has these two words
 abbrev pub opening_on : ℕ → Frame → ℕ → ℕ → Act
 opening_on grain f own opp = opening (is_computed grain f (cells_of own opp)) own opp (length (choices (cells_of own opp)))
 
--- phase 0: a root holds its board, and is computed outside only at depth 0 or where the game is over, whatever the grain, so that
+-- a new root holds its board, and is computed outside only at depth 0 or where the game is over, whatever the grain, so that
 -- each of its choices gets an entry; another frame's board is the one after its choice of the parent's board
 abbrev pub opening_under : ℕ → Frame → Option Frame → Act
 opening_under grain f None = opening_on 0 f f.own f.opp
 opening_under grain f (Some parent) = let b : List Cell = after (board parent) (choice_at parent f.number) in opening_on grain f (own_word b) (opp_word b)
 
--- phase 2: the first child is opened with the whole window, and awaited; here and in phase 3 a status is stored with the rest that is there
+-- the first child is opened with the whole window, and awaited; here and at a test a status is stored with the rest that is there
 abbrev pub first_search : Bool → Frame → Act
-first_search true f = record { stores = pairs_of (Spawned 1 ∷ Status 0 1 (rest_at f 0) ∷ []); after = spawns f 1 0 (neg_ℤ f.beta) (neg_ℤ f.alpha) }
+first_search true f = record { stores = pairs_of (Spawned 1 ∷ Status 0 status_runs (rest_at f 0) ∷ []); after = spawns f role_first_child 0 (neg_ℤ f.beta) (neg_ℤ f.alpha) }
 first_search false f = record { stores = []; after = Wait }
 
 -- the number of the first choice that isn't settled, or how many choices there are
 abbrev pub first_open : List ℕ → ℕ
 first_open [] = 0
-first_open (status ∷ statuses) = if status == 2 then suc (first_open statuses) else 0
+first_open (status ∷ statuses) = if status == status_settled then suc (first_open statuses) else 0
 
--- phase 3: the first choice j that isn't settled has failed its test, and is searched again with the window above the floor; else a
+-- the tests: the first choice j that isn't settled has failed its test, and is searched again with the window above the floor; else a
 -- choice is left, and is tested just above the floor; else all are settled, and the frame is done; else it waits
 abbrev pub tests : (failed more all : Bool) → Frame → ℕ → Act
-tests true more all f j = record { stores = pairs_of (Status j 4 (rest_at f j) ∷ []); after = spawns f 3 j (neg_ℤ f.beta) (neg_ℤ (floor f)) }
+tests true more all f j = record { stores = pairs_of (Status j status_runs_again (rest_at f j) ∷ []); after = spawns f role_again j (neg_ℤ f.beta) (neg_ℤ (floor f)) }
 tests false true all f j = record {
-  stores = pairs_of (Spawned (f.spawned + 1) ∷ Status f.spawned 1 (rest_at f f.spawned) ∷ []);
-  after = spawns f 2 f.spawned (neg_ℤ (floor f +ℤ pos 1)) (neg_ℤ (floor f));
+  stores = pairs_of (Spawned (f.spawned + 1) ∷ Status f.spawned status_runs (rest_at f f.spawned) ∷ []);
+  after = spawns f role_test f.spawned (neg_ℤ (floor f +ℤ pos 1)) (neg_ℤ (floor f));
 }
-tests false false true f j = record { stores = pairs_of (Phase 4 ∷ []); after = Return }
+tests false false true f j = record { stores = pairs_of (Phase phase_done ∷ []); after = Return }
 tests false false false f j = record { stores = []; after = Wait }
 
 -- the same, from the first choice that isn't settled
 abbrev pub tests_from : Frame → ℕ → Act
-tests_from f j = tests (nat_lt j (length f.statuses) && (slice_index f.statuses j == 3)) (nat_lt f.spawned (length f.statuses)) (nat_le (length f.statuses) j) f j
+tests_from f j = tests (nat_lt j (length f.statuses) && (slice_index f.statuses j == status_failed)) (nat_lt f.spawned (length f.statuses)) (nat_le (length f.statuses) j) f j
 
 -- the next act of a frame, by its phase
 abbrev pub act_by : (opens computes first searches : Bool) → ℕ → Frame → Option Frame → Act
@@ -79,7 +79,7 @@ act_by false false false false grain f parent = returns
 
 -- the next act of a frame under this parent, or under none
 abbrev pub act_of : ℕ → Frame → Option Frame → Act
-act_of grain f parent = act_by (f.phase == 0) (f.phase == 1) (f.phase == 2) (f.phase == 3) grain f parent
+act_of grain f parent = act_by (f.phase == phase_new) (f.phase == phase_computing) (f.phase == phase_first) (f.phase == phase_tests) grain f parent
 
 -- the parent, one level up
 abbrev pub parent_in : List (List ℕ) → Option Frame
@@ -112,15 +112,15 @@ found_of c = rest_with (kind_of (neg_ℤ c.beta) (neg_ℤ c.alpha) (seen c)) (se
 -- what the inlet of frame f stores of child c: its score is at least beta, and ends the frame; a test was low, and settles the
 -- choice; a test failed; a search in full was better than the floor, or it wasn't. Beside the status each stores what the score says
 abbrev pub changes_by : (cuts test low higher : Bool) → Frame → Frame → List Change
-changes_by true test low higher f c = Best (seen c) ∷ Chosen (code_at f c.number) ∷ Status c.number 2 (found_of c) ∷ Phase 4 ∷ []
-changes_by false true true higher f c = Best (int_max f.best (seen c)) ∷ Status c.number 2 (found_of c) ∷ []
-changes_by false true false higher f c = Status c.number 3 (found_of c) ∷ []
-changes_by false false low true f c = Best (int_max f.best (seen c)) ∷ Chosen (code_at f c.number) ∷ Status c.number 2 (found_of c) ∷ Phase 3 ∷ []
-changes_by false false low false f c = Best (int_max f.best (seen c)) ∷ Status c.number 2 (found_of c) ∷ Phase 3 ∷ []
+changes_by true test low higher f c = Best (seen c) ∷ Chosen (code_at f c.number) ∷ Status c.number status_settled (found_of c) ∷ Phase phase_done ∷ []
+changes_by false true true higher f c = Best (int_max f.best (seen c)) ∷ Status c.number status_settled (found_of c) ∷ []
+changes_by false true false higher f c = Status c.number status_failed (found_of c) ∷ []
+changes_by false false low true f c = Best (int_max f.best (seen c)) ∷ Chosen (code_at f c.number) ∷ Status c.number status_settled (found_of c) ∷ Phase phase_tests ∷ []
+changes_by false false low false f c = Best (int_max f.best (seen c)) ∷ Status c.number status_settled (found_of c) ∷ Phase phase_tests ∷ []
 
 -- the same, from the two frames: the lower end of a test's window, seen from the parent, is -beta of the child
 abbrev pub changes_of : Frame → Frame → List Change
-changes_of f c = changes_by (int_le f.beta (seen c)) (c.role == 2) (int_le (seen c) (neg_ℤ c.beta)) (int_lt (floor f) (seen c)) f c
+changes_of f c = changes_by (int_le f.beta (seen c)) (c.role == role_test) (int_le (seen c) (neg_ℤ c.beta)) (int_lt (floor f) (seen c)) f c
 
 -- to wake the parent and no more, which is the inlet of words of no frame
 abbrev pub wakes : InletAct

@@ -7,36 +7,36 @@ use Rattle.leaf_search.specs.othello_eval.Tables.{entered}
 use Rattle.leaf_search.specs.Bounds.{IsBound}
 use Rattle.sched_rules.specs.Trees.{kept_words}
 use Rattle.sched_rules.specs.Laws.{Mark, Neither, Computes, HasReturned}
-use Rattle.jamboree_rules.specs.Frames.{Frame, board, choice_at, code_at, coded, value_at, value, floor, least, greatest}
+use Rattle.jamboree_rules.specs.Frames.{Frame, phase_computing, phase_done, phase_first, phase_new, phase_tests, role_again, role_first_child, role_root, role_test, status_runs, status_runs_again, status_settled, status_not_spawned, board, choice_at, code_at, coded, value_at, value, floor, least, greatest}
 use Rattle.jamboree_rules.specs.Places.{frame_of, is_formed, kind_in}
 use Rattle.jamboree_rules.specs.Entries.{IsOfKind, IsTrueRest}
 
 -- c is the first child of f: it is searched with the whole window
 pub record IsFirst (f c : Frame) : Type 0 where
-  pub role : c.role ≡ 1
-  pub phase : f.phase ≡ 2
+  pub role : c.role ≡ role_first_child
+  pub phase : f.phase ≡ phase_first
   pub number : c.number ≡ 0
-  pub status : slice_index f.statuses c.number ≡ 1
+  pub status : slice_index f.statuses c.number ≡ status_runs
   pub low : c.alpha ≡ neg_ℤ f.beta
   pub high : c.beta ≡ neg_ℤ f.alpha
 
 -- c is a test of a choice of f: its window is just above some t, which was the floor of f when it was opened
 pub record IsTest (f c : Frame) : Type 0 where
-  pub role : c.role ≡ 2
-  pub phase : f.phase ≡ 3
-  pub status : slice_index f.statuses c.number ≡ 1
+  pub role : c.role ≡ role_test
+  pub phase : f.phase ≡ phase_tests
+  pub status : slice_index f.statuses c.number ≡ status_runs
   pub low : c.alpha ≡ neg_ℤ (neg_ℤ c.beta +ℤ pos 1)
   pub least : f.alpha ≤ℤ neg_ℤ c.beta
   pub most : neg_ℤ c.beta ≤ℤ floor f
 
 -- c searches a choice of f again, above the floor of f; all earlier choices are settled
 pub record IsAgain (f c : Frame) : Type 0 where
-  pub role : c.role ≡ 3
-  pub phase : f.phase ≡ 3
-  pub status : slice_index f.statuses c.number ≡ 4
+  pub role : c.role ≡ role_again
+  pub phase : f.phase ≡ phase_tests
+  pub status : slice_index f.statuses c.number ≡ status_runs_again
   pub low : c.alpha ≡ neg_ℤ f.beta
   pub high : c.beta ≡ neg_ℤ (floor f)
-  pub earlier : (k : ℕ) → k < c.number → slice_index f.statuses k ≡ 2
+  pub earlier : (k : ℕ) → k < c.number → slice_index f.statuses k ≡ status_settled
 
 pub data IsInRole (f c : Frame) : Type 0 where
   First : IsFirst f c → IsInRole f c
@@ -47,7 +47,7 @@ pub data IsInRole (f c : Frame) : Type 0 where
 pub record IsChildOf (f c : Frame) : Type 0 where
   pub inside : c.number < length f.statuses
   pub shallower : c.depth ≡ f.depth - plies (choice_at f c.number)
-  pub known : c.phase ≢ 0 → board c ≡ after (board f) (choice_at f c.number)
+  pub known : c.phase ≢ phase_new → board c ≡ after (board f) (choice_at f c.number)
   pub in_role : IsInRole f c
 
 -- each of these is a child of f
@@ -64,13 +64,13 @@ how_many i children = count_by (λ c. c.number == i) children
 pub record IsTabled (v : ℕ → ℤ) (statuses rests : List ℕ) : Type 0 where
   pub places : length rests ≡ length statuses
   pub holds : (k : ℕ) → IsTrueRest (slice_index rests k) (v k)
-  pub said : (k : ℕ) → slice_index statuses k ≡ 2 → kind_in (slice_index rests k) ≢ 0
+  pub said : (k : ℕ) → slice_index statuses k ≡ status_settled → kind_in (slice_index rests k) ≢ 0
 
 -- the choice with this code is the first that is worth the best score; it is settled, and its entry is exact
 pub record IsFound (v : ℕ → ℤ) (code : ℕ → ℕ) (statuses rests : List ℕ) (best : ℤ) (choice : ℕ) : Type 0 where
   pub place : ℕ
   pub inside : place < length statuses
-  pub settled : slice_index statuses place ≡ 2
+  pub settled : slice_index statuses place ≡ status_settled
   pub exact : IsOfKind (slice_index rests place) Exact
   pub named : choice ≡ code place
   pub worth : v place ≡ best
@@ -80,42 +80,42 @@ pub record IsFound (v : ℕ → ℤ) (code : ℕ → ℕ) (statuses rests : List
 -- choice is worth more, and where it is above alpha, the first choice that is worth it is named
 pub record IsSearching (v : ℕ → ℤ) (code : ℕ → ℕ) (statuses rests : List ℕ) (alpha beta best : ℤ) (choice : ℕ) : Type 0 where
   pub below : best <ℤ beta
-  pub settled : (k : ℕ) → k < length statuses → slice_index statuses k ≡ 2 → v k ≤ℤ best
+  pub settled : (k : ℕ) → k < length statuses → slice_index statuses k ≡ status_settled → v k ≤ℤ best
   pub found : alpha <ℤ best → IsFound v code statuses rests best choice
 
--- phases 2 and 3: a status for each choice, 0 for those that aren't spawned yet
+-- while choices are searched: a status for each, and those that aren't spawned yet say so
 pub record IsSearchingFrame (f : Frame) : Type 0 where
   pub places : length f.statuses ≡ length (choices (board f))
   pub some : 0 < length f.statuses
   pub deep : 0 < f.depth
   pub spawned_in : f.spawned ≤ length f.statuses
-  pub unspawned : (k : ℕ) → f.spawned ≤ k → k < length f.statuses → slice_index f.statuses k ≡ 0
+  pub unspawned : (k : ℕ) → f.spawned ≤ k → k < length f.statuses → slice_index f.statuses k ≡ status_not_spawned
   pub search : IsSearching (value_at f) (code_at f) f.statuses f.rests f.alpha f.beta f.best f.choice
 
--- phase 4: the best score is a bound of the minimax value, and inside the window the choice is the best choice; below beta each
+-- of a frame that is done: the best score is a bound of the minimax value, and inside the window the choice is the best choice; below beta each
 -- choice that has a place is settled, and inside the window the best of them is found
 pub record IsDoneFrame (f : Frame) : Type 0 where
   pub bound : IsBound f.alpha f.beta f.best (value f)
   pub named : f.alpha <ℤ f.best → f.best <ℤ f.beta → f.choice ≡ coded (best_choice f.depth (board f))
-  pub all : f.best <ℤ f.beta → (k : ℕ) → k < length f.statuses → slice_index f.statuses k ≡ 2
+  pub all : f.best <ℤ f.beta → (k : ℕ) → k < length f.statuses → slice_index f.statuses k ≡ status_settled
   pub found : f.alpha <ℤ f.best → f.best <ℤ f.beta → 0 < length f.statuses → IsFound (value_at f) (code_at f) f.statuses f.rests f.best f.choice
 
 -- what the scheduler knows of a frame agrees with its phase
 abbrev pub IsMarked : ℕ → Mark → Type 0
-IsMarked phase Neither = phase ≢ 1
-IsMarked phase Computes = phase ≡ 1
-IsMarked phase HasReturned = phase ≡ 4
+IsMarked phase Neither = phase ≢ phase_computing
+IsMarked phase Computes = phase ≡ phase_computing
+IsMarked phase HasReturned = phase ≡ phase_done
 
 -- a frame fits its children and its mark
 pub record Fits (f : Frame) (children : List Frame) (mark : Mark) : Type 0 where
   pub window : f.alpha <ℤ f.beta
   pub marked : IsMarked f.phase mark
-  pub idle : f.phase ≢ 2 → f.phase ≢ 3 → children ≡ []
-  pub searching : (f.phase ≡ 2) ⊎ (f.phase ≡ 3) → IsSearchingFrame f
-  pub done : f.phase ≡ 4 → IsDoneFrame f
+  pub idle : f.phase ≢ phase_first → f.phase ≢ phase_tests → children ≡ []
+  pub searching : (f.phase ≡ phase_first) ⊎ (f.phase ≡ phase_tests) → IsSearchingFrame f
+  pub done : f.phase ≡ phase_done → IsDoneFrame f
   -- the table holds in every phase; a root that has begun has a place for each choice, and none at depth 0
   pub table : IsTabled (value_at f) f.statuses f.rests
-  pub whole : f.role ≡ 0 → f.phase ≢ 0 → length f.statuses ≡ length (entered f.depth (board f))
+  pub whole : f.role ≡ role_root → f.phase ≢ phase_new → length f.statuses ≡ length (entered f.depth (board f))
   pub kin : AreChildren f children
   pub once : (i : ℕ) → how_many i children ≤ 1
 
@@ -129,7 +129,7 @@ pub record IsRoot (origin own : List ℕ) : Type 0 where
   pub own_is : (frame_of own).own ≡ (frame_of origin).own
   pub opp_is : (frame_of own).opp ≡ (frame_of origin).opp
   pub depth_is : (frame_of own).depth ≡ (frame_of origin).depth
-  pub role_is : (frame_of own).role ≡ 0
+  pub role_is : (frame_of own).role ≡ role_root
   pub alpha_is : (frame_of own).alpha ≡ least
   pub beta_is : (frame_of own).beta ≡ greatest
 

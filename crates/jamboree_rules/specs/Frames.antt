@@ -11,8 +11,52 @@ use Rattle.othello_moves.specs.declared.choices.Choice.TheVariants.{Square, Pass
 use Rattle.othello_moves.specs.Choices.{choices}
 use Rattle.leaf_search.specs.othello_eval.Minimax.{minimax, choice_value}
 
--- what a frame's words say. The phases are 0 new, 1 computing, 2 first child, 3 tests, 4 done; the roles 0 root, 1 first, 2 test,
--- 3 again; the statuses of the choices 0 not spawned, 1 first search or test runs, 2 settled, 3 test failed, 4 search again runs
+-- the phases of a frame: it is new; it is computed outside; its first child is searched; the other choices are tested; it is done
+abbrev pub phase_new : ℕ
+phase_new = 0
+
+abbrev pub phase_computing : ℕ
+phase_computing = 1
+
+abbrev pub phase_first : ℕ
+phase_first = 2
+
+abbrev pub phase_tests : ℕ
+phase_tests = 3
+
+abbrev pub phase_done : ℕ
+phase_done = 4
+
+-- what a frame is to its parent: it has none; the first child; a test; a search again of a choice whose test has failed
+abbrev pub role_root : ℕ
+role_root = 0
+
+abbrev pub role_first_child : ℕ
+role_first_child = 1
+
+abbrev pub role_test : ℕ
+role_test = 2
+
+abbrev pub role_again : ℕ
+role_again = 3
+
+-- how a choice stands: not spawned; its first search or its test runs; it is settled; its test has failed; its search again runs
+abbrev pub status_not_spawned : ℕ
+status_not_spawned = 0
+
+abbrev pub status_runs : ℕ
+status_runs = 1
+
+abbrev pub status_settled : ℕ
+status_settled = 2
+
+abbrev pub status_failed : ℕ
+status_failed = 3
+
+abbrev pub status_runs_again : ℕ
+status_runs_again = 4
+
+-- what a frame's words say
 pub record Frame : Type 0 where
   -- the two words of the board, seen by the mover
   pub own : ℕ
@@ -99,7 +143,7 @@ is_score s = int_le least s && int_le s greatest
 
 -- whether a frame in this phase searches its choices
 abbrev pub is_searching : ℕ → Bool
-is_searching phase = (phase == 2) || (phase == 3)
+is_searching phase = (phase == phase_first) || (phase == phase_tests)
 
 -- whether the count of choices is that of the board, at least 1, at a depth of at least 1
 abbrev pub counts_choices : Frame → Bool
@@ -109,15 +153,15 @@ counts_choices f = nat_lt 0 f.depth && (nat_lt 0 f.count && (f.count == length (
 -- the count of the board's choices
 abbrev pub is_in_phase : Frame → Bool
 is_in_phase f =
-    if nat_le f.phase 1 then int_eq f.best unscored && (f.count == 0)
+    if nat_le f.phase phase_computing then int_eq f.best unscored && (f.count == 0)
     else is_score f.best && (if is_searching f.phase then counts_choices f else true)
 
 -- whether the numbers of a frame are in their ranges
 abbrev pub is_frame : Frame → Bool
 is_frame f =
     is_leaf f.own f.opp f.depth f.alpha f.beta
-    && (nat_le f.role 3 && (nat_le f.phase 4 && (nat_le f.choice 65 && (nat_le f.spawned f.count && is_in_phase f))))
+    && (nat_le f.role role_again && (nat_le f.phase phase_done && (nat_le f.choice 65 && (nat_le f.spawned f.count && is_in_phase f))))
 
 -- whether c may be a child of f: it is no root, and its number is that of a choice of f
 abbrev pub may_be_child : Frame → Frame → Bool
-may_be_child f c = nat_lt 0 c.role && (nat_lt c.number f.count && nat_lt c.number (length (choices (board f))))
+may_be_child f c = nat_lt role_root c.role && (nat_lt c.number f.count && nat_lt c.number (length (choices (board f))))

@@ -7,7 +7,7 @@ use Rattle.std.proofs.lemmas.Float.{T_from_true}
 use Rattle.othello_moves.specs.declared.choices.Choice.{Choice}
 use Rattle.jamboree_rules.specs.declared.leaf.Leaf.{Leaf}
 use Rattle.jamboree_rules.specs.declared.leaf.LeafAnswer.{LeafAnswer}
-use Rattle.jamboree_rules.specs.Frames.{Frame, least, greatest, is_leaf, coded}
+use Rattle.jamboree_rules.specs.Frames.{Frame, phase_done, least, greatest, is_leaf, coded}
 use Rattle.jamboree_rules.specs.Places.{Change, Best, Chosen, Phase, pairs_of, frame_of, is_formed}
 
 -- the numbers are those of a leaf
@@ -93,7 +93,7 @@ choice_of_answer answer = answer.choice
 
 -- what a frame stores of an answer: score and choice, and it is done
 abbrev pub changes_of_answer : LeafAnswer → List Change
-changes_of_answer answer = Best (score_of_answer answer) ∷ Chosen (coded (choice_of_answer answer)) ∷ Phase 4 ∷ []
+changes_of_answer answer = Best (score_of_answer answer) ∷ Chosen (coded (choice_of_answer answer)) ∷ Phase phase_done ∷ []
 
 -- what a frame's words store of an answer; words of no frame store nothing
 abbrev pub accepts : List ℕ → LeafAnswer → List (ℕ × ℕ)

@@ -12,7 +12,7 @@
 use Rattle.std.specs.Prelude.{ℕ, ◌+◌, ◌*◌, ◌/◌, ◌%◌, ◌==◌, ◌&&◌, nat_le, Bool, true, if◌then◌else◌, ℤ, pos, ◌+ℤ◌, ◌-ℤ◌, nat_abs, List, [], ◌∷◌, map, drop, length, slice_index, slice_set}
 use Rattle.leaf_search.specs.othello_eval.declared.bound.BoundKind.{BoundKind}
 use Rattle.leaf_search.specs.othello_eval.declared.bound.BoundKind.TheVariants.{Low, High, Exact}
-use Rattle.jamboree_rules.specs.Frames.{Frame, is_score, is_frame, may_be_child}
+use Rattle.jamboree_rules.specs.Frames.{Frame, is_score, is_frame, may_be_child, role_root, status_runs_again}
 
 -- the score that a word stands for, and the word of a score
 abbrev pub score_of : ℕ → ℤ
@@ -74,7 +74,7 @@ is_rest rest = if kind_in rest == 0 then rest == 0 else is_score (score_in rest)
 
 -- whether this is an entry: a status, 0 to 4, and a rest
 abbrev pub is_entry : ℕ → Bool
-is_entry entry = nat_le (status_of entry) 4 && is_rest (rest_of entry)
+is_entry entry = nat_le (status_of entry) status_runs_again && is_rest (rest_of entry)
 
 -- whether each of these is an entry
 abbrev pub are_entries : List ℕ → Bool
@@ -88,7 +88,7 @@ is_formed words = (length words == 12 + slice_index words 10) && (are_entries (d
 -- whether words are those of a frame at the place where they stand: a root with no level above it, or else a child of the parent,
 -- whose words, too, have the form
 abbrev pub is_placed : List ℕ → List (List ℕ) → Bool
-is_placed words [] = (frame_of words).role == 0
+is_placed words [] = (frame_of words).role == role_root
 is_placed words (parent ∷ above) = is_formed parent && may_be_child (frame_of parent) (frame_of words)
 
 -- one store, by what it sets

@@ -5,12 +5,12 @@ use Rattle.leaf_search.specs.othello_eval.declared.bound.BoundKind.{BoundKind}
 use Rattle.leaf_search.specs.othello_eval.Minimax.{best_choice}
 use Rattle.leaf_search.specs.othello_eval.Tables.{Says}
 use Rattle.leaf_search.specs.Bounds.{IsBound}
-use Rattle.jamboree_rules.specs.Frames.{Frame, board, choice_at, code_at, coded, value_at, value, floor}
+use Rattle.jamboree_rules.specs.Frames.{Frame, phase_done, phase_first, phase_new, phase_tests, role_again, role_first_child, role_test, status_settled, board, choice_at, code_at, coded, value_at, value, floor}
 use Rattle.jamboree_rules.specs.Entries.{HasKind, score_at}
 
 -- choice i of the frame is settled
 abbrev pub IsSettled : Frame → ℕ → Type 0
-IsSettled f i = slice_index f.statuses i ≡ 2
+IsSettled f i = slice_index f.statuses i ≡ status_settled
 
 -- the stored choice is a settled choice j that is worth the best score, and each earlier choice is worth less
 pub record IsFirstBest (f : Frame) : Type 0 where
@@ -22,16 +22,16 @@ pub record IsFirstBest (f : Frame) : Type 0 where
 
 -- the window of a child, by its role; where it searches a choice again, every earlier choice is settled
 pub data HasWindow (f c : Frame) : Type 0 where
-  First : c.role ≡ 1 → c.alpha ≡ neg_ℤ f.beta → c.beta ≡ neg_ℤ f.alpha → HasWindow f c
-  Test : c.role ≡ 2 → (t : ℤ) → c.alpha ≡ neg_ℤ (t +ℤ pos 1) → c.beta ≡ neg_ℤ t → f.alpha ≤ℤ t → t ≤ℤ floor f → HasWindow f c
-  Again : c.role ≡ 3 → c.alpha ≡ neg_ℤ f.beta → c.beta ≡ neg_ℤ (floor f) → ((i : ℕ) → i < c.number → IsSettled f i) → HasWindow f c
+  First : c.role ≡ role_first_child → c.alpha ≡ neg_ℤ f.beta → c.beta ≡ neg_ℤ f.alpha → HasWindow f c
+  Test : c.role ≡ role_test → (t : ℤ) → c.alpha ≡ neg_ℤ (t +ℤ pos 1) → c.beta ≡ neg_ℤ t → f.alpha ≤ℤ t → t ≤ℤ floor f → HasWindow f c
+  Again : c.role ≡ role_again → c.alpha ≡ neg_ℤ f.beta → c.beta ≡ neg_ℤ (floor f) → ((i : ℕ) → i < c.number → IsSettled f i) → HasWindow f c
 
 -- the goal of a child: the board after its choice, which is one of its parent's (it knows that board once it isn't new), less deep
 -- by the plies of that choice, and its window
 pub record HasGoal (f c : Frame) : Type 0 where
-  pub searches : (f.phase ≡ 2) ⊎ (f.phase ≡ 3)
+  pub searches : (f.phase ≡ phase_first) ⊎ (f.phase ≡ phase_tests)
   pub inside : c.number < length (choices (board f))
-  pub board : c.phase ≢ 0 → board c ≡ after (board f) (choice_at f c.number)
+  pub board : c.phase ≢ phase_new → board c ≡ after (board f) (choice_at f c.number)
   pub depth : c.depth ≡ f.depth - plies (choice_at f c.number)
   pub window : HasWindow f c
 
@@ -41,10 +41,10 @@ HaveGoals f (c ∷ cs) = HasGoal f c × HaveGoals f cs
 
 -- a frame with these children is sound; in every phase each entry with a kind is true
 pub record IsSound (f : Frame) (cs : List Frame) : Type 0 where
-  pub below : (f.phase ≡ 2) ⊎ (f.phase ≡ 3) → f.best <ℤ f.beta
-  pub settled : (f.phase ≡ 2) ⊎ (f.phase ≡ 3) → (i : ℕ) → IsSettled f i → value_at f i ≤ℤ f.best
-  pub chosen : (f.phase ≡ 2) ⊎ (f.phase ≡ 3) → f.alpha <ℤ f.best → IsFirstBest f
-  pub bound : f.phase ≡ 4 → IsBound f.alpha f.beta f.best (value f)
-  pub named : f.phase ≡ 4 → f.alpha <ℤ f.best → f.best <ℤ f.beta → f.choice ≡ coded (best_choice f.depth (board f))
+  pub below : (f.phase ≡ phase_first) ⊎ (f.phase ≡ phase_tests) → f.best <ℤ f.beta
+  pub settled : (f.phase ≡ phase_first) ⊎ (f.phase ≡ phase_tests) → (i : ℕ) → IsSettled f i → value_at f i ≤ℤ f.best
+  pub chosen : (f.phase ≡ phase_first) ⊎ (f.phase ≡ phase_tests) → f.alpha <ℤ f.best → IsFirstBest f
+  pub bound : f.phase ≡ phase_done → IsBound f.alpha f.beta f.best (value f)
+  pub named : f.phase ≡ phase_done → f.alpha <ℤ f.best → f.best <ℤ f.beta → f.choice ≡ coded (best_choice f.depth (board f))
   pub entries : (i : ℕ) (kind : BoundKind) → HasKind f i kind → Says kind (score_at f i) (value_at f i)
   pub children : HaveGoals f cs

@@ -17,7 +17,7 @@ use std::alloc::Allocator;
 /// The worker's number.
 const WORKER: u8 = 1;
 
-/// Works until the job has ended or can't go on, for at most so many turns. Each turn but the last two takes one of
+/// Works until the job has ended or can't go on, for at most so many turns. Each turn but the last three takes one of
 /// the tenant's steps.
 pub(crate) fn work<A: Allocator + Clone>(core: &mut Core<Jamboree, A>, turns: u32)
     ensures { Keeps core.old core.new }

@@ -13,12 +13,12 @@ use std::test::Fail;
 
 /// A core whose jobs are searches.
 #[derive(Drop)]
-pub struct Searched {
+pub struct SearchCore {
     pub core: Core<Jamboree>,
 }
 
 // Clauses see the core.
-impl Model for Searched {
+impl Model for SearchCore {
     ghost use Rattle.std.specs.Prelude.{ℕ, List};
     ghost use Rattle.sched_rules.specs.Cores.{CoreOf};
     ghost use Rattle.jamboree.specs.declared.procedure.Jamboree.{Jamboree};
@@ -31,13 +31,13 @@ impl Model for Searched {
     ghost invariant = { λ s. (origins : ℕ → List (List ℕ)) × CoreSearches origins s.core.shared };
 }
 
-impl Searched {
+impl SearchCore {
     /// A new core of 4,096 segments and 65,536 nodes.
-    pub fn new(alloc: Global, grain: u8) -> Result<Searched, Fail> {
+    pub fn new(alloc: Global, grain: u8) -> Result<SearchCore, Fail> {
         let config = Config::new(4096, 65_536).ok_or("the totals")?;
         let jamboree = Jamboree::new(grain).ok_or("the grain")?;
         let core = Core::new(alloc, config, jamboree)?;
-        Ok(Searched { core })
+        Ok(SearchCore { core })
     }
 
     /// One step; a Submit asks for a search.
@@ -69,7 +69,7 @@ pub enum At {
 }
 
 /// Takes or steals a frame, if it is ready still.
-pub fn take(searched: &mut Searched, worker: Worker, name: FrameId) -> At {
+pub fn take(searched: &mut SearchCore, worker: Worker, name: FrameId) -> At {
     let Some((_, State::Ready(home))) = searched.core.frame(name) else {
         return At::Free;
     };
@@ -86,7 +86,7 @@ pub fn take(searched: &mut Searched, worker: Worker, name: FrameId) -> At {
 
 /// Advances a frame. A child that is opened is ready.
 pub fn advance(
-    searched: &mut Searched,
+    searched: &mut SearchCore,
     ready: &mut Vec<FrameId>,
     worker: Worker,
     name: FrameId,
@@ -105,7 +105,7 @@ pub fn advance(
 }
 
 /// Computes a leaf, and brings the answer.
-pub fn answer(searched: &mut Searched, worker: Worker, name: FrameId, leaf: Leaf) -> At {
+pub fn answer(searched: &mut SearchCore, worker: Worker, name: FrameId, leaf: Leaf) -> At {
     match searched.step(&StepOf::Answer(worker, name, LeafAnswer::compute(leaf))) {
         Ok(_) => At::Runs(name),
         Err(Refusal::NoFrame) => At::Late,
@@ -115,7 +115,7 @@ pub fn answer(searched: &mut Searched, worker: Worker, name: FrameId, leaf: Leaf
 
 /// Has a returned frame taken in by its parent, or its job finished. A parent that is woken is ready.
 pub fn end(
-    searched: &mut Searched,
+    searched: &mut SearchCore,
     ready: &mut Vec<FrameId>,
     worker: Worker,
     name: FrameId,
@@ -137,7 +137,7 @@ pub fn end(
 }
 
 /// Gives up the frame's job where quota is wanting; where that is refused, the worker goes on as it was.
-fn give_up(searched: &mut Searched, name: FrameId, refusal: Refusal, at: At) -> At {
+fn give_up(searched: &mut SearchCore, name: FrameId, refusal: Refusal, at: At) -> At {
     match refusal {
         Refusal::NoSegments | Refusal::NoNodes | Refusal::NoSteps => {
             match searched.step(&StepOf::Spend(name)) {
@@ -151,7 +151,7 @@ fn give_up(searched: &mut Searched, name: FrameId, refusal: Refusal, at: At) -> 
 
 /// A turn of a worker that has a frame.
 pub fn turn(
-    searched: &mut Searched,
+    searched: &mut SearchCore,
     ready: &mut Vec<FrameId>,
     worker: Worker,
     at: At,
@@ -167,7 +167,7 @@ pub fn turn(
 /// Drives a tenant's jobs by one worker that advances its frame, or takes the newest ready frame,
 /// until nothing is ready; answers whether that came within so many turns.
 pub fn drive(
-    searched: &mut Searched,
+    searched: &mut SearchCore,
     alloc: Global,
     worker: Worker,
     tenant: u64,

@@ -1,7 +1,7 @@
 //! Searches of four tenants by eight workers, in orders that are drawn from a seed.
 ghost use Rattle.std.specs.Prelude.{◌<◌};
 
-use crate::tests::driver::{At, Searched, take, turn};
+use crate::tests::driver::{At, SearchCore, take, turn};
 use frame_tree::FrameId;
 use sched_rules::Worker;
 use std::alloc::{AllocError, Global};
@@ -54,7 +54,7 @@ impl Crew {
     }
 
     /// A turn of a worker that is drawn: where it is free it takes a ready frame that is drawn.
-    pub fn turn(&mut self, searched: &mut Searched, draw: &mut Draw) -> Result<(), AllocError> {
+    pub fn turn(&mut self, searched: &mut SearchCore, draw: &mut Draw) -> Result<(), AllocError> {
         let who = draw.below(8);
         let worker = Worker::new(who as u8 + 1).unwrap_or(self.first);
         let at = self.at[who];

@@ -1,4 +1,4 @@
-use Rattle.std.proofs.Common.{◌≡◌, ◌≤◌, ℕ, List, take, drop, length, bit_and, sym, ◌∙◌, ap, subst, arith}
+use Rattle.std.proofs.Common.{◌≡◌, ◌≤◌, ℕ, List, take, length, bit_and, sym, ◌∙◌, ap, subst, arith}
 use Rattle.std.proofs.lemmas.List.{length-drop}
 use Rattle.othello_board.specs.Words.{cells_of}
 use Rattle.othello_moves.specs.Choices.{choices}
@@ -7,7 +7,7 @@ use Rattle.jamboree_rules.specs.othello_eval.Tables.{entered, IsTable}
 use Rattle.jamboree_rules.specs.Frames.{board}
 use Rattle.jamboree_rules.specs.Places.{score_of, frame_of, are_entries}
 use Rattle.jamboree_rules.specs.Entries.{bounds_of}
-use Rattle.jamboree.specs.declared.view.Kept.{Kept}
+use Rattle.jamboree.specs.declared.view.KeptRoot.{KeptRoot}
 use Rattle.jamboree.specs.Codes.{decoded}
 use Rattle.jamboree.specs.Knowledge.{bounds_by}
 use Rattle.jamboree.proofs.KnowledgeLemmas.{table-read}
@@ -32,13 +32,13 @@ known_in-requires-clause-entries c = ap are_entries c.kept_entries-entries.ensur
 pub score_of_word-requires : goal.score_of_word-requires
 score_of_word-requires c =
     let k = kept-root c.args.words.now c.requires in
-    let best = ap (λ (h : Kept). h.best) c.read_kept-kept.ensures in
+    let best = ap (λ (h : KeptRoot). h.best) c.read_kept-kept.ensures in
     omega (arith, best, k.small)
 
 pub invariant_of-result : goal.invariant_of-result
 invariant_of-result c =
     let k = kept-root c.args.words.now c.requires in
-    record { disjoint = subst (λ (h : Kept). bit_and h.own h.opp ≡ 0) (sym c.read_kept-kept.ensures) k.disjoint }
+    record { disjoint = subst (λ (h : KeptRoot). bit_and h.own h.opp ≡ 0) (sym c.read_kept-kept.ensures) k.disjoint }
 
 pub invariant_of-result-2 : goal.invariant_of-result-2
 invariant_of-result-2 c =
@@ -48,13 +48,13 @@ invariant_of-result-2 c =
     let entries = c.kept_entries-entries.result.now in
     let len = ap (λ (es : List ℕ). length es) c.kept_entries-entries.ensures in
     record {
-      shallow = subst (λ (h : Kept). h.depth ≤ 12) e k.shallow;
+      shallow = subst (λ (h : KeptRoot). h.depth ≤ 12) e k.shallow;
       is_value = kept-value c.read_kept-kept.result.best c.score_of_word.result _ c.score_of_word.ensures
-          (subst (λ (h : Kept). h.best ≤ 1200000) e k.small) (subst (λ (h : Kept). score_of h.best ≡ minimax h.depth (cells_of h.own h.opp)) e k.value);
-      is_best = c.decoded.ensures ∙ subst (λ (h : Kept). decoded h.choice ≡ best_choice h.depth (cells_of h.own h.opp)) e k.choice;
-      counted = subst (λ (h : Kept). length entries ≡ length (entered h.depth (cells_of h.own h.opp))) e (len ∙ k.counted);
+          (subst (λ (h : KeptRoot). h.best ≤ 1200000) e k.small) (subst (λ (h : KeptRoot). score_of h.best ≡ minimax h.depth (cells_of h.own h.opp)) e k.value);
+      is_best = c.decoded.ensures ∙ subst (λ (h : KeptRoot). decoded h.choice ≡ best_choice h.depth (cells_of h.own h.opp)) e k.choice;
+      counted = subst (λ (h : KeptRoot). length entries ≡ length (entered h.depth (cells_of h.own h.opp))) e (len ∙ k.counted);
       few = omega (arith, len, length-drop 12 w, k.few);
-      table = subst (λ (h : Kept). IsTable h.depth (cells_of h.own h.opp) (bounds_by (choices (cells_of h.own h.opp)) (take (length entries) c.known_in.result))) e
+      table = subst (λ (h : KeptRoot). IsTable h.depth (cells_of h.own h.opp) (bounds_by (choices (cells_of h.own h.opp)) (take (length entries) c.known_in.result))) e
           (subst (IsTable (frame_of w).depth (board (frame_of w))) (sym (table-read (choices (board (frame_of w))) entries w _ c.known_in.ensures c.kept_entries-entries.ensures)) k.table);
     }
 
@@ -62,5 +62,5 @@ pub returns-clause-table : goal.returns-clause-table
 returns-clause-table c =
     let w = c.args.words.now in
     let entries = c.kept_entries-entries.result.now in
-    subst (λ (h : Kept). bounds_by (choices (cells_of h.own h.opp)) (take (length entries) c.known_in.result) ≡ bounds_of (frame_of w)) (sym c.read_kept-kept.ensures)
+    subst (λ (h : KeptRoot). bounds_by (choices (cells_of h.own h.opp)) (take (length entries) c.known_in.result) ≡ bounds_of (frame_of w)) (sym c.read_kept-kept.ensures)
     (table-read (choices (board (frame_of w))) entries w _ c.known_in.ensures c.kept_entries-entries.ensures)

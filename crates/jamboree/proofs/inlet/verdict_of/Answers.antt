@@ -1,5 +1,5 @@
 use Rattle.jamboree.proofs.InletLemmas.{by-end, by-test, by-search}
-use Rattle.jamboree.proofs.inlet.finding_of.Goals as goal
+use Rattle.jamboree.proofs.inlet.verdict_of.Goals as goal
 
 pub returns-then-frame-score : goal.returns-then-frame-score
 returns-then-frame-score c = by-end c.args.frame.now c.args.child.now c.seen-score.result _ c.seen-score.ensures c.if-frame-score.true c.ended.ensures
