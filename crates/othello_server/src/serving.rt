@@ -1,4 +1,5 @@
-//! The command `serve`: a listener on 127.0.0.1, a hall under a desk, and what is said at the start and at the end.
+//! The command `serve`: a listener on 127.0.0.1, a hall under a desk, and what is said once the workers were started and
+//! at the end.
 ghost use Rattle.std.specs.Prelude.{◌≡◌, ◌≤◌, true, Ok};
 ghost use Rattle.line_io.specs.Writes.{IsWritten};
 ghost use Rattle.othello_server.specs.Running.{IsServed, ended_text, listening_text};
@@ -16,8 +17,8 @@ use std::sync::Wait;
 use std::sync::ledger::Blank;
 use std::thread::Threads;
 use tcp_server::desk::{Config, Desk, Hall, Hands, PARTS};
-use tcp_server::serve;
-use tcp_server::steal_pool::Open;
+use tcp_server::steal_pool::{Announce, Open};
+use tcp_server::{ServeFault, serve_announced};
 
 /// What is said where a line could not be written.
 const UNWRITTEN: &str = "the output could not be written";
@@ -52,9 +53,26 @@ impl Service {
     }
 }
 
-/// Serves so many sessions, and gives the exit status. The output gets `listening 127.0.0.1:port` before the first
-/// and `ended k` after the last: at status 0 both were written, and nothing else. Where there is no port, no memory,
-/// no thread or no output, the errors get why.
+/// An output that is told where a server listens.
+#[derive(Drop)]
+pub(crate) struct Listening<'k, K> {
+    alloc: Global,
+    sink: &'k mut K,
+    address: SocketAddr,
+}
+
+impl<K: Sink> Announce for Listening<'_, K> {
+    ghost says = { λ before is_said after. (after.sink.ghost_name ≡ before.sink.ghost_name)
+        × (is_said ≡ true → IsWritten K.takes before.sink.now (listening_text before.address) after.sink.now (Ok tt)) };
+
+    fn announce(&mut self) -> bool {
+        is_begun(self.alloc, self.sink, self.address)
+    }
+}
+
+/// Serves so many sessions, and gives the exit status. The output gets `listening 127.0.0.1:port` once the listener
+/// listens and all workers were started, and `ended k` after the last session: at status 0 both were written, and nothing
+/// else. Where there is no port, no memory, no thread or no output, the errors get why.
 pub fn serve_as_asked<L, R, K: Sink, E: Sink>(
     rt: &R,
     alloc: Global,
@@ -79,12 +97,16 @@ where
         return failed(errors, "no memory for the segments");
     };
     let desk: Desk<L> = Desk::new(hall, blank);
-    match listener.local_addr() {
-        Ok(address) if is_begun(alloc, sink, address) => {}
-        Ok(_) => return failed(errors, UNWRITTEN),
+    let address = match listener.local_addr() {
+        Ok(address) => address,
         Err(error) => return failed(errors, error),
-    }
-    if let Err(fault) = serve(
+    };
+    let call = Listening {
+        alloc,
+        sink,
+        address,
+    };
+    let served = serve_announced(
         rt,
         alloc,
         &desk,
@@ -92,10 +114,15 @@ where
         asked.sessions,
         asked.workers,
         &Open,
-    ) {
-        return failed(errors, fault);
-    }
-    if is_ended(alloc, sink, asked.sessions) {
+        call,
+    );
+    let told = match served {
+        Ok((told, _end)) => told,
+        Err(ServeFault::Unsaid) => return failed(errors, UNWRITTEN),
+        Err(fault) => return failed(errors, fault),
+    };
+    let Listening { sink: told, .. } = told;
+    if is_ended(alloc, told, asked.sessions) {
         DONE
     } else {
         failed(errors, UNWRITTEN)

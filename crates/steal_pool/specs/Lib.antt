@@ -1,2 +1,3 @@
+pub mod Announced
 pub mod Faults
 pub mod Works

@@ -1,7 +1,8 @@
 //! A pool of workers, each in a thread of its own, that do the jobs of a desk.
 //!
 //! Whoever has a seat at a [`desk::Desk`] asks for searches; [`run_pool`] starts workers, and they do
-//! them until the desk is closed. A worker looks for a frame that is ready: the newest task of its own
+//! them until the desk is closed. Who is to know that a pool has begun is told by [`run_pool_announced`] once all workers
+//! were started, and not at all where one can't be had ([`Announce`]). A worker looks for a frame that is ready: the newest task of its own
 //! deque, else the oldest of another's (`task_deques`), else any that the hall knows of, for which it
 //! sleeps at the desk. With a frame it does turn after turn (`pool_rules`): each turn is one step,
 //! offered to the hall under its lock by [`desk::Desk::offer`] and by nothing else, or one computation
@@ -27,14 +28,16 @@
 
 pub use desk;
 
+mod announce;
 mod gate;
 mod pool;
 mod tasks;
 mod threads;
 mod worker;
 
+pub use announce::{Announce, Quiet};
 pub use gate::{Gate, Open};
-pub use pool::{PoolEnd, PoolFault, run_pool};
+pub use pool::{BeginFault, PoolEnd, PoolFault, run_pool, run_pool_announced};
 pub use task_deques::pool_rules::Task;
 pub use tasks::{Shared, Tasks};
 pub use worker::run_worker;

@@ -1,7 +1,9 @@
 //! What a pool is asked, and what it ends with.
-ghost use Rattle.std.specs.Prelude.{◌≡◌, ◌+◌, length, sum_by, All};
+ghost use Rattle.std.specs.Prelude.{◌≡◌, ◌+◌, true, length, sum_by, All, IfErr, IfOk};
 ghost use Rattle.task_deques.specs.Deals.{returned, whole_deques, IsAccounted};
+ghost use Rattle.steal_pool.specs.Announced.{IsUnsaid};
 
+use crate::announce::{Announce, Quiet};
 use crate::gate::Gate;
 use crate::tasks::Shared;
 use crate::threads::{Site, Stock, Worked, run_all};
@@ -39,6 +41,17 @@ impl PoolFault {
     }
 }
 
+/// Why a pool of which something is said didn't run. The desk is closed then, and what was started has ended.
+#[derive(Clone, Copy, Debug, PartialEq, Eq, Error)]
+pub enum BeginFault {
+    /// It couldn't begin: nothing was said.
+    #[error("no pool")]
+    Pool(PoolFault),
+    /// It had begun, and that couldn't be said.
+    #[error("it could not be said")]
+    Unsaid,
+}
+
 /// What a pool ends with.
 #[derive(Drop)]
 pub struct PoolEnd<L: Hands> {
@@ -57,7 +70,7 @@ pub struct PoolEnd<L: Hands> {
 #[derive(Clone, Copy, Debug, PartialEq, Eq)]
 pub(crate) struct NotRun {
     /// Why.
-    pub(crate) fault: PoolFault,
+    pub(crate) fault: BeginFault,
     /// How many workers' threads were started and have ended.
     pub(crate) ended: usize,
 }
@@ -77,9 +90,48 @@ pub fn run_pool<L: Hands + Send + Sync, G: Gate + Sync, R: Threads + Wait + Sync
 ) -> Result<PoolEnd<L>, PoolFault>
     requires { L.all ≡ L.parts }
 {
-    match run_pool_of(rt, alloc, desk, workers, gate, USUAL) {
+    let (_quiet, ended) = run_pool_of(rt, alloc, desk, workers, gate, USUAL, Quiet);
+    match ended {
         Ok(end) => Ok(end),
-        Err(not_run) => Err(not_run.fault),
+        Err(not_run) => match not_run.fault {
+            BeginFault::Pool(fault) => Err(fault),
+            BeginFault::Unsaid => unreachable!(),
+        },
+    }
+}
+
+/// The same, and says that the pool has begun once all its workers were started, in the thread that called. Where it
+/// can't begin nothing is said; where that can't be said, the desk is closed and the workers end. The workers' stacks
+/// have this size in bytes, or else the usual one.
+pub fn run_pool_announced<
+    L: Hands + Send + Sync,
+    G: Gate + Sync,
+    R: Threads + Wait + Sync,
+    A: Announce + Drop,
+>(
+    rt: &R,
+    alloc: Global,
+    desk: &Desk<L>,
+    workers: Worker,
+    gate: &G,
+    stack: Option<usize>,
+    call: A,
+) -> (A, Result<PoolEnd<L>, BeginFault>)
+    requires { L.all ≡ L.parts }
+    ensures said { IfOk result.1 (λ _. A.says call true result.0) }
+    ensures unsaid { IfErr result.1 (λ fault. IsUnsaid A.says call fault result.0) }
+{
+    let sizes = Sizes {
+        stack: match stack {
+            Some(size) => Some((1, size)),
+            None => None,
+        },
+        ..USUAL
+    };
+    let (call, ended) = run_pool_of(rt, alloc, desk, workers, gate, sizes, call);
+    match ended {
+        Ok(end) => (call, Ok(end)),
+        Err(not_run) => (call, Err(not_run.fault)),
     }
 }
 
@@ -105,42 +157,57 @@ pub(crate) const USUAL: Sizes = Sizes {
 };
 
 /// The same with sizes of the caller's.
-pub(crate) fn run_pool_of<L: Hands + Send + Sync, G: Gate + Sync, R: Threads + Wait + Sync>(
+pub(crate) fn run_pool_of<
+    L: Hands + Send + Sync,
+    G: Gate + Sync,
+    R: Threads + Wait + Sync,
+    A: Announce + Drop,
+>(
     rt: &R,
     alloc: Global,
     desk: &Desk<L>,
     workers: Worker,
     gate: &G,
     sizes: Sizes,
-) -> Result<PoolEnd<L>, NotRun>
+    call: A,
+) -> (A, Result<PoolEnd<L>, NotRun>)
     requires { L.all ≡ L.parts }
+    ensures said { IfOk result.1 (λ _. A.says call true result.0) }
+    ensures unsaid { IfErr result.1 (λ not_run. IsUnsaid A.says call not_run.fault result.0) }
 {
     let Ok(stock) = Stock::made(alloc, workers, sizes) else {
         desk.close(rt);
-        return Err(NotRun {
-            fault: PoolFault::OutOfMemory,
-            ended: 0,
-        });
+        return (
+            call,
+            Err(NotRun {
+                fault: BeginFault::Pool(PoolFault::OutOfMemory),
+                ended: 0,
+            }),
+        );
     };
-    let shared = Shared::new();
-    let worked = thread::scope(
+    let tasks = Shared::new();
+    let shared = &tasks;
+    let (call, worked) = thread::scope(
         thread::scope_env(),
         rt,
-        |scope|
+        move |scope|
             requires { L.all ≡ L.parts }
         {
             let site = Site {
                 scope,
                 rt,
                 desk,
-                shared: &shared,
+                shared,
                 gate,
                 stack: sizes.stack,
             };
-            run_all(&site, stock)
+            run_all(&site, stock, call)
         },
-    )?;
-    Ok(end_of(worked))
+    );
+    match worked {
+        Ok(worked) => (call, Ok(end_of(worked))),
+        Err(not_run) => (call, Err(not_run)),
+    }
 }
 
 /// What a pool ends with whose workers left this: their badge, and the sums of their deques, on each of

@@ -10,7 +10,7 @@ mod rows;
 mod seats;
 
 use crate::pool::{Sizes, USUAL, run_pool_of};
-use crate::{Gate, PoolEnd, PoolFault, run_pool};
+use crate::{Gate, PoolEnd, PoolFault, Quiet, run_pool};
 use desk::{Desk, Hall, Hands, PARTS};
 use sched_rules::{Config, Worker};
 use std::alloc::Global;
@@ -119,7 +119,8 @@ fn run<L: Hands + Send + Sync, G: Gate + Sync, R: Threads + Wait + Sync>(
     match room {
         Some(room) => {
             let sizes = Sizes { room, ..USUAL };
-            run_pool_of(rt, alloc, desk, workers, gate, sizes).map_err(|not_run| not_run.fault)
+            let (_quiet, ended) = run_pool_of(rt, alloc, desk, workers, gate, sizes, Quiet);
+            ended.map_err(|_not_run| PoolFault::NoThread)
         }
         None => run_pool(rt, alloc, desk, workers, gate),
     }

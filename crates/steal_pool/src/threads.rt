@@ -4,11 +4,13 @@
 //! [`SameEnds`]: the ends that it brings back are at the deques at which those were that it got. Once all
 //! threads are joined, all seats of all deques are there, and what was pushed on each is what was taken
 //! from it and what is left.
-ghost use Rattle.std.specs.Prelude.{◌≡◌, ◌≤◌, [], length, map, vec_len, vec_capacity, IfOk, OnOk};
+ghost use Rattle.std.specs.Prelude.{◌≡◌, ◌≤◌, [], true, length, map, vec_len, vec_capacity, IfErr, IfOk, OnOk};
 ghost use Rattle.task_deques.specs.Deals.{posts, posts_of, returned, returned_room, IsWhole};
+ghost use Rattle.steal_pool.specs.Announced.{IsUnsaid};
 
+use crate::announce::Announce;
 use crate::gate::Gate;
-use crate::pool::{NotRun, PoolFault, Sizes};
+use crate::pool::{BeginFault, NotRun, PoolFault, Sizes};
 use crate::tasks::{Shared, Tasks};
 use crate::worker::run_worker;
 use core::thread::Stack;
@@ -83,15 +85,27 @@ pub(crate) struct Worked<L: Hands> {
     ghost whole: { IsWhole (map posts_of (returned back)) },
 }
 
-/// Starts all workers and waits for them. Where one can't be had it closes the desk, waits for those
-/// that it started, and answers why, and how many these were.
-pub(crate) fn run_all<'s, E, L: Hands + Send + Sync, G: Gate + Sync, R: Threads + Wait + Sync>(
-    site: &Site<'s, E, L, G, R>,
-    stock: Stock<L>,
-) -> Result<Worked<L>, NotRun>
+/// Starts all workers, says that the pool has begun, and waits for them. Where one can't be had, or that can't be said,
+/// it closes the desk, waits for those that it started, and answers why, and how many these were.
+pub(crate) fn run_all<
+    's,
+    E,
+    L: Hands + Send + Sync,
+    G: Gate + Sync,
+    R: Threads + Wait + Sync,
+    A: Announce,
+>(site: &Site<'s, E, L, G, R>, stock: Stock<L>, call: A) -> (A, Result<Worked<L>, NotRun>)
     requires { L.all ≡ L.parts }
-    ensures { IfOk result (λ worked. length (returned worked.back) ≡ vec_len stock.dealt) }
+    ensures all { IfOk result.1 (λ worked. length (returned worked.back) ≡ vec_len stock.dealt) }
+    ensures said { IfOk result.1 (λ _. A.says call true result.0) }
+    ensures unsaid { IfErr result.1 (λ not_run. IsUnsaid A.says call not_run.fault result.0) }
 {
+    let mut call = call;
+    let Some(own) = site.desk.badge(site.rt) else {
+        site.desk.close(site.rt);
+        let fault = BeginFault::Pool(PoolFault::NoThread);
+        return (call, Err(NotRun { fault, ended: 0 }));
+    };
     let Stock {
         dealt,
         back,
@@ -99,19 +113,40 @@ pub(crate) fn run_all<'s, E, L: Hands + Send + Sync, G: Gate + Sync, R: Threads 
     } = stock;
     let mut back = back;
     let mut handles = handles;
-    let started = start_all(site, dealt, &mut handles);
-    if started.is_err() {
+    let begun = begin(site, dealt, &mut handles, &mut call);
+    if begun.is_err() {
         site.desk.close(site.rt);
     }
-    let badge = join_all(site.rt, handles, &mut back);
+    let badge = join_all(site.rt, own, handles, &mut back);
     let ended = back.count();
-    match (started, badge) {
-        (Ok(()), Some(badge)) => Ok(Worked { badge, back }),
-        (Ok(()), None) => Err(NotRun {
-            fault: PoolFault::NoThread,
-            ended,
-        }),
-        (Err(fault), _) => Err(NotRun { fault, ended }),
+    match begun {
+        Ok(()) => (call, Ok(Worked { badge, back })),
+        Err(fault) => (call, Err(NotRun { fault, ended })),
+    }
+}
+
+/// Starts all workers, and says so once they are.
+fn begin<'s, E, L: Hands + Send + Sync, G: Gate + Sync, R: Wait + Sync, A: Announce>(
+    site: &Site<'s, E, L, G, R>,
+    dealt: Vec<Ends>,
+    handles: &mut Vec<Handle<L>>,
+    call: &mut A,
+) -> Result<(), BeginFault>
+    requires none { vec_len handles.old ≡ 0 }
+    requires room { vec_len dealt ≤ vec_capacity handles.old }
+    requires few { vec_len dealt ≤ 32 }
+    ensures started { OnOk result (map (λ handle. posts handle.promise.0.value) handles.new.items ≡ map posts dealt.items) }
+    ensures count { vec_len handles.new ≤ vec_len dealt }
+    ensures said { IfOk result (λ _. A.says call.old true call.new) }
+    ensures unsaid { IfErr result (λ fault. IsUnsaid A.says call.old fault call.new) }
+{
+    if let Err(fault) = start_all(site, dealt, handles) {
+        return Err(BeginFault::Pool(fault));
+    }
+    if call.announce() {
+        Ok(())
+    } else {
+        Err(BeginFault::Unsaid)
     }
 }
 
@@ -190,25 +225,23 @@ fn work<L: Hands, G: Gate, R: Wait>(
     (badge, ends)
 }
 
-/// Waits for all, puts their ends together, and joins their badges; None where there is none.
+/// Waits for all, puts their ends together, and joins their badges to this one.
 fn join_all<L: Hands, R: Threads>(
     rt: &R,
+    own: Badge<L>,
     handles: Vec<Handle<L>>,
     back: &mut Returned,
-) -> Option<Badge<L>>
+) -> Badge<L>
     requires hands { L.all ≡ L.parts }
     requires none { returned back.old ≡ [] }
     requires room { vec_len handles ≤ returned_room back.old }
     ensures { map posts_of (returned back.new) ≡ map (λ handle. posts handle.promise.0.value) handles.items }
 {
-    let mut all: Option<Badge<L>> = None;
+    let mut all = own;
     for handle in handles {
         let (badge, ends) = handle.join(rt);
         back.put(ends);
-        all = match all {
-            Some(joined) => Some(joined.join(badge)),
-            None => Some(badge),
-        };
+        all = all.join(badge);
     }
     all
 }

@@ -1,6 +1,6 @@
 //! Why a server ended before its sessions did.
 use std::io;
-use steal_pool::PoolFault;
+use steal_pool::{BeginFault, PoolFault};
 use thiserror::Error;
 
 /// Why a server ended before it had taken all its sessions.
@@ -15,6 +15,9 @@ pub enum ServeFault {
     /// A thread of the pool couldn't be had.
     #[error("no thread for a worker")]
     NoThread,
+    /// The pool had begun, and that couldn't be said.
+    #[error("what is said at the beginning could not be said")]
+    Unsaid,
 }
 
 impl From<PoolFault> for ServeFault {
@@ -22,6 +25,15 @@ impl From<PoolFault> for ServeFault {
         match fault {
             PoolFault::OutOfMemory => ServeFault::OutOfMemory,
             PoolFault::NoThread => ServeFault::NoThread,
+        }
+    }
+}
+
+impl From<BeginFault> for ServeFault {
+    fn from(fault: BeginFault) -> ServeFault {
+        match fault {
+            BeginFault::Pool(fault) => ServeFault::from(fault),
+            BeginFault::Unsaid => ServeFault::Unsaid,
         }
     }
 }

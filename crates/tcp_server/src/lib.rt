@@ -10,9 +10,10 @@
 //!
 //! Who runs where: one thread takes the connections and starts one for each in a scope of their own, so that it
 //! goes on when all have ended, and closes the desk then; the thread that called [`serve`] runs the pool, with a
-//! thread for each worker, and joins the other. So there are workers + sessions + 2 threads at most. Where the pool
-//! can't begin, a flag is set and one connection of the server's own wakes the listener; the sessions that were
-//! there end, and the fault is answered. A connection's Nagle delay is switched off, and each answer is one write
+//! thread for each worker, and joins the other. So there are workers + sessions + 2 threads at most. What is
+//! to be said at the beginning ([`serve_announced`]) is said in that thread once all workers were started, and never
+//! where the pool can't begin: then a flag is set and one connection of the server's own wakes the listener; the
+//! sessions that were there end, and the fault is answered. A connection's Nagle delay is switched off, and each answer is one write
 //! with its LF, so a line is answered at once. A session that waits for a job doesn't read, so that its peer is gone
 //! is noticed when it writes the job's end.
 //!
@@ -33,7 +34,7 @@ mod faults;
 mod server;
 
 pub use faults::ServeFault;
-pub use server::serve;
+pub use server::{serve, serve_announced};
 
 #[cfg(test)]
 mod tests;

@@ -1,5 +1,5 @@
 //! The threads of a server: the pool in one, and one for each connection.
-ghost use Rattle.std.specs.Prelude.{◌≡◌};
+ghost use Rattle.std.specs.Prelude.{◌≡◌, true, IfOk, Ok};
 
 use crate::door::Door;
 use crate::faults::ServeFault;
@@ -13,7 +13,7 @@ use std::sync::Wait;
 use std::sync::atomic::{AtomicBool, Ordering};
 use std::thread::{self, Builder, Scope, Threads};
 use steal_pool::desk::{Desk, Hands};
-use steal_pool::{Gate, PoolEnd, PoolFault, run_pool};
+use steal_pool::{Announce, Gate, PoolEnd, Quiet, run_pool_announced};
 
 /// Takes so many connections and serves each in a thread of its own, with the workers beside them; then closes the
 /// desk and joins all.
@@ -32,24 +32,96 @@ pub fn serve<L: Hands + Send + Sync, G: Gate + Sync, R: Net + Threads + Wait + S
 ) -> Result<PoolEnd<L>, ServeFault>
     requires { L.all ≡ L.parts }
 {
+    let served = serve_announced(rt, alloc, desk, listener, sessions, workers, gate, Quiet);
+    match served {
+        Ok((_quiet, end)) => Ok(end),
+        Err(fault) => Err(fault),
+    }
+}
+
+/// The same, and says that the server has begun once all workers of the pool were started, in the thread that called:
+/// so nothing is said where the pool can't begin. `Unsaid` where that can't be said: no more connections are taken
+/// then.
+pub fn serve_announced<
+    L: Hands + Send + Sync,
+    G: Gate + Sync,
+    R: Net + Threads + Wait + Sync,
+    A: Announce + Drop,
+>(
+    rt: &R,
+    alloc: Global,
+    desk: &Desk<L>,
+    listener: TcpListener,
+    sessions: u16,
+    workers: Worker,
+    gate: &G,
+    call: A,
+) -> Result<(A, PoolEnd<L>), ServeFault>
+    requires { L.all ≡ L.parts }
+    ensures { IfOk result (λ served. A.says call true served.0) }
+{
     let asked = Sessions {
         count: sessions,
         stack: None,
     };
-    let mut end = Err(PoolFault::NoThread);
+    serve_of(rt, alloc, desk, listener, asked, workers, None, gate, call)
+}
+
+/// The same with stacks of the caller's sizes in bytes, or else the usual ones: those of the sessions, and of the
+/// workers.
+pub(crate) fn serve_of<
+    L: Hands + Send + Sync,
+    G: Gate + Sync,
+    R: Net + Threads + Wait + Sync,
+    A: Announce + Drop,
+>(
+    rt: &R,
+    alloc: Global,
+    desk: &Desk<L>,
+    listener: TcpListener,
+    sessions: Sessions,
+    workers: Worker,
+    stack: Option<usize>,
+    gate: &G,
+    call: A,
+) -> Result<(A, PoolEnd<L>), ServeFault>
+    requires { L.all ≡ L.parts }
+    ensures { IfOk result (λ served. A.says call true served.0) }
+{
     serve_beside(
         rt,
         desk,
         listener,
-        asked,
-        ||
+        sessions,
+        move ||
             requires { L.all ≡ L.parts }
-        {
-            end = run_pool(rt, alloc, desk, workers, gate);
-            end.is_ok()
-        },
-    )?;
-    Ok(end?)
+        { run_announced(rt, alloc, desk, workers, stack, gate, call) },
+    )
+}
+
+/// The pool of a server.
+fn run_announced<
+    L: Hands + Send + Sync,
+    G: Gate + Sync,
+    R: Threads + Wait + Sync,
+    A: Announce + Drop,
+>(
+    rt: &R,
+    alloc: Global,
+    desk: &Desk<L>,
+    workers: Worker,
+    stack: Option<usize>,
+    gate: &G,
+    call: A,
+) -> Result<(A, PoolEnd<L>), ServeFault>
+    requires { L.all ≡ L.parts }
+    ensures { IfOk result (λ served. A.says call true served.0) }
+{
+    let (call, ended) = run_pool_announced(rt, alloc, desk, workers, gate, stack, call);
+    match ended {
+        Ok(end) => Ok((call, end)),
+        Err(fault) => Err(ServeFault::from(fault)),
+    }
 }
 
 /// The sessions of a server.
@@ -61,21 +133,23 @@ pub(crate) struct Sessions {
     pub(crate) stack: Option<usize>,
 }
 
-/// The same beside any pool, which runs until the desk is closed and tells whether it could begin. Where it couldn't it
-/// has closed the desk, and no more connections are taken.
+/// The same beside any pool, which runs until the desk is closed and answers, or tells why it couldn't run. Where it
+/// couldn't it has closed the desk, and no more connections are taken.
 pub(crate) fn serve_beside<
     L: Hands + Send + Sync,
     R: Net + Threads + Wait + Sync,
-    P: FnOnce() -> bool,
+    T: Drop,
+    P: FnOnce() -> Result<T, ServeFault>,
 >(
     rt: &R,
     desk: &Desk<L>,
     listener: TcpListener,
     sessions: Sessions,
     pool: P,
-) -> Result<(), ServeFault>
+) -> Result<T, ServeFault>
     requires all { L.all ≡ L.parts }
     requires pool { P.pre pool }
+    ensures { IfOk result (λ served. P.post pool (Ok served)) }
 {
     let address = match listener.local_addr() {
         Ok(address) => address,
@@ -92,6 +166,7 @@ pub(crate) fn serve_beside<
         |scope|
             requires all { L.all ≡ L.parts }
             requires pool { P.pre pool }
+            ensures { IfOk result (λ served. P.post pool (Ok served)) }
         {
             let started = scope.spawn(
                 move || -> io::Result<()>
@@ -102,13 +177,14 @@ pub(crate) fn serve_beside<
                 desk.close(rt);
                 return Err(ServeFault::NoThread);
             };
-            if !pool() {
+            let ended = pool();
+            if ended.is_err() {
                 // No connection is taken any more: one of its own wakes the listener.
                 stop.store(true, Ordering::SeqCst);
                 let _ = rt.connect(address);
             }
             match taking.join(rt) {
-                Ok(()) => Ok(()),
+                Ok(()) => ended,
                 Err(error) => Err(ServeFault::Listener(error)),
             }
         },

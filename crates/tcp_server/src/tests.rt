@@ -6,7 +6,7 @@ mod reserving;
 mod tables;
 
 use crate::door::Door;
-use crate::server::{Sessions, serve_beside};
+use crate::server::{Sessions, serve_beside, serve_of};
 use crate::{ServeFault, serve};
 use reserving::MORE;
 use sched_rules::{Config, Worker};
@@ -15,11 +15,12 @@ use std::io::{self, Read, Write};
 use std::marker::Brand;
 use std::net::{Net, TcpListener, TcpStream};
 use std::sync::Wait;
+use std::sync::atomic::{AtomicU32, Ordering};
 use std::sync::ledger::Blank;
 use std::test::Fail;
 use std::thread::{self, Threads};
 use steal_pool::desk::{Desk, Hall, Hands, PARTS};
-use steal_pool::{Open, PoolEnd};
+use steal_pool::{Announce, Open, PoolEnd};
 
 /// A line, and its answer.
 type Row = (&'static str, &'static str);
@@ -408,18 +409,101 @@ where
         count: 2,
         stack: None,
     };
-    let served = serve_beside(rt, &desk, listener, usual, || {
+    let served: Result<(), ServeFault> = serve_beside(rt, &desk, listener, usual, || {
         desk.close(rt);
-        false
+        Err(ServeFault::NoThread)
     });
     let is_closed = TcpStream::connect(rt, address).is_err();
-    Ok((served.is_ok(), is_closed))
+    Ok((matches!(served, Err(ServeFault::NoThread)), is_closed))
 }
 
 #[test]
 fn a_pool_that_cannot_begin_ends_the_server(rt: HostRuntime) -> Result<(), Fail> {
     let found = given_up::<Brand, HostRuntime>(&rt, rt.alloc(), Blank::new(PARTS))?;
     assert_eq!(rt; found, (true, true));
+    Ok(())
+}
+
+/// Counts how often it is said that a server has begun.
+#[derive(Drop)]
+struct Counted<'a> {
+    /// How often it was.
+    count: &'a AtomicU32,
+    /// Whether it can be said.
+    works: bool,
+}
+
+impl Announce for Counted<'_> {
+    ghost says = { λ _ _ _. Unit {0} };
+
+    fn announce(&mut self) -> bool {
+        self.count.fetch_add(1, Ordering::SeqCst);
+        self.works
+    }
+}
+
+/// Why a server of two sessions, at whose desk nobody sits, doesn't serve with workers of these stacks, how often it
+/// was said that it has begun, and whether its listener is closed then.
+fn unserved<L, R>(
+    rt: &R,
+    alloc: Global,
+    blank: Blank,
+    stack: Option<usize>,
+    works: bool,
+) -> Result<(Option<ServeFault>, u32, bool), Fail>
+where
+    L: Hands + Send + Sync,
+    R: Net<Listener = TcpListener, Stream = TcpStream> + Threads + Wait + Sync,
+    requires name { blank.name ≡ L.name }
+    requires parts { (blank.parts ≡ L.parts) × (L.all ≡ L.parts) × (L.all ≡ PARTS) }
+{
+    let config = Config::new(8, 8).ok_or("the limits")?;
+    let desk: Desk<L> = Desk::new(Hall::new(alloc, config, 0)?, blank);
+    let listener = TcpListener::bind(rt, "127.0.0.1:0")?;
+    let address = listener.local_addr()?;
+    let usual = Sessions {
+        count: 2,
+        stack: None,
+    };
+    let workers = Worker::new(2).ok_or("two workers")?;
+    let count = AtomicU32::new(0);
+    let call = Counted {
+        count: &count,
+        works,
+    };
+    let served = serve_of(
+        rt, alloc, &desk, listener, usual, workers, stack, &Open, call,
+    );
+    let is_closed = TcpStream::connect(rt, address).is_err();
+    Ok((served.err(), count.load(Ordering::SeqCst), is_closed))
+}
+
+#[test]
+fn nothing_is_said_where_the_pool_cannot_begin(rt: HostRuntime) -> Result<(), Fail> {
+    let too_large = Some(usize::MAX);
+    let (fault, said, is_closed) = unserved::<Brand, HostRuntime>(
+        &rt,
+        rt.alloc(),
+        Blank::new(PARTS),
+        too_large,
+        true,
+    )?;
+    assert!(rt; matches!(fault, Some(ServeFault::NoThread)));
+    assert_eq!(rt; (said, is_closed), (0, true));
+    Ok(())
+}
+
+#[test]
+fn a_beginning_that_cannot_be_said_ends_the_server(rt: HostRuntime) -> Result<(), Fail> {
+    let (fault, said, is_closed) = unserved::<Brand, HostRuntime>(
+        &rt,
+        rt.alloc(),
+        Blank::new(PARTS),
+        None,
+        false,
+    )?;
+    assert!(rt; matches!(fault, Some(ServeFault::Unsaid)));
+    assert_eq!(rt; (said, is_closed), (1, true));
     Ok(())
 }
 
@@ -446,7 +530,7 @@ where
         &desk,
         listener,
         too_large,
-        || desk.next_ready(rt).is_none(),
+        || Ok(desk.next_ready(rt).is_none()),
     )?;
     Ok([(&one).read(&mut [0; 1])?, (&two).read(&mut [0; 1])?])
 }
