@@ -128,7 +128,7 @@ pub(crate) fn run_all<
 /// Starts all workers, and says so once they are.
 fn begin<'s, E, L: Hands + Send + Sync, G: Gate + Sync, R: Wait + Sync, A: Announce>(
     site: &Site<'s, E, L, G, R>,
-    dealt: Vec<Ends>,
+    dealt: Vec<DequeEnds>,
     handles: &mut Vec<Handle<L>>,
     call: &mut A,
 ) -> Result<(), BeginFault>
