@@ -22,10 +22,10 @@
 //!
 //! ```text
 //! // a_root_opens_a_child: it waits for it and returns; the child is computed, and returns
-//! (Deed::Submit(1, &[0o43, 0o5], 4), Ok(DidOf::Submitted(1, ROOT))),
-//! (Deed::Steal(1, 0, ROOT), Ok(DidOf::Took)),
-//! (Deed::Advance(1, ROOT), Ok(DidOf::Spawned(FRAME_2))),
-//! (Deed::Advance(1, ROOT), Ok(DidOf::Waited)),
+//! (PlainStep::Submit(1, &[0o43, 0o5], 4), Ok(DidOf::Submitted(1, ROOT))),
+//! (PlainStep::Steal(1, 0, ROOT), Ok(DidOf::Took)),
+//! (PlainStep::Advance(1, ROOT), Ok(DidOf::Spawned(FRAME_2))),
+//! (PlainStep::Advance(1, ROOT), Ok(DidOf::Waited)),
 //! ```
 #![tactic(auto)]
 

@@ -1,5 +1,4 @@
 mod chain;
-mod deed;
 mod drawing;
 mod draws;
 mod fan;
@@ -8,6 +7,7 @@ mod growths;
 mod limits;
 mod lists;
 mod memory;
+mod plain_step;
 mod reader;
 mod spin;
 mod toys;

@@ -1,6 +1,6 @@
 //! Chain on a running core, by one worker that takes the newest ready frame.
-use crate::tests::deed::Deed;
 use crate::tests::frames::{FRAME_2, FRAME_3, ROOT};
+use crate::tests::plain_step::PlainStep;
 use crate::tests::walking::Row::{Free, Reads, Refused, Taken};
 use crate::tests::walking::{Miss, Row, run_tables};
 use sched_core::{DidOf, Refusal};
@@ -8,34 +8,37 @@ use sched_toys::Chain;
 
 /// One job of count 2, whose root opens frame 2, which the worker then runs.
 const BEGINS: [Row; 5] = [
-    Taken(Deed::Submit(1, &[2, 0], 20), DidOf::Submitted(1, ROOT)),
-    Taken(Deed::Steal(1, 0, ROOT), DidOf::Took),
-    Taken(Deed::Advance(1, ROOT), DidOf::Spawned(FRAME_2)),
-    Taken(Deed::Advance(1, ROOT), DidOf::Waited),
-    Taken(Deed::Take(1, FRAME_2), DidOf::Took),
+    Taken(PlainStep::Submit(1, &[2, 0], 20), DidOf::Submitted(1, ROOT)),
+    Taken(PlainStep::Steal(1, 0, ROOT), DidOf::Took),
+    Taken(PlainStep::Advance(1, ROOT), DidOf::Spawned(FRAME_2)),
+    Taken(PlainStep::Advance(1, ROOT), DidOf::Waited),
+    Taken(PlainStep::Take(1, FRAME_2), DidOf::Took),
 ];
 
 /// Frame 2 opens frame 3, which returns and is taken in.
 const GOES_ON: [Row; 5] = [
-    Taken(Deed::Advance(1, FRAME_2), DidOf::Spawned(FRAME_3)),
-    Taken(Deed::Advance(1, FRAME_2), DidOf::Waited),
-    Taken(Deed::Take(1, FRAME_3), DidOf::Took),
-    Taken(Deed::Advance(1, FRAME_3), DidOf::Returned(false)),
-    Taken(Deed::Inlet(1, FRAME_3), DidOf::TakenIn(Some(FRAME_2), 0)),
+    Taken(PlainStep::Advance(1, FRAME_2), DidOf::Spawned(FRAME_3)),
+    Taken(PlainStep::Advance(1, FRAME_2), DidOf::Waited),
+    Taken(PlainStep::Take(1, FRAME_3), DidOf::Took),
+    Taken(PlainStep::Advance(1, FRAME_3), DidOf::Returned(false)),
+    Taken(
+        PlainStep::Inlet(1, FRAME_3),
+        DidOf::TakenIn(Some(FRAME_2), 0),
+    ),
 ];
 
 /// Frame 2 returns and is taken in, and so does the root, which ends the job.
 const ENDS: [Row; 6] = [
-    Taken(Deed::Take(1, FRAME_2), DidOf::Took),
-    Taken(Deed::Advance(1, FRAME_2), DidOf::Returned(false)),
-    Taken(Deed::Inlet(1, FRAME_2), DidOf::TakenIn(Some(ROOT), 0)),
-    Taken(Deed::Take(1, ROOT), DidOf::Took),
-    Taken(Deed::Advance(1, ROOT), DidOf::Returned(true)),
-    Taken(Deed::Finish(1, ROOT), DidOf::Finished(1)),
+    Taken(PlainStep::Take(1, FRAME_2), DidOf::Took),
+    Taken(PlainStep::Advance(1, FRAME_2), DidOf::Returned(false)),
+    Taken(PlainStep::Inlet(1, FRAME_2), DidOf::TakenIn(Some(ROOT), 0)),
+    Taken(PlainStep::Take(1, ROOT), DidOf::Took),
+    Taken(PlainStep::Advance(1, ROOT), DidOf::Returned(true)),
+    Taken(PlainStep::Finish(1, ROOT), DidOf::Finished(1)),
 ];
 
 /// Enough for three frames of two segments.
-const ENOUGH: [Row; 1] = [Taken(Deed::Admit(1, 6, 3), DidOf::Admitted)];
+const ENOUGH: [Row; 1] = [Taken(PlainStep::Admit(1, 6, 3), DidOf::Admitted)];
 
 /// The job is done, with all 20 words of the root.
 const DONE: [Row; 2] = [
@@ -60,14 +63,14 @@ fn chain_with_enough(rt: HostRuntime) -> Result<(), Miss> {
 }
 
 /// A segment too few.
-const FIVE_SEGMENTS: [Row; 1] = [Taken(Deed::Admit(1, 5, 3), DidOf::Admitted)];
+const FIVE_SEGMENTS: [Row; 1] = [Taken(PlainStep::Admit(1, 5, 3), DidOf::Admitted)];
 
 /// Frame 2 can't open its child. Then its job may be spent, which gives the segments back.
 const SPENT_OF_FIVE: [Row; 6] = [
-    Refused(Deed::Spend(ROOT), Refusal::NotSpent),
+    Refused(PlainStep::Spend(ROOT), Refusal::NotSpent),
     Free("28 free, none ready"),
-    Refused(Deed::Advance(1, FRAME_2), Refusal::NoSegments),
-    Taken(Deed::Spend(FRAME_2), DidOf::Spent(1)),
+    Refused(PlainStep::Advance(1, FRAME_2), Refusal::NoSegments),
+    Taken(PlainStep::Spend(FRAME_2), DidOf::Spent(1)),
     Reads("left 5 1 44, 0 frames of 0 words\njob 1 spent\n"),
     Free("32 free, none ready"),
 ];
@@ -85,12 +88,12 @@ fn chain_with_too_few_segments(rt: HostRuntime) -> Result<(), Miss> {
 }
 
 /// A node too few.
-const TWO_NODES: [Row; 1] = [Taken(Deed::Admit(1, 6, 2), DidOf::Admitted)];
+const TWO_NODES: [Row; 1] = [Taken(PlainStep::Admit(1, 6, 2), DidOf::Admitted)];
 
 /// Frame 2 can't open its child either.
 const SPENT_OF_TWO: [Row; 3] = [
-    Refused(Deed::Advance(1, FRAME_2), Refusal::NoNodes),
-    Taken(Deed::Spend(FRAME_2), DidOf::Spent(1)),
+    Refused(PlainStep::Advance(1, FRAME_2), Refusal::NoNodes),
+    Taken(PlainStep::Spend(FRAME_2), DidOf::Spent(1)),
     Reads("left 6 0 28, 0 frames of 0 words\njob 1 spent\n"),
 ];
 

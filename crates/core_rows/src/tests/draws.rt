@@ -2,7 +2,7 @@
 ghost use Rattle.std.specs.Prelude.{◌<◌};
 
 use crate::Reader;
-use crate::tests::deed::Deed;
+use crate::tests::plain_step::PlainStep;
 use crate::tests::walking::Told;
 use frame_tree::{FrameId, State};
 use sched_core::{Core, DidOf};
@@ -104,14 +104,14 @@ impl Draws {
     }
 
     /// A new job of some kind.
-    fn submit(&mut self, tenant: u64) -> Deed {
+    fn submit(&mut self, tenant: u64) -> PlainStep {
         let words = ROOTS[self.below(16) as usize];
         let size = SIZES[self.below(8) as usize];
-        Deed::Submit(tenant, words, size)
+        PlainStep::Submit(tenant, words, size)
     }
 
     /// As much as a tenant reserved at first, or a little more.
-    fn more(&mut self, tenant: u64) -> Deed {
+    fn more(&mut self, tenant: u64) -> PlainStep {
         let (segments, nodes) = match tenant {
             1 => (6, 40),
             2 => (12, 30),
@@ -121,40 +121,45 @@ impl Draws {
         };
         let more_segments = self.below(3) as u32;
         let more_nodes = self.below(4) as u32;
-        Deed::AdmitMore(tenant, segments + more_segments, nodes + more_nodes)
+        PlainStep::AdmitMore(tenant, segments + more_segments, nodes + more_nodes)
     }
 
     /// A step without regard to what the frame is doing.
-    fn wild(&mut self, name: FrameId) -> Deed {
+    fn wild(&mut self, name: FrameId) -> PlainStep {
         let worker = self.worker();
         match self.below(12) {
-            0 => Deed::Take(worker, name),
-            1 => Deed::Steal(worker, self.below(6) as u8, name),
-            2 => Deed::Advance(worker, name),
-            3 => Deed::Answer(worker, name, self.below(8), 0),
-            4 => Deed::Inlet(worker, name),
-            5 => Deed::Finish(worker, name),
-            6 => Deed::Spend(name),
-            7 => Deed::Cancel(name.tenant, self.below(4)),
-            8 => Deed::Admit(self.below(8), 2, 8),
-            9 if self.below(4) == 0 => Deed::Leave(name.tenant),
+            0 => PlainStep::Take(worker, name),
+            1 => PlainStep::Steal(worker, self.below(6) as u8, name),
+            2 => PlainStep::Advance(worker, name),
+            3 => PlainStep::Answer(worker, name, self.below(8), 0),
+            4 => PlainStep::Inlet(worker, name),
+            5 => PlainStep::Finish(worker, name),
+            6 => PlainStep::Spend(name),
+            7 => PlainStep::Cancel(name.tenant, self.below(4)),
+            8 => PlainStep::Admit(self.below(8), 2, 8),
+            9 if self.below(4) == 0 => PlainStep::Leave(name.tenant),
             10 => self.more(name.tenant),
             _ => self.submit(name.tenant),
         }
     }
 
     /// What comes next of a frame that does this.
-    fn next(&mut self, name: FrameId, state: State, is_root: bool, acts: u64) -> Deed {
+    fn next(&mut self, name: FrameId, state: State, is_root: bool, acts: u64) -> PlainStep {
         let worker = self.worker();
         match state {
-            State::Ready(home) if home == worker => Deed::Take(worker, name),
-            State::Ready(home) => Deed::Steal(worker, home, name),
-            State::Running(by) => Deed::Advance(by, name),
-            State::Computing(by) if self.below(4) == 0 => Deed::Answer(by, name, acts / 2 + 9, 0),
-            State::Computing(by) => Deed::Answer(by, name, acts, 0),
+            State::Ready(home) if home == worker => PlainStep::Take(worker, name),
+            State::Ready(home) => PlainStep::Steal(worker, home, name),
+            State::Running(by) => PlainStep::Advance(by, name),
+            State::Computing(by) if self.below(4) == 0 => PlainStep::Answer(
+                by,
+                name,
+                acts / 2 + 9,
+                0,
+            ),
+            State::Computing(by) => PlainStep::Answer(by, name, acts, 0),
             State::Waiting => self.submit(name.tenant),
-            State::Returned if is_root => Deed::Finish(worker, name),
-            State::Returned => Deed::Inlet(worker, name),
+            State::Returned if is_root => PlainStep::Finish(worker, name),
+            State::Returned => PlainStep::Inlet(worker, name),
         }
     }
 }
@@ -168,7 +173,7 @@ fn newest(core: &Core<Reader>, name: FrameId) -> FrameId {
 }
 
 /// A step: mostly what comes next of some frame, else any.
-fn some_step(draws: &mut Draws, core: &Core<Reader>) -> Deed {
+fn some_step(draws: &mut Draws, core: &Core<Reader>) -> PlainStep {
     let name = draws.name(core);
     if draws.below(4) == 0 {
         return draws.wild(name);
@@ -183,19 +188,19 @@ fn some_step(draws: &mut Draws, core: &Core<Reader>) -> Deed {
 }
 
 /// Whether a step would be taken.
-fn may_be_taken(core: &Core<Reader>, deed: &Deed) -> bool {
-    match deed.step() {
+fn may_be_taken(core: &Core<Reader>, plain: &PlainStep) -> bool {
+    match plain.step() {
         Some(step) => core.refusal(&step).is_none(),
         None => false,
     }
 }
 
 /// The next step of a list. One that would be refused is put back a few times, and kept now and then.
-pub fn drawn(draws: &mut Draws, core: &Core<Reader>) -> Deed {
+pub fn drawn(draws: &mut Draws, core: &Core<Reader>) -> PlainStep {
     for _ in 0..6 {
-        let deed = some_step(draws, core);
-        if draws.below(5) == 0 || may_be_taken(core, &deed) {
-            return deed;
+        let plain = some_step(draws, core);
+        if draws.below(5) == 0 || may_be_taken(core, &plain) {
+            return plain;
         }
     }
     some_step(draws, core)

@@ -1,5 +1,5 @@
 //! The limits of jobs and of tenants.
-use crate::tests::deed::Deed;
+use crate::tests::plain_step::PlainStep;
 use crate::tests::walking::Row::{Free, Refused, Taken};
 use crate::tests::walking::{Miss, Row, core_of, follow, run_tables, walk};
 use frame_tree::FrameId;
@@ -16,7 +16,7 @@ fn submit_all(core: &mut Core<Fan>) -> Result<(), Miss> {
         let root = FrameId { tenant: 1, serial };
         walk(
             core,
-            Deed::Submit(1, &[0, 0], 4),
+            PlainStep::Submit(1, &[0, 0], 4),
             Ok(DidOf::Submitted(serial, root)),
         )?;
     }
@@ -25,7 +25,7 @@ fn submit_all(core: &mut Core<Fan>) -> Result<(), Miss> {
 
 /// A tenant of more than 256 segments and nodes, and its jobs.
 fn with_all_jobs(alloc: Global, core: &mut Core<Fan>) -> Result<(), Miss> {
-    walk(core, Deed::Admit(1, 300, 300), Ok(DidOf::Admitted))?;
+    walk(core, PlainStep::Admit(1, 300, 300), Ok(DidOf::Admitted))?;
     submit_all(core)?;
     follow(alloc, core, &[&ONE_JOB_MORE])
 }
@@ -33,11 +33,11 @@ fn with_all_jobs(alloc: Global, core: &mut Core<Fan>) -> Result<(), Miss> {
 /// The next job is refused, also after one has ended.
 const ONE_JOB_MORE: [Row; 7] = [
     Free("44 free, some ready"),
-    Refused(Deed::Submit(1, &[0, 0], 4), Refusal::NoJobsLeft),
-    Taken(Deed::Cancel(1, 256), DidOf::Cancelled),
-    Refused(Deed::Cancel(1, 256), Refusal::NoJob),
-    Refused(Deed::Cancel(1, 257), Refusal::NoJob),
-    Refused(Deed::Submit(1, &[0, 0], 4), Refusal::NoJobsLeft),
+    Refused(PlainStep::Submit(1, &[0, 0], 4), Refusal::NoJobsLeft),
+    Taken(PlainStep::Cancel(1, 256), DidOf::Cancelled),
+    Refused(PlainStep::Cancel(1, 256), Refusal::NoJob),
+    Refused(PlainStep::Cancel(1, 257), Refusal::NoJob),
+    Refused(PlainStep::Submit(1, &[0, 0], 4), Refusal::NoJobsLeft),
     Free("45 free, some ready"),
 ];
 
@@ -51,7 +51,7 @@ fn no_more_than_256_jobs(rt: HostRuntime) -> Result<(), Miss> {
 /// Admits 64 tenants, from this number on.
 fn admit_all(core: &mut Core<Fan>, from: u64) -> Result<(), Miss> {
     for number in from..from.saturating_add(64) {
-        walk(core, Deed::Admit(number, 1, 1), Ok(DidOf::Admitted))?;
+        walk(core, PlainStep::Admit(number, 1, 1), Ok(DidOf::Admitted))?;
     }
     Ok(())
 }
@@ -59,30 +59,30 @@ fn admit_all(core: &mut Core<Fan>, from: u64) -> Result<(), Miss> {
 /// The first 64 tenants leave.
 fn leave_all(core: &mut Core<Fan>) -> Result<(), Miss> {
     for number in 1..65 {
-        walk(core, Deed::Leave(number), Ok(DidOf::Left))?;
+        walk(core, PlainStep::Leave(number), Ok(DidOf::Left))?;
     }
     Ok(())
 }
 
 /// There is no place for a 65th, and some numbers can't be taken at all. One of the 64 reserves more.
 const ONE_TENANT_MORE: [Row; 6] = [
-    Refused(Deed::Admit(65, 1, 1), Refusal::Full),
-    Refused(Deed::Admit(64, 1, 1), Refusal::OldTenant),
-    Refused(Deed::Admit(0, 1, 1), Refusal::OldTenant),
-    Refused(Deed::Admit(LAST_TENANT, 1, 1), Refusal::Full),
-    Refused(Deed::Admit(LAST_TENANT + 1, 1, 1), Refusal::OldTenant),
-    Taken(Deed::AdmitMore(7, 65, 65), DidOf::AdmittedMore),
+    Refused(PlainStep::Admit(65, 1, 1), Refusal::Full),
+    Refused(PlainStep::Admit(64, 1, 1), Refusal::OldTenant),
+    Refused(PlainStep::Admit(0, 1, 1), Refusal::OldTenant),
+    Refused(PlainStep::Admit(LAST_TENANT, 1, 1), Refusal::Full),
+    Refused(PlainStep::Admit(LAST_TENANT + 1, 1, 1), Refusal::OldTenant),
+    Taken(PlainStep::AdmitMore(7, 65, 65), DidOf::AdmittedMore),
 ];
 
 /// A number isn't taken twice, also when its tenant has left.
 const TAKEN_BEFORE: [Row; 3] = [
-    Refused(Deed::Leave(64), Refusal::NoTenant),
-    Refused(Deed::Admit(64, 1, 1), Refusal::OldTenant),
+    Refused(PlainStep::Leave(64), Refusal::NoTenant),
+    Refused(PlainStep::Admit(64, 1, 1), Refusal::OldTenant),
     Free("128 free, none ready"),
 ];
 
 /// Once more there are 64.
-const FULL_AGAIN: [Row; 1] = [Refused(Deed::Admit(129, 1, 1), Refusal::Full)];
+const FULL_AGAIN: [Row; 1] = [Refused(PlainStep::Admit(129, 1, 1), Refusal::Full)];
 
 /// 64 tenants, and one more.
 fn first_tenants(alloc: Global, core: &mut Core<Fan>) -> Result<(), Miss> {
@@ -108,10 +108,10 @@ fn no_more_than_64_tenants(rt: HostRuntime) -> Result<(), Miss> {
 
 /// The greatest number, once.
 const LAST: [Row; 4] = [
-    Taken(Deed::Admit(LAST_TENANT, 1, 1), DidOf::Admitted),
-    Taken(Deed::Leave(LAST_TENANT), DidOf::Left),
-    Refused(Deed::Admit(LAST_TENANT, 1, 1), Refusal::OldTenant),
-    Refused(Deed::Admit(LAST_TENANT + 1, 1, 1), Refusal::OldTenant),
+    Taken(PlainStep::Admit(LAST_TENANT, 1, 1), DidOf::Admitted),
+    Taken(PlainStep::Leave(LAST_TENANT), DidOf::Left),
+    Refused(PlainStep::Admit(LAST_TENANT, 1, 1), Refusal::OldTenant),
+    Refused(PlainStep::Admit(LAST_TENANT + 1, 1, 1), Refusal::OldTenant),
 ];
 
 /// The greatest number of a tenant can be taken, and then no other.

@@ -1,8 +1,8 @@
 //! A long list of steps of several tenants, drawn from a seed.
 use crate::Reader;
-use crate::tests::deed::Deed;
 use crate::tests::drawing::{free, picture};
 use crate::tests::draws::{Draws, drawn};
+use crate::tests::plain_step::PlainStep;
 use crate::tests::walking::{Miss, Told, core_of, walk};
 use sched_core::{Core, DidOf, Step};
 use std::alloc::{AllocError, Global};
@@ -22,41 +22,41 @@ const ALL_DEEDS: u32 = 0b1111_1111_1111_1111;
 /// Steps, and what each was answered.
 #[derive(Drop)]
 pub struct Played {
-    pub deeds: Vec<Deed>,
+    pub plains: Vec<PlainStep>,
     pub told: Vec<Told>,
 }
 
 /// Takes a step, and notes it with its answer. `refusal` is asked before, and must say the same.
-fn play(core: &mut Core<Reader>, played: &mut Played, deed: Deed) -> Result<(), Miss> {
-    let step = deed.step().ok_or(Miss::NoStep(deed))?;
+fn play(core: &mut Core<Reader>, played: &mut Played, plain: PlainStep) -> Result<(), Miss> {
+    let step = plain.step().ok_or(Miss::NoStep(plain))?;
     let foretold = core.refusal(&step);
     let told = core.step(&step);
     if foretold != told.err() {
-        return Err(Miss::Foretold(deed, foretold));
+        return Err(Miss::Foretold(plain, foretold));
     }
-    note(played, deed, told)
+    note(played, plain, told)
 }
 
 /// Notes a step with its answer.
-fn note(played: &mut Played, deed: Deed, told: Told) -> Result<(), Miss> {
-    played.deeds.push(deed).map_err(AllocError::from)?;
+fn note(played: &mut Played, plain: PlainStep, told: Told) -> Result<(), Miss> {
+    played.plains.push(plain).map_err(AllocError::from)?;
     played.told.push(told).map_err(AllocError::from)?;
     Ok(())
 }
 
 /// Four tenants come, the third with one node and a frame that goes on for ever.
-const OPENING: [Deed; 5] = [
-    Deed::Admit(1, 6, 40),
-    Deed::Admit(2, 12, 30),
-    Deed::Admit(3, 2, 1),
-    Deed::Admit(4, 280, 300),
-    Deed::Submit(3, &[0o7], 4),
+const OPENING: [PlainStep; 5] = [
+    PlainStep::Admit(1, 6, 40),
+    PlainStep::Admit(2, 12, 30),
+    PlainStep::Admit(3, 2, 1),
+    PlainStep::Admit(4, 280, 300),
+    PlainStep::Submit(3, &[0o7], 4),
 ];
 
 /// The tenants come.
 fn play_admissions(core: &mut Core<Reader>, played: &mut Played) -> Result<(), Miss> {
-    for deed in &OPENING {
-        play(core, played, *deed)?;
+    for plain in &OPENING {
+        play(core, played, *plain)?;
     }
     Ok(())
 }
@@ -64,7 +64,7 @@ fn play_admissions(core: &mut Core<Reader>, played: &mut Played) -> Result<(), M
 /// The last of them has 256 jobs and is refused one more.
 fn play_submits(core: &mut Core<Reader>, played: &mut Played) -> Result<(), Miss> {
     for _ in 0..257 {
-        play(core, played, Deed::Submit(4, &[0o43, 0o5], 4))?;
+        play(core, played, PlainStep::Submit(4, &[0o43, 0o5], 4))?;
     }
     Ok(())
 }
@@ -73,8 +73,8 @@ fn play_submits(core: &mut Core<Reader>, played: &mut Played) -> Result<(), Miss
 fn play_drawn(core: &mut Core<Reader>, played: &mut Played) -> Result<(), Miss> {
     let mut draws = Draws::new(SEED);
     for _ in 0..DRAWN {
-        let deed = drawn(&mut draws, core);
-        play(core, played, deed)?;
+        let plain = drawn(&mut draws, core);
+        play(core, played, plain)?;
         if let Some(told) = played.told.last() {
             draws.note(told);
         }
@@ -85,7 +85,7 @@ fn play_drawn(core: &mut Core<Reader>, played: &mut Played) -> Result<(), Miss> 
 /// The whole list, by `step`.
 pub fn play_all(alloc: Global, core: &mut Core<Reader>) -> Result<Played, Miss> {
     let mut played = Played {
-        deeds: Vec::new(alloc),
+        plains: Vec::new(alloc),
         told: Vec::new(alloc),
     };
     play_admissions(core, &mut played)?;
@@ -149,10 +149,10 @@ fn deeds_met(told: &[Told]) -> u32 {
 }
 
 /// The steps of a list.
-fn steps_of(alloc: Global, deeds: &[Deed]) -> Result<Vec<Step<Reader>>, Miss> {
+fn steps_of(alloc: Global, plains: &[PlainStep]) -> Result<Vec<Step<Reader>>, Miss> {
     let mut steps: Vec<Step<Reader>> = Vec::new(alloc);
-    for deed in deeds {
-        let step = deed.step().ok_or(Miss::NoStep(*deed))?;
+    for plain in plains {
+        let step = plain.step().ok_or(Miss::NoStep(*plain))?;
         steps.push(step).map_err(AllocError::from)?;
     }
     Ok(steps)
@@ -160,7 +160,7 @@ fn steps_of(alloc: Global, deeds: &[Deed]) -> Result<Vec<Step<Reader>>, Miss> {
 
 /// The steps of a list once more, in two runs. The answers must be the same.
 fn run_again(alloc: Global, core: &mut Core<Reader>, played: &Played) -> Result<(), Miss> {
-    let steps = steps_of(alloc, played.deeds.as_slice())?;
+    let steps = steps_of(alloc, played.plains.as_slice())?;
     let (first, others) = steps.as_slice().split_at(steps.len() / 2);
     let mut told = Vec::new(alloc);
     core.run(first, &mut told)?;
@@ -199,9 +199,9 @@ fn compare_cores(alloc: Global, one: &Core<Reader>, other: &Core<Reader>) -> Res
 
 /// Takes a tenant's own steps alone, those that were taken. Each must be answered as it was.
 fn play_alone(core: &mut Core<Reader>, played: &Played, tenant: u64) -> Result<(), Miss> {
-    for (deed, told) in played.deeds.iter().zip(played.told.iter()) {
-        if deed.tenant() == tenant && told.is_ok() {
-            walk(core, *deed, *told)?;
+    for (plain, told) in played.plains.iter().zip(played.told.iter()) {
+        if plain.tenant() == tenant && told.is_ok() {
+            walk(core, *plain, *told)?;
         }
     }
     Ok(())

@@ -1,7 +1,7 @@
 //! No step but an admission, a further reservation and a Leave calls the allocator, and no call that reads does.
 use crate::Reader;
-use crate::tests::deed::Deed;
 use crate::tests::lists::{NODES, Played, SEGMENTS, new_core, play_all};
+use crate::tests::plain_step::PlainStep;
 use crate::tests::walking::{Miss, Told};
 use counted_alloc::Counted;
 use frame_tree::FrameId;
@@ -34,7 +34,7 @@ fn read(core: &CountedCore<'_>, tenant: u64) {
 fn take(
     counted: &Counted<Global>,
     core: &mut CountedCore<'_>,
-    deed: Deed,
+    plain: PlainStep,
     step: &Step<Reader>,
     told: Told,
 ) -> Result<(), Miss> {
@@ -42,13 +42,13 @@ fn take(
     let _ = core.refusal(step);
     let answer = core.step(step);
     if answer != told {
-        return Err(Miss::Answered(deed, answer));
+        return Err(Miss::Answered(plain, answer));
     }
-    read(core, deed.tenant());
-    match deed {
-        Deed::Admit(_, _, _) | Deed::AdmitMore(_, _, _) | Deed::Leave(_) => Ok(()),
+    read(core, plain.tenant());
+    match plain {
+        PlainStep::Admit(_, _, _) | PlainStep::AdmitMore(_, _, _) | PlainStep::Leave(_) => Ok(()),
         _ if counted.calls() == before => Ok(()),
-        _ => Err(Miss::Asked(deed)),
+        _ => Err(Miss::Asked(plain)),
     }
 }
 
@@ -58,9 +58,9 @@ fn take_all(
     core: &mut CountedCore<'_>,
     played: &Played,
 ) -> Result<(), Miss> {
-    for (deed, told) in played.deeds.iter().zip(played.told.iter()) {
-        let step = deed.step().ok_or(Miss::NoStep(*deed))?;
-        take(counted, core, *deed, &step, *told)?;
+    for (plain, told) in played.plains.iter().zip(played.told.iter()) {
+        let step = plain.step().ok_or(Miss::NoStep(*plain))?;
+        take(counted, core, *plain, &step, *told)?;
     }
     Ok(())
 }

@@ -1,6 +1,6 @@
 //! Tables of steps and of what is read in between, followed on a core.
-use crate::tests::deed::{Deed, Numbered};
 use crate::tests::drawing::{free, picture};
+use crate::tests::plain_step::{Numbered, PlainStep};
 use sched_core::{Config, Core, DidOf, Procedure, Refusal, StepOf};
 use std::alloc::{AllocError, Global};
 
@@ -11,9 +11,9 @@ pub type Told = Result<DidOf<u64>, Refusal>;
 #[derive(Clone, Copy, Debug)]
 pub enum Row {
     /// A step that is taken, and what it does.
-    Taken(Deed, DidOf<u64>),
+    Taken(PlainStep, DidOf<u64>),
     /// A step that is refused.
-    Refused(Deed, Refusal),
+    Refused(PlainStep, Refusal),
     /// What is read of tenant 1, as `picture` has it.
     Reads(&'static str),
     /// How many segments are free, and whether a frame is ready, as `free` has it.
@@ -28,11 +28,11 @@ pub enum Miss {
     /// There was no memory.
     Memory,
     /// This is no step.
-    NoStep(Deed),
+    NoStep(PlainStep),
     /// Before this step, `refusal` said this.
-    Foretold(Deed, Option<Refusal>),
+    Foretold(PlainStep, Option<Refusal>),
     /// This step was answered so.
-    Answered(Deed, Told),
+    Answered(PlainStep, Told),
     /// This was read.
     Read(String),
     /// These answers or readings of two cores aren't the same.
@@ -40,7 +40,7 @@ pub enum Miss {
     /// Of what a list should meet, only these were met.
     Met(u32),
     /// At this step memory was asked for or given back.
-    Asked(Deed),
+    Asked(PlainStep),
 }
 
 impl From<AllocError> for Miss {
@@ -63,17 +63,17 @@ pub fn core_of<P: Procedure + Drop>(
 /// Takes a step, which must be answered so; `refusal`, asked before, must say the same.
 fn take<P: Procedure<Input = u64>>(
     core: &mut Core<P>,
-    deed: Deed,
+    plain: PlainStep,
     step: &StepOf<P::Answer>,
     told: Told,
 ) -> Result<(), Miss> {
     let foretold = core.refusal(step);
     if foretold != told.err() {
-        return Err(Miss::Foretold(deed, foretold));
+        return Err(Miss::Foretold(plain, foretold));
     }
     let answer = core.step(step);
     if answer != told {
-        return Err(Miss::Answered(deed, answer));
+        return Err(Miss::Answered(plain, answer));
     }
     Ok(())
 }
@@ -81,15 +81,15 @@ fn take<P: Procedure<Input = u64>>(
 /// Takes a step in plain numbers, which must be answered so.
 pub fn walk<P: Procedure<Input = u64>>(
     core: &mut Core<P>,
-    deed: Deed,
+    plain: PlainStep,
     told: Told,
 ) -> Result<(), Miss>
 where
     P::Answer: Numbered + Drop,
 {
-    match deed.step() {
-        Some(step) => take(core, deed, &step, told),
-        None => Err(Miss::NoStep(deed)),
+    match plain.step() {
+        Some(step) => take(core, plain, &step, told),
+        None => Err(Miss::NoStep(plain)),
     }
 }
 
@@ -121,8 +121,8 @@ where
     P::Answer: Numbered + Drop,
 {
     match row {
-        Row::Taken(deed, did) => walk(core, deed, Ok(did)),
-        Row::Refused(deed, refusal) => walk(core, deed, Err(refusal)),
+        Row::Taken(plain, did) => walk(core, plain, Ok(did)),
+        Row::Refused(plain, refusal) => walk(core, plain, Err(refusal)),
         Row::Reads(text) => reads(alloc, core, text),
         Row::Free(text) => is_free(alloc, core, text),
     }

@@ -6,7 +6,7 @@ use tenant_quota::Reserve;
 
 /// A step in plain numbers. Workers are numbers, and a new frame's words a list.
 #[derive(Clone, Copy, Debug)]
-pub enum Deed {
+pub enum PlainStep {
     /// The tenant, its segments and its nodes.
     Admit(u64, u32, u32),
     /// The tenant, its segments and its nodes from now on.
@@ -51,22 +51,22 @@ impl Numbered for u64 {
     }
 }
 
-impl Deed {
+impl PlainStep {
     /// Whose step it is.
     pub fn tenant(&self) -> u64 {
         match self {
-            Deed::Admit(tenant, _, _) => *tenant,
-            Deed::AdmitMore(tenant, _, _) => *tenant,
-            Deed::Submit(tenant, _, _) => *tenant,
-            Deed::Take(_, name) => name.tenant,
-            Deed::Steal(_, _, name) => name.tenant,
-            Deed::Advance(_, name) => name.tenant,
-            Deed::Answer(_, name, _, _) => name.tenant,
-            Deed::Inlet(_, name) => name.tenant,
-            Deed::Finish(_, name) => name.tenant,
-            Deed::Spend(name) => name.tenant,
-            Deed::Cancel(tenant, _) => *tenant,
-            Deed::Leave(tenant) => *tenant,
+            PlainStep::Admit(tenant, _, _) => *tenant,
+            PlainStep::AdmitMore(tenant, _, _) => *tenant,
+            PlainStep::Submit(tenant, _, _) => *tenant,
+            PlainStep::Take(_, name) => name.tenant,
+            PlainStep::Steal(_, _, name) => name.tenant,
+            PlainStep::Advance(_, name) => name.tenant,
+            PlainStep::Answer(_, name, _, _) => name.tenant,
+            PlainStep::Inlet(_, name) => name.tenant,
+            PlainStep::Finish(_, name) => name.tenant,
+            PlainStep::Spend(name) => name.tenant,
+            PlainStep::Cancel(tenant, _) => *tenant,
+            PlainStep::Leave(tenant) => *tenant,
         }
     }
 
@@ -74,26 +74,26 @@ impl Deed {
     /// than 8 words.
     pub fn step<A: Numbered>(&self) -> Option<StepOf<A>> {
         Some(match *self {
-            Deed::Admit(tenant, segments, nodes) => {
+            PlainStep::Admit(tenant, segments, nodes) => {
                 StepOf::Admit(tenant, Reserve::new(segments, nodes)?)
             }
-            Deed::AdmitMore(tenant, segments, nodes) => {
+            PlainStep::AdmitMore(tenant, segments, nodes) => {
                 StepOf::AdmitMore(tenant, Reserve::new(segments, nodes)?)
             }
-            Deed::Submit(tenant, words, size) => {
+            PlainStep::Submit(tenant, words, size) => {
                 StepOf::Submit(tenant, GivenWords::new(words)?, size)
             }
-            Deed::Take(worker, name) => StepOf::Take(Worker::new(worker)?, name),
-            Deed::Steal(worker, from, name) => StepOf::Steal(Worker::new(worker)?, from, name),
-            Deed::Advance(worker, name) => StepOf::Advance(Worker::new(worker)?, name),
-            Deed::Answer(worker, name, asked, value) => {
+            PlainStep::Take(worker, name) => StepOf::Take(Worker::new(worker)?, name),
+            PlainStep::Steal(worker, from, name) => StepOf::Steal(Worker::new(worker)?, from, name),
+            PlainStep::Advance(worker, name) => StepOf::Advance(Worker::new(worker)?, name),
+            PlainStep::Answer(worker, name, asked, value) => {
                 StepOf::Answer(Worker::new(worker)?, name, A::of_numbers(asked, value))
             }
-            Deed::Inlet(worker, name) => StepOf::Inlet(Worker::new(worker)?, name),
-            Deed::Finish(worker, name) => StepOf::Finish(Worker::new(worker)?, name),
-            Deed::Spend(name) => StepOf::Spend(name),
-            Deed::Cancel(tenant, job) => StepOf::Cancel(tenant, job),
-            Deed::Leave(tenant) => StepOf::Leave(tenant),
+            PlainStep::Inlet(worker, name) => StepOf::Inlet(Worker::new(worker)?, name),
+            PlainStep::Finish(worker, name) => StepOf::Finish(Worker::new(worker)?, name),
+            PlainStep::Spend(name) => StepOf::Spend(name),
+            PlainStep::Cancel(tenant, job) => StepOf::Cancel(tenant, job),
+            PlainStep::Leave(tenant) => StepOf::Leave(tenant),
         })
     }
 }
