@@ -1,9 +1,7 @@
 //! The example of `protocol`.
 use arrayvec::ArrayVec;
 use othello_moves::Choice;
-use protocol::{
-    ProtocolFault, push_move, push_value, read_question, split_at_space, word_number,
-};
+use protocol::{push_move, push_value, split_at_space, word_number};
 use std::test::Fail;
 
 #[test]
@@ -11,8 +9,6 @@ fn words_are_read_and_written(rt: HostRuntime) -> Result<(), Fail> {
     let (depth, position) = split_at_space(b"12 X-O").ok_or("no space")?;
     assert_eq!(rt; position, b"X-O".as_slice());
     assert_eq!(rt; word_number(depth), Some(12));
-    assert_eq!(rt; read_question(depth, position), Err(ProtocolFault::PositionLength));
-    assert_eq!(rt; ProtocolFault::PositionLength.number(), 24);
     let mut text: ArrayVec<u8, 32> = ArrayVec::new();
     push_value(&mut text, -3);
     text.push(b' ');
