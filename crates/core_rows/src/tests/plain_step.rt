@@ -34,17 +34,17 @@ pub enum PlainStep {
 }
 
 /// An answer that two numbers make: what it is to, and its value.
-pub trait Numbered {
+pub trait HasNumbers {
     fn of_numbers(asked: u64, value: u64) -> Self;
 }
 
-impl Numbered for FanAnswer {
+impl HasNumbers for FanAnswer {
     fn of_numbers(asked: u64, value: u64) -> FanAnswer {
         FanAnswer { asked, value }
     }
 }
 
-impl Numbered for u64 {
+impl HasNumbers for u64 {
     /// An answer that asks for itself has no value beside it.
     fn of_numbers(asked: u64, _value: u64) -> u64 {
         asked
@@ -72,7 +72,7 @@ impl PlainStep {
 
     /// The step; `None` where a number isn't one of a worker or of a reservation, or there are more
     /// than 8 words.
-    pub fn step<A: Numbered>(&self) -> Option<StepOf<A>> {
+    pub fn step<A: HasNumbers>(&self) -> Option<StepOf<A>> {
         Some(match *self {
             PlainStep::Admit(tenant, segments, nodes) => {
                 StepOf::Admit(tenant, Reserve::new(segments, nodes)?)

@@ -1,6 +1,6 @@
 //! Tables of steps and of what is read in between, followed on a core.
 use crate::tests::drawing::{free, picture};
-use crate::tests::plain_step::{Numbered, PlainStep};
+use crate::tests::plain_step::{HasNumbers, PlainStep};
 use sched_core::{Config, Core, DidOf, Procedure, Refusal, StepOf};
 use std::alloc::{AllocError, Global};
 
@@ -85,7 +85,7 @@ pub fn walk<P: Procedure<Input = u64>>(
     told: Told,
 ) -> Result<(), Miss>
 where
-    P::Answer: Numbered + Drop,
+    P::Answer: HasNumbers + Drop,
 {
     match plain.step() {
         Some(step) => take(core, plain, &step, told),
@@ -118,7 +118,7 @@ fn follow_row<P: Procedure<Input = u64>>(
     row: Row,
 ) -> Result<(), Miss>
 where
-    P::Answer: Numbered + Drop,
+    P::Answer: HasNumbers + Drop,
 {
     match row {
         Row::Taken(plain, did) => walk(core, plain, Ok(did)),
@@ -135,7 +135,7 @@ pub fn follow<P: Procedure<Input = u64>>(
     tables: &[&[Row]],
 ) -> Result<(), Miss>
 where
-    P::Answer: Numbered + Drop,
+    P::Answer: HasNumbers + Drop,
 {
     for table in tables {
         for row in *table {
@@ -154,7 +154,7 @@ pub fn run_tables<P: Procedure<Input = u64> + Drop>(
     tables: &[&[Row]],
 ) -> Result<(), Miss>
 where
-    P::Answer: Numbered + Drop,
+    P::Answer: HasNumbers + Drop,
 {
     let mut core = core_of(alloc, segments, nodes, procedure)?;
     follow(alloc, &mut core, tables)
