@@ -1,7 +1,7 @@
-ghost use Rattle.std.specs.Prelude.{◌≡◌, IfOk, OnOk, OnErr, None, replicate};
+ghost use Rattle.std.specs.Prelude.{◌≡◌, IfOk, None, replicate};
 ghost use Rattle.storage_rows.specs.Pairs.{IsPair};
 
-use cactus_stack::{NoSegment, NodeNo, Stack};
+use cactus_stack::{NoSegment, NodeNo, Sight, Stack, Words};
 use linked_list_allocator::LocalHeap;
 use std::process::Abort;
 use std::test::Fail;
@@ -22,12 +22,11 @@ fn open_pair(stack: &mut Stack) -> Result<Pair, NoSegment>
     Ok(Pair { root, child })
 }
 
-fn grow_child(stack: &mut Stack, pair: &Pair) -> Result<(), NoSegment>
+fn grow_child(rt: &impl Abort, stack: &mut Stack, pair: &Pair)
     requires { IsPair stack.old pair.now.root pair.now.child 20 16 }
-    ensures { OnOk result (IsPair stack.new pair.now.root pair.now.child 20 17) }
+    ensures { IsPair stack.new pair.now.root pair.now.child 20 17 }
 {
-    stack.grow(pair.child, 1)?;
-    Ok(())
+    stack.grow(pair.child, 1).expect(rt, "one segment is free");
 }
 
 fn store_in_child(stack: &mut Stack, pair: &Pair)
@@ -37,19 +36,40 @@ fn store_in_child(stack: &mut Stack, pair: &Pair)
     stack.store(pair.child, 16, 9);
 }
 
-fn grow_root(stack: &mut Stack, pair: &Pair) -> Result<(), NoSegment>
+fn grow_root(rt: &impl Abort, stack: &mut Stack, pair: &Pair)
     requires { IsPair stack.old pair.now.root pair.now.child 20 17 }
-    ensures { OnOk result (IsPair stack.new pair.now.root pair.now.child 32 17) }
+    ensures { IsPair stack.new pair.now.root pair.now.child 32 17 }
 {
-    stack.grow(pair.root, 12)?;
-    Ok(())
+    stack
+        .grow(pair.root, 12)
+        .expect(rt, "no more segments are needed");
 }
 
-fn grow_root_further(stack: &mut Stack, pair: &Pair) -> Result<(), NoSegment>
+fn grow_root_no_further(rt: &impl Abort, stack: &mut Stack, pair: &Pair)
     requires { IsPair stack.old pair.now.root pair.now.child 32 17 }
-    ensures { OnErr result (IsPair stack.new pair.now.root pair.now.child 32 17) }
+    ensures { IsPair stack.new pair.now.root pair.now.child 32 17 }
 {
-    stack.grow(pair.root, 1)
+    let refusal = stack
+        .grow(pair.root, 1)
+        .err()
+        .expect(rt, "no segment is free");
+    assert_eq!(rt; refusal.number(), 1);
+}
+
+fn has_free(rt: &impl Abort, stack: &Stack, count: usize) {
+    assert_eq!(rt; stack.free_count(), count);
+}
+
+fn root_is_grown(rt: &impl Abort, stack: &Stack, pair: &Pair)
+    requires { IsPair stack.now pair.now.root pair.now.child 32 17 }
+{
+    assert_eq!(rt; stack.own(pair.root).len(), 32);
+}
+
+fn root_has_its_words(rt: &impl Abort, stack: &Stack, pair: &Pair)
+    requires { IsPair stack.now pair.now.root pair.now.child 32 17 }
+{
+    assert_eq!(rt; stack.own(pair.root).get(1), Some(2));
 }
 
 fn close_child(stack: &mut Stack, pair: &Pair)
@@ -79,60 +99,91 @@ fn open_and_close(stack: &mut Stack) -> Result<NodeNo, NoSegment>
     Ok(node)
 }
 
-fn show_sight(rt: &impl Abort, stack: &Stack, pair: &Pair) -> Result<(), Fail>
+/// Nodes of a sight have these words at these places.
+fn have_words(rt: &impl Abort, words: &Words<'_>, wanted: &[(usize, Option<u64>)]) {
+    for (at, word) in wanted {
+        assert_eq!(rt; words.get(*at), *word, "at {at}");
+    }
+}
+
+fn show_child(rt: &impl Abort, sight: &Sight<'_>) {
+    let own = sight.up(0).expect(rt, "the child's words");
+    assert_eq!(rt; own.len(), 17);
+    have_words(
+        rt,
+        &own,
+        &[
+            (0, Some(7)),
+            (1, Some(0)),
+            (15, Some(0)),
+            (16, Some(9)),
+            (17, None),
+        ],
+    );
+    assert_eq!(rt; own.segment(1), [9].as_slice());
+    assert_eq!(rt; own.segment(2).len(), 0);
+}
+
+fn show_root(rt: &impl Abort, sight: &Sight<'_>) {
+    let above = sight.up(1).expect(rt, "the root's words");
+    assert_eq!(rt; above.len(), 20);
+    have_words(
+        rt,
+        &above,
+        &[
+            (0, Some(1)),
+            (1, Some(2)),
+            (2, Some(0)),
+            (19, Some(0)),
+            (20, None),
+        ],
+    );
+}
+
+fn show_sight(rt: &impl Abort, stack: &Stack, pair: &Pair)
     requires { IsPair stack.now pair.now.root pair.now.child 20 17 }
 {
     let sight = stack.sight(pair.child);
     assert_eq!(rt; sight.levels(), 2);
     assert!(rt; sight.up(2).is_none());
-    let own = sight.up(0).ok_or("the child's words")?;
-    assert_eq!(rt; own.len(), 17);
-    for (at, word) in [
-        (0, Some(7)),
-        (1, Some(0)),
-        (15, Some(0)),
-        (16, Some(9)),
-        (17, None),
-    ] {
-        assert_eq!(rt; own.get(at), word, "at {at}");
-    }
-    assert_eq!(rt; own.segment(1), [9].as_slice());
-    assert_eq!(rt; own.segment(2).len(), 0);
-    let above = sight.up(1).ok_or("the root's words")?;
-    assert_eq!(rt; above.len(), 20);
-    for (at, word) in [
-        (0, Some(1)),
-        (1, Some(2)),
-        (2, Some(0)),
-        (19, Some(0)),
-        (20, None),
-    ] {
-        assert_eq!(rt; above.get(at), word, "at {at}");
-    }
-    Ok(())
+    show_child(rt, &sight);
+    show_root(rt, &sight);
+}
+
+/// The child grows into the last segment.
+fn show_grown_child(rt: &impl Abort, stack: &mut Stack, pair: &Pair)
+    requires { IsPair stack.old pair.now.root pair.now.child 20 16 }
+    ensures { IsPair stack.new pair.now.root pair.now.child 20 17 }
+{
+    has_free(rt, stack, 1);
+    grow_child(rt, stack, pair);
+    has_free(rt, stack, 0);
+    store_in_child(stack, pair);
+    show_sight(rt, stack, pair);
+}
+
+/// The root grows within its segments, and no further.
+fn show_grown_root(rt: &impl Abort, stack: &mut Stack, pair: &Pair)
+    requires { IsPair stack.old pair.now.root pair.now.child 20 17 }
+    ensures { IsPair stack.new pair.now.root pair.now.child 32 17 }
+{
+    grow_root(rt, stack, pair);
+    root_is_grown(rt, stack, pair);
+    has_free(rt, stack, 0);
+    grow_root_no_further(rt, stack, pair);
+    root_is_grown(rt, stack, pair);
+    root_has_its_words(rt, stack, pair);
 }
 
 #[test]
 fn a_root_and_its_child_in_four_segments(rt: HostRuntime) -> Result<(), Fail> {
     let mut stack = Stack::new(rt.alloc(), 4)?;
-    assert_eq!(rt; stack.free_count(), 4);
+    has_free(&rt, &stack, 4);
     let pair = open_pair(&mut stack)?;
-    assert_eq!(rt; stack.free_count(), 1);
-    grow_child(&mut stack, &pair)?;
-    assert_eq!(rt; stack.free_count(), 0);
-    store_in_child(&mut stack, &pair);
-    show_sight(&rt, &stack, &pair)?;
-    grow_root(&mut stack, &pair)?;
-    assert_eq!(rt; stack.own(pair.root).len(), 32);
-    assert_eq!(rt; stack.free_count(), 0);
-    let Err(refusal) = grow_root_further(&mut stack, &pair) else {
-        return Err(Fail::new("no segment is free"));
-    };
-    assert_eq!(rt; refusal.number(), 1);
-    assert_eq!(rt; stack.own(pair.root).len(), 32);
-    assert_eq!(rt; stack.own(pair.root).get(1), Some(2));
+    show_grown_child(&rt, &mut stack, &pair);
+    show_grown_root(&rt, &mut stack, &pair);
     close_child(&mut stack, &pair);
-    assert_eq!(rt; stack.free_count(), 2);
+    has_free(&rt, &stack, 2);
     Ok(())
 }
 
