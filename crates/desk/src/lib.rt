@@ -35,8 +35,8 @@
 
 pub use hall::jamboree;
 
-mod desk;
 mod change;
+mod desk;
 mod kept;
 pub mod rows;
 mod seat;

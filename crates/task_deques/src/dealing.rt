@@ -72,7 +72,11 @@ fn row(alloc: Global, owners: &mut Vec<Owner>) -> Result<Vec<Thief>, AllocError>
 }
 
 /// Each owner with one row of thieves.
-fn paired(alloc: Global, owners: Vec<Owner>, rows: Vec<Vec<Thief>>) -> Result<Vec<DequeEnds>, AllocError>
+fn paired(
+    alloc: Global,
+    owners: Vec<Owner>,
+    rows: Vec<Vec<Thief>>,
+) -> Result<Vec<DequeEnds>, AllocError>
     requires count { vec_len rows ≡ vec_len owners }
     requires rows { All (λ row. thief_seats row.items ≡ map new_thief (owner_seats owners.items)) rows.items }
     ensures count { IfOk result (λ all. vec_len all ≡ vec_len owners) }

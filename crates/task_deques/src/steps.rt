@@ -4,7 +4,7 @@ ghost use Rattle.pool_rules.specs.declared.task.Task.{Task};
 ghost use Rattle.crossbeam_deque.specs.Handles.{view, IsPassOf, worker_deque, stealer_deque, worker_flavor, worker_view};
 ghost use Rattle.task_deques.specs.Tallies.{tally, weigh, IsEmptied};
 
-use crate::rule::{OwnerEnd, Part, Popped, Pushed, DequeSeat, Taken, ThiefEnd, Whole};
+use crate::rule::{DequeSeat, OwnerEnd, Part, Popped, Pushed, Taken, ThiefEnd, Whole};
 use crossbeam_deque::Steal;
 use pool_rules::Task;
 use std::alloc::{AllocError, Global};

@@ -3,7 +3,7 @@ ghost use Rattle.std.specs.Prelude.{◌≡◌, ◌+◌, [], length, IfOk, IfNone
 ghost use Rattle.crossbeam_deque.specs.Handles.{view, IsPassOf, worker_deque, stealer_deque};
 ghost use Rattle.task_deques.specs.Tallies.{tally};
 
-use crate::rule::{OwnerEnd, DequeSeat, ThiefEnd};
+use crate::rule::{DequeSeat, OwnerEnd, ThiefEnd};
 use crate::steps;
 use pool_rules::Task;
 use std::alloc::AllocError;
