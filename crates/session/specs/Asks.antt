@@ -5,8 +5,8 @@ use Rattle.othello_eval.specs.Minimax.{minimax, best_choice}
 use Rattle.othello_eval.specs.Tables.{IsTable}
 use Rattle.session.specs.declared.standings.Analysis.{Analysis}
 use Rattle.session.specs.declared.standings.Standing.{Standing}
-use Rattle.session.specs.declared.standings.Standing.TheVariants.{Pending, Done, Spent, Cancelled}
-use Rattle.session.specs.Calls.{Call, Hello, Reserve, Ask, Get, Wait, Cancel, AskQuota, AskLive, Leave, OfficeReply, Welcome, Reserved, Job, Told, Ended, Rest, Alive, Gone, Refused}
+use Rattle.session.specs.declared.standings.Standing.TheVariants.{Done}
+use Rattle.session.specs.Calls.{Call, Hello, Reserve, Ask, Get, Wait, Cancel, AskQuota, AskLive, Leave, OfficeReply, Welcome, Job, Told, Gone, Refused}
 
 -- a board, and the depth to which its value was asked for
 pub record Asked : Type 0 where
@@ -15,28 +15,16 @@ pub record Asked : Type 0 where
 
 -- the asks, and this call too where it is one
 abbrev pub with_ask : List Asked → Call → List Asked
-with_ask asks (Hello quota) = asks
-with_ask asks (Reserve quota) = asks
 with_ask asks (Ask depth board side) = asks ++ record { board = board; depth = depth } ∷ []
-with_ask asks (Get job) = asks
-with_ask asks (Wait job) = asks
-with_ask asks (Cancel job) = asks
-with_ask asks AskQuota = asks
-with_ask asks AskLive = asks
-with_ask asks Leave = asks
+with_ask asks _ = asks
 
 -- the asks that were answered by JOB, after one more call and its reply: a new tenant has none, and one
 -- that has left
 abbrev pub asks_after : List Asked → Call → OfficeReply → List Asked
 asks_after asks call (Welcome quota) = []
-asks_after asks call (Reserved quota) = asks
 asks_after asks call (Job number) = with_ask asks call
-asks_after asks call (Told job standing) = asks
-asks_after asks call (Ended job) = asks
-asks_after asks call (Rest left) = asks
-asks_after asks call (Alive live) = asks
 asks_after asks call Gone = []
-asks_after asks call (Refused number) = asks
+asks_after asks call _ = asks
 
 -- what was asked as the job of this number, from 1 on
 abbrev pub asked_at : List Asked → ℕ → Option Asked
@@ -53,22 +41,14 @@ pub record IsAnalysisOf (asks : List Asked) (job : ℕ) (analysis : Analysis) : 
 
 -- a job that is shown as done is shown with what was found for it
 abbrev pub ShowsFound : List Asked → ℕ → Standing → Type 0
-ShowsFound asks job Pending = Unit {0}
 ShowsFound asks job (Done analysis) = IsAnalysisOf asks job analysis
-ShowsFound asks job Spent = Unit {0}
-ShowsFound asks job Cancelled = Unit {0}
+ShowsFound asks job _ = Unit {0}
 
 -- what a reply to a call says of the asks before it: a new job has the next number, a done one its analysis
 abbrev pub SaysTrue : List Asked → OfficeReply → Type 0
-SaysTrue asks (Welcome quota) = Unit {0}
-SaysTrue asks (Reserved quota) = Unit {0}
 SaysTrue asks (Job number) = number ≡ length asks + 1
 SaysTrue asks (Told job standing) = ShowsFound asks job standing
-SaysTrue asks (Ended job) = Unit {0}
-SaysTrue asks (Rest left) = Unit {0}
-SaysTrue asks (Alive live) = Unit {0}
-SaysTrue asks Gone = Unit {0}
-SaysTrue asks (Refused number) = Unit {0}
+SaysTrue asks _ = Unit {0}
 
 -- what is replied of a job by what was asked under its number: how the job stands, and the refusal 17 exactly where nothing was
 abbrev pub IsToldOf : ℕ → Option Asked → OfficeReply → Type 0

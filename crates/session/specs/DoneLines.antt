@@ -9,19 +9,17 @@ use Rattle.session.specs.declared.faults.End.{End}
 use Rattle.session.specs.declared.faults.SessionFault.{SessionFault}
 use Rattle.session.specs.declared.standings.Analysis.{Analysis}
 use Rattle.session.specs.declared.standings.Standing.{Standing}
-use Rattle.session.specs.declared.standings.Standing.TheVariants.{Pending, Done, Spent, Cancelled}
+use Rattle.session.specs.declared.standings.Standing.TheVariants.{Done}
 use Rattle.session.specs.Asks.{Asked, asked_at, with_ask, KeepsAsks, AllTrue}
-use Rattle.session.specs.Calls.{OfficeReply, Welcome, Reserved, Job, Told, Ended, Rest, Alive, Gone, Refused}
-use Rattle.session.specs.Requests.{Request, Fault, Makes, Tabulates, Ends, request}
-use Rattle.session.specs.Turns.{LineTurn, Faulted, Made, Tabulated, Closed, turns, turn_text}
+use Rattle.session.specs.Calls.{OfficeReply, Job, Told}
+use Rattle.session.specs.Requests.{Request, Makes, request}
+use Rattle.session.specs.Turns.{LineTurn, Made, Tabulated, turns, turn_text}
 use Rattle.session.specs.Sessions.{Session, calls_for}
 
 -- the asks so far, and what this request asks for, where it is one
 abbrev pub with_request : List Asked → Request → List Asked
-with_request asks (Fault fault) = asks
 with_request asks (Makes call) = with_ask asks call
-with_request asks (Tabulates job) = asks
-with_request asks Ends = asks
+with_request asks _ = asks
 
 -- the asks so far, after one more line and its answer: a tenant's begin at WELCOME and end at BYE, and an ASK line that is answered by JOB is
 -- the next of them
@@ -48,10 +46,8 @@ pub record IsTrueDone (before : List (LineText × List ℕ)) (job : ℕ) (analys
 
 -- where a job is shown as done, that is so
 abbrev pub StandingHolds : List (LineText × List ℕ) → ℕ → Standing → Type 0
-StandingHolds before job Pending = Unit {0}
 StandingHolds before job (Done analysis) = IsTrueDone before job analysis
-StandingHolds before job Spent = Unit {0}
-StandingHolds before job Cancelled = Unit {0}
+StandingHolds before job _ = Unit {0}
 
 -- entries are a table of what was asked for by the ASK line of this number, of those that were answered by JOB: one for each choice, in their
 -- order, each true, and the best choice's exact
@@ -62,40 +58,25 @@ pub record IsTrueTable (before : List (LineText × List ℕ)) (job : ℕ) (analy
 
 -- where a job's table is shown, that is so
 abbrev pub TableHolds : List (LineText × List ℕ) → ℕ → Standing → Type 0
-TableHolds before job Pending = Unit {0}
 TableHolds before job (Done analysis) = IsTrueTable before job analysis
-TableHolds before job Spent = Unit {0}
-TableHolds before job Cancelled = Unit {0}
+TableHolds before job _ = Unit {0}
 
 -- and where a line is answered by JOB, the number is that of the next ask
 abbrev pub ReplyHolds : List (LineText × List ℕ) → OfficeReply → Type 0
-ReplyHolds before (Welcome quota) = Unit {0}
-ReplyHolds before (Reserved quota) = Unit {0}
 ReplyHolds before (Job number) = number ≡ length (asks_of_lines before) + 1
 ReplyHolds before (Told job standing) = StandingHolds before job standing
-ReplyHolds before (Ended job) = Unit {0}
-ReplyHolds before (Rest left) = Unit {0}
-ReplyHolds before (Alive live) = Unit {0}
-ReplyHolds before Gone = Unit {0}
-ReplyHolds before (Refused number) = Unit {0}
+ReplyHolds before _ = Unit {0}
 
 -- the same of a reply that is told with its table
 abbrev pub TableReplyHolds : List (LineText × List ℕ) → OfficeReply → Type 0
-TableReplyHolds before (Welcome quota) = Unit {0}
-TableReplyHolds before (Reserved quota) = Unit {0}
 TableReplyHolds before (Job number) = number ≡ length (asks_of_lines before) + 1
 TableReplyHolds before (Told job standing) = TableHolds before job standing
-TableReplyHolds before (Ended job) = Unit {0}
-TableReplyHolds before (Rest left) = Unit {0}
-TableReplyHolds before (Alive live) = Unit {0}
-TableReplyHolds before Gone = Unit {0}
-TableReplyHolds before (Refused number) = Unit {0}
+TableReplyHolds before _ = Unit {0}
 
 abbrev pub TurnHolds : List (LineText × List ℕ) → LineTurn → Type 0
-TurnHolds before (Faulted fault) = Unit {0}
 TurnHolds before (Made call reply) = ReplyHolds before reply
 TurnHolds before (Tabulated job reply) = TableReplyHolds before reply
-TurnHolds before Closed = Unit {0}
+TurnHolds before _ = Unit {0}
 
 -- what came of these lines, one after another: the k-th ASK that is answered by JOB is answered by JOB k, and each DONE k bears the minimax
 -- value and the best choice of what that line asked for, and each TABLE k its table. The lines before these come first, the last of them foremost, each with its answer

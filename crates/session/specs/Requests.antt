@@ -58,15 +58,8 @@ seated_request ByeForm = Ends
 -- where no tenant is there: all but HELLO and BYE are 28
 abbrev pub early_request : Form → Request
 early_request (HelloOf segments nodes) = quota_request Hello (quota_of segments nodes)
-early_request (ReserveOf segments nodes) = Fault NoHello
-early_request (AskOf depth text) = Fault NoHello
-early_request (GetOf job) = Fault NoHello
-early_request (WaitOf job) = Fault NoHello
-early_request (CancelOf job) = Fault NoHello
-early_request (TableOf job) = Fault NoHello
-early_request QuotaForm = Fault NoHello
-early_request LiveForm = Fault NoHello
 early_request ByeForm = Ends
+early_request _ = Fault NoHello
 
 -- 21 where the line is no command with its arguments
 abbrev pub form_request : Bool → Option Form → Request

@@ -33,14 +33,8 @@ later_replies (r ∷ rs) = rs
 -- whether a tenant is there after a reply: it comes by a taken HELLO alone
 abbrev pub seated_after : Bool → OfficeReply → Bool
 seated_after seated (Welcome quota) = true
-seated_after seated (Reserved quota) = seated
-seated_after seated (Job number) = seated
-seated_after seated (Told job standing) = seated
-seated_after seated (Ended job) = seated
-seated_after seated (Rest left) = seated
-seated_after seated (Alive live) = seated
 seated_after seated Gone = false
-seated_after seated (Refused number) = seated
+seated_after seated _ = seated
 
 -- by what a line asks for
 abbrev pub by_request : {X : Type 0} → Request → (ProtocolFault → X) → (Call → X) → (ℕ → X) → (Unit {0} → X) → X
@@ -112,22 +106,13 @@ entries_text (bound ∷ more) = entry_text bound ++ entries_text more
 
 -- how a job stands, told with its table where it is done
 abbrev pub table_standing_text : ℕ → Standing → List ℕ
-table_standing_text job Pending = standing_text job Pending
 table_standing_text job (Done analysis) = codes "TABLE " ++ decimal job ++ entries_text analysis.bounds
-table_standing_text job Spent = standing_text job Spent
-table_standing_text job Cancelled = standing_text job Cancelled
+table_standing_text job standing = standing_text job standing
 
 -- a reply, told with the table of a job that is done
 abbrev pub table_text : OfficeReply → List ℕ
 table_text (Told job standing) = table_standing_text job standing
-table_text (Welcome quota) = reply_text (Welcome quota)
-table_text (Reserved quota) = reply_text (Reserved quota)
-table_text (Job number) = reply_text (Job number)
-table_text (Ended job) = reply_text (Ended job)
-table_text (Rest left) = reply_text (Rest left)
-table_text (Alive live) = reply_text (Alive live)
-table_text Gone = reply_text Gone
-table_text (Refused number) = reply_text (Refused number)
+table_text reply = reply_text reply
 
 -- what a line is answered
 abbrev pub turn_text : LineTurn → List ℕ
