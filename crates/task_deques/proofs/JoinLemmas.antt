@@ -5,233 +5,234 @@ use Rattle.std.proofs.lemmas.List.Elements.{All-head, All-tail, All-cons, All-ni
 use Rattle.task_deques.specs.declared.owner.Owner.{Owner}
 use Rattle.task_deques.specs.declared.thief.Thief.{Thief}
 use Rattle.task_deques.specs.declared.returned.Returned.{Returned}
-use Rattle.task_deques.specs.Seats.{Deque, DequeSeat, owner_seat, thief_seat, joined}
-use Rattle.task_deques.specs.Deals.{WorkerSeats, Posts, owner_seats, thief_seats, deques, posts_of, with_row, with_rows, zip_seats, whole_deques, returned, IsWhole}
-
--- a thief has one part
-pub one_part : (row : List Thief) → All (λ seat. seat.tally.parts ≡ 1) (thief_seats row)
-one_part row = All-map (λ (seat : DequeSeat). seat.tally.parts ≡ 1) thief_seat row (λ k d inside. (get_or row k d).part)
-
--- a loop over a row, at a place: the thieves that are left are at the deques of the owners that are left, and joined to these they come to the whole
-pub record IsTurn (owners : List DequeSeat) (place : ℕ) (left total : List DequeSeat) : Type 0 where
-  pub comes_to : take place owners ++ with_row (drop place owners) left ≡ total
-  pub same : deques left ≡ deques (drop place owners)
-  pub parts : All (λ seat. seat.tally.parts < 64) (drop place owners)
-
-abbrev HasRoom : DequeSeat → Type 0
-HasRoom seat = seat.tally.parts < 64
-
--- the deques of the first two are one, and the next place
-turn_same : (owners : List DequeSeat) (place : ℕ) (thief : DequeSeat) (left : List DequeSeat) (d : DequeSeat) → deques (thief ∷ left) ≡ deques (drop place owners) →
-    (place < length owners) × (thief.deque ≡ (get_or owners place d).deque) × (deques left ≡ deques (drop (suc place) owners))
-turn_same [] zero thief left d same = absurd cc
-turn_same [] (suc place) thief left d same = absurd cc
-turn_same (o ∷ os) zero thief left d same = (omega arith, cc, cc)
-turn_same (o ∷ os) (suc place) thief left d same =
-    let rest = turn_same os place thief left d same in
-    (let inside = rest.0 in omega arith, rest.1, rest.2)
-
--- one more is joined
-turn_joins : (owners : List DequeSeat) (place : ℕ) (thief : DequeSeat) (left : List DequeSeat) (d : DequeSeat) → place < length owners →
-    let after = set owners place (joined (get_or owners place d) thief) in
-    take (suc place) after ++ with_row (drop (suc place) after) left ≡ take place owners ++ with_row (drop place owners) (thief ∷ left)
-turn_joins [] place thief left d inside = absurd (omega arith)
-turn_joins (o ∷ os) zero thief left d inside = refl
-turn_joins (o ∷ os) (suc place) thief left d inside = ap (λ (l : List DequeSeat). o ∷ l) (turn_joins os place thief left d (omega arith))
-
--- there is an owner at the place of the next thief
-pub turn_inside : (owners : List Owner) (place : ℕ) (thief : Thief) (old left : List Thief) (total : List DequeSeat) → old ≡ thief ∷ left → IsTurn (owner_seats owners) place (thief_seats old) total → place < length owners
-turn_inside owners place thief old left total steps turn =
-    let deques_are : deques (thief_seat thief ∷ thief_seats left) ≡ deques (drop place (owner_seats owners)) = ap (λ (l : List Thief). deques (thief_seats l)) (sym steps) ∙ turn.same in
-    omega (arith, (turn_same (owner_seats owners) place (thief_seat thief) (thief_seats left) (thief_seat thief) deques_are).0, length-map owners owner_seat)
-
--- what the next thief's join asks for
-pub joins_here : (owners : List Owner) (place : ℕ) (x : Owner) (thief : Thief) (old left : List Thief) (total : List DequeSeat) → x ≡ get_or owners place x → old ≡ thief ∷ left →
-    IsTurn (owner_seats owners) place (thief_seats old) total →
-    (place < length owners) × ((thief_seat thief).deque ≡ (owner_seat x).deque) × ((owner_seat x).tally.parts < 64)
-joins_here owners place x thief old left total at steps turn =
-    let seats : List DequeSeat = owner_seats owners in
-    let d = owner_seat x in
-    let deques_are : deques (thief_seat thief ∷ thief_seats left) ≡ deques (drop place seats) = ap (λ (l : List Thief). deques (thief_seats l)) (sym steps) ∙ turn.same in
-    let same = turn_same seats place (thief_seat thief) (thief_seats left) d deques_are in
-    let inside : place < length owners = omega (arith, same.0, length-map owners owner_seat) in
-    let here : get_or seats place d ≡ owner_seat x = get_or-map owner_seat owners place x d inside ∙ ap owner_seat (sym at) in
-    let room : HasRoom (get_or seats place d) = All-head HasRoom (get_or seats place d) (drop (place + 1) seats) (subst (All HasRoom) (drop_more seats place d same.0) turn.parts) in
-    (inside, same.1 ∙ ap (λ (s : DequeSeat). s.deque) here, subst HasRoom here room)
-
--- the turn after it
-pub joined_here : (owners : List Owner) (place : ℕ) (x y : Owner) (thief : Thief) (old left : List Thief) (total : List DequeSeat) → x ≡ get_or owners place x → old ≡ thief ∷ left →
-    owner_seat y ≡ joined (owner_seat x) (thief_seat thief) → IsTurn (owner_seats owners) place (thief_seats old) total → IsTurn (owner_seats (set owners place y)) (place + 1) (thief_seats left) total
-joined_here owners place x y thief old left total at steps is turn =
-    let seats : List DequeSeat = owner_seats owners in
-    let d = owner_seat x in
-    let t = thief_seat thief in
-    let rest : List DequeSeat = thief_seats left in
-    let deques_are : deques (t ∷ rest) ≡ deques (drop place seats) = ap (λ (l : List Thief). deques (thief_seats l)) (sym steps) ∙ turn.same in
-    let same = turn_same seats place t rest d deques_are in
-    let inside : place < length owners = omega (arith, same.0, length-map owners owner_seat) in
-    let here : get_or seats place d ≡ owner_seat x = get_or-map owner_seat owners place x d inside ∙ ap owner_seat (sym at) in
-    let after : List DequeSeat = set seats place (joined (get_or seats place d) t) in
-    let changed : owner_seats (set owners place y) ≡ after = map-set owner_seat owners place y ∙ ap (λ (s : DequeSeat). set seats place s) (is ∙ ap (λ (s : DequeSeat). joined s t) (sym here)) in
-    let dropped : drop (place + 1) after ≡ drop (place + 1) seats = drop-set-lt (place + 1) seats place (joined (get_or seats place d) t) (omega arith) in
-    let all : take (place + 1) after ++ with_row (drop (place + 1) after) rest ≡ total =
-    rw add-one (turn_joins seats place t rest d same.0 ∙ ap (λ (l : List Thief). take place seats ++ with_row (drop place seats) (thief_seats l)) (sym steps) ∙ turn.comes_to) in
-    let more : deques rest ≡ deques (drop (place + 1) after) = same.2 ∙ ap (λ (n : ℕ). deques (drop n seats)) (sym (add-one place)) ∙ ap deques (sym dropped) in
-    let room : All HasRoom (drop (place + 1) after) =
-    subst (All HasRoom) (sym dropped) (All-tail HasRoom (get_or seats place d) (drop (place + 1) seats) (subst (All HasRoom) (drop_more seats place d same.0) turn.parts)) in
-    subst (λ (l : List DequeSeat). IsTurn l (place + 1) rest total) (sym changed) (record { comes_to = all; same = more; parts = room })
-
--- at the end all is joined
-pub with_no_row : (owners : List DequeSeat) → with_row owners [] ≡ owners
-with_no_row [] = refl
-with_no_row (o ∷ os) = refl
-
-pub joined_all : (owners : List DequeSeat) (place : ℕ) (total : List DequeSeat) → IsTurn owners place [] total → owners ≡ total
-joined_all owners place total turn = sym (ap (λ (l : List DequeSeat). take place owners ++ l) (with_no_row (drop place owners)) ∙ take-append-drop place owners) ∙ turn.comes_to
-
--- joining changes no deque
-pub deques-with_row : (owners row : List DequeSeat) → deques (with_row owners row) ≡ deques owners
-deques-with_row [] row = refl
-deques-with_row (o ∷ os) [] = refl
-deques-with_row (o ∷ os) (t ∷ row) = ap (λ (l : List Deque). o.deque ∷ l) (deques-with_row os row)
-
-pub length-with_row : (owners row : List DequeSeat) → length (with_row owners row) ≡ length owners
-length-with_row [] row = refl
-length-with_row (o ∷ os) [] = refl
-length-with_row (o ∷ os) (t ∷ row) = ap suc (length-with_row os row)
-
-pub length-with_rows : (owners : List DequeSeat) (rows : List (List DequeSeat)) → length (with_rows owners rows) ≡ length owners
-length-with_rows owners [] = refl
-length-with_rows owners (row ∷ rows) = length-with_rows (with_row owners row) rows ∙ length-with_row owners row
-
--- a loop over rows: what is left comes to the whole
-pub record AreTurns (owners : List DequeSeat) (rows : List (List DequeSeat)) (total : List DequeSeat) : Type 0 where
-  pub come_to : with_rows owners rows ≡ total
-  pub same : All (λ row. deques row ≡ deques owners) rows
-  pub parts : All (λ seat. seat.tally.parts + length rows ≡ 64) owners
-
--- and each owner has one part more
-pub parts-with_row : (owners row : List DequeSeat) (left : ℕ) → deques row ≡ deques owners → All (λ seat. seat.tally.parts ≡ 1) row → All (λ seat. seat.tally.parts + (left + 1) ≡ 64) owners →
-    All (λ seat. seat.tally.parts + left ≡ 64) (with_row owners row)
-parts-with_row [] row left are one parts = All-nil (λ (seat : DequeSeat). seat.tally.parts + left ≡ 64)
-parts-with_row (o ∷ os) [] left are one parts = absurd cc
-parts-with_row (o ∷ os) (t ∷ row) left are one parts =
-    let mine : t.tally.parts ≡ 1 = All-head (λ (seat : DequeSeat). seat.tally.parts ≡ 1) t row one in
-    let its : o.tally.parts + (left + 1) ≡ 64 = All-head (λ (seat : DequeSeat). seat.tally.parts + (left + 1) ≡ 64) o os parts in
-    let rest : deques row ≡ deques os = cc in
-    All-cons (λ (seat : DequeSeat). seat.tally.parts + left ≡ 64) (joined o t) (with_row os row) (omega arith)
-    (parts-with_row os row left rest (All-tail (λ (seat : DequeSeat). seat.tally.parts ≡ 1) t row one) (All-tail (λ (seat : DequeSeat). seat.tally.parts + (left + 1) ≡ 64) o os parts))
-
--- owners and rows come apart again
-pub own_of_zip : (owners : List DequeSeat) (rows : List (List DequeSeat)) → length owners ≡ length rows → map (λ (its : WorkerSeats). its.own) (zip_seats owners rows) ≡ owners
-own_of_zip [] rows len = refl
-own_of_zip (o ∷ os) [] len = absurd (omega arith)
-own_of_zip (o ∷ os) (row ∷ rows) len = ap (λ (l : List DequeSeat). o ∷ l) (own_of_zip os rows (omega arith))
-
-pub thieves_of_zip : (owners : List DequeSeat) (rows : List (List DequeSeat)) → length owners ≡ length rows → map (λ (its : WorkerSeats). its.thieves) (zip_seats owners rows) ≡ rows
-thieves_of_zip [] [] len = refl
-thieves_of_zip [] (row ∷ rows) len = absurd (omega arith)
-thieves_of_zip (o ∷ os) [] len = absurd (omega arith)
-thieves_of_zip (o ∷ os) (row ∷ rows) len = ap (λ (l : List (List DequeSeat)). row ∷ l) (thieves_of_zip os rows (omega arith))
-
-pub length_of_zip : (owners : List DequeSeat) (rows : List (List DequeSeat)) → length owners ≡ length rows → length (zip_seats owners rows) ≡ length owners
-length_of_zip [] rows len = refl
-length_of_zip (o ∷ os) [] len = absurd (omega arith)
-length_of_zip (o ∷ os) (row ∷ rows) len = ap suc (length_of_zip os rows (omega arith))
-
-pub zip_push : (owners : List DequeSeat) (rows : List (List DequeSeat)) (own : DequeSeat) (row : List DequeSeat) → length owners ≡ length rows →
-    zip_seats (owners ++ own ∷ []) (rows ++ row ∷ []) ≡ zip_seats owners rows ++ record { own = own; thieves = row } ∷ []
-zip_push [] [] own row len = refl
-zip_push [] (r ∷ rows) own row len = absurd (omega arith)
-zip_push (o ∷ os) [] own row len = absurd (omega arith)
-zip_push (o ∷ os) (r ∷ rows) own row len = ap (λ (l : List WorkerSeats). record { own = o; thieves = r } ∷ l) (zip_push os rows own row (omega arith))
-
--- a row for each owner
-pub row_each : (back : Returned) → length (owner_seats back.owners.items) ≡ length (map (λ row. thief_seats row.items) back.rows.items)
-row_each back = omega (arith, length-map back.owners.items owner_seat, length-map back.rows.items (λ row. thief_seats row.items), back.owners.ok.0, back.rows.ok.0, back.paired)
+use Rattle.task_deques.specs.Seats.{DequeIn, DequeSeatIn, owner_seat, thief_seat, joined}
+use Rattle.task_deques.specs.Deals.{WorkerSeatsIn, PostsIn, owner_seats, thief_seats, deques, posts_of, with_row, with_rows, zip_seats, whole_deques, returned, IsWhole}
 
 -- what holds of each mapped element
 pub all_unmapped : {X Y : Type 0} (P : Y → Type 0) (f : X → Y) (xs : List X) → All P (map f xs) → All (λ x. P (f x)) xs
 all_unmapped P f xs all k d inside = subst P (get_or-map f xs k d (f d) inside) (all k (f d) (omega (arith, length-map xs f)))
 
--- each deque, of owners and rows
-pub whole_of_zip : (owners : List DequeSeat) (rows : List (List DequeSeat)) → length owners ≡ length rows → whole_deques (zip_seats owners rows) ≡ with_rows owners rows
-whole_of_zip owners rows len =
-    ap (λ (l : List DequeSeat). with_rows l (map (λ (its : WorkerSeats). its.thieves) (zip_seats owners rows))) (own_of_zip owners rows len) ∙ ap (λ (l : List (List DequeSeat)). with_rows owners l) (thieves_of_zip owners rows len)
+module _ {A : Type 0} where
+  -- a thief has one part
+  pub one_part : (row : List (Thief A)) → All (λ seat. seat.tally.parts ≡ 1) (thief_seats row)
+  one_part row = All-map (λ (seat : DequeSeatIn A). seat.tally.parts ≡ 1) thief_seat row (λ k d inside. (get_or row k d).part)
 
-deques_of_posts : (all : List WorkerSeats) → map (λ (its : Posts). its.own) (map posts_of all) ≡ deques (map (λ (its : WorkerSeats). its.own) all)
-deques_of_posts [] = refl
-deques_of_posts (its ∷ all) = ap (λ (l : List Deque). its.own.deque ∷ l) (deques_of_posts all)
+  -- a loop over a row, at a place: the thieves that are left are at the deques of the owners that are left, and joined to these they come to the whole
+  pub record IsTurn (owners : List (DequeSeatIn A)) (place : ℕ) (left total : List (DequeSeatIn A)) : Type 0 where
+    pub comes_to : take place owners ++ with_row (drop place owners) left ≡ total
+    pub same : deques left ≡ deques (drop place owners)
+    pub parts : All (λ seat. seat.tally.parts < 64) (drop place owners)
 
--- where all seats are there, each row is at the owners' deques
-pub rows_of_whole : (owners : List DequeSeat) (rows : List (List DequeSeat)) → length owners ≡ length rows → IsWhole (map posts_of (zip_seats owners rows)) → All (λ row. deques row ≡ deques owners) rows
-rows_of_whole owners rows len is =
-    let all : List WorkerSeats = zip_seats owners rows in
-    let P : Posts → Type 0 = λ (its : Posts). (its.thieves ≡ map (λ (other : Posts). other.own) (map posts_of all)) × (its.parts + length (map posts_of all) ≡ 64) in
-    let each = all_unmapped P posts_of all is in
-    let own : map (λ (other : Posts). other.own) (map posts_of all) ≡ deques owners = deques_of_posts all ∙ ap deques (own_of_zip owners rows len) in
-    let R : List DequeSeat → Type 0 = λ (row : List DequeSeat). deques row ≡ deques owners in
-    let those : All R (map (λ (its : WorkerSeats). its.thieves) all) = All-map R (λ (its : WorkerSeats). its.thieves) all (λ k d inside. (each k d inside).0 ∙ own) in
-    subst (All R) (thieves_of_zip owners rows len) those
+  abbrev HasRoom : DequeSeatIn A → Type 0
+  HasRoom seat = seat.tally.parts < 64
 
--- and the owners lack as many parts as there are rows
-pub parts_of_whole : (owners : List DequeSeat) (rows : List (List DequeSeat)) → length owners ≡ length rows → IsWhole (map posts_of (zip_seats owners rows)) → All (λ seat. seat.tally.parts + length owners ≡ 64) owners
-parts_of_whole owners rows len is =
-    let all : List WorkerSeats = zip_seats owners rows in
-    let P : Posts → Type 0 = λ (its : Posts). (its.thieves ≡ map (λ (other : Posts). other.own) (map posts_of all)) × (its.parts + length (map posts_of all) ≡ 64) in
-    let each = all_unmapped P posts_of all is in
-    let count : length (map posts_of all) ≡ length owners = length-map all posts_of ∙ length_of_zip owners rows len in
-    let R : DequeSeat → Type 0 = λ (seat : DequeSeat). seat.tally.parts + length owners ≡ 64 in
-    let those : All R (map (λ (its : WorkerSeats). its.own) all) = All-map R (λ (its : WorkerSeats). its.own) all (λ k d inside. let sum = (each k d inside).1 in omega arith) in
-    subst (All R) (own_of_zip owners rows len) those
+  -- the deques of the first two are one, and the next place
+  turn_same : (owners : List (DequeSeatIn A)) (place : ℕ) (thief : DequeSeatIn A) (left : List (DequeSeatIn A)) (d : DequeSeatIn A) → deques (thief ∷ left) ≡ deques (drop place owners) →
+      (place < length owners) × (thief.deque ≡ (get_or owners place d).deque) × (deques left ≡ deques (drop (suc place) owners))
+  turn_same [] zero thief left d same = absurd cc
+  turn_same [] (suc place) thief left d same = absurd cc
+  turn_same (o ∷ os) zero thief left d same = (omega arith, cc, cc)
+  turn_same (o ∷ os) (suc place) thief left d same =
+      let rest = turn_same os place thief left d same in
+      (let inside = rest.0 in omega arith, rest.1, rest.2)
 
-pub few_of_parts : (owners : List DequeSeat) (n : ℕ) → length owners ≡ n → All (λ seat. seat.tally.parts + n ≡ 64) owners → length owners ≤ 64
-few_of_parts [] n len parts = omega arith
-few_of_parts (o ∷ os) n len parts = let its = All-head (λ (seat : DequeSeat). seat.tally.parts + n ≡ 64) o os parts in omega arith
+  -- one more is joined
+  turn_joins : (owners : List (DequeSeatIn A)) (place : ℕ) (thief : DequeSeatIn A) (left : List (DequeSeatIn A)) (d : DequeSeatIn A) → place < length owners →
+      let after = set owners place (joined (get_or owners place d) thief) in
+      take (suc place) after ++ with_row (drop (suc place) after) left ≡ take place owners ++ with_row (drop place owners) (thief ∷ left)
+  turn_joins [] place thief left d inside = absurd (omega arith)
+  turn_joins (o ∷ os) zero thief left d inside = refl
+  turn_joins (o ∷ os) (suc place) thief left d inside = ap (λ (l : List (DequeSeatIn A)). o ∷ l) (turn_joins os place thief left d (omega arith))
 
--- of ends that came back there are as many as owners
-pub length_back : (back : Returned) → length (returned back) ≡ vec_len back.owners
-length_back back = omega (arith, length_of_zip (owner_seats back.owners.items) _ (row_each back), length-map back.owners.items owner_seat, back.owners.ok.0)
+  -- there is an owner at the place of the next thief
+  pub turn_inside : (owners : List (Owner A)) (place : ℕ) (thief : Thief A) (old left : List (Thief A)) (total : List (DequeSeatIn A)) → old ≡ thief ∷ left → IsTurn (owner_seats owners) place (thief_seats old) total → place < length owners
+  turn_inside owners place thief old left total steps turn =
+      let deques_are : deques (thief_seat thief ∷ thief_seats left) ≡ deques (drop place (owner_seats owners)) = ap (λ (l : List (Thief A)). deques (thief_seats l)) (sym steps) ∙ turn.same in
+      omega (arith, (turn_same (owner_seats owners) place (thief_seat thief) (thief_seats left) (thief_seat thief) deques_are).0, length-map owners owner_seat)
 
--- they are the owners with all rows joined
-pub whole_back : (back : Returned) → whole_deques (returned back) ≡ with_rows (owner_seats back.owners.items) (map (λ row. thief_seats row.items) back.rows.items)
-whole_back back = whole_of_zip _ _ (row_each back)
+  -- what the next thief's join asks for
+  pub joins_here : (owners : List (Owner A)) (place : ℕ) (x : Owner A) (thief : Thief A) (old left : List (Thief A)) (total : List (DequeSeatIn A)) → x ≡ get_or owners place x → old ≡ thief ∷ left →
+      IsTurn (owner_seats owners) place (thief_seats old) total →
+      (place < length owners) × ((thief_seat thief).deque ≡ (owner_seat x).deque) × ((owner_seat x).tally.parts < 64)
+  joins_here owners place x thief old left total at steps turn =
+      let seats : List (DequeSeatIn A) = owner_seats owners in
+      let d = owner_seat x in
+      let deques_are : deques (thief_seat thief ∷ thief_seats left) ≡ deques (drop place seats) = ap (λ (l : List (Thief A)). deques (thief_seats l)) (sym steps) ∙ turn.same in
+      let same = turn_same seats place (thief_seat thief) (thief_seats left) d deques_are in
+      let inside : place < length owners = omega (arith, same.0, length-map owners owner_seat) in
+      let here : get_or seats place d ≡ owner_seat x = get_or-map owner_seat owners place x d inside ∙ ap owner_seat (sym at) in
+      let room : HasRoom (get_or seats place d) = All-head HasRoom (get_or seats place d) (drop (place + 1) seats) (subst (All HasRoom) (drop_more seats place d same.0) turn.parts) in
+      (inside, same.1 ∙ ap (λ (s : DequeSeatIn A). s.deque) here, subst HasRoom here room)
 
--- where all seats are there, each row is at the owners' deques, the owners lack as many parts as there are rows, and they are few
-pub rows_back : (back : Returned) → IsWhole (map posts_of (returned back)) → All (λ row. deques (thief_seats row.items) ≡ deques (owner_seats back.owners.items)) back.rows.items
-rows_back back is =
-    let owners : List DequeSeat = owner_seats back.owners.items in
-    all_unmapped (λ (row : List DequeSeat). deques row ≡ deques owners) (λ row. thief_seats row.items) back.rows.items (rows_of_whole owners _ (row_each back) is)
+  -- the turn after it
+  pub joined_here : (owners : List (Owner A)) (place : ℕ) (x y : Owner A) (thief : Thief A) (old left : List (Thief A)) (total : List (DequeSeatIn A)) → x ≡ get_or owners place x → old ≡ thief ∷ left →
+      owner_seat y ≡ joined (owner_seat x) (thief_seat thief) → IsTurn (owner_seats owners) place (thief_seats old) total → IsTurn (owner_seats (set owners place y)) (place + 1) (thief_seats left) total
+  joined_here owners place x y thief old left total at steps is turn =
+      let seats : List (DequeSeatIn A) = owner_seats owners in
+      let d = owner_seat x in
+      let t = thief_seat thief in
+      let rest : List (DequeSeatIn A) = thief_seats left in
+      let deques_are : deques (t ∷ rest) ≡ deques (drop place seats) = ap (λ (l : List (Thief A)). deques (thief_seats l)) (sym steps) ∙ turn.same in
+      let same = turn_same seats place t rest d deques_are in
+      let inside : place < length owners = omega (arith, same.0, length-map owners owner_seat) in
+      let here : get_or seats place d ≡ owner_seat x = get_or-map owner_seat owners place x d inside ∙ ap owner_seat (sym at) in
+      let after : List (DequeSeatIn A) = set seats place (joined (get_or seats place d) t) in
+      let changed : owner_seats (set owners place y) ≡ after = map-set owner_seat owners place y ∙ ap (λ (s : DequeSeatIn A). set seats place s) (is ∙ ap (λ (s : DequeSeatIn A). joined s t) (sym here)) in
+      let dropped : drop (place + 1) after ≡ drop (place + 1) seats = drop-set-lt (place + 1) seats place (joined (get_or seats place d) t) (omega arith) in
+      let all : take (place + 1) after ++ with_row (drop (place + 1) after) rest ≡ total =
+      rw add-one (turn_joins seats place t rest d same.0 ∙ ap (λ (l : List (Thief A)). take place seats ++ with_row (drop place seats) (thief_seats l)) (sym steps) ∙ turn.comes_to) in
+      let more : deques rest ≡ deques (drop (place + 1) after) = same.2 ∙ ap (λ (n : ℕ). deques (drop n seats)) (sym (add-one place)) ∙ ap deques (sym dropped) in
+      let room : All HasRoom (drop (place + 1) after) =
+      subst (All HasRoom) (sym dropped) (All-tail HasRoom (get_or seats place d) (drop (place + 1) seats) (subst (All HasRoom) (drop_more seats place d same.0) turn.parts)) in
+      subst (λ (l : List (DequeSeatIn A)). IsTurn l (place + 1) rest total) (sym changed) (record { comes_to = all; same = more; parts = room })
 
-pub parts_back : (back : Returned) → IsWhole (map posts_of (returned back)) → All (λ seat. seat.tally.parts + vec_len back.rows ≡ 64) (owner_seats back.owners.items)
-parts_back back is k d inside =
-    let sum = parts_of_whole (owner_seats back.owners.items) _ (row_each back) is k d inside in omega (arith, length-map back.owners.items owner_seat, back.owners.ok.0, back.paired)
+  -- at the end all is joined
+  pub with_no_row : (owners : List (DequeSeatIn A)) → with_row owners [] ≡ owners
+  with_no_row [] = refl
+  with_no_row (o ∷ os) = refl
 
-pub few_back : (back : Returned) → IsWhole (map posts_of (returned back)) → vec_len back.owners ≤ 64
-few_back back is =
-    let owners : List DequeSeat = owner_seats back.owners.items in
-    omega (arith, few_of_parts owners (length owners) refl (parts_of_whole owners _ (row_each back) is), length-map back.owners.items owner_seat, back.owners.ok.0)
+  pub joined_all : (owners : List (DequeSeatIn A)) (place : ℕ) (total : List (DequeSeatIn A)) → IsTurn owners place [] total → owners ≡ total
+  joined_all owners place total turn = sym (ap (λ (l : List (DequeSeatIn A)). take place owners ++ l) (with_no_row (drop place owners)) ∙ take-append-drop place owners) ∙ turn.comes_to
 
--- a loop over rows, at the next one
-pub next_row : {X : Type 0} (seats : X → List DequeSeat) (owners : List DequeSeat) (row : X) (old rest : List X) (total : List DequeSeat) → old ≡ row ∷ rest → AreTurns owners (map seats old) total →
-    AreTurns owners (seats row ∷ map seats rest) total
-next_row seats owners row old rest total steps turns = subst (λ l. AreTurns owners (map seats l) total) steps turns
+  -- joining changes no deque
+  pub deques-with_row : (owners row : List (DequeSeatIn A)) → deques (with_row owners row) ≡ deques owners
+  deques-with_row [] row = refl
+  deques-with_row (o ∷ os) [] = refl
+  deques-with_row (o ∷ os) (t ∷ row) = ap (λ (l : List (DequeIn A)). o.deque ∷ l) (deques-with_row os row)
 
--- what the joining of a row asks for
-pub row_room : (owners : List DequeSeat) (rows : List (List DequeSeat)) (row : List DequeSeat) (total : List DequeSeat) → AreTurns owners (row ∷ rows) total → (deques row ≡ deques owners) × All (λ seat. seat.tally.parts < 64) owners
-row_room owners rows row total turns =
-    (All-head (λ (r : List DequeSeat). deques r ≡ deques owners) row rows turns.same, λ k d inside. let sum = turns.parts k d inside in omega arith)
+  pub length-with_row : (owners row : List (DequeSeatIn A)) → length (with_row owners row) ≡ length owners
+  length-with_row [] row = refl
+  length-with_row (o ∷ os) [] = refl
+  length-with_row (o ∷ os) (t ∷ row) = ap suc (length-with_row os row)
 
--- the turn after it
-pub rows_turn : (owners after : List DequeSeat) (rows : List (List DequeSeat)) (row : List DequeSeat) (total : List DequeSeat) → All (λ seat. seat.tally.parts ≡ 1) row → after ≡ with_row owners row → AreTurns owners (row ∷ rows) total → AreTurns after rows total
-rows_turn owners after rows row total one is turns =
-    let S : List (List DequeSeat) → Type 0 = λ (l : List (List DequeSeat)). All (λ (r : List DequeSeat). deques r ≡ deques owners) l in
-    let here : deques row ≡ deques owners = All-head (λ (r : List DequeSeat). deques r ≡ deques owners) row rows turns.same in
-    let rest : All (λ (r : List DequeSeat). deques r ≡ deques owners) rows = All-tail (λ (r : List DequeSeat). deques r ≡ deques owners) row rows turns.same in
-    let again : deques owners ≡ deques (with_row owners row) = sym (deques-with_row owners row) in
-    let parts : All (λ (seat : DequeSeat). seat.tally.parts + length rows ≡ 64) (with_row owners row) = parts-with_row owners row (length rows) here one (λ k d inside. let sum = turns.parts k d inside in omega arith) in
-    subst (λ (l : List DequeSeat). AreTurns l rows total) (sym is) (record { come_to = turns.come_to; same = λ k d inside. rest k d inside ∙ again; parts = parts })
+  pub length-with_rows : (owners : List (DequeSeatIn A)) (rows : List (List (DequeSeatIn A))) → length (with_rows owners rows) ≡ length owners
+  length-with_rows owners [] = refl
+  length-with_rows owners (row ∷ rows) = length-with_rows (with_row owners row) rows ∙ length-with_row owners row
 
--- at the end all rows are joined
-pub rows_done : (owners : List DequeSeat) (total : List DequeSeat) → AreTurns owners [] total → (owners ≡ total) × All (λ seat. seat.tally.parts ≡ 64) owners
-rows_done owners total turns = (turns.come_to, λ k d inside. let sum = turns.parts k d inside in omega arith)
+  -- a loop over rows: what is left comes to the whole
+  pub record AreTurns (owners : List (DequeSeatIn A)) (rows : List (List (DequeSeatIn A))) (total : List (DequeSeatIn A)) : Type 0 where
+    pub come_to : with_rows owners rows ≡ total
+    pub same : All (λ row. deques row ≡ deques owners) rows
+    pub parts : All (λ seat. seat.tally.parts + length rows ≡ 64) owners
+
+  -- and each owner has one part more
+  pub parts-with_row : (owners row : List (DequeSeatIn A)) (left : ℕ) → deques row ≡ deques owners → All (λ seat. seat.tally.parts ≡ 1) row → All (λ seat. seat.tally.parts + (left + 1) ≡ 64) owners →
+      All (λ seat. seat.tally.parts + left ≡ 64) (with_row owners row)
+  parts-with_row [] row left are one parts = All-nil (λ (seat : DequeSeatIn A). seat.tally.parts + left ≡ 64)
+  parts-with_row (o ∷ os) [] left are one parts = absurd cc
+  parts-with_row (o ∷ os) (t ∷ row) left are one parts =
+      let mine : t.tally.parts ≡ 1 = All-head (λ (seat : DequeSeatIn A). seat.tally.parts ≡ 1) t row one in
+      let its : o.tally.parts + (left + 1) ≡ 64 = All-head (λ (seat : DequeSeatIn A). seat.tally.parts + (left + 1) ≡ 64) o os parts in
+      let rest : deques row ≡ deques os = cc in
+      All-cons (λ (seat : DequeSeatIn A). seat.tally.parts + left ≡ 64) (joined o t) (with_row os row) (omega arith)
+      (parts-with_row os row left rest (All-tail (λ (seat : DequeSeatIn A). seat.tally.parts ≡ 1) t row one) (All-tail (λ (seat : DequeSeatIn A). seat.tally.parts + (left + 1) ≡ 64) o os parts))
+
+  -- owners and rows come apart again
+  pub own_of_zip : (owners : List (DequeSeatIn A)) (rows : List (List (DequeSeatIn A))) → length owners ≡ length rows → map (λ (its : WorkerSeatsIn A). its.own) (zip_seats owners rows) ≡ owners
+  own_of_zip [] rows len = refl
+  own_of_zip (o ∷ os) [] len = absurd (omega arith)
+  own_of_zip (o ∷ os) (row ∷ rows) len = ap (λ (l : List (DequeSeatIn A)). o ∷ l) (own_of_zip os rows (omega arith))
+
+  pub thieves_of_zip : (owners : List (DequeSeatIn A)) (rows : List (List (DequeSeatIn A))) → length owners ≡ length rows → map (λ (its : WorkerSeatsIn A). its.thieves) (zip_seats owners rows) ≡ rows
+  thieves_of_zip [] [] len = refl
+  thieves_of_zip [] (row ∷ rows) len = absurd (omega arith)
+  thieves_of_zip (o ∷ os) [] len = absurd (omega arith)
+  thieves_of_zip (o ∷ os) (row ∷ rows) len = ap (λ (l : List (List (DequeSeatIn A))). row ∷ l) (thieves_of_zip os rows (omega arith))
+
+  pub length_of_zip : (owners : List (DequeSeatIn A)) (rows : List (List (DequeSeatIn A))) → length owners ≡ length rows → length (zip_seats owners rows) ≡ length owners
+  length_of_zip [] rows len = refl
+  length_of_zip (o ∷ os) [] len = absurd (omega arith)
+  length_of_zip (o ∷ os) (row ∷ rows) len = ap suc (length_of_zip os rows (omega arith))
+
+  pub zip_push : (owners : List (DequeSeatIn A)) (rows : List (List (DequeSeatIn A))) (own : DequeSeatIn A) (row : List (DequeSeatIn A)) → length owners ≡ length rows →
+      zip_seats (owners ++ own ∷ []) (rows ++ row ∷ []) ≡ zip_seats owners rows ++ record { own = own; thieves = row } ∷ []
+  zip_push [] [] own row len = refl
+  zip_push [] (r ∷ rows) own row len = absurd (omega arith)
+  zip_push (o ∷ os) [] own row len = absurd (omega arith)
+  zip_push (o ∷ os) (r ∷ rows) own row len = ap (λ (l : List (WorkerSeatsIn A)). record { own = o; thieves = r } ∷ l) (zip_push os rows own row (omega arith))
+
+  -- a row for each owner
+  pub row_each : (back : Returned A) → length (owner_seats back.owners.items) ≡ length (map (λ row. thief_seats row.items) back.rows.items)
+  row_each back = omega (arith, length-map back.owners.items owner_seat, length-map back.rows.items (λ row. thief_seats row.items), back.owners.ok.0, back.rows.ok.0, back.paired)
+
+  -- each deque, of owners and rows
+  pub whole_of_zip : (owners : List (DequeSeatIn A)) (rows : List (List (DequeSeatIn A))) → length owners ≡ length rows → whole_deques (zip_seats owners rows) ≡ with_rows owners rows
+  whole_of_zip owners rows len =
+      ap (λ (l : List (DequeSeatIn A)). with_rows l (map (λ (its : WorkerSeatsIn A). its.thieves) (zip_seats owners rows))) (own_of_zip owners rows len) ∙ ap (λ (l : List (List (DequeSeatIn A))). with_rows owners l) (thieves_of_zip owners rows len)
+
+  deques_of_posts : (all : List (WorkerSeatsIn A)) → map (λ (its : PostsIn A). its.own) (map posts_of all) ≡ deques (map (λ (its : WorkerSeatsIn A). its.own) all)
+  deques_of_posts [] = refl
+  deques_of_posts (its ∷ all) = ap (λ (l : List (DequeIn A)). its.own.deque ∷ l) (deques_of_posts all)
+
+  -- where all seats are there, each row is at the owners' deques
+  pub rows_of_whole : (owners : List (DequeSeatIn A)) (rows : List (List (DequeSeatIn A))) → length owners ≡ length rows → IsWhole (map posts_of (zip_seats owners rows)) → All (λ row. deques row ≡ deques owners) rows
+  rows_of_whole owners rows len is =
+      let all : List (WorkerSeatsIn A) = zip_seats owners rows in
+      let P : PostsIn A → Type 0 = λ (its : PostsIn A). (its.thieves ≡ map (λ (other : PostsIn A). other.own) (map posts_of all)) × (its.parts + length (map posts_of all) ≡ 64) in
+      let each = all_unmapped P posts_of all is in
+      let own : map (λ (other : PostsIn A). other.own) (map posts_of all) ≡ deques owners = deques_of_posts all ∙ ap deques (own_of_zip owners rows len) in
+      let R : List (DequeSeatIn A) → Type 0 = λ (row : List (DequeSeatIn A)). deques row ≡ deques owners in
+      let those : All R (map (λ (its : WorkerSeatsIn A). its.thieves) all) = All-map R (λ (its : WorkerSeatsIn A). its.thieves) all (λ k d inside. (each k d inside).0 ∙ own) in
+      subst (All R) (thieves_of_zip owners rows len) those
+
+  -- and the owners lack as many parts as there are rows
+  pub parts_of_whole : (owners : List (DequeSeatIn A)) (rows : List (List (DequeSeatIn A))) → length owners ≡ length rows → IsWhole (map posts_of (zip_seats owners rows)) → All (λ seat. seat.tally.parts + length owners ≡ 64) owners
+  parts_of_whole owners rows len is =
+      let all : List (WorkerSeatsIn A) = zip_seats owners rows in
+      let P : PostsIn A → Type 0 = λ (its : PostsIn A). (its.thieves ≡ map (λ (other : PostsIn A). other.own) (map posts_of all)) × (its.parts + length (map posts_of all) ≡ 64) in
+      let each = all_unmapped P posts_of all is in
+      let count : length (map posts_of all) ≡ length owners = length-map all posts_of ∙ length_of_zip owners rows len in
+      let R : DequeSeatIn A → Type 0 = λ (seat : DequeSeatIn A). seat.tally.parts + length owners ≡ 64 in
+      let those : All R (map (λ (its : WorkerSeatsIn A). its.own) all) = All-map R (λ (its : WorkerSeatsIn A). its.own) all (λ k d inside. let sum = (each k d inside).1 in omega arith) in
+      subst (All R) (own_of_zip owners rows len) those
+
+  pub few_of_parts : (owners : List (DequeSeatIn A)) (n : ℕ) → length owners ≡ n → All (λ seat. seat.tally.parts + n ≡ 64) owners → length owners ≤ 64
+  few_of_parts [] n len parts = omega arith
+  few_of_parts (o ∷ os) n len parts = let its = All-head (λ (seat : DequeSeatIn A). seat.tally.parts + n ≡ 64) o os parts in omega arith
+
+  -- of ends that came back there are as many as owners
+  pub length_back : (back : Returned A) → length (returned back) ≡ vec_len back.owners
+  length_back back = omega (arith, length_of_zip (owner_seats back.owners.items) _ (row_each back), length-map back.owners.items owner_seat, back.owners.ok.0)
+
+  -- they are the owners with all rows joined
+  pub whole_back : (back : Returned A) → whole_deques (returned back) ≡ with_rows (owner_seats back.owners.items) (map (λ row. thief_seats row.items) back.rows.items)
+  whole_back back = whole_of_zip _ _ (row_each back)
+
+  -- where all seats are there, each row is at the owners' deques, the owners lack as many parts as there are rows, and they are few
+  pub rows_back : (back : Returned A) → IsWhole (map posts_of (returned back)) → All (λ row. deques (thief_seats row.items) ≡ deques (owner_seats back.owners.items)) back.rows.items
+  rows_back back is =
+      let owners : List (DequeSeatIn A) = owner_seats back.owners.items in
+      all_unmapped (λ (row : List (DequeSeatIn A)). deques row ≡ deques owners) (λ row. thief_seats row.items) back.rows.items (rows_of_whole owners _ (row_each back) is)
+
+  pub parts_back : (back : Returned A) → IsWhole (map posts_of (returned back)) → All (λ seat. seat.tally.parts + vec_len back.rows ≡ 64) (owner_seats back.owners.items)
+  parts_back back is k d inside =
+      let sum = parts_of_whole (owner_seats back.owners.items) _ (row_each back) is k d inside in omega (arith, length-map back.owners.items owner_seat, back.owners.ok.0, back.paired)
+
+  pub few_back : (back : Returned A) → IsWhole (map posts_of (returned back)) → vec_len back.owners ≤ 64
+  few_back back is =
+      let owners : List (DequeSeatIn A) = owner_seats back.owners.items in
+      omega (arith, few_of_parts owners (length owners) refl (parts_of_whole owners _ (row_each back) is), length-map back.owners.items owner_seat, back.owners.ok.0)
+
+  -- a loop over rows, at the next one
+  pub next_row : {X : Type 0} (seats : X → List (DequeSeatIn A)) (owners : List (DequeSeatIn A)) (row : X) (old rest : List X) (total : List (DequeSeatIn A)) → old ≡ row ∷ rest → AreTurns owners (map seats old) total →
+      AreTurns owners (seats row ∷ map seats rest) total
+  next_row seats owners row old rest total steps turns = subst (λ l. AreTurns owners (map seats l) total) steps turns
+
+  -- what the joining of a row asks for
+  pub row_room : (owners : List (DequeSeatIn A)) (rows : List (List (DequeSeatIn A))) (row : List (DequeSeatIn A)) (total : List (DequeSeatIn A)) → AreTurns owners (row ∷ rows) total → (deques row ≡ deques owners) × All (λ seat. seat.tally.parts < 64) owners
+  row_room owners rows row total turns =
+      (All-head (λ (r : List (DequeSeatIn A)). deques r ≡ deques owners) row rows turns.same, λ k d inside. let sum = turns.parts k d inside in omega arith)
+
+  -- the turn after it
+  pub rows_turn : (owners after : List (DequeSeatIn A)) (rows : List (List (DequeSeatIn A))) (row : List (DequeSeatIn A)) (total : List (DequeSeatIn A)) → All (λ seat. seat.tally.parts ≡ 1) row → after ≡ with_row owners row → AreTurns owners (row ∷ rows) total → AreTurns after rows total
+  rows_turn owners after rows row total one is turns =
+      let S : List (List (DequeSeatIn A)) → Type 0 = λ (l : List (List (DequeSeatIn A))). All (λ (r : List (DequeSeatIn A)). deques r ≡ deques owners) l in
+      let here : deques row ≡ deques owners = All-head (λ (r : List (DequeSeatIn A)). deques r ≡ deques owners) row rows turns.same in
+      let rest : All (λ (r : List (DequeSeatIn A)). deques r ≡ deques owners) rows = All-tail (λ (r : List (DequeSeatIn A)). deques r ≡ deques owners) row rows turns.same in
+      let again : deques owners ≡ deques (with_row owners row) = sym (deques-with_row owners row) in
+      let parts : All (λ (seat : DequeSeatIn A). seat.tally.parts + length rows ≡ 64) (with_row owners row) = parts-with_row owners row (length rows) here one (λ k d inside. let sum = turns.parts k d inside in omega arith) in
+      subst (λ (l : List (DequeSeatIn A)). AreTurns l rows total) (sym is) (record { come_to = turns.come_to; same = λ k d inside. rest k d inside ∙ again; parts = parts })
+
+  -- at the end all rows are joined
+  pub rows_done : (owners : List (DequeSeatIn A)) (total : List (DequeSeatIn A)) → AreTurns owners [] total → (owners ≡ total) × All (λ seat. seat.tally.parts ≡ 64) owners
+  rows_done owners total turns = (turns.come_to, λ k d inside. let sum = turns.parts k d inside in omega arith)

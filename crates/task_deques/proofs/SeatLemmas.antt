@@ -9,197 +9,198 @@ use Rattle.task_deques.specs.declared.owner.Owner.{Owner}
 use Rattle.task_deques.specs.declared.thief.Thief.{Thief}
 use Rattle.task_deques.specs.declared.ends.DequeEnds.{DequeEnds}
 use Rattle.task_deques.specs.Tallies.{tally}
-use Rattle.task_deques.specs.Seats.{Deque, DequeSeat, owner_seat, owner_room, thief_seat, with_taken, with_part_cut, new_thief}
-use Rattle.task_deques.specs.Deals.{WorkerSeats, Posts, owner_seats, thief_seats, deques, worker_seats, worker_room, posts_of, posts, IsStolen, IsDealt, IsWhole, fresh_with, beside}
+use Rattle.task_deques.specs.Seats.{DequeIn, DequeSeatIn, owner_seat, owner_room, thief_seat, with_taken, with_part_cut, new_thief}
+use Rattle.task_deques.specs.Deals.{WorkerSeatsIn, PostsIn, owner_seats, thief_seats, deques, worker_seats, worker_room, posts_of, posts, IsStolen, IsDealt, IsWhole, fresh_with, beside}
 use Rattle.task_deques.proofs.JoinLemmas.{all_unmapped}
 
--- the seat at a place steals
-stolen_at : (task : Task) (seats : List DequeSeat) (place : ℕ) (d : DequeSeat) → place < length seats → IsStolen task seats (set seats place (with_taken task (get_or seats place d)))
-stolen_at task [] place d inside = absurd (omega arith)
-stolen_at task (s ∷ ss) zero d inside = ([], s, ss, refl, refl)
-stolen_at task (s ∷ ss) (suc place) d inside =
-    let rest = stolen_at task ss place d (omega arith) in
-    (s ∷ rest.0, rest.1, rest.2, ap (λ (l : List DequeSeat). s ∷ l) rest.3, ap (λ (l : List DequeSeat). s ∷ l) rest.4)
+module _ {A : Type 0} where
+  -- the seat at a place steals
+  stolen_at : (task : Task) (seats : List (DequeSeatIn A)) (place : ℕ) (d : DequeSeatIn A) → place < length seats → IsStolen task seats (set seats place (with_taken task (get_or seats place d)))
+  stolen_at task [] place d inside = absurd (omega arith)
+  stolen_at task (s ∷ ss) zero d inside = ([], s, ss, refl, refl)
+  stolen_at task (s ∷ ss) (suc place) d inside =
+      let rest = stolen_at task ss place d (omega arith) in
+      (s ∷ rest.0, rest.1, rest.2, ap (λ (l : List (DequeSeatIn A)). s ∷ l) rest.3, ap (λ (l : List (DequeSeatIn A)). s ∷ l) rest.4)
 
--- the thief at a place steals
-pub thief_stole : (thieves : List Thief) (place : ℕ) (before after : Thief) (result : Option Task) → place < length thieves → before ≡ get_or thieves place before →
-    IfSome result (λ task. thief_seat after ≡ with_taken task (thief_seat before)) → IfSome result (λ task. IsStolen task (thief_seats thieves) (thief_seats (set thieves place after)))
-thief_stole thieves place before after None inside at stole = tt
-thief_stole thieves place before after (Some task) inside at stole =
-    let d = thief_seat before in
-    let same : get_or (thief_seats thieves) place d ≡ d = get_or-map thief_seat thieves place before d inside ∙ ap thief_seat (sym at) in
-    let changed : thief_seats (set thieves place after) ≡ set (thief_seats thieves) place (with_taken task (get_or (thief_seats thieves) place d)) =
-    map-set thief_seat thieves place after ∙ ap (λ (s : DequeSeat). set (thief_seats thieves) place s) (stole ∙ ap (with_taken task) (sym same)) in
-    subst (λ (l : List DequeSeat). IsStolen task (thief_seats thieves) l) (sym changed) (stolen_at task (thief_seats thieves) place d (omega (arith, length-map thieves thief_seat)))
+  -- the thief at a place steals
+  pub thief_stole : (thieves : List (Thief A)) (place : ℕ) (before after : Thief A) (result : Option Task) → place < length thieves → before ≡ get_or thieves place before →
+      IfSome result (λ task. thief_seat after ≡ with_taken task (thief_seat before)) → IfSome result (λ task. IsStolen task (thief_seats thieves) (thief_seats (set thieves place after)))
+  thief_stole thieves place before after None inside at stole = tt
+  thief_stole thieves place before after (Some task) inside at stole =
+      let d = thief_seat before in
+      let same : get_or (thief_seats thieves) place d ≡ d = get_or-map thief_seat thieves place before d inside ∙ ap thief_seat (sym at) in
+      let changed : thief_seats (set thieves place after) ≡ set (thief_seats thieves) place (with_taken task (get_or (thief_seats thieves) place d)) =
+      map-set thief_seat thieves place after ∙ ap (λ (s : DequeSeatIn A). set (thief_seats thieves) place s) (stole ∙ ap (with_taken task) (sym same)) in
+      subst (λ (l : List (DequeSeatIn A)). IsStolen task (thief_seats thieves) l) (sym changed) (stolen_at task (thief_seats thieves) place d (omega (arith, length-map thieves thief_seat)))
 
--- the thief at a place finds nothing
-pub thief_waited : (thieves : List Thief) (place : ℕ) (before after : Thief) (result : Option Task) → before ≡ get_or thieves place before →
-    IfNone result (thief_seat after ≡ thief_seat before) → IfNone result (thief_seats (set thieves place after) ≡ thief_seats thieves)
-thief_waited thieves place before after None at same = map-set_same thief_seat thieves place after before (same ∙ ap thief_seat at)
-thief_waited thieves place before after (Some task) at same = tt
+  -- the thief at a place finds nothing
+  pub thief_waited : (thieves : List (Thief A)) (place : ℕ) (before after : Thief A) (result : Option Task) → before ≡ get_or thieves place before →
+      IfNone result (thief_seat after ≡ thief_seat before) → IfNone result (thief_seats (set thieves place after) ≡ thief_seats thieves)
+  thief_waited thieves place before after None at same = map-set_same thief_seat thieves place after before (same ∙ ap thief_seat at)
+  thief_waited thieves place before after (Some task) at same = tt
 
--- where a loop that goes up is, nothing was changed yet
-pub same_at : (f : DequeSeat → DequeSeat) (seats : List DequeSeat) (place : ℕ) (d : DequeSeat) → get_or (map f (take place seats) ++ drop place seats) place d ≡ get_or seats place d
-same_at f [] zero d = refl
-same_at f [] (suc place) d = refl
-same_at f (s ∷ ss) zero d = refl
-same_at f (s ∷ ss) (suc place) d = same_at f ss place d
+  -- where a loop that goes up is, nothing was changed yet
+  pub same_at : (f : DequeSeatIn A → DequeSeatIn A) (seats : List (DequeSeatIn A)) (place : ℕ) (d : DequeSeatIn A) → get_or (map f (take place seats) ++ drop place seats) place d ≡ get_or seats place d
+  same_at f [] zero d = refl
+  same_at f [] (suc place) d = refl
+  same_at f (s ∷ ss) zero d = refl
+  same_at f (s ∷ ss) (suc place) d = same_at f ss place d
 
--- the seat of the owner there
-pub owner_at : (f : DequeSeat → DequeSeat) (owners : List Owner) (before : List DequeSeat) (place : ℕ) (x : Owner) → place < length owners → x ≡ get_or owners place x →
-    owner_seats owners ≡ map f (take place before) ++ drop place before → owner_seat x ≡ get_or before place (owner_seat x)
-owner_at f owners before place x inside at so_far =
-    sym (get_or-map owner_seat owners place x (owner_seat x) inside ∙ ap owner_seat (sym at)) ∙ ap (λ (l : List DequeSeat). get_or l place (owner_seat x)) so_far ∙ same_at f before place (owner_seat x)
+  -- the seat of the owner there
+  pub owner_at : (f : DequeSeatIn A → DequeSeatIn A) (owners : List (Owner A)) (before : List (DequeSeatIn A)) (place : ℕ) (x : Owner A) → place < length owners → x ≡ get_or owners place x →
+      owner_seats owners ≡ map f (take place before) ++ drop place before → owner_seat x ≡ get_or before place (owner_seat x)
+  owner_at f owners before place x inside at so_far =
+      sym (get_or-map owner_seat owners place x (owner_seat x) inside ∙ ap owner_seat (sym at)) ∙ ap (λ (l : List (DequeSeatIn A)). get_or l place (owner_seat x)) so_far ∙ same_at f before place (owner_seat x)
 
--- it can give a part
-pub owner_gives : (owners : List Owner) (before : List DequeSeat) (place : ℕ) (x : Owner) → place < length owners → place < length before → x ≡ get_or owners place x →
-    owner_seats owners ≡ map with_part_cut (take place before) ++ drop place before → All (λ seat. (1 < seat.tally.parts) × (seat.tally.taken ≡ [])) before →
-    (1 < (owner_seat x).tally.parts) × ((owner_seat x).tally.taken ≡ [])
-owner_gives owners before place x inside within at so_far can =
-    subst (λ (s : DequeSeat). (1 < s.tally.parts) × (s.tally.taken ≡ [])) (sym (owner_at with_part_cut owners before place x inside at so_far)) (can place (owner_seat x) within)
+  -- it can give a part
+  pub owner_gives : (owners : List (Owner A)) (before : List (DequeSeatIn A)) (place : ℕ) (x : Owner A) → place < length owners → place < length before → x ≡ get_or owners place x →
+      owner_seats owners ≡ map with_part_cut (take place before) ++ drop place before → All (λ seat. (1 < seat.tally.parts) × (seat.tally.taken ≡ [])) before →
+      (1 < (owner_seat x).tally.parts) × ((owner_seat x).tally.taken ≡ [])
+  owner_gives owners before place x inside within at so_far can =
+      subst (λ (s : DequeSeatIn A). (1 < s.tally.parts) × (s.tally.taken ≡ [])) (sym (owner_at with_part_cut owners before place x inside at so_far)) (can place (owner_seat x) within)
 
--- the owner there gives a part
-pub cut_at : (owners : List Owner) (before : List DequeSeat) (place : ℕ) (x y : Owner) → place < length owners → place < length before → x ≡ get_or owners place x →
-    owner_seats owners ≡ map with_part_cut (take place before) ++ drop place before → owner_seat y ≡ with_part_cut (owner_seat x) →
-    owner_seats (set owners place y) ≡ map with_part_cut (take (place + 1) before) ++ drop (place + 1) before
-cut_at owners before place x y inside within at so_far cut =
-    let here : owner_seat x ≡ get_or (owner_seats owners) place (owner_seat x) = sym (get_or-map owner_seat owners place x (owner_seat x) inside ∙ ap owner_seat (sym at)) in
-    map-set owner_seat owners place y ∙ ap (λ (s : DequeSeat). set (owner_seats owners) place s) cut
-    ∙ map_over_more with_part_cut before (owner_seats owners) place (owner_seat x) within so_far here
+  -- the owner there gives a part
+  pub cut_at : (owners : List (Owner A)) (before : List (DequeSeatIn A)) (place : ℕ) (x y : Owner A) → place < length owners → place < length before → x ≡ get_or owners place x →
+      owner_seats owners ≡ map with_part_cut (take place before) ++ drop place before → owner_seat y ≡ with_part_cut (owner_seat x) →
+      owner_seats (set owners place y) ≡ map with_part_cut (take (place + 1) before) ++ drop (place + 1) before
+  cut_at owners before place x y inside within at so_far cut =
+      let here : owner_seat x ≡ get_or (owner_seats owners) place (owner_seat x) = sym (get_or-map owner_seat owners place x (owner_seat x) inside ∙ ap owner_seat (sym at)) in
+      map-set owner_seat owners place y ∙ ap (λ (s : DequeSeatIn A). set (owner_seats owners) place s) cut
+      ∙ map_over_more with_part_cut before (owner_seats owners) place (owner_seat x) within so_far here
 
--- and a thief has it
-pub row_push : (row : List Thief) (before : List DequeSeat) (place : ℕ) (thief : Thief) (d : DequeSeat) → place < length before → thief_seats row ≡ map new_thief (take place before) →
-    thief_seat thief ≡ new_thief (get_or before place d) → thief_seats (row ++ thief ∷ []) ≡ map new_thief (take (place + 1) before)
-row_push row before place thief d inside so_far new =
-    map_push thief_seat row thief ∙ ap (λ (l : List DequeSeat). l ++ thief_seat thief ∷ []) so_far ∙ ap (λ (s : DequeSeat). map new_thief (take place before) ++ s ∷ []) new
-    ∙ sym (map_more new_thief before place d inside)
+  -- and a thief has it
+  pub row_push : (row : List (Thief A)) (before : List (DequeSeatIn A)) (place : ℕ) (thief : Thief A) (d : DequeSeatIn A) → place < length before → thief_seats row ≡ map new_thief (take place before) →
+      thief_seat thief ≡ new_thief (get_or before place d) → thief_seats (row ++ thief ∷ []) ≡ map new_thief (take (place + 1) before)
+  row_push row before place thief d inside so_far new =
+      map_push thief_seat row thief ∙ ap (λ (l : List (DequeSeatIn A)). l ++ thief_seat thief ∷ []) so_far ∙ ap (λ (s : DequeSeatIn A). map new_thief (take place before) ++ s ∷ []) new
+      ∙ sym (map_more new_thief before place d inside)
 
--- the next owner has its ends
-pub gives : (all : List DequeEnds) (ends : DequeEnds) (own : Owner) (old rest : List Owner) (thieves owners : List DequeSeat) → worker_seats ends ≡ beside thieves (owner_seat own) → old ≡ own ∷ rest →
-    map worker_seats all ++ map (beside thieves) (owner_seats old) ≡ map (beside thieves) owners → map worker_seats (all ++ ends ∷ []) ++ map (beside thieves) (owner_seats rest) ≡ map (beside thieves) owners
-gives all ends own old rest thieves owners its steps so_far =
-    let left : List WorkerSeats = map (beside thieves) (owner_seats rest) in
-    ap (λ (l : List WorkerSeats). l ++ left) (map_push worker_seats all ends)
-    ∙ append_assoc (map worker_seats all) (worker_seats ends ∷ []) left
-    ∙ ap (λ (w : WorkerSeats). map worker_seats all ++ (w ∷ left)) its
-    ∙ ap (λ (l : List Owner). map worker_seats all ++ map (beside thieves) (owner_seats l)) (sym steps)
-    ∙ so_far
+  -- the next owner has its ends
+  pub gives : (all : List (DequeEnds A)) (ends : DequeEnds A) (own : Owner A) (old rest : List (Owner A)) (thieves owners : List (DequeSeatIn A)) → worker_seats ends ≡ beside thieves (owner_seat own) → old ≡ own ∷ rest →
+      map worker_seats all ++ map (beside thieves) (owner_seats old) ≡ map (beside thieves) owners → map worker_seats (all ++ ends ∷ []) ++ map (beside thieves) (owner_seats rest) ≡ map (beside thieves) owners
+  gives all ends own old rest thieves owners its steps so_far =
+      let left : List (WorkerSeatsIn A) = map (beside thieves) (owner_seats rest) in
+      ap (λ (l : List (WorkerSeatsIn A)). l ++ left) (map_push worker_seats all ends)
+      ∙ append_assoc (map worker_seats all) (worker_seats ends ∷ []) left
+      ∙ ap (λ (w : WorkerSeatsIn A). map worker_seats all ++ (w ∷ left)) its
+      ∙ ap (λ (l : List (Owner A)). map worker_seats all ++ map (beside thieves) (owner_seats l)) (sym steps)
+      ∙ so_far
 
--- and its room
-pub gives_room : (all : List DequeEnds) (ends : DequeEnds) (old rest : List Owner) (rooms : List ℕ) → old ≡ ends.own ∷ rest →
-    map worker_room all ++ map owner_room old ≡ rooms → map worker_room (all ++ ends ∷ []) ++ map owner_room rest ≡ rooms
-gives_room all ends old rest rooms steps so_far =
-    ap (λ (l : List ℕ). l ++ map owner_room rest) (map_push worker_room all ends)
-    ∙ append_assoc (map worker_room all) (worker_room ends ∷ []) (map owner_room rest)
-    ∙ ap (λ (l : List Owner). map worker_room all ++ map owner_room l) (sym steps)
-    ∙ so_far
+  -- and its room
+  pub gives_room : (all : List (DequeEnds A)) (ends : DequeEnds A) (old rest : List (Owner A)) (rooms : List ℕ) → old ≡ ends.own ∷ rest →
+      map worker_room all ++ map owner_room old ≡ rooms → map worker_room (all ++ ends ∷ []) ++ map owner_room rest ≡ rooms
+  gives_room all ends old rest rooms steps so_far =
+      ap (λ (l : List ℕ). l ++ map owner_room rest) (map_push worker_room all ends)
+      ∙ append_assoc (map worker_room all) (worker_room ends ∷ []) (map owner_room rest)
+      ∙ ap (λ (l : List (Owner A)). map worker_room all ++ map owner_room l) (sym steps)
+      ∙ so_far
 
--- the seats of new deques have all parts
-pub fresh_same : (seats : List DequeSeat) → All (λ seat. seat.tally ≡ tally 64 [] []) seats → map (fresh_with 64) seats ≡ seats
-fresh_same [] fresh = refl
-fresh_same (s ∷ ss) fresh =
-    let here : s.tally ≡ tally 64 [] [] = All-head (λ (seat : DequeSeat). seat.tally ≡ tally 64 [] []) s ss fresh in
-    let first : fresh_with 64 s ≡ s = ap (λ t. record s { tally = t }) (sym here) in
-    let rest = fresh_same ss (All-tail (λ (seat : DequeSeat). seat.tally ≡ tally 64 [] []) s ss fresh) in
-    cc
+  -- the seats of new deques have all parts
+  pub fresh_same : (seats : List (DequeSeatIn A)) → All (λ seat. seat.tally ≡ tally 64 [] []) seats → map (fresh_with 64) seats ≡ seats
+  fresh_same [] fresh = refl
+  fresh_same (s ∷ ss) fresh =
+      let here : s.tally ≡ tally 64 [] [] = All-head (λ (seat : DequeSeatIn A). seat.tally ≡ tally 64 [] []) s ss fresh in
+      let first : fresh_with 64 s ≡ s = ap (λ t. record s { tally = t }) (sym here) in
+      let rest = fresh_same ss (All-tail (λ (seat : DequeSeatIn A). seat.tally ≡ tally 64 [] []) s ss fresh) in
+      cc
 
--- one part less
-pub cut_again : (parts : ℕ) (seats : List DequeSeat) → map with_part_cut (map (fresh_with parts) seats) ≡ map (fresh_with (parts - 1)) seats
-cut_again parts [] = refl
-cut_again parts (s ∷ ss) = ap (λ (l : List DequeSeat). fresh_with (parts - 1) s ∷ l) (cut_again parts ss)
+  -- one part less
+  pub cut_again : (parts : ℕ) (seats : List (DequeSeatIn A)) → map with_part_cut (map (fresh_with parts) seats) ≡ map (fresh_with (parts - 1)) seats
+  cut_again parts [] = refl
+  cut_again parts (s ∷ ss) = ap (λ (l : List (DequeSeatIn A)). fresh_with (parts - 1) s ∷ l) (cut_again parts ss)
 
--- a new thief's seat knows nothing of the owner's parts
-pub new_of_fresh : (parts : ℕ) (seats : List DequeSeat) → map new_thief (map (fresh_with parts) seats) ≡ map new_thief seats
-new_of_fresh parts [] = refl
-new_of_fresh parts (s ∷ ss) = ap (λ (l : List DequeSeat). new_thief s ∷ l) (new_of_fresh parts ss)
+  -- a new thief's seat knows nothing of the owner's parts
+  pub new_of_fresh : (parts : ℕ) (seats : List (DequeSeatIn A)) → map new_thief (map (fresh_with parts) seats) ≡ map new_thief seats
+  new_of_fresh parts [] = refl
+  new_of_fresh parts (s ∷ ss) = ap (λ (l : List (DequeSeatIn A)). new_thief s ∷ l) (new_of_fresh parts ss)
 
--- the new thieves of the owners beside the same seats
-new_of_own : (thieves seats : List DequeSeat) → map (λ (other : WorkerSeats). new_thief other.own) (map (beside thieves) seats) ≡ map new_thief seats
-new_of_own thieves [] = refl
-new_of_own thieves (s ∷ ss) = ap (λ (l : List DequeSeat). new_thief s ∷ l) (new_of_own thieves ss)
+  -- the new thieves of the owners beside the same seats
+  new_of_own : (thieves seats : List (DequeSeatIn A)) → map (λ (other : WorkerSeatsIn A). new_thief other.own) (map (beside thieves) seats) ≡ map new_thief seats
+  new_of_own thieves [] = refl
+  new_of_own thieves (s ∷ ss) = ap (λ (l : List (DequeSeatIn A)). new_thief s ∷ l) (new_of_own thieves ss)
 
--- the deques of the owners beside the same seats
-own_of_posts : (thieves seats : List DequeSeat) → map (λ (other : Posts). other.own) (map posts_of (map (beside thieves) seats)) ≡ deques seats
-own_of_posts thieves [] = refl
-own_of_posts thieves (s ∷ ss) = ap (λ (l : List Deque). s.deque ∷ l) (own_of_posts thieves ss)
+  -- the deques of the owners beside the same seats
+  own_of_posts : (thieves seats : List (DequeSeatIn A)) → map (λ (other : PostsIn A). other.own) (map posts_of (map (beside thieves) seats)) ≡ deques seats
+  own_of_posts thieves [] = refl
+  own_of_posts thieves (s ∷ ss) = ap (λ (l : List (DequeIn A)). s.deque ∷ l) (own_of_posts thieves ss)
 
--- new thieves are at the owners' deques
-deques_of_new : (seats : List DequeSeat) → deques (map new_thief seats) ≡ deques seats
-deques_of_new [] = refl
-deques_of_new (s ∷ ss) = ap (λ (l : List Deque). s.deque ∷ l) (deques_of_new ss)
+  -- new thieves are at the owners' deques
+  deques_of_new : (seats : List (DequeSeatIn A)) → deques (map new_thief seats) ≡ deques seats
+  deques_of_new [] = refl
+  deques_of_new (s ∷ ss) = ap (λ (l : List (DequeIn A)). s.deque ∷ l) (deques_of_new ss)
 
--- the posts of ends, by their seats
-pub posts_by_seats : (all : List DequeEnds) → map posts all ≡ map posts_of (map worker_seats all)
-posts_by_seats [] = refl
-posts_by_seats (ends ∷ all) = ap (λ (l : List Posts). posts ends ∷ l) (posts_by_seats all)
+  -- the posts of ends, by their seats
+  pub posts_by_seats : (all : List (DequeEnds A)) → map posts all ≡ map posts_of (map worker_seats all)
+  posts_by_seats [] = refl
+  posts_by_seats (ends ∷ all) = ap (λ (l : List (PostsIn A)). posts ends ∷ l) (posts_by_seats all)
 
--- owners of new deques, each beside a new thief's seat at each deque, are dealt
-pub dealt : (parts : ℕ) (owners : List DequeSeat) → parts ≡ 64 - length owners → let seats = map (fresh_with parts) owners in IsDealt (map (beside (map new_thief seats)) seats)
-dealt parts owners are =
-    let seats : List DequeSeat = map (fresh_with parts) owners in
-    let thieves : List DequeSeat = map new_thief seats in
-    let all : List WorkerSeats = map (beside thieves) seats in
-    let count : length all ≡ length owners = length-map seats (beside thieves) ∙ length-map owners (fresh_with parts) in
-    let P : WorkerSeats → Type 0 = λ (its : WorkerSeats). (its.own.tally ≡ tally (64 - length all) [] []) × (its.thieves ≡ map (λ (other : WorkerSeats). new_thief other.own) all) in
-    let same : tally parts [] [] ≡ tally (64 - length all) [] [] = ap (λ n. tally n [] []) (are ∙ ap (λ n. 64 - n) (sym count)) in
-    let rows : thieves ≡ map (λ (other : WorkerSeats). new_thief other.own) all = sym (new_of_own thieves seats) in
-    All-map P (beside thieves) seats (All-map (λ (s : DequeSeat). P (beside thieves s)) (fresh_with parts) owners (λ k d inside. (same, rows)))
+  -- owners of new deques, each beside a new thief's seat at each deque, are dealt
+  pub dealt : (parts : ℕ) (owners : List (DequeSeatIn A)) → parts ≡ 64 - length owners → let seats = map (fresh_with parts) owners in IsDealt (map (beside (map new_thief seats)) seats)
+  dealt parts owners are =
+      let seats : List (DequeSeatIn A) = map (fresh_with parts) owners in
+      let thieves : List (DequeSeatIn A) = map new_thief seats in
+      let all : List (WorkerSeatsIn A) = map (beside thieves) seats in
+      let count : length all ≡ length owners = length-map seats (beside thieves) ∙ length-map owners (fresh_with parts) in
+      let P : WorkerSeatsIn A → Type 0 = λ (its : WorkerSeatsIn A). (its.own.tally ≡ tally (64 - length all) [] []) × (its.thieves ≡ map (λ (other : WorkerSeatsIn A). new_thief other.own) all) in
+      let same : tally parts [] [] ≡ tally (64 - length all) [] [] = ap (λ n. tally n [] []) (are ∙ ap (λ n. 64 - n) (sym count)) in
+      let rows : thieves ≡ map (λ (other : WorkerSeatsIn A). new_thief other.own) all = sym (new_of_own thieves seats) in
+      All-map P (beside thieves) seats (All-map (λ (s : DequeSeatIn A). P (beside thieves s)) (fresh_with parts) owners (λ k d inside. (same, rows)))
 
--- and all their seats are there
-pub whole : (parts : ℕ) (owners : List DequeSeat) → parts + length owners ≡ 64 → let seats = map (fresh_with parts) owners in IsWhole (map posts_of (map (beside (map new_thief seats)) seats))
-whole parts owners are =
-    let seats : List DequeSeat = map (fresh_with parts) owners in
-    let thieves : List DequeSeat = map new_thief seats in
-    let all : List Posts = map posts_of (map (beside thieves) seats) in
-    let count : length all ≡ length owners = length-map (map (beside thieves) seats) posts_of ∙ length-map seats (beside thieves) ∙ length-map owners (fresh_with parts) in
-    let P : Posts → Type 0 = λ (its : Posts). (its.thieves ≡ map (λ (other : Posts). other.own) all) × (its.parts + length all ≡ 64) in
-    let rows : deques thieves ≡ map (λ (other : Posts). other.own) all = deques_of_new seats ∙ sym (own_of_posts thieves seats) in
-    let sum : parts + length all ≡ 64 = omega arith in
-    All-map P posts_of (map (beside thieves) seats) (All-map (λ (its : WorkerSeats). P (posts_of its)) (beside thieves) seats (All-map (λ (s : DequeSeat). P (posts_of (beside thieves s))) (fresh_with parts) owners (λ k d inside. (rows, sum))))
+  -- and all their seats are there
+  pub whole : (parts : ℕ) (owners : List (DequeSeatIn A)) → parts + length owners ≡ 64 → let seats = map (fresh_with parts) owners in IsWhole (map posts_of (map (beside (map new_thief seats)) seats))
+  whole parts owners are =
+      let seats : List (DequeSeatIn A) = map (fresh_with parts) owners in
+      let thieves : List (DequeSeatIn A) = map new_thief seats in
+      let all : List (PostsIn A) = map posts_of (map (beside thieves) seats) in
+      let count : length all ≡ length owners = length-map (map (beside thieves) seats) posts_of ∙ length-map seats (beside thieves) ∙ length-map owners (fresh_with parts) in
+      let P : PostsIn A → Type 0 = λ (its : PostsIn A). (its.thieves ≡ map (λ (other : PostsIn A). other.own) all) × (its.parts + length all ≡ 64) in
+      let rows : deques thieves ≡ map (λ (other : PostsIn A). other.own) all = deques_of_new seats ∙ sym (own_of_posts thieves seats) in
+      let sum : parts + length all ≡ 64 = omega arith in
+      All-map P posts_of (map (beside thieves) seats) (All-map (λ (its : WorkerSeatsIn A). P (posts_of its)) (beside thieves) seats (All-map (λ (s : DequeSeatIn A). P (posts_of (beside thieves s))) (fresh_with parts) owners (λ k d inside. (rows, sum))))
 
--- the same of a list of seats and of ends that are equal to these
-dealt_ends : (parts : ℕ) (owners seats : List DequeSeat) (all : List WorkerSeats) → seats ≡ map (fresh_with parts) owners → parts ≡ 64 - length owners → all ≡ map (beside (map new_thief seats)) seats → IsDealt all
-dealt_ends parts owners seats all are count is =
-    subst IsDealt (sym (is ∙ ap (λ (l : List DequeSeat). map (beside (map new_thief l)) l) are)) (dealt parts owners count)
+  -- the same of a list of seats and of ends that are equal to these
+  dealt_ends : (parts : ℕ) (owners seats : List (DequeSeatIn A)) (all : List (WorkerSeatsIn A)) → seats ≡ map (fresh_with parts) owners → parts ≡ 64 - length owners → all ≡ map (beside (map new_thief seats)) seats → IsDealt all
+  dealt_ends parts owners seats all are count is =
+      subst IsDealt (sym (is ∙ ap (λ (l : List (DequeSeatIn A)). map (beside (map new_thief l)) l) are)) (dealt parts owners count)
 
-whole_ends : (parts : ℕ) (owners seats : List DequeSeat) (all : List DequeEnds) → seats ≡ map (fresh_with parts) owners → parts + length owners ≡ 64 → map worker_seats all ≡ map (beside (map new_thief seats)) seats → IsWhole (map posts all)
-whole_ends parts owners seats all are count is =
-    subst IsWhole (sym (posts_by_seats all ∙ ap (λ (l : List WorkerSeats). map posts_of l) (is ∙ ap (λ (l : List DequeSeat). map (beside (map new_thief l)) l) are))) (whole parts owners count)
+  whole_ends : (parts : ℕ) (owners seats : List (DequeSeatIn A)) (all : List (DequeEnds A)) → seats ≡ map (fresh_with parts) owners → parts + length owners ≡ 64 → map worker_seats all ≡ map (beside (map new_thief seats)) seats → IsWhole (map posts all)
+  whole_ends parts owners seats all are count is =
+      subst IsWhole (sym (posts_by_seats all ∙ ap (λ (l : List (WorkerSeatsIn A)). map posts_of l) (is ∙ ap (λ (l : List (DequeSeatIn A)). map (beside (map new_thief l)) l) are))) (whole parts owners count)
 
--- so ends are dealt where each of the owners of new deques has given a part to each worker
-pub ends_dealt : (count : ℕ) (made owners : List Owner) (all : List DequeEnds) → count ≡ length made → count < 64 → owner_seats owners ≡ map (fresh_with (64 - count)) (owner_seats made) →
-    map worker_seats all ≡ map (beside (map new_thief (owner_seats owners))) (owner_seats owners) → IsDealt (map worker_seats all) × IsWhole (map posts all)
-ends_dealt count made owners all len few are is =
-    let seats : count ≡ length (owner_seats made) = len ∙ sym (length-map made owner_seat) in (
-      dealt_ends (64 - count) (owner_seats made) (owner_seats owners) (map worker_seats all) are (ap (λ n. 64 - n) seats) is,
-      whole_ends (64 - count) (owner_seats made) (owner_seats owners) all are (omega arith) is,
-    )
+  -- so ends are dealt where each of the owners of new deques has given a part to each worker
+  pub ends_dealt : (count : ℕ) (made owners : List (Owner A)) (all : List (DequeEnds A)) → count ≡ length made → count < 64 → owner_seats owners ≡ map (fresh_with (64 - count)) (owner_seats made) →
+      map worker_seats all ≡ map (beside (map new_thief (owner_seats owners))) (owner_seats owners) → IsDealt (map worker_seats all) × IsWhole (map posts all)
+  ends_dealt count made owners all len few are is =
+      let seats : count ≡ length (owner_seats made) = len ∙ sym (length-map made owner_seat) in (
+        dealt_ends (64 - count) (owner_seats made) (owner_seats owners) (map worker_seats all) are (ap (λ n. 64 - n) seats) is,
+        whole_ends (64 - count) (owner_seats made) (owner_seats owners) all are (omega arith) is,
+      )
 
--- with the room of the owners of new deques
-pub room_dealt : (room : ℕ) (made owners : List Owner) (all : List DequeEnds) → All (λ owner. owner_room owner ≡ room) made → map owner_room owners ≡ map owner_room made →
-    map worker_room all ≡ map owner_room owners → All (λ ends. worker_room ends ≡ room) all
-room_dealt room made owners all each are is =
-    let IsRoom : ℕ → Type 0 = λ n. n ≡ room in
-    all_unmapped IsRoom worker_room all (subst (All IsRoom) (sym (is ∙ are)) (All-map IsRoom owner_room made each))
+  -- with the room of the owners of new deques
+  pub room_dealt : (room : ℕ) (made owners : List (Owner A)) (all : List (DequeEnds A)) → All (λ owner. owner_room owner ≡ room) made → map owner_room owners ≡ map owner_room made →
+      map worker_room all ≡ map owner_room owners → All (λ ends. worker_room ends ≡ room) all
+  room_dealt room made owners all each are is =
+      let IsRoom : ℕ → Type 0 = λ n. n ≡ room in
+      all_unmapped IsRoom worker_room all (subst (All IsRoom) (sym (is ∙ are)) (All-map IsRoom owner_room made each))
 
--- the seat of an owner in a list whose seats are known
-pub seat_at : (owners : List Owner) (seats : List DequeSeat) (place : ℕ) (x : Owner) → place < length owners → x ≡ get_or owners place x → owner_seats owners ≡ seats → get_or seats place (owner_seat x) ≡ owner_seat x
-seat_at owners seats place x inside at are =
-    ap (λ (l : List DequeSeat). get_or l place (owner_seat x)) (sym are) ∙ get_or-map owner_seat owners place x (owner_seat x) inside ∙ ap owner_seat (sym at)
+  -- the seat of an owner in a list whose seats are known
+  pub seat_at : (owners : List (Owner A)) (seats : List (DequeSeatIn A)) (place : ℕ) (x : Owner A) → place < length owners → x ≡ get_or owners place x → owner_seats owners ≡ seats → get_or seats place (owner_seat x) ≡ owner_seat x
+  seat_at owners seats place x inside at are =
+      ap (λ (l : List (DequeSeatIn A)). get_or l place (owner_seat x)) (sym are) ∙ get_or-map owner_seat owners place x (owner_seat x) inside ∙ ap owner_seat (sym at)
 
--- an owner changes in place, and its seat doesn't
-pub seats_same : (owners : List Owner) (place : ℕ) (x y : Owner) → x ≡ get_or owners place x → owner_seat y ≡ owner_seat x → owner_seats (set owners place y) ≡ owner_seats owners
-seats_same owners place x y at same = map-set_same owner_seat owners place y x (same ∙ ap owner_seat at)
+  -- an owner changes in place, and its seat doesn't
+  pub seats_same : (owners : List (Owner A)) (place : ℕ) (x y : Owner A) → x ≡ get_or owners place x → owner_seat y ≡ owner_seat x → owner_seats (set owners place y) ≡ owner_seats owners
+  seats_same owners place x y at same = map-set_same owner_seat owners place y x (same ∙ ap owner_seat at)
 
--- ends change in place, and their posts don't
-pub posts_same : (all : List DequeEnds) (place : ℕ) (x y : DequeEnds) → x ≡ get_or all place x → posts y ≡ posts x → map posts (set all place y) ≡ map posts all
-posts_same all place x y at same = map-set_same posts all place y x (same ∙ ap posts at)
+  -- ends change in place, and their posts don't
+  pub posts_same : (all : List (DequeEnds A)) (place : ℕ) (x y : DequeEnds A) → x ≡ get_or all place x → posts y ≡ posts x → map posts (set all place y) ≡ map posts all
+  posts_same all place x y at same = map-set_same posts all place y x (same ∙ ap posts at)
 
--- one more of the ends is put back
-pub put_posts : (back after : List WorkerSeats) (its : WorkerSeats) (old left total : List Posts) → after ≡ back ++ its ∷ [] → old ≡ posts_of its ∷ left → map posts_of back ++ old ≡ total → map posts_of after ++ left ≡ total
-put_posts back after its old left total is steps so_far =
-    ap (λ (l : List WorkerSeats). map posts_of l ++ left) is
-    ∙ ap (λ (l : List Posts). l ++ left) (map_push posts_of back its)
-    ∙ append_assoc (map posts_of back) (posts_of its ∷ []) left
-    ∙ ap (λ (l : List Posts). map posts_of back ++ l) (sym steps)
-    ∙ so_far
+  -- one more of the ends is put back
+  pub put_posts : (back after : List (WorkerSeatsIn A)) (its : WorkerSeatsIn A) (old left total : List (PostsIn A)) → after ≡ back ++ its ∷ [] → old ≡ posts_of its ∷ left → map posts_of back ++ old ≡ total → map posts_of after ++ left ≡ total
+  put_posts back after its old left total is steps so_far =
+      ap (λ (l : List (WorkerSeatsIn A)). map posts_of l ++ left) is
+      ∙ ap (λ (l : List (PostsIn A)). l ++ left) (map_push posts_of back its)
+      ∙ append_assoc (map posts_of back) (posts_of its ∷ []) left
+      ∙ ap (λ (l : List (PostsIn A)). map posts_of back ++ l) (sym steps)
+      ∙ so_far

@@ -1,101 +1,110 @@
 -- Meaning: what contracts see of the ends of workers: the seats that each has, and when all seats of all deques are there.
 use Rattle.std.specs.Prelude.{◌≡◌, ℕ, ◌+◌, ◌-◌, ◌⊎◌, List, [], ◌∷◌, ◌++◌, length, map, All}
+use Rattle.std.specs.declared.alloc.Global.{Global}
 use Rattle.pool_rules.specs.declared.task.Task.{Task}
 use Rattle.task_deques.specs.declared.owner.Owner.{Owner}
 use Rattle.task_deques.specs.declared.thief.Thief.{Thief}
 use Rattle.task_deques.specs.declared.ends.DequeEnds.{DequeEnds}
 use Rattle.task_deques.specs.declared.returned.Returned.{Returned}
 use Rattle.task_deques.specs.Tallies.{tally, weigh}
-use Rattle.task_deques.specs.Seats.{Deque, DequeSeat, owner_seat, owner_room, thief_seat, with_taken, new_thief, joined}
+use Rattle.task_deques.specs.Seats.{DequeIn, DequeSeatIn, owner_seat, owner_room, thief_seat, with_taken, new_thief, joined}
 
 -- a worker's seats: the owner's at its own deque, and a thief's at each worker's deque, in the order of the workers' numbers
-pub record WorkerSeats : Type 0 where
-  pub own : DequeSeat
-  pub thieves : List DequeSeat
+pub record WorkerSeatsIn (A : Type 0) : Type 0 where
+  pub own : DequeSeatIn A
+  pub thieves : List (DequeSeatIn A)
 
 -- which deques these seats are at, and how many parts the owner's has
-pub record Posts : Type 0 where
-  pub own : Deque
+pub record PostsIn (A : Type 0) : Type 0 where
+  pub own : DequeIn A
   pub parts : ℕ
-  pub thieves : List Deque
+  pub thieves : List (DequeIn A)
 
-abbrev pub owner_seats : List Owner → List DequeSeat
-owner_seats owners = map owner_seat owners
+-- the same of the deques that are `Global`'s
+abbrev pub WorkerSeats : Type 0
+WorkerSeats = WorkerSeatsIn Global
 
-abbrev pub thief_seats : List Thief → List DequeSeat
-thief_seats thieves = map thief_seat thieves
+abbrev pub Posts : Type 0
+Posts = PostsIn Global
 
-abbrev pub deques : List DequeSeat → List Deque
-deques seats = map (λ seat. seat.deque) seats
+module _ {A : Type 0} where
+  abbrev pub owner_seats : List (Owner A) → List (DequeSeatIn A)
+  owner_seats owners = map owner_seat owners
 
--- the seats of a worker's ends
-abbrev pub worker_seats : DequeEnds → WorkerSeats
-worker_seats ends = record { own = owner_seat ends.own; thieves = thief_seats ends.thieves.items }
+  abbrev pub thief_seats : List (Thief A) → List (DequeSeatIn A)
+  thief_seats thieves = map thief_seat thieves
 
--- how many tasks there is room for in its own deque
-abbrev pub worker_room : DequeEnds → ℕ
-worker_room ends = owner_room ends.own
+  abbrev pub deques : List (DequeSeatIn A) → List (DequeIn A)
+  deques seats = map (λ seat. seat.deque) seats
 
-abbrev pub posts_of : WorkerSeats → Posts
-posts_of seats = record { own = seats.own.deque; parts = seats.own.tally.parts; thieves = deques seats.thieves }
+  -- the seats of a worker's ends
+  abbrev pub worker_seats : DequeEnds A → WorkerSeatsIn A
+  worker_seats ends = record { own = owner_seat ends.own; thieves = thief_seats ends.thieves.items }
 
-abbrev pub posts : DequeEnds → Posts
-posts ends = posts_of (worker_seats ends)
+  -- how many tasks there is room for in its own deque
+  abbrev pub worker_room : DequeEnds A → ℕ
+  worker_room ends = owner_room ends.own
 
--- just one of the thieves' seats has taken one task more
-abbrev pub IsStolen : Task → List DequeSeat → List DequeSeat → Type 0
-IsStolen task before after = (front : List DequeSeat) × (seat : DequeSeat) × (back : List DequeSeat) × (before ≡ front ++ seat ∷ back) × (after ≡ front ++ with_taken task seat ∷ back)
+  abbrev pub posts_of : WorkerSeatsIn A → PostsIn A
+  posts_of seats = record { own = seats.own.deque; parts = seats.own.tally.parts; thieves = deques seats.thieves }
 
--- just one of a worker's seats has taken one task more
-abbrev pub IsTaken : Task → WorkerSeats → WorkerSeats → Type 0
-IsTaken task before after =
-    (after ≡ record before { own = with_taken task before.own }) ⊎ ((after.own ≡ before.own) × IsStolen task before.thieves after.thieves)
+  abbrev pub posts : DequeEnds A → PostsIn A
+  posts ends = posts_of (worker_seats ends)
 
--- each worker has a new deque of its own, and a new thief's seat at each worker's deque
-abbrev pub IsDealt : List WorkerSeats → Type 0
-IsDealt all = All (λ seats. (seats.own.tally ≡ tally (64 - length all) [] []) × (seats.thieves ≡ map (λ other. new_thief other.own) all)) all
+  -- just one of the thieves' seats has taken one task more
+  abbrev pub IsStolen : Task → List (DequeSeatIn A) → List (DequeSeatIn A) → Type 0
+  IsStolen task before after = (front : List (DequeSeatIn A)) × (seat : DequeSeatIn A) × (back : List (DequeSeatIn A)) × (before ≡ front ++ seat ∷ back) × (after ≡ front ++ with_taken task seat ∷ back)
 
--- a seat of a new deque's owner, with so many parts left
-abbrev pub fresh_with : ℕ → DequeSeat → DequeSeat
-fresh_with parts seat = record seat { tally = tally parts [] [] }
+  -- just one of a worker's seats has taken one task more
+  abbrev pub IsTaken : Task → WorkerSeatsIn A → WorkerSeatsIn A → Type 0
+  IsTaken task before after =
+      (after ≡ record before { own = with_taken task before.own }) ⊎ ((after.own ≡ before.own) × IsStolen task before.thieves after.thieves)
 
--- an owner's seat beside the same thieves' seats
-abbrev pub beside : List DequeSeat → DequeSeat → WorkerSeats
-beside thieves own = record { own = own; thieves = thieves }
+  -- each worker has a new deque of its own, and a new thief's seat at each worker's deque
+  abbrev pub IsDealt : List (WorkerSeatsIn A) → Type 0
+  IsDealt all = All (λ seats. (seats.own.tally ≡ tally (64 - length all) [] []) × (seats.thieves ≡ map (λ other. new_thief other.own) all)) all
 
--- all seats of all deques are there: each worker's thieves are at all workers' deques, and the parts of each deque add up to all
-abbrev pub IsWhole : List Posts → Type 0
-IsWhole all = All (λ its. (its.thieves ≡ map (λ other. other.own) all) × (its.parts + length all ≡ 64)) all
+  -- a seat of a new deque's owner, with so many parts left
+  abbrev pub fresh_with : ℕ → DequeSeatIn A → DequeSeatIn A
+  fresh_with parts seat = record seat { tally = tally parts [] [] }
 
--- each owner's seat, with the seat of one thief at the same place joined to it
-abbrev pub with_row : List DequeSeat → List DequeSeat → List DequeSeat
-with_row [] row = []
-with_row (owner ∷ owners) [] = owner ∷ owners
-with_row (owner ∷ owners) (thief ∷ row) = joined owner thief ∷ with_row owners row
+  -- an owner's seat beside the same thieves' seats
+  abbrev pub beside : List (DequeSeatIn A) → DequeSeatIn A → WorkerSeatsIn A
+  beside thieves own = record { own = own; thieves = thieves }
 
--- the same with the thieves of several workers
-abbrev pub with_rows : List DequeSeat → List (List DequeSeat) → List DequeSeat
-with_rows owners [] = owners
-with_rows owners (row ∷ rows) = with_rows (with_row owners row) rows
+  -- all seats of all deques are there: each worker's thieves are at all workers' deques, and the parts of each deque add up to all
+  abbrev pub IsWhole : List (PostsIn A) → Type 0
+  IsWhole all = All (λ its. (its.thieves ≡ map (λ other. other.own) all) × (its.parts + length all ≡ 64)) all
 
--- each deque, with what all its seats pushed and took
-abbrev pub whole_deques : List WorkerSeats → List DequeSeat
-whole_deques all = with_rows (map (λ seats. seats.own) all) (map (λ seats. seats.thieves) all)
+  -- each owner's seat, with the seat of one thief at the same place joined to it
+  abbrev pub with_row : List (DequeSeatIn A) → List (DequeSeatIn A) → List (DequeSeatIn A)
+  with_row [] row = []
+  with_row (owner ∷ owners) [] = owner ∷ owners
+  with_row (owner ∷ owners) (thief ∷ row) = joined owner thief ∷ with_row owners row
 
--- what was pushed on a deque is what was taken and what is left, each task as often
-abbrev pub IsAccounted : DequeSeat → Type 0
-IsAccounted seat = (left : List Task) × ((h : Task → ℕ) → weigh h seat.tally.pushed ≡ weigh h seat.tally.taken + weigh h left)
+  -- the same with the thieves of several workers
+  abbrev pub with_rows : List (DequeSeatIn A) → List (List (DequeSeatIn A)) → List (DequeSeatIn A)
+  with_rows owners [] = owners
+  with_rows owners (row ∷ rows) = with_rows (with_row owners row) rows
 
--- owners and rows of thieves, put together again
-abbrev pub zip_seats : List DequeSeat → List (List DequeSeat) → List WorkerSeats
-zip_seats [] rows = []
-zip_seats (own ∷ owners) [] = []
-zip_seats (own ∷ owners) (row ∷ rows) = record { own = own; thieves = row } ∷ zip_seats owners rows
+  -- each deque, with what all its seats pushed and took
+  abbrev pub whole_deques : List (WorkerSeatsIn A) → List (DequeSeatIn A)
+  whole_deques all = with_rows (map (λ seats. seats.own) all) (map (λ seats. seats.thieves) all)
 
--- the seats of all ends that came back, in the order in which they came
-abbrev pub returned : Returned → List WorkerSeats
-returned back = zip_seats (owner_seats back.owners.items) (map (λ row. thief_seats row.items) back.rows.items)
+  -- what was pushed on a deque is what was taken and what is left, each task as often
+  abbrev pub IsAccounted : DequeSeatIn A → Type 0
+  IsAccounted seat = (left : List Task) × ((h : Task → ℕ) → weigh h seat.tally.pushed ≡ weigh h seat.tally.taken + weigh h left)
 
--- how many can come back
-abbrev pub returned_room : Returned → ℕ
-returned_room back = back.room
+  -- owners and rows of thieves, put together again
+  abbrev pub zip_seats : List (DequeSeatIn A) → List (List (DequeSeatIn A)) → List (WorkerSeatsIn A)
+  zip_seats [] rows = []
+  zip_seats (own ∷ owners) [] = []
+  zip_seats (own ∷ owners) (row ∷ rows) = record { own = own; thieves = row } ∷ zip_seats owners rows
+
+  -- the seats of all ends that came back, in the order in which they came
+  abbrev pub returned : Returned A → List (WorkerSeatsIn A)
+  returned back = zip_seats (owner_seats back.owners.items) (map (λ row. thief_seats row.items) back.rows.items)
+
+  -- how many can come back
+  abbrev pub returned_room : Returned A → ℕ
+  returned_room back = back.room

@@ -9,43 +9,51 @@ use Rattle.task_deques.specs.declared.owner.Owner.{Owner}
 use Rattle.task_deques.specs.declared.thief.Thief.{Thief}
 use Rattle.task_deques.specs.Tallies.{tally}
 
--- which deque it is
-abbrev pub Deque : Type 0
-Deque = RowsId × Global
+-- which deque it is, and which allocator its memory is of
+abbrev pub DequeIn : Type 0 → Type 0
+DequeIn A = RowsId × A
 
 -- a seat at a deque
-pub record DequeSeat : Type 0 where
-  pub deque : Deque
+pub record DequeSeatIn (A : Type 0) : Type 0 where
+  pub deque : DequeIn A
   pub tally : Tally
 
--- the owner's
-abbrev pub owner_seat : Owner → DequeSeat
-owner_seat owner = record { deque = worker_deque owner.worker; tally = worker_view owner.worker }
+-- the same of the deques that are `Global`'s
+abbrev pub Deque : Type 0
+Deque = DequeIn Global
 
--- how many tasks there is room for in its deque
-abbrev pub owner_room : Owner → ℕ
-owner_room owner = owner.room
+abbrev pub DequeSeat : Type 0
+DequeSeat = DequeSeatIn Global
 
--- a thief's
-abbrev pub thief_seat : Thief → DequeSeat
-thief_seat thief = record { deque = stealer_deque thief.stealer; tally = view thief.pass }
+module _ {A : Type 0} where
+  -- the owner's
+  abbrev pub owner_seat : Owner A → DequeSeatIn A
+  owner_seat owner = record { deque = worker_deque owner.worker; tally = worker_view owner.worker }
 
--- one task more was pushed
-abbrev pub with_pushed : Task → DequeSeat → DequeSeat
-with_pushed task seat = record seat { tally = tally seat.tally.parts (seat.tally.pushed ++ task ∷ []) seat.tally.taken }
+  -- how many tasks there is room for in its deque
+  abbrev pub owner_room : Owner A → ℕ
+  owner_room owner = owner.room
 
--- one task more was taken
-abbrev pub with_taken : Task → DequeSeat → DequeSeat
-with_taken task seat = record seat { tally = tally seat.tally.parts seat.tally.pushed (seat.tally.taken ++ task ∷ []) }
+  -- a thief's
+  abbrev pub thief_seat : Thief A → DequeSeatIn A
+  thief_seat thief = record { deque = stealer_deque thief.stealer; tally = view thief.pass }
 
--- one part was cut off
-abbrev pub with_part_cut : DequeSeat → DequeSeat
-with_part_cut seat = record seat { tally = tally (seat.tally.parts - 1) seat.tally.pushed seat.tally.taken }
+  -- one task more was pushed
+  abbrev pub with_pushed : Task → DequeSeatIn A → DequeSeatIn A
+  with_pushed task seat = record seat { tally = tally seat.tally.parts (seat.tally.pushed ++ task ∷ []) seat.tally.taken }
 
--- the new seat of a thief at the same deque
-abbrev pub new_thief : DequeSeat → DequeSeat
-new_thief seat = record seat { tally = tally 1 [] [] }
+  -- one task more was taken
+  abbrev pub with_taken : Task → DequeSeatIn A → DequeSeatIn A
+  with_taken task seat = record seat { tally = tally seat.tally.parts seat.tally.pushed (seat.tally.taken ++ task ∷ []) }
 
--- another seat's parts and tasks were joined to it
-abbrev pub joined : DequeSeat → DequeSeat → DequeSeat
-joined seat other = record seat { tally = tally (seat.tally.parts + other.tally.parts) (seat.tally.pushed ++ other.tally.pushed) (seat.tally.taken ++ other.tally.taken) }
+  -- one part was cut off
+  abbrev pub with_part_cut : DequeSeatIn A → DequeSeatIn A
+  with_part_cut seat = record seat { tally = tally (seat.tally.parts - 1) seat.tally.pushed seat.tally.taken }
+
+  -- the new seat of a thief at the same deque
+  abbrev pub new_thief : DequeSeatIn A → DequeSeatIn A
+  new_thief seat = record seat { tally = tally 1 [] [] }
+
+  -- another seat's parts and tasks were joined to it
+  abbrev pub joined : DequeSeatIn A → DequeSeatIn A → DequeSeatIn A
+  joined seat other = record seat { tally = tally (seat.tally.parts + other.tally.parts) (seat.tally.pushed ++ other.tally.pushed) (seat.tally.taken ++ other.tally.taken) }

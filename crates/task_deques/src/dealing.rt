@@ -11,36 +11,47 @@ use crate::ends::DequeEnds;
 use crate::owner::Owner;
 use crate::thief::Thief;
 use sched_rules::Worker;
-use std::alloc::{AllocError, Global};
+use std::alloc::{AllocError, Allocator};
 
 /// The ends of as many workers as the number of the last, in the order of their numbers, with room for
 /// so many tasks in each deque. It fails only where memory is refused.
-pub fn deal(alloc: Global, last: Worker, room: usize) -> Result<Vec<DequeEnds>, AllocError>
+pub fn deal<A: Allocator + Clone>(
+    alloc: A,
+    last: Worker,
+    room: usize,
+) -> Result<Vec<DequeEnds<A>, A>, AllocError>
     ensures count { IfOk result (λ all. vec_len all ≡ last) }
     ensures dealt { IfOk result (λ all. IsDealt (map worker_seats all.items)) }
     ensures whole { IfOk result (λ all. IsWhole (map posts all.items)) }
     ensures room { IfOk result (λ all. All (λ ends. worker_room ends ≡ room) all.items) }
 {
-    let mut owners = owners(alloc, usize::from(last.number()), room)?;
-    let rows = rows(alloc, &mut owners)?;
+    let mut owners = owners(&alloc, usize::from(last.number()), room)?;
+    let rows = rows(&alloc, &mut owners)?;
     paired(alloc, owners, rows)
 }
 
 /// Owners of new deques.
-fn owners(alloc: Global, count: usize, room: usize) -> Result<Vec<Owner>, AllocError>
+fn owners<A: Allocator + Clone>(
+    alloc: &A,
+    count: usize,
+    room: usize,
+) -> Result<Vec<Owner<A>, A>, AllocError>
     ensures count { IfOk result (λ owners. vec_len owners ≡ count) }
     ensures fresh { IfOk result (λ owners. All (λ owner. (owner_seat owner).tally ≡ tally 64 [] []) owners.items) }
     ensures room { IfOk result (λ owners. All (λ owner. owner_room owner ≡ room) owners.items) }
 {
-    let mut owners = Vec::with_capacity(alloc, count)?;
+    let mut owners = Vec::with_capacity(alloc.clone()?, count)?;
     for _made in 0..count {
-        owners.push_reserved(Owner::with_room(alloc, room)?);
+        owners.push_reserved(Owner::with_room(alloc.clone()?, room)?);
     }
     Ok(owners)
 }
 
 /// A row of thieves, one at each deque, for each worker.
-fn rows(alloc: Global, owners: &mut Vec<Owner>) -> Result<Vec<Vec<Thief>>, AllocError>
+fn rows<A: Allocator + Clone>(
+    alloc: &A,
+    owners: &mut Vec<Owner<A>, A>,
+) -> Result<Vec<Vec<Thief<A>, A>, A>, AllocError>
     requires fresh { All (λ owner. (owner_seat owner).tally ≡ tally 64 [] []) owners.old.items }
     requires few { vec_len owners.old < 64 }
     ensures count { IfOk result (λ rows. vec_len rows ≡ vec_len owners.old) }
@@ -49,15 +60,18 @@ fn rows(alloc: Global, owners: &mut Vec<Owner>) -> Result<Vec<Vec<Thief>>, Alloc
     ensures rows { IfOk result (λ rows. All (λ row. thief_seats row.items ≡ map new_thief (owner_seats owners.old.items)) rows.items) }
 {
     let count = owners.len();
-    let mut rows = Vec::with_capacity(alloc, count)?;
+    let mut rows = Vec::with_capacity(alloc.clone()?, count)?;
     for _made in 0..count {
-        rows.push_reserved(row(alloc, owners)?);
+        rows.push_reserved(row(alloc.clone()?, owners)?);
     }
     Ok(rows)
 }
 
 /// A thief at each deque, in the order of the deques.
-fn row(alloc: Global, owners: &mut Vec<Owner>) -> Result<Vec<Thief>, AllocError>
+fn row<A: Allocator>(
+    alloc: A,
+    owners: &mut Vec<Owner<A>, A>,
+) -> Result<Vec<Thief<A>, A>, AllocError>
     requires { All (λ seat. (1 < seat.tally.parts) × (seat.tally.taken ≡ [])) (owner_seats owners.old.items) }
     ensures owners { OnOk result (owner_seats owners.new.items ≡ map with_part_cut (owner_seats owners.old.items)) }
     ensures room { OnOk result (map owner_room owners.new.items ≡ map owner_room owners.old.items) }
@@ -72,11 +86,11 @@ fn row(alloc: Global, owners: &mut Vec<Owner>) -> Result<Vec<Thief>, AllocError>
 }
 
 /// Each owner with one row of thieves.
-fn paired(
-    alloc: Global,
-    owners: Vec<Owner>,
-    rows: Vec<Vec<Thief>>,
-) -> Result<Vec<DequeEnds>, AllocError>
+fn paired<A: Allocator>(
+    alloc: A,
+    owners: Vec<Owner<A>, A>,
+    rows: Vec<Vec<Thief<A>, A>, A>,
+) -> Result<Vec<DequeEnds<A>, A>, AllocError>
     requires count { vec_len rows ≡ vec_len owners }
     requires rows { All (λ row. thief_seats row.items ≡ map new_thief (owner_seats owners.items)) rows.items }
     ensures count { IfOk result (λ all. vec_len all ≡ vec_len owners) }

@@ -7,16 +7,17 @@ use crate::owner::Owner;
 use crate::thief::Thief;
 use pool_rules::Task;
 use sched_rules::Worker;
+use std::alloc::{Allocator, Global};
 
 /// A worker's own deque, and a thief's end of each worker's deque, in the order of the workers'
 /// numbers. The thief's end of its own deque is there for the order's sake, and isn't used.
 #[derive(Drop)]
-pub struct DequeEnds {
-    pub(crate) own: Owner,
-    pub(crate) thieves: Vec<Thief>,
+pub struct DequeEnds<A: Allocator = Global> {
+    pub(crate) own: Owner<A>,
+    pub(crate) thieves: Vec<Thief<A>, A>,
 }
 
-impl DequeEnds {
+impl<A: Allocator> DequeEnds<A> {
     ghost use Rattle.task_deques.specs.Deals.{worker_seats, worker_room, posts, IsTaken};
 
     /// Pushes a task on the worker's own deque, or hands it back as [`Owner::push`] does.
@@ -51,7 +52,11 @@ impl DequeEnds {
 }
 
 /// The first task that the thieves find from one place to before another.
-fn steal_between(thieves: &mut Vec<Thief>, from: usize, to: usize) -> Option<Task>
+fn steal_between<A: Allocator>(
+    thieves: &mut Vec<Thief<A>, A>,
+    from: usize,
+    to: usize,
+) -> Option<Task>
     ensures taken { IfSome result (λ task. IsStolen task (thief_seats thieves.old.items) (thief_seats thieves.new.items)) }
     ensures unchanged { IfNone result (thief_seats thieves.new.items ≡ thief_seats thieves.old.items) }
 {
@@ -64,7 +69,7 @@ fn steal_between(thieves: &mut Vec<Thief>, from: usize, to: usize) -> Option<Tas
 }
 
 /// The task that one of the thieves finds.
-fn steal_at(thieves: &mut Vec<Thief>, place: usize) -> Option<Task>
+fn steal_at<A: Allocator>(thieves: &mut Vec<Thief<A>, A>, place: usize) -> Option<Task>
     requires { place < vec_len thieves.old }
     ensures taken { IfSome result (λ task. IsStolen task (thief_seats thieves.old.items) (thief_seats thieves.new.items)) }
     ensures unchanged { IfNone result (thief_seats thieves.new.items ≡ thief_seats thieves.old.items) }

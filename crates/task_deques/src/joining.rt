@@ -5,9 +5,13 @@ ghost use Rattle.task_deques.specs.Deals.{owner_seats, thief_seats, deques, with
 use crate::owner::Owner;
 use crate::sums::Sums;
 use crate::thief::Thief;
+use std::alloc::Allocator;
 
 /// The owners, with the seats of all thieves joined to theirs.
-pub(crate) fn joined(owners: Vec<Owner>, rows: Vec<Vec<Thief>>) -> Vec<Owner>
+pub(crate) fn joined<A: Allocator>(
+    owners: Vec<Owner<A>, A>,
+    rows: Vec<Vec<Thief<A>, A>, A>,
+) -> Vec<Owner<A>, A>
     requires rows { All (λ row. deques (thief_seats row.items) ≡ deques (owner_seats owners.items)) rows.items }
     requires parts { All (λ seat. seat.tally.parts + vec_len rows ≡ 64) (owner_seats owners.items) }
     ensures seats { owner_seats result.items ≡ with_rows (owner_seats owners.items) (map (λ row. thief_seats row.items) rows.items) }
@@ -22,7 +26,7 @@ pub(crate) fn joined(owners: Vec<Owner>, rows: Vec<Vec<Thief>>) -> Vec<Owner>
 }
 
 /// Joins the seat of each thief to that of the owner at its place.
-fn join_row(owners: &mut Vec<Owner>, row: Vec<Thief>)
+fn join_row<A: Allocator>(owners: &mut Vec<Owner<A>, A>, row: Vec<Thief<A>, A>)
     requires deques { deques (thief_seats row.items) ≡ deques (owner_seats owners.old.items) }
     requires parts { All (λ seat. seat.tally.parts < 64) (owner_seats owners.old.items) }
     ensures { owner_seats owners.new.items ≡ with_row (owner_seats owners.old.items) (thief_seats row.items) }
@@ -35,7 +39,7 @@ fn join_row(owners: &mut Vec<Owner>, row: Vec<Thief>)
 }
 
 /// The sums of all deques together, whose owners' seats have all parts.
-pub(crate) fn added(owners: Vec<Owner>) -> Sums
+pub(crate) fn added<A: Allocator>(owners: Vec<Owner<A>, A>) -> Sums
     requires parts { All (λ seat. seat.tally.parts ≡ 64) (owner_seats owners.items) }
     requires few { vec_len owners ≤ 64 }
     ensures pushed { result.pushed ≡ sum_by (λ deque. length deque.tally.pushed) (owner_seats owners.items) }

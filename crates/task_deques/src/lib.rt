@@ -4,7 +4,8 @@
 //! worker that has none steals the oldest of another's. [`deal`] makes all deques and deals their
 //! [`DequeEnds`] to the workers before any thread starts: each gets the owner's end of one deque and a thief's
 //! end of each. When the threads have ended, the ends come back ([`Returned`]), and what was pushed on
-//! each deque is what was taken from it and what is left, each task as often ([`Returned::sums`]).
+//! each deque is what was taken from it and what is left, each task as often ([`Returned::sums`]). The
+//! ends are generic in their allocator, and a pool's are those of `Global`.
 //!
 //! **What the values stand for.** An end of a deque has a seat there: which deque it is, and a [`Tally`]
 //! of the tasks that this end pushed and took (`specs/Seats.antt`). A push, a pop and a steal that find

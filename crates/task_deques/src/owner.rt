@@ -9,13 +9,13 @@ use crate::steps;
 use crate::sums::Sums;
 use crate::thief::Thief;
 use pool_rules::Task;
-use std::alloc::{AllocError, Global};
+use std::alloc::{AllocError, Allocator, Global};
 
 /// The owner's end of a deque, with how many tasks it pushed, and how many it and the thieves that
 /// were joined to it took.
 #[derive(Drop)]
-pub struct Owner {
-    worker: OwnerEnd,
+pub struct Owner<A: Allocator = Global> {
+    worker: OwnerEnd<A>,
     room: usize,
     pushed: u64,
     taken: u128,
@@ -26,11 +26,13 @@ pub struct Owner {
     ghost few: { taken ≤ (worker_view worker).parts * 18446744073709551615 },
 }
 
-impl Owner {
+impl<A: Allocator> Owner<A> {
     ghost use Rattle.task_deques.specs.Seats.{owner_seat, owner_room, thief_seat, with_pushed, with_taken, with_part_cut, new_thief, joined};
 
     /// The owner of a new deque with room for so many tasks. It fails only where memory is refused.
-    pub fn with_room(alloc: Global, room: usize) -> Result<Owner, AllocError>
+    pub fn with_room(alloc: A, room: usize) -> Result<Owner<A>, AllocError>
+    where
+        A: Clone,
         ensures tally { IfOk result (λ owner. (owner_seat owner).tally ≡ tally 64 [] []) }
         ensures room { IfOk result (λ owner. owner_room owner ≡ room) }
     {
@@ -90,7 +92,7 @@ impl Owner {
 
     /// A thief of this deque. It fails only where memory is refused, and the owner has one part less
     /// all the same.
-    pub fn thief(&mut self) -> Result<Thief, AllocError>
+    pub fn thief(&mut self) -> Result<Thief<A>, AllocError>
         requires parts { 1 < (owner_seat self.old).tally.parts }
         requires none_taken { (owner_seat self.old).tally.taken ≡ [] }
         ensures owner { owner_seat self.new ≡ with_part_cut (owner_seat self.old) }
@@ -103,7 +105,7 @@ impl Owner {
     }
 
     /// Takes in the seat of a thief of this deque.
-    pub fn join(&mut self, thief: Thief)
+    pub fn join(&mut self, thief: Thief<A>)
         requires deque { (thief_seat thief).deque ≡ (owner_seat self.old).deque }
         requires parts { (owner_seat self.old).tally.parts < 64 }
         ensures seat { owner_seat self.new ≡ joined (owner_seat self.old) (thief_seat thief) }

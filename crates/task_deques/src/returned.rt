@@ -6,27 +6,29 @@ use crate::joining::{added, joined};
 use crate::owner::Owner;
 use crate::sums::Sums;
 use crate::thief::Thief;
-use std::alloc::{AllocError, Global};
+use std::alloc::{AllocError, Allocator, Global};
 
 /// Ends that came back.
 #[derive(Drop)]
-pub struct Returned {
-    owners: Vec<Owner>,
-    rows: Vec<Vec<Thief>>,
+pub struct Returned<A: Allocator = Global> {
+    owners: Vec<Owner<A>, A>,
+    rows: Vec<Vec<Thief<A>, A>, A>,
     room: usize,
     ghost paired: { vec_len owners ≡ vec_len rows },
     ghost fits: { (room ≤ vec_capacity owners) × (room ≤ vec_capacity rows) },
 }
 
-impl Returned {
+impl<A: Allocator> Returned<A> {
     ghost use Rattle.task_deques.specs.Deals.{worker_seats, posts_of, returned, returned_room, whole_deques, IsWhole, IsAccounted};
 
     /// None, and room for those of so many workers. It fails only where memory is refused.
-    pub fn with_room(alloc: Global, room: usize) -> Result<Returned, AllocError>
+    pub fn with_room(alloc: A, room: usize) -> Result<Returned<A>, AllocError>
+    where
+        A: Clone,
         ensures none { IfOk result (λ back. returned back ≡ []) }
         ensures room { IfOk result (λ back. returned_room back ≡ room) }
     {
-        let owners = Vec::with_capacity(alloc, room)?;
+        let owners = Vec::with_capacity(alloc.clone()?, room)?;
         let rows = Vec::with_capacity(alloc, room)?;
         Ok(Returned { owners, rows, room })
     }
@@ -39,7 +41,7 @@ impl Returned {
     }
 
     /// Puts a worker's ends after those that are there.
-    pub fn put(&mut self, ends: DequeEnds)
+    pub fn put(&mut self, ends: DequeEnds<A>)
         requires { length (returned self.old) < returned_room self.old }
         ensures ends { returned self.new ≡ returned self.old ++ worker_seats ends ∷ [] }
         ensures room { returned_room self.new ≡ returned_room self.old }

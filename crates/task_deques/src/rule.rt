@@ -16,7 +16,6 @@ ghost use Rattle.task_deques.specs.Tallies.{tally, weigh, IsEmptied, IsEachOnce}
 use crossbeam_deque::protocol::{Join, Lesson, Outcome, Protocol, Split};
 use crossbeam_deque::{Pass, Stealer, Worker};
 use pool_rules::Task;
-use std::alloc::Global;
 use std::collections::LinkedList;
 
 /// What a seat has pushed and taken, and its parts of the right to know the whole. No value of it is
@@ -88,10 +87,10 @@ impl Lesson<Task, Tally> for Whole {
 }
 
 /// The owner's end of a deque.
-pub(crate) type OwnerEnd = Worker<Task, Global, Tally, EachOnce>;
+pub(crate) type OwnerEnd<A> = Worker<Task, A, Tally, EachOnce>;
 
 /// A thief's end.
-pub(crate) type ThiefEnd = Stealer<Task, Global, Tally, EachOnce>;
+pub(crate) type ThiefEnd<A> = Stealer<Task, A, Tally, EachOnce>;
 
 /// A thief's seat.
-pub(crate) type DequeSeat = Pass<Task, Tally>;
+pub(crate) type DequeSeat<A> = Pass<Task, Tally, A>;

@@ -7,19 +7,19 @@ ghost use Rattle.task_deques.specs.Tallies.{tally, weigh, IsEmptied};
 use crate::rule::{DequeSeat, OwnerEnd, Part, Popped, Pushed, Taken, ThiefEnd, Whole};
 use crossbeam_deque::Steal;
 use pool_rules::Task;
-use std::alloc::{AllocError, Global};
+use std::alloc::{AllocError, Allocator};
 
 /// A deque with no task, and room for so many before it takes memory again. It fails only where memory
 /// is refused.
-pub(crate) fn made(alloc: Global, room: usize) -> Result<OwnerEnd, AllocError>
+pub(crate) fn made<A: Allocator + Clone>(alloc: A, room: usize) -> Result<OwnerEnd<A>, AllocError>
     ensures newest_first { IfOk result (λ w. worker_flavor w ≡ 1) }
     ensures tally { IfOk result (λ w. worker_view w ≡ tally 64 [] []) }
 {
-    OwnerEnd::lifo_as(alloc, room)
+    OwnerEnd::<A>::lifo_as(alloc, room)
 }
 
 /// Pushes a task, or hands it back.
-pub(crate) fn push(owner: &mut OwnerEnd, task: Task) -> Result<(), Task>
+pub(crate) fn push<A: Allocator>(owner: &mut OwnerEnd<A>, task: Task) -> Result<(), Task>
     requires { 0 < (worker_view owner.old).parts }
     ensures same { (worker_deque owner.new ≡ worker_deque owner.old) × (worker_flavor owner.new ≡ worker_flavor owner.old) }
     ensures rule { MatchResult result
@@ -30,7 +30,7 @@ pub(crate) fn push(owner: &mut OwnerEnd, task: Task) -> Result<(), Task>
 }
 
 /// Takes the newest task.
-pub(crate) fn pop(owner: &mut OwnerEnd) -> Option<Task>
+pub(crate) fn pop<A: Allocator>(owner: &mut OwnerEnd<A>) -> Option<Task>
     requires { 0 < (worker_view owner.old).parts }
     ensures same { (worker_deque owner.new ≡ worker_deque owner.old) × (worker_flavor owner.new ≡ worker_flavor owner.old) }
     ensures rule { MatchOption result
@@ -42,7 +42,7 @@ pub(crate) fn pop(owner: &mut OwnerEnd) -> Option<Task>
 }
 
 /// Takes the oldest task of another's deque. Nothing is learned where none came.
-pub(crate) fn steal(thief: &ThiefEnd, seat: &mut DequeSeat) -> Option<Task>
+pub(crate) fn steal<A: Allocator>(thief: &ThiefEnd<A>, seat: &mut DequeSeat<A>) -> Option<Task>
     requires deque { IsPassOf (stealer_deque thief.now) seat.old }
     requires part { 0 < (view seat.old).parts }
     ensures same { IsPassOf (stealer_deque thief.now) seat.new }
@@ -57,7 +57,7 @@ pub(crate) fn steal(thief: &ThiefEnd, seat: &mut DequeSeat) -> Option<Task>
 }
 
 /// A seat for a thief, with one part of the owner's.
-pub(crate) fn seat(owner: &mut OwnerEnd) -> DequeSeat
+pub(crate) fn seat<A: Allocator>(owner: &mut OwnerEnd<A>) -> DequeSeat<A>
     requires { 1 < (worker_view owner.old).parts }
     ensures same { (worker_deque owner.new ≡ worker_deque owner.old) × (worker_flavor owner.new ≡ worker_flavor owner.old) }
     ensures deque { IsPassOf (worker_deque owner.old) result }
@@ -68,7 +68,7 @@ pub(crate) fn seat(owner: &mut OwnerEnd) -> DequeSeat
 }
 
 /// Joins a thief's seat to the owner's.
-pub(crate) fn join(owner: &mut OwnerEnd, seat: DequeSeat)
+pub(crate) fn join<A: Allocator>(owner: &mut OwnerEnd<A>, seat: DequeSeat<A>)
     requires deque { IsPassOf (worker_deque owner.old) seat }
     requires part { 0 < (worker_view owner.old).parts }
     ensures same { (worker_deque owner.new ≡ worker_deque owner.old) × (worker_flavor owner.new ≡ worker_flavor owner.old) }
@@ -79,7 +79,7 @@ pub(crate) fn join(owner: &mut OwnerEnd, seat: DequeSeat)
 }
 
 /// How many tasks wait at one moment of the call: with all parts, all that were pushed and not taken.
-pub(crate) fn waiting(owner: &mut OwnerEnd) -> usize
+pub(crate) fn waiting<A: Allocator>(owner: &mut OwnerEnd<A>) -> usize
     ensures same { (worker_deque owner.new ≡ worker_deque owner.old) × (worker_flavor owner.new ≡ worker_flavor owner.old) }
     ensures tally { worker_view owner.new ≡ worker_view owner.old }
     ensures counts { (worker_view owner.old).parts ≡ 64 → length (worker_view owner.old).pushed ≡ length (worker_view owner.old).taken + result }
@@ -88,7 +88,7 @@ pub(crate) fn waiting(owner: &mut OwnerEnd) -> usize
 }
 
 /// What the owner learns once it has all parts: what was pushed is what was taken and what is left.
-pub(crate) fn left(owner: &mut OwnerEnd) -> usize
+pub(crate) fn left<A: Allocator>(owner: &mut OwnerEnd<A>) -> usize
     requires { (worker_view owner.old).parts ≡ 64 }
     ensures same { (worker_deque owner.new ≡ worker_deque owner.old) × (worker_flavor owner.new ≡ worker_flavor owner.old) }
     ensures tally { worker_view owner.new ≡ worker_view owner.old }

@@ -6,8 +6,10 @@ use super::*;
 use frame_tree::FrameId;
 use pool_rules::TaskList;
 use sched_rules::Worker;
-use std::alloc::{AllocError, Global};
+use std::alloc::{AllocError, Allocator, Global};
 use std::test::Fail;
+
+mod growths;
 
 /// The task of tenant 1's frame of this serial, at a home.
 fn task(serial: u64, home: u8) -> Task {
@@ -26,7 +28,7 @@ fn serial(taken: Option<Task>) -> u64 {
 }
 
 /// A worker pushes a task; false where it is handed back.
-fn pushes(all: &mut Vec<DequeEnds>, worker: Worker, serial: u64) -> bool
+fn pushes<A: Allocator>(all: &mut Vec<DequeEnds<A>, A>, worker: Worker, serial: u64) -> bool
     ensures posts { map posts all.new.items ≡ map posts all.old.items }
     ensures len { vec_len all.new ≡ vec_len all.old }
 {
@@ -38,7 +40,7 @@ fn pushes(all: &mut Vec<DequeEnds>, worker: Worker, serial: u64) -> bool
 }
 
 /// A worker takes a task.
-fn takes(all: &mut Vec<DequeEnds>, worker: Worker) -> u64
+fn takes<A: Allocator>(all: &mut Vec<DequeEnds<A>, A>, worker: Worker) -> u64
     ensures posts { map posts all.new.items ≡ map posts all.old.items }
     ensures len { vec_len all.new ≡ vec_len all.old }
 {
@@ -50,7 +52,11 @@ fn takes(all: &mut Vec<DequeEnds>, worker: Worker) -> u64
 }
 
 /// The sums of all deques, once their ends are put back.
-fn sums(alloc: Global, last: Worker, all: Vec<DequeEnds>) -> Result<Sums, AllocError>
+fn sums<A: Allocator + Clone>(
+    alloc: A,
+    last: Worker,
+    all: Vec<DequeEnds<A>, A>,
+) -> Result<Sums, AllocError>
     requires whole { IsWhole (map posts all.items) }
     requires count { vec_len all ≡ last }
 {

@@ -6,13 +6,13 @@ ghost use Rattle.task_deques.specs.Tallies.{tally};
 use crate::rule::{DequeSeat, OwnerEnd, ThiefEnd};
 use crate::steps;
 use pool_rules::Task;
-use std::alloc::AllocError;
+use std::alloc::{AllocError, Allocator, Global};
 
 /// A thief's end of a deque, with its seat there and how many tasks it stole.
 #[derive(Drop)]
-pub struct Thief {
-    stealer: ThiefEnd,
-    pass: DequeSeat,
+pub struct Thief<A: Allocator = Global> {
+    stealer: ThiefEnd<A>,
+    pass: DequeSeat<A>,
     stolen: u64,
     ghost deque: { IsPassOf (stealer_deque stealer) pass },
     ghost part: { (view pass).parts ≡ 1 },
@@ -20,11 +20,11 @@ pub struct Thief {
     ghost stolen_are: { length (view pass).taken ≡ stolen },
 }
 
-impl Thief {
+impl<A: Allocator> Thief<A> {
     ghost use Rattle.task_deques.specs.Seats.{thief_seat, with_taken};
 
     /// A thief with a new seat at a deque. It fails only where memory is refused.
-    pub(crate) fn at(worker: &OwnerEnd, pass: DequeSeat) -> Result<Thief, AllocError>
+    pub(crate) fn at(worker: &OwnerEnd<A>, pass: DequeSeat<A>) -> Result<Thief<A>, AllocError>
         requires deque { IsPassOf (worker_deque worker.now) pass }
         requires tally { view pass ≡ tally 1 [] [] }
         ensures deque { IfOk result (λ thief. (thief_seat thief).deque ≡ worker_deque worker.now) }
@@ -58,7 +58,7 @@ impl Thief {
     }
 
     /// Its seat, and how many tasks it stole.
-    pub(crate) fn left(self) -> (DequeSeat, u64)
+    pub(crate) fn left(self) -> (DequeSeat<A>, u64)
         ensures deque { IsPassOf (thief_seat self).deque result.0 }
         ensures tally { view result.0 ≡ (thief_seat self).tally }
         ensures part { (view result.0).parts ≡ 1 }

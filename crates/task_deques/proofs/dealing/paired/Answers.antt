@@ -1,20 +1,20 @@
 use Rattle.std.proofs.Common.{◌≡◌, List, Some, map, ap, arith}
 use Rattle.std.proofs.lemmas.List.Elements.{All-pop}
 use Rattle.std.specs.Vec.Iter.{into_iter_items}
-use Rattle.task_deques.specs.Seats.{DequeSeat, owner_seat, new_thief}
+use Rattle.task_deques.specs.Seats.{DequeSeatIn, owner_seat, new_thief}
 use Rattle.task_deques.specs.Deals.{owner_seats, thief_seats, worker_seats, beside}
 use Rattle.task_deques.proofs.SeatLemmas.{gives, gives_room}
 use Rattle.task_deques.proofs.dealing.paired.Goals as goal
 
 pub loop-own-preserved : goal.loop-own-preserved
-loop-own-preserved c =
+loop-own-preserved g c =
     let at = c.loop-own in
     let own = c.in-Some.own in
     let row = c.in-Some-pop.thieves in
-    let owners : List DequeSeat = owner_seats c.args.owners.items in
-    let thieves : List DequeSeat = map new_thief owners in
+    let owners : List (DequeSeatIn g.row.A.Denot) = owner_seats c.args.owners.items in
+    let thieves : List (DequeSeatIn g.row.A.Denot) = map new_thief owners in
     let popped = All-pop (λ r. thief_seats r.items ≡ thieves) at.rows.items c.pop.new.self.items (Some row) c.in-Some-pop.ensures.items c.loop-own.invariant.1 in
-    let its : worker_seats (record { own = own; thieves = row }) ≡ beside thieves (owner_seat own) = ap (λ (l : List DequeSeat). beside l (owner_seat own)) popped.1 in (
+    let its : worker_seats (record { own = own; thieves = row }) ≡ beside thieves (owner_seat own) = ap (λ (l : List (DequeSeatIn g.row.A.Denot)). beside l (owner_seat own)) popped.1 in (
       rw c.push_reserved.ensures.items (gives at.all.items (record { own = own; thieves = row }) own (into_iter_items at.own-iterator) (into_iter_items c.next.new.self) thieves owners its c.in-Some.ensures.steps.0 c.loop-own.invariant.0),
       popped.0,
       omega (arith, c.in-Some.ensures.steps.1, c.in-Some-pop.ensures.len, c.loop-own.invariant.2),

@@ -5,7 +5,7 @@ use Rattle.task_deques.specs.Deals.{owner_seats, thief_seats, worker_seats, work
 use Rattle.task_deques.proofs.dealing.paired.Given as goal
 
 abbrev pub invariant-loop-own : goal.invariant-loop-own
-invariant-loop-own l =
+invariant-loop-own g l =
     let owners = owner_seats l.fn.owners.items in
     let thieves = map new_thief owners in
     (map worker_seats l.all.items ++ map (beside thieves) (owner_seats (into_iter_items l.own-iterator)) ≡ map (beside thieves) owners)

@@ -1,24 +1,24 @@
 use Rattle.std.proofs.Common.{◌<◌, List, length, ap, ◌∙◌, arith, rules}
 use Rattle.std.proofs.Math.Seq.{map-set_same}
-use Rattle.task_deques.specs.Seats.{DequeSeat, owner_seat, owner_room, with_part_cut, new_thief}
+use Rattle.task_deques.specs.Seats.{DequeSeatIn, owner_seat, owner_room, with_part_cut, new_thief}
 use Rattle.task_deques.specs.Deals.{owner_seats}
 use Rattle.task_deques.proofs.SeatLemmas.{owner_at, owner_gives, cut_at, row_push}
 use Rattle.task_deques.proofs.dealing.row.Goals as goal
 
 pub thief-requires-clause-parts : goal.thief-requires-clause-parts
-thief-requires-clause-parts c =
+thief-requires-clause-parts g c =
     (owner_gives _ _ _ _ (omega (arith, c.loop-place.owners.ok.0, c.loop-place.invariant.4)) (omega (arith, c.loop-place.invariant.5)) c.index_mut.ensures.value c.loop-place.invariant.0 c.requires).0
 
 pub thief-requires-clause-none_taken : goal.thief-requires-clause-none_taken
-thief-requires-clause-none_taken c =
+thief-requires-clause-none_taken g c =
     (owner_gives _ _ _ _ (omega (arith, c.loop-place.owners.ok.0, c.loop-place.invariant.4)) (omega (arith, c.loop-place.invariant.5)) c.index_mut.ensures.value c.loop-place.invariant.0 c.requires).1
 
 pub loop-place-preserved : goal.loop-place-preserved
-loop-place-preserved c =
+loop-place-preserved g c =
     let x = c.index_mut.result.now in
     let at = c.loop-place in
     let thief = c.in_ok-thief.field-0 in
-    let before : List DequeSeat = owner_seats c.args.owners.now.items in
+    let before : List (DequeSeatIn g.row.A.Denot) = owner_seats c.args.owners.now.items in
     let inside : at.place < length at.owners.items = omega (arith, at.owners.ok.0, c.loop-place.invariant.4) in
     let within : at.place < length before = omega (arith, c.loop-place.invariant.5) in
     let here = owner_at with_part_cut at.owners.items before at.place x inside c.index_mut.ensures.value c.loop-place.invariant.0 in (

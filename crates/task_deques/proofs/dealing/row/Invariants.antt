@@ -4,7 +4,7 @@ use Rattle.task_deques.specs.Deals.{owner_seats, thief_seats}
 use Rattle.task_deques.proofs.dealing.row.Given as goal
 
 abbrev pub invariant-loop-place : goal.invariant-loop-place
-invariant-loop-place l =
+invariant-loop-place g l =
     let before = owner_seats l.initial.owners.items in
     (owner_seats l.owners.items ≡ map with_part_cut (take l.place before) ++ drop l.place before)
     × (thief_seats l.row.items ≡ map new_thief (take l.place before))

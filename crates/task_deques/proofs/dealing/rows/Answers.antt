@@ -1,14 +1,14 @@
 use Rattle.std.proofs.Common.{◌≡◌, ◌-◌, ◌+◌, ◌<◌, [], List, length, map, refl, sym, ap, ◌∙◌, arith, rules}
 use Rattle.std.proofs.lemmas.List.Elements.{All-map, All-same, All-push}
 use Rattle.task_deques.specs.Tallies.{tally}
-use Rattle.task_deques.specs.Seats.{DequeSeat, owner_seat, with_part_cut, new_thief}
+use Rattle.task_deques.specs.Seats.{DequeSeatIn, owner_seat, with_part_cut, new_thief}
 use Rattle.task_deques.specs.Deals.{owner_seats, thief_seats, fresh_with}
 use Rattle.task_deques.proofs.SeatLemmas.{fresh_same, cut_again, new_of_fresh}
 use Rattle.task_deques.proofs.dealing.rows.Goals as goal
 
 pub loop-made-init : goal.loop-made-init
-loop-made-init c = (
-  sym (fresh_same (owner_seats c.args.owners.now.items) (All-map (λ (seat : DequeSeat). seat.tally ≡ tally 64 [] []) owner_seat c.args.owners.now.items c.requires.fresh)),
+loop-made-init g c = (
+  sym (fresh_same (owner_seats c.args.owners.now.items) (All-map (λ (seat : DequeSeatIn g.row.A.Denot). seat.tally ≡ tally 64 [] []) owner_seat c.args.owners.now.items c.requires.fresh)),
   λ k d inside. absurd (omega (arith, ap length c.in_ok-rows.ensures.items)),
   search rules,
   search rules,
@@ -17,22 +17,22 @@ loop-made-init c = (
 )
 
 pub row-requires : goal.row-requires
-row-requires c =
-    let before : List DequeSeat = owner_seats c.args.owners.now.items in
+row-requires g c =
+    let before : List (DequeSeatIn g.row.A.Denot) = owner_seats c.args.owners.now.items in
     let left = 64 - c.loop-made._made in
-    let P : DequeSeat → Type 0 = λ (seat : DequeSeat). (1 < seat.tally.parts) × (seat.tally.taken ≡ []) in
+    let P : DequeSeatIn g.row.A.Denot → Type 0 = λ (seat : DequeSeatIn g.row.A.Denot). (1 < seat.tally.parts) × (seat.tally.taken ≡ []) in
     let enough : 1 < left = omega (arith, c.loop-made.invariant.4) in
     All-same P (owner_seats c.loop-made.owners.items) (map (fresh_with left) before) c.loop-made.invariant.0 (All-map P (fresh_with left) before (λ k d inside. (enough, refl)))
 
 pub loop-made-preserved : goal.loop-made-preserved
-loop-made-preserved c =
-    let before : List DequeSeat = owner_seats c.args.owners.now.items in
+loop-made-preserved g c =
+    let before : List (DequeSeatIn g.row.A.Denot) = owner_seats c.args.owners.now.items in
     let at = c.loop-made in
     let made = c.loop-made._made in
     let less : (64 - made) - 1 ≡ 64 - (made + 1) = omega arith in
     let row = c.in_ok-row.field-0 in
-    let new : thief_seats row.items ≡ map new_thief before = c.in_ok-row.ensures.thieves ∙ ap (λ (l : List DequeSeat). map new_thief l) c.loop-made.invariant.0 ∙ new_of_fresh (64 - made) before in (
-      c.in_ok-row.ensures.owners ∙ ap (λ (l : List DequeSeat). map with_part_cut l) c.loop-made.invariant.0 ∙ cut_again (64 - made) before ∙ ap (λ n. map (fresh_with n) before) less,
+    let new : thief_seats row.items ≡ map new_thief before = c.in_ok-row.ensures.thieves ∙ ap (λ (l : List (DequeSeatIn g.row.A.Denot)). map new_thief l) c.loop-made.invariant.0 ∙ new_of_fresh (64 - made) before in (
+      c.in_ok-row.ensures.owners ∙ ap (λ (l : List (DequeSeatIn g.row.A.Denot)). map with_part_cut l) c.loop-made.invariant.0 ∙ cut_again (64 - made) before ∙ ap (λ n. map (fresh_with n) before) less,
       rw c.push_reserved.ensures.items (All-push (λ r. thief_seats r.items ≡ map new_thief before) at.rows.items row c.loop-made.invariant.1 new),
       omega (arith, c.push_reserved.ensures.len),
       omega (arith, c.push_reserved.ensures.capacity),

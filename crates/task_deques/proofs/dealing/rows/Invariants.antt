@@ -4,7 +4,7 @@ use Rattle.task_deques.specs.Deals.{owner_seats, thief_seats, fresh_with}
 use Rattle.task_deques.proofs.dealing.rows.Given as goal
 
 abbrev pub invariant-loop-made : goal.invariant-loop-made
-invariant-loop-made l =
+invariant-loop-made g l =
     let before = owner_seats l.initial.owners.items in
     (owner_seats l.owners.items ≡ map (fresh_with (64 - l._made)) before)
     × All (λ row. thief_seats row.items ≡ map new_thief before) l.rows.items

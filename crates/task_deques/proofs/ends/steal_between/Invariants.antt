@@ -3,4 +3,4 @@ use Rattle.task_deques.specs.Deals.{thief_seats}
 use Rattle.task_deques.proofs.ends.steal_between.Given as goal
 
 abbrev pub invariant-loop-place : goal.invariant-loop-place
-invariant-loop-place l = (thief_seats l.thieves.items ≡ thief_seats l.initial.thieves.items) × (l.place-end ≤ vec_len l.thieves)
+invariant-loop-place g l = (thief_seats l.thieves.items ≡ thief_seats l.initial.thieves.items) × (l.place-end ≤ vec_len l.thieves)

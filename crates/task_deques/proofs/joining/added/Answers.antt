@@ -2,34 +2,34 @@ use Rattle.std.proofs.Common.{◌≡◌, ◌+◌, ◌<◌, List, All, length, ta
 use Rattle.std.proofs.lemmas.List.{take_all, length-map}
 use Rattle.std.proofs.lemmas.List.Sums.{sum_by_more}
 use Rattle.std.proofs.lemmas.List.Elements.{All-more}
-use Rattle.task_deques.specs.Seats.{DequeSeat, owner_seat}
+use Rattle.task_deques.specs.Seats.{DequeSeatIn, owner_seat}
 use Rattle.task_deques.specs.Deals.{owner_seats, IsAccounted}
 use Rattle.task_deques.proofs.SeatLemmas.{seat_at, seats_same}
 use Rattle.task_deques.proofs.joining.added.Goals as goal
 
 pub sums-sums-requires : goal.sums-sums-requires
-sums-sums-requires c =
+sums-sums-requires g c =
     let at = c.loop-place in
     let x = c.index_mut.result.now in
-    let seats : List DequeSeat = owner_seats c.args.owners.items in
+    let seats : List (DequeSeatIn g.row.A.Denot) = owner_seats c.args.owners.items in
     let inside : at.place < length at.owners.items = omega (arith, at.owners.ok.0, c.loop-place.invariant.6) in
     let here = seat_at at.owners.items seats at.place x inside c.index_mut.ensures.value c.loop-place.invariant.0 in
     let within : at.place < length seats = omega (arith, ap length c.loop-place.invariant.0, length-map at.owners.items owner_seat) in
-    subst (λ (s : DequeSeat). s.tally.parts ≡ 64) here (c.requires.parts at.place (owner_seat x) within)
+    subst (λ (s : DequeSeatIn g.row.A.Denot). s.tally.parts ≡ 64) here (c.requires.parts at.place (owner_seat x) within)
 
 pub loop-place-preserved : goal.loop-place-preserved
-loop-place-preserved c =
+loop-place-preserved g c =
     let at = c.loop-place in
     let x = c.index_mut.result.now in
     let sums = c.sums-sums.result in
-    let seats : List DequeSeat = owner_seats c.args.owners.items in
+    let seats : List (DequeSeatIn g.row.A.Denot) = owner_seats c.args.owners.items in
     let inside : at.place < length at.owners.items = omega (arith, at.owners.ok.0, c.loop-place.invariant.6) in
     let here = seat_at at.owners.items seats at.place x inside c.index_mut.ensures.value c.loop-place.invariant.0 in
     let within : at.place < length seats = omega (arith, ap length c.loop-place.invariant.0, length-map at.owners.items owner_seat) in
     let pushed : sum_by (λ deque. length deque.tally.pushed) (take (at.place + 1) seats) ≡ sum_by (λ deque. length deque.tally.pushed) (take at.place seats) + length (owner_seat x).tally.pushed =
-    sum_by_more (λ (deque : DequeSeat). length deque.tally.pushed) seats at.place (owner_seat x) within ∙ ap (λ (s : DequeSeat). sum_by (λ (deque : DequeSeat). length deque.tally.pushed) (take at.place seats) + length s.tally.pushed) here in
+    sum_by_more (λ (deque : DequeSeatIn g.row.A.Denot). length deque.tally.pushed) seats at.place (owner_seat x) within ∙ ap (λ (s : DequeSeatIn g.row.A.Denot). sum_by (λ (deque : DequeSeatIn g.row.A.Denot). length deque.tally.pushed) (take at.place seats) + length s.tally.pushed) here in
     let taken : sum_by (λ deque. length deque.tally.taken) (take (at.place + 1) seats) ≡ sum_by (λ deque. length deque.tally.taken) (take at.place seats) + length (owner_seat x).tally.taken =
-    sum_by_more (λ (deque : DequeSeat). length deque.tally.taken) seats at.place (owner_seat x) within ∙ ap (λ (s : DequeSeat). sum_by (λ (deque : DequeSeat). length deque.tally.taken) (take at.place seats) + length s.tally.taken) here in
+    sum_by_more (λ (deque : DequeSeatIn g.row.A.Denot). length deque.tally.taken) seats at.place (owner_seat x) within ∙ ap (λ (s : DequeSeatIn g.row.A.Denot). sum_by (λ (deque : DequeSeatIn g.row.A.Denot). length deque.tally.taken) (take at.place seats) + length s.tally.taken) here in
     let each = c.sums-sums.ensures.each_once in
     let mine : IsAccounted (owner_seat x) = (each.0, each.2) in (
       seats_same at.owners.items at.place x c.sums-sums.new.self c.index_mut.ensures.value c.sums-sums.ensures.unchanged ∙ c.loop-place.invariant.0,
@@ -43,8 +43,8 @@ loop-place-preserved c =
     )
 
 pub returns-clause-each_once : goal.returns-clause-each_once
-returns-clause-each_once c =
+returns-clause-each_once g c =
     let at = c.loop-place in
-    let seats : List DequeSeat = owner_seats c.args.owners.items in
+    let seats : List (DequeSeatIn g.row.A.Denot) = owner_seats c.args.owners.items in
     let all : take at.place seats ≡ seats = take_all at.place seats (omega (arith, ap length c.loop-place.invariant.0, length-map at.owners.items owner_seat, at.owners.ok.0, c.loop-place.invariant.6)) in
     subst (All IsAccounted) all c.loop-place.invariant.3

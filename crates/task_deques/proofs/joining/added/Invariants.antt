@@ -3,7 +3,7 @@ use Rattle.task_deques.specs.Deals.{owner_seats, IsAccounted}
 use Rattle.task_deques.proofs.joining.added.Given as goal
 
 abbrev pub invariant-loop-place : goal.invariant-loop-place
-invariant-loop-place l =
+invariant-loop-place g l =
     let owners = owner_seats l.initial.owners.items in
     (owner_seats l.owners.items ≡ owners)
     × (l.pushed ≡ sum_by (λ deque. length deque.tally.pushed) (take l.place owners))

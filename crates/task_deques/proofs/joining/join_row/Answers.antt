@@ -2,39 +2,39 @@ use Rattle.std.proofs.Common.{◌≡◌, [], List, sym, subst, refl, arith}
 use Rattle.std.proofs.lemmas.List.{nil_from_length}
 use Rattle.std.specs.Vec.Iter.{into_iter_items}
 use Rattle.task_deques.specs.declared.thief.Thief.{Thief}
-use Rattle.task_deques.specs.Seats.{DequeSeat}
+use Rattle.task_deques.specs.Seats.{DequeSeatIn}
 use Rattle.task_deques.specs.Deals.{owner_seats, thief_seats, with_row}
 use Rattle.task_deques.proofs.JoinLemmas.{IsTurn, turn_inside, joins_here, joined_here, joined_all}
 use Rattle.task_deques.proofs.joining.join_row.Goals as goal
 
 pub loop-thief-init : goal.loop-thief-init
-loop-thief-init c =
-    let owners : List DequeSeat = owner_seats c.args.owners.now.items in
+loop-thief-init g c =
+    let owners : List (DequeSeatIn g.row.A.Denot) = owner_seats c.args.owners.now.items in
     let row = c.args.row.items in
-    subst (λ (l : List Thief). IsTurn owners 0 (thief_seats l) (with_row owners (thief_seats row))) (sym c.into_iter-thief-iterator.ensures.into_iter_gives.0)
+    subst (λ (l : List (Thief g.row.A.Denot)). IsTurn owners 0 (thief_seats l) (with_row owners (thief_seats row))) (sym c.into_iter-thief-iterator.ensures.into_iter_gives.0)
     (record { comes_to = refl; same = c.requires.deques; parts = c.requires.parts })
 
 pub index_mut-requires : goal.index_mut-requires
-index_mut-requires c =
+index_mut-requires g c =
     let inside = turn_inside c.loop-thief.owners.items c.loop-thief.place c.in-Some.thief _ _ _ c.in-Some.ensures.steps.0 c.loop-thief.invariant in
     omega (arith, inside, c.loop-thief.owners.ok.0)
 
 pub join-requires-clause-deque : goal.join-requires-clause-deque
-join-requires-clause-deque c =
+join-requires-clause-deque g c =
     (joins_here c.loop-thief.owners.items c.loop-thief.place c.index_mut.result.now c.in-Some.thief _ _ _ c.index_mut.ensures.value c.in-Some.ensures.steps.0 c.loop-thief.invariant).1
 
 pub join-requires-clause-parts : goal.join-requires-clause-parts
-join-requires-clause-parts c =
+join-requires-clause-parts g c =
     (joins_here c.loop-thief.owners.items c.loop-thief.place c.index_mut.result.now c.in-Some.thief _ _ _ c.index_mut.ensures.value c.in-Some.ensures.steps.0 c.loop-thief.invariant).2
 
 pub loop-thief-preserved : goal.loop-thief-preserved
-loop-thief-preserved c =
+loop-thief-preserved g c =
     joined_here c.loop-thief.owners.items c.loop-thief.place c.index_mut.result.now c.join.new.self c.in-Some.thief _ _ _ c.index_mut.ensures.value c.in-Some.ensures.steps.0 c.join.ensures.seat c.loop-thief.invariant
 
 pub returns : goal.returns
-returns c =
+returns g c =
     let at = c.loop-thief in
-    let owners : List DequeSeat = owner_seats at.owners.items in
-    let total : List DequeSeat = with_row (owner_seats c.args.owners.now.items) (thief_seats c.args.row.items) in
+    let owners : List (DequeSeatIn g.row.A.Denot) = owner_seats at.owners.items in
+    let total : List (DequeSeatIn g.row.A.Denot) = with_row (owner_seats c.args.owners.now.items) (thief_seats c.args.row.items) in
     let none : into_iter_items at.thief-iterator ≡ [] = nil_from_length (into_iter_items at.thief-iterator) (omega (arith, c.in-None.ensures.steps.0, at.thief-iterator.rest.ok.0)) in
-    joined_all owners at.place total (subst (λ (l : List Thief). IsTurn owners at.place (thief_seats l) total) none c.loop-thief.invariant)
+    joined_all owners at.place total (subst (λ (l : List (Thief g.row.A.Denot)). IsTurn owners at.place (thief_seats l) total) none c.loop-thief.invariant)

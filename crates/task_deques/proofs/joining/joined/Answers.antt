@@ -2,36 +2,36 @@ use Rattle.std.proofs.Common.{◌≡◌, [], List, map, length, ap, sym, subst, 
 use Rattle.std.proofs.lemmas.List.{nil_from_length, length-map}
 use Rattle.std.proofs.lemmas.List.Elements.{All-map}
 use Rattle.std.specs.Vec.Iter.{into_iter_items}
-use Rattle.task_deques.specs.Seats.{DequeSeat, owner_seat}
+use Rattle.task_deques.specs.Seats.{DequeSeatIn, owner_seat}
 use Rattle.task_deques.specs.Deals.{owner_seats, thief_seats, with_rows, deques}
 use Rattle.task_deques.proofs.JoinLemmas.{AreTurns, one_part, length-with_row, next_row, row_room, rows_turn, rows_done}
 use Rattle.task_deques.proofs.joining.joined.Goals as goal
 
 pub loop-row-init : goal.loop-row-init
-loop-row-init c =
-    let owners : List DequeSeat = owner_seats c.args.owners.items in
-    let rows : List (List DequeSeat) = map (λ row. thief_seats row.items) c.args.rows.items in
+loop-row-init g c =
+    let owners : List (DequeSeatIn g.row.A.Denot) = owner_seats c.args.owners.items in
+    let rows : List (List (DequeSeatIn g.row.A.Denot)) = map (λ row. thief_seats row.items) c.args.rows.items in
     let same : rows ≡ map (λ row. thief_seats row.items) (into_iter_items c.into_iter-row-iterator.result) = ap (λ l. map (λ row. thief_seats row.items) l) (sym c.into_iter-row-iterator.ensures.into_iter_gives.0) in
     let count : length rows ≡ length c.args.rows.items = length-map c.args.rows.items (λ row. thief_seats row.items) in (
-      subst (λ (l : List (List DequeSeat)). AreTurns owners l (with_rows owners rows)) same (record {
+      subst (λ (l : List (List (DequeSeatIn g.row.A.Denot))). AreTurns owners l (with_rows owners rows)) same (record {
         come_to = refl;
-        same = All-map (λ (row : List DequeSeat). deques row ≡ deques owners) (λ row. thief_seats row.items) c.args.rows.items c.requires.rows;
+        same = All-map (λ (row : List (DequeSeatIn g.row.A.Denot)). deques row ≡ deques owners) (λ row. thief_seats row.items) c.args.rows.items c.requires.rows;
         parts = λ k d inside. let sum = c.requires.parts k d inside in omega (arith, c.args.rows.ok.0);
       }),
       refl,
     )
 
 pub join_row-requires-clause-deques : goal.join_row-requires-clause-deques
-join_row-requires-clause-deques c = (row_room _ _ _ _ (next_row _ _ _ _ _ _ c.in-Some.ensures.steps.0 c.loop-row.invariant.0)).0
+join_row-requires-clause-deques g c = (row_room _ _ _ _ (next_row _ _ _ _ _ _ c.in-Some.ensures.steps.0 c.loop-row.invariant.0)).0
 
 pub join_row-requires-clause-parts : goal.join_row-requires-clause-parts
-join_row-requires-clause-parts c = (row_room _ _ _ _ (next_row _ _ _ _ _ _ c.in-Some.ensures.steps.0 c.loop-row.invariant.0)).1
+join_row-requires-clause-parts g c = (row_room _ _ _ _ (next_row _ _ _ _ _ _ c.in-Some.ensures.steps.0 c.loop-row.invariant.0)).1
 
 pub loop-row-preserved : goal.loop-row-preserved
-loop-row-preserved c =
+loop-row-preserved g c =
     let at = c.loop-row in
     let row = c.in-Some.row in
-    let owners : List DequeSeat = owner_seats at.owners.items in
+    let owners : List (DequeSeatIn g.row.A.Denot) = owner_seats at.owners.items in
     let after = c.join_row.new.owners in
     let count : length (owner_seats after.items) ≡ length owners = ap length c.join_row.ensures ∙ length-with_row owners (thief_seats row.items) in (
       rows_turn owners (owner_seats after.items) _ _ _ (one_part row.items) c.join_row.ensures (next_row _ _ _ _ _ _ c.in-Some.ensures.steps.0 at.invariant.0),
@@ -39,10 +39,10 @@ loop-row-preserved c =
     )
 
 pub returns : goal.returns
-returns c =
+returns g c =
     let at = c.loop-row in
-    let owners : List DequeSeat = owner_seats at.owners.items in
-    let total : List DequeSeat = with_rows (owner_seats c.args.owners.items) (map (λ row. thief_seats row.items) c.args.rows.items) in
+    let owners : List (DequeSeatIn g.row.A.Denot) = owner_seats at.owners.items in
+    let total : List (DequeSeatIn g.row.A.Denot) = with_rows (owner_seats c.args.owners.items) (map (λ row. thief_seats row.items) c.args.rows.items) in
     let none : into_iter_items at.row-iterator ≡ [] = nil_from_length (into_iter_items at.row-iterator) (omega (arith, c.in-None.ensures.steps.0, at.row-iterator.rest.ok.0)) in
     let done = rows_done owners total (subst (λ l. AreTurns owners (map (λ row. thief_seats row.items) l) total) none at.invariant.0) in
     record { seats = done.0; parts = done.1; count = at.invariant.1 }

@@ -5,7 +5,7 @@ use Rattle.task_deques.proofs.JoinLemmas.{AreTurns}
 use Rattle.task_deques.proofs.joining.joined.Given as goal
 
 abbrev pub invariant-loop-row : goal.invariant-loop-row
-invariant-loop-row l =
+invariant-loop-row g l =
     AreTurns (owner_seats l.owners.items) (map (λ row. thief_seats row.items) (into_iter_items l.row-iterator))
     (with_rows (owner_seats l.fn.owners.items) (map (λ row. thief_seats row.items) l.fn.rows.items))
     × (vec_len l.owners ≡ vec_len l.fn.owners)

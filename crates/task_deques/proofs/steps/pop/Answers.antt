@@ -2,10 +2,10 @@ use Rattle.task_deques.proofs.RuleLemmas.{takes, pops, finds}
 use Rattle.task_deques.proofs.steps.pop.Goals as goal
 
 pub pop_as-requires-clause-fifo : goal.pop_as-requires-clause-fifo
-pop_as-requires-clause-fifo c = λ _. takes _ _ c.requires
+pop_as-requires-clause-fifo g c = λ _. takes _ _ c.requires
 
 pub pop_as-requires-clause-lifo : goal.pop_as-requires-clause-lifo
-pop_as-requires-clause-lifo c = λ _. pops _ _ c.requires
+pop_as-requires-clause-lifo g c = λ _. pops _ _ c.requires
 
 pub pop_as-requires-clause-empty : goal.pop_as-requires-clause-empty
-pop_as-requires-clause-empty c = finds _ _
+pop_as-requires-clause-empty g c = finds _ _

@@ -5,9 +5,9 @@ use Rattle.task_deques.proofs.RuleLemmas.{learns}
 use Rattle.task_deques.proofs.steps.waiting.Goals as goal
 
 pub len_as-requires : goal.len_as-requires
-len_as-requires c = learns _ _
+len_as-requires g c = learns _ _
 
 pub returns-clause-counts : goal.returns-clause-counts
-returns-clause-counts c = λ all.
+returns-clause-counts g c = λ all.
     let learned = c.len_as.ensures.rule in
     omega (arith, learned.2 all (λ _. 1), learned.1, weigh-one (worker_view c.args.owner.now).pushed, weigh-one (worker_view c.args.owner.now).taken, weigh-one learned.0)

@@ -4,6 +4,6 @@ use Rattle.task_deques.specs.Deals.{posts, posts_of, returned, returned_room}
 use Rattle.task_deques.proofs.tests.sums.Given as goal
 
 abbrev pub invariant-loop-ends : goal.invariant-loop-ends
-invariant-loop-ends l =
+invariant-loop-ends g l =
     (map posts_of (returned l.back) ++ map posts (into_iter_items l.ends-iterator) ≡ map posts l.fn.all.items)
     × (length (returned l.back) + into_iter_len l.ends-iterator ≤ returned_room l.back)

@@ -3,4 +3,4 @@ use Rattle.task_deques.proofs.JoinLemmas.{length_back}
 use Rattle.task_deques.proofs.returned.Returned.count.Goals as goal
 
 pub returns : goal.returns
-returns c = omega (arith, length_back c.args.self.now)
+returns g c = omega (arith, length_back c.args.self.now)
