@@ -1,5 +1,5 @@
 -- What a worker offers is a worker's step or Spend, and where that is taken its tenant stays, with what it reserved.
-use Rattle.std.proofs.Common.{◌≡◌, ℕ, inl, inr, true, false, ◌==◌, if◌then◌else◌, IfSome, List, [], ◌∷◌, Option, Some, None, Result, Ok, Err, refl, sym, subst}
+use Rattle.std.proofs.Common.{◌≡◌, ℕ, inl, inr, true, false, ◌==◌, if◌then◌else◌, IfSome, List, [], ◌∷◌, Option, Some, None, Result, Ok, Err, refl, subst}
 use Rattle.std.specs.Prelude.{not, ◌||◌, ◌&&◌}
 use Rattle.std.proofs.lemmas.Bool.{cases_Bool}
 use Rattle.frame_tree.specs.declared.names.FrameId.{FrameId}
