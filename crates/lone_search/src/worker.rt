@@ -50,13 +50,28 @@ fn turn<A: Allocator + Clone>(
             let task = newest_task(core)?;
             offer(core, worker, Holding::Next(Deed::Get(task)))
         }
-        Holding::Next(deed) => offer(core, worker, Holding::Next(deed)),
+        Holding::Next(Deed::Run(frame)) => offer(core, worker, Holding::Next(Deed::Run(frame))),
+        Holding::Next(Deed::TakeIn(frame)) => {
+            offer(core, worker, Holding::Next(Deed::TakeIn(frame)))
+        }
         Holding::Computing(frame, leaf) => {
             let answer = LeafAnswer::compute(leaf);
             offer(core, worker, Holding::Next(Deed::Bring(frame, answer)))
         }
-        Holding::Short(deed) => offer(core, worker, Holding::Short(deed)),
+        Holding::Next(_) | Holding::Short(_) => offer_seldom(core, worker, held),
     }
+}
+
+/// Offers what is seldom held: the end of the job, or to spend it.
+#[inline(never)]
+fn offer_seldom<A: Allocator + Clone>(
+    core: &mut Core<Jamboree, A>,
+    worker: Worker,
+    held: Holding,
+) -> Option<Holding>
+    ensures { Keeps core.old core.new }
+{
+    offer(core, worker, held)
 }
 
 /// The tenant's ready frame of the greatest serial, if one is ready, as a task.
