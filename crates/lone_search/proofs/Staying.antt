@@ -1,5 +1,5 @@
 -- What a worker offers is a worker's step or Spend, and where that is taken its tenant stays, with what it reserved.
-use Rattle.std.proofs.Common.{◌≡◌, ℕ, inl, inr, true, false, ◌==◌, if◌then◌else◌, IfSome, List, [], ◌∷◌, Option, Some, None, Result, Ok, Err, refl, sym, subst}
+use Rattle.std.proofs.Common.{◌≡◌, ℕ, inl, inr, true, false, ◌==◌, if◌then◌else◌, IfSome, List, [], ◌∷◌, Option, Some, None, Result, Ok, Err, refl, subst}
 use Rattle.std.specs.Prelude.{not, ◌||◌, ◌&&◌}
 use Rattle.std.proofs.lemmas.Bool.{cases_Bool}
 use Rattle.frame_tree.specs.declared.names.FrameId.{FrameId}
@@ -21,17 +21,7 @@ use Rattle.pool_rules.specs.declared.turn.Deed.TheVariants.{Get, Run, Bring, Tak
 use Rattle.pool_rules.specs.declared.turn.Holding.{Holding}
 use Rattle.pool_rules.specs.declared.turn.Holding.TheVariants.{Nothing, Next, Computing, Short}
 use Rattle.pool_rules.specs.Turns.{step_of, offered}
-
--- the steps of a worker, and Spend
-abbrev pub IsWork : {A : Type 0} → StepOf A → Type 0
-IsWork (Take worker name) = Unit {0}
-IsWork (Steal worker from name) = Unit {0}
-IsWork (Advance worker name) = Unit {0}
-IsWork (Answer worker name answer) = Unit {0}
-IsWork (Inlet worker name) = Unit {0}
-IsWork (Finish worker name) = Unit {0}
-IsWork (Spend name) = Unit {0}
-IsWork _ = ⊥
+use Rattle.lone_search.specs.Asked.{IsWork}
 
 -- for each deed
 deed-work : (worker : ℕ) (deed : Deed) → IsWork (step_of worker deed)
@@ -42,14 +32,11 @@ deed-work worker (TakeIn frame) = tt
 deed-work worker (FinishRoot frame) = tt
 
 -- for all that it may hold
-held-work : (worker : ℕ) (held : Holding) → IfSome (offered worker held) (λ step. IsWork step)
+pub held-work : (worker : ℕ) (held : Holding) → IfSome (offered worker held) (λ step. IsWork step)
 held-work worker Nothing = tt
 held-work worker (Next deed) = deed-work worker deed
 held-work worker (Computing frame leaf) = tt
 held-work worker (Short deed) = tt
-
-pub offers-work : (worker : ℕ) (held : Holding) (step : StepOf LeafAnswer) → Some step ≡ offered worker held → IsWork step
-offers-work worker held step same = subst (λ offer. IfSome offer (λ step. IsWork step)) (sym same) (held-work worker held)
 
 -- a tenant is left, which reserves what it did
 abbrev pub Stays : Tenant → Option Tenant → Type 0

@@ -23,8 +23,8 @@ use Rattle.jamboree_core.specs.jamboree_rules.Procedure.{jamboree}
 use Rattle.jamboree_core.specs.jamboree_rules.Places.{root_words}
 use Rattle.jamboree_core.specs.Replies.{IsSearch}
 use Rattle.jamboree_core.specs.jamboree.declared.procedure.Jamboree.{Jamboree}
-use Rattle.lone_search.specs.Asked.{HasRun, HasReserved, WorksOn, Keeps, IsBegun}
-use Rattle.lone_search.proofs.Staying.{IsWork, Stays, step-stays}
+use Rattle.lone_search.specs.Asked.{HasRun, HasReserved, WorksOn, IsWork, Keeps, IsBegun}
+use Rattle.lone_search.proofs.Staying.{Stays, step-stays}
 use Rattle.lone_search.proofs.Asking.{StepSearches, step-asks, submit-asks, nothing-asked}
 
 -- a worker's step submits nothing

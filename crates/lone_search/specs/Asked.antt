@@ -3,6 +3,7 @@ use Rattle.std.specs.Prelude.{◌≡◌, ℕ, List, [], Some, Result}
 use Rattle.tenant_quota.specs.Quota.{Quota}
 use Rattle.sched_rules.specs.declared.refusal.Refusal.{Refusal}
 use Rattle.sched_rules.specs.declared.step.StepOf.{StepOf}
+use Rattle.sched_rules.specs.declared.step.StepOf.TheVariants.{Take, Steal, Advance, Answer, Inlet, Finish, Spend}
 use Rattle.sched_rules.specs.declared.step.DidOf.{DidOf}
 use Rattle.sched_rules.specs.Trees.{Tenant, admitted_with}
 use Rattle.sched_rules.specs.Cores.{Shared, CoreOf, shared_by_nobody, tenant_in}
@@ -48,6 +49,17 @@ pub record WorksOn (task : Task) (core : CoreOf Jamboree) : Type 0 where
 -- what was worked on before is worked on after
 abbrev pub Keeps : CoreOf Jamboree → CoreOf Jamboree → Type 0
 Keeps before after = (task : Task) → WorksOn task before → WorksOn task after
+
+-- the steps of a worker, and Spend
+abbrev pub IsWork : {A : Type 0} → StepOf A → Type 0
+IsWork (Take worker name) = Unit {0}
+IsWork (Steal worker from name) = Unit {0}
+IsWork (Advance worker name) = Unit {0}
+IsWork (Answer worker name answer) = Unit {0}
+IsWork (Inlet worker name) = Unit {0}
+IsWork (Finish worker name) = Unit {0}
+IsWork (Spend name) = Unit {0}
+IsWork _ = ⊥
 
 -- a core of which all is reserved by tenant 1, who has just come
 pub record IsBegun (grain : ℕ) (quota : Quota) (core : CoreOf Jamboree) : Type 0 where

@@ -4,14 +4,15 @@
 //! it takes the tenant's ready frame of the greatest serial: one that its own steps made ready, or the root, which
 //! stands ready in the hall; so it needs no list of its tasks. What its frame asks for it computes between two steps.
 //! Where the quota is at its end it offers the job to be spent, once: nobody else can give anything back.
-ghost use Rattle.lone_search.specs.Asked.{Keeps};
+ghost use Rattle.std.specs.Prelude.{IfSome};
+ghost use Rattle.lone_search.specs.Asked.{IsWork, Keeps};
 
 use crate::job::TENANT;
 use jamboree_core::jamboree::{Jamboree, LeafAnswer};
 use jamboree_core::sched_core::Core;
 use jamboree_core::step_search;
 use pool_rules::{Deed, Holding, Task};
-use sched_rules::Worker;
+use sched_rules::{Did, Refusal, Step, Worker};
 use std::alloc::Allocator;
 
 /// The worker's number.
@@ -34,7 +35,9 @@ pub(crate) fn work<A: Allocator + Clone>(core: &mut Core<Jamboree, A>, turns: u3
     }
 }
 
-/// One turn, and what the worker holds after it; None where the job has ended, or can't go on.
+/// One turn, and what the worker holds after it; None where the job has ended, or can't go on. What it holds is known at
+/// each place from which it offers a step, so that no holding is put together only to be looked at.
+#[inline(always)]
 fn turn<A: Allocator + Clone>(
     core: &mut Core<Jamboree, A>,
     worker: Worker,
@@ -42,23 +45,44 @@ fn turn<A: Allocator + Clone>(
 ) -> Option<Holding>
     ensures { Keeps core.old core.new }
 {
-    let ready = match held {
-        Holding::Nothing => newest_task(core)?,
-        Holding::Computing(frame, leaf) => {
-            Holding::Next(Deed::Bring(frame, LeafAnswer::compute(leaf)))
+    match held {
+        Holding::Nothing => {
+            let task = newest_task(core)?;
+            offer(core, worker, Holding::Next(Deed::Get(task)))
         }
-        Holding::Next(_) | Holding::Short(_) => held,
-    };
-    offer(core, worker, ready)
+        Holding::Next(Deed::Run(frame)) => offer(core, worker, Holding::Next(Deed::Run(frame))),
+        Holding::Next(Deed::TakeIn(frame)) => {
+            offer(core, worker, Holding::Next(Deed::TakeIn(frame)))
+        }
+        Holding::Computing(frame, leaf) => {
+            let answer = LeafAnswer::compute(leaf);
+            offer(core, worker, Holding::Next(Deed::Bring(frame, answer)))
+        }
+        Holding::Next(_) | Holding::Short(_) => offer_seldom(core, worker, held),
+    }
 }
 
-/// To get the tenant's ready frame of the greatest serial, if one is ready.
-fn newest_task<A: Allocator + Clone>(core: &Core<Jamboree, A>) -> Option<Holding> {
+/// Offers what is seldom held: the end of the job, or to spend it.
+#[inline(never)]
+fn offer_seldom<A: Allocator + Clone>(
+    core: &mut Core<Jamboree, A>,
+    worker: Worker,
+    held: Holding,
+) -> Option<Holding>
+    ensures { Keeps core.old core.new }
+{
+    offer(core, worker, held)
+}
+
+/// The tenant's ready frame of the greatest serial, if one is ready, as a task.
+#[inline(always)]
+fn newest_task<A: Allocator + Clone>(core: &Core<Jamboree, A>) -> Option<Task> {
     let (frame, home) = core.newest_ready(TENANT)?;
-    Some(Holding::Next(Deed::Get(Task { frame, home })))
+    Some(Task { frame, home })
 }
 
 /// Offers the step of what the worker holds, if it has one; what it holds after it.
+#[inline(always)]
 fn offer<A: Allocator + Clone>(
     core: &mut Core<Jamboree, A>,
     worker: Worker,
@@ -66,14 +90,35 @@ fn offer<A: Allocator + Clone>(
 ) -> Option<Holding>
     ensures { Keeps core.old core.new }
 {
-    let step = held.step(worker)?;
-    let answer = step_search(core, &step);
+    let step = own_step(worker, &held)?;
+    let answer = take(core, &step);
     let refused = answer.is_err();
     goes_on(refused, held.turned(worker, answer).holding)
 }
 
+/// The step that the worker offers with what it holds, which is a worker's step or Spend.
+#[inline(always)]
+fn own_step(worker: Worker, held: &Holding) -> Option<Step<Jamboree>>
+    ensures { IfSome result (λ step. IsWork step) }
+{
+    held.step(worker)
+}
+
+/// Takes such a step, if it isn't refused.
+#[inline(always)]
+fn take<A: Allocator + Clone>(
+    core: &mut Core<Jamboree, A>,
+    step: &Step<Jamboree>,
+) -> Result<Did<Jamboree>, Refusal>
+    requires { IsWork step.now }
+    ensures { Keeps core.old core.new }
+{
+    step_search(core, step)
+}
+
 /// What the worker goes on with after its turn. A refusal for want of quota leaves it the offer to spend the job; after
 /// any other it doesn't go on, and so not where the job may not be spent either.
+#[inline(always)]
 fn goes_on(refused: bool, next: Holding) -> Option<Holding> {
     match next {
         Holding::Short(_) => Some(next),

@@ -10,6 +10,7 @@ use jamboree_rules::Leaf;
 use sched_rules::{DidOf, Refusal, Worker};
 
 /// A turn that makes no task.
+#[inline(always)]
 pub(crate) fn without_task(holding: Holding) -> Turn
     ensures { result ≡ turn holding }
 {
@@ -20,6 +21,7 @@ pub(crate) fn without_task(holding: Holding) -> Turn
 }
 
 /// The turn after the answer to the step of a deed.
+#[inline(always)]
 pub(crate) fn done(worker: Worker, deed: Deed, answer: Result<DidOf<Leaf>, Refusal>) -> Turn
     ensures { result ≡ turn_after worker (Next deed) answer }
 {
@@ -36,6 +38,7 @@ pub(crate) fn done(worker: Worker, deed: Deed, answer: Result<DidOf<Leaf>, Refus
 }
 
 /// What a worker holds whose deed was refused.
+#[inline(always)]
 fn refused(deed: Deed, refusal: Refusal) -> Holding
     ensures { turn result ≡ turn_after 0 (Next deed) (Err refusal) }
 {
@@ -48,6 +51,7 @@ fn refused(deed: Deed, refusal: Refusal) -> Holding
 }
 
 /// What a worker holds after the answer to its offer to spend a job.
+#[inline(always)]
 pub(crate) fn spent(deed: Deed, answer: Result<DidOf<Leaf>, Refusal>) -> Holding
     ensures { turn result ≡ turn_after 0 (Short deed) answer }
 {
@@ -58,6 +62,7 @@ pub(crate) fn spent(deed: Deed, answer: Result<DidOf<Leaf>, Refusal>) -> Holding
 }
 
 /// What a worker holds after what a step on a frame did.
+#[inline(always)]
 fn held_after(frame: FrameId, did: DidOf<Leaf>) -> Holding
     ensures { result ≡ held_after frame did }
 {
@@ -73,6 +78,7 @@ fn held_after(frame: FrameId, did: DidOf<Leaf>) -> Holding
 }
 
 /// The frame that became ready by what a step did.
+#[inline(always)]
 fn readied(did: DidOf<Leaf>) -> Option<FrameId>
     ensures { result ≡ readied did }
 {

@@ -53,6 +53,7 @@ impl Deed {
     ghost use Rattle.pool_rules.specs.Turns.{frame_of, step_of};
 
     /// The frame that it is about.
+    #[inline(always)]
     pub fn frame(&self) -> FrameId
         ensures { result ≡ frame_of self.now }
     {
@@ -66,6 +67,7 @@ impl Deed {
     }
 
     /// The step that a worker offers for it.
+    #[inline(always)]
     pub fn step(&self, worker: Worker) -> StepOf<LeafAnswer>
         ensures { result ≡ step_of worker self.now }
     {
@@ -90,6 +92,7 @@ impl Holding {
     ghost use Rattle.pool_rules.specs.Turns.{offered, turn_after};
 
     /// The step that a worker offers with what it holds; None where it holds nothing, or computes.
+    #[inline(always)]
     pub fn step(&self, worker: Worker) -> Option<StepOf<LeafAnswer>>
         ensures { result ≡ offered worker self.now }
     {
@@ -102,6 +105,7 @@ impl Holding {
     }
 
     /// What a worker holds after the answer to the step that it offered, and the task that it made.
+    #[inline(always)]
     pub fn turned(self, worker: Worker, answer: Result<DidOf<Leaf>, Refusal>) -> Turn
         ensures { result ≡ turn_after worker self answer }
     {
