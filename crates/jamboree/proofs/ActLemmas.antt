@@ -2,7 +2,7 @@
 use Rattle.std.specs.Prelude.{◌≡◌, ℕ, ◌+◌, ◌<◌, ◌^◌, ◌==◌, ◌&&◌, nat_lt, nat_le, Bool, true, false, ℤ, pos, negsuc, neg_ℤ, ◌+ℤ◌, ◌-ℤ◌, ◌≤ℤ◌, List, [], ◌∷◌, length, slice_index, slice_index_or, slice_get, unwrap_or, Option, Some, bit_and, refl}
 use Rattle.std.proofs.Common.{to_z, of_z, w32, sym, ◌∙◌, ap, arith}
 use Rattle.std.proofs.lemmas.Int.{ints}
-use Rattle.std.proofs.lemmas.Bool.{eq-eqb}
+use Rattle.std.proofs.lemmas.Bool.{and_parts, eq-eqb, ltb-true}
 use Rattle.std.proofs.lemmas.Option.{unwrap_or-slice_get}
 use Rattle.othello_board.specs.declared.cells.Cell.{Cell}
 use Rattle.othello_board.specs.Words.{cells_of}
@@ -11,7 +11,7 @@ use Rattle.othello_moves.specs.declared.choices.Choice.TheVariants.{Pass}
 use Rattle.othello_moves.specs.Choices.{choices, after}
 use Rattle.jamboree_rules.specs.sched_rules.declared.act.Act.{Act}
 use Rattle.jamboree_rules.specs.sched_rules.declared.act.Then.{Then}
-use Rattle.jamboree_rules.specs.Frames.{Frame, board, choice_at, own_word, opp_word}
+use Rattle.jamboree_rules.specs.Frames.{Frame, board, choice_at, may_be_child, own_word, opp_word}
 use Rattle.jamboree_rules.specs.Places.{Spawned, Status, pairs_of}
 use Rattle.jamboree_rules.specs.Acts.{spawns, opening_on, first_search, tests, tests_from, act_by, act_of}
 use Rattle.jamboree_rules.proofs.BoardWords.{own-is, opp-is}
@@ -90,3 +90,14 @@ child-opens grain f q own opp c act is phase got holds own_fits opp_fits disjoin
     let opp_same : opp ≡ opp_word b = opp-is own opp disjoint opp_fits ∙ ap opp_word same in
     is ∙ ap (λ (o : ℕ). opening_on grain f o opp) own_same ∙ ap (λ (p : ℕ). opening_on grain f (own_word b) p) opp_same
     ∙ ap (λ (n : ℕ). act_by (n == 0) (n == 1) (n == 2) (n == 3) grain f (Some q)) (sym phase)
+
+pub tests-by : (f : Frame) (at : ℕ) (act : Act) (failed more all : Bool) → (nat_lt at (length f.statuses) && (slice_index f.statuses at == 3)) ≡ failed → nat_lt f.spawned (length f.statuses) ≡ more → nat_le (length f.statuses) at ≡ all →
+    act ≡ tests failed more all f at → act ≡ tests_from f at
+tests-by f at act failed more all a b d is = rw (a, b, d) is
+
+-- the number of a child's choice is that of a choice
+pub chosen-inside : (f c : Frame) → may_be_child f c ≡ true → c.number < length (choices (board f))
+chosen-inside f c may =
+    let own = and_parts (nat_lt 0 c.role) (nat_lt c.number f.count && nat_lt c.number (length (choices (board f)))) may in
+    let both = and_parts (nat_lt c.number f.count) (nat_lt c.number (length (choices (board f)))) own.1 in
+    ltb-true c.number (length (choices (board f))) both.1

@@ -128,3 +128,9 @@ best-low h s r e = omega (arith, ints)
 
 pub best-high : (h : Head) (s : ℤ) → AreRanged h → s ≡ score_of h.best → to_z w32 (of_z w32 s) ≤ℤ pos 200000
 best-high h s r e = omega (arith, ints)
+
+-- the frame of a head whose scores are read into 32 bits
+pub frame-read : (h : Head) (entries : List ℕ) (role : Role) (phase : Phase) (alpha beta best : ℤ) → AreRanged h → alpha ≡ score_of h.alpha → beta ≡ score_of h.beta → role_number role ≡ h.role → phase_number phase ≡ h.phase → best ≡ score_of h.best →
+    frame_by h.own h.opp h.depth (to_z w32 (of_z w32 alpha)) (to_z w32 (of_z w32 beta)) role h.number phase (to_z w32 (of_z w32 best)) h.choice h.count h.spawned (map status_of entries) (map rest_of entries) ≡ frame_from h entries
+frame-read h entries role phase alpha beta best r ea eb er ep es =
+    frame-same h entries role phase _ _ _ (as-wide h.alpha alpha ea r.alpha_high) (as-wide h.beta beta eb r.beta_high) er ep (as-wide h.best best es r.best)

@@ -144,14 +144,23 @@ fn plan_fitting(grain: u8, sight: &Sight) -> Plan
     ensures { act_for result ≡ next_act grain sight.now }
 {
     match sight.up(0) {
-        Some(own) => {
-            let frame = view(&own);
-            match sight.up(1) {
-                Some(above) => plan_under(grain, &frame, &own, &view(&above)),
-                None => plan_alone(grain, &frame, &own),
-            }
-        }
+        Some(own) => plan_formed(grain, &own, sight.up(1)),
         None => Plan::Returns,
+    }
+}
+
+/// What a frame in these words does next, under a parent in those, if there is one, where both have the
+/// form of a frame.
+#[inline(always)]
+fn plan_formed(grain: u8, own: &Words, parent: Option<Words>) -> Plan
+    requires own { is_formed own.now ≡ true }
+    requires parent { IfSome parent (λ above. is_formed above ≡ true) }
+    ensures { act_for result ≡ next_act grain (own.now ∷ above_of parent.entry) }
+{
+    let frame = view(own);
+    match parent {
+        Some(above) => plan_under(grain, &frame, own, &view(&above)),
+        None => plan_alone(grain, &frame, own),
     }
 }
 

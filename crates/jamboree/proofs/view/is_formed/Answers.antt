@@ -1,21 +1,28 @@
-use Rattle.std.proofs.Common.{◌≡◌, ◌+◌, length, sym, ◌∙◌, arith}
+use Rattle.std.proofs.Common.{◌≡◌, ℕ, ◌+◌, ◌-◌, ◌≤◌, length, sym, ◌∙◌, arith}
+use Rattle.std.proofs.lemmas.Bool.{false≢true}
 use Rattle.jamboree_rules.specs.Places.{is_formed}
 use Rattle.jamboree.proofs.InletLemmas.{not-true}
 use Rattle.jamboree.proofs.ViewLemmas.{formed-parts, formed-rest}
 use Rattle.jamboree.proofs.view.is_formed.Goals as goal
 
+rest-count : (l n k : ℕ) → l ≡ n → n ≡ 12 + k → l - 12 ≡ k
+rest-count l n k is whole = omega (arith, is, whole)
+
+whole-count : (l n k : ℕ) → l ≡ n → 12 ≤ l → l - 12 ≡ k → n ≡ 12 + k
+whole-count l n k is long rest = omega (arith, is, long, rest)
+
 pub returns-then-len-head : goal.returns-then-len-head
 returns-then-len-head c =
     let w = c.args.words.now in
-    sym (not-true (is_formed w) (λ e. let parts = formed-parts w c.read_head-head.result c.read_head-head.ensures e in c.if-len-head.true (omega (arith, c.len-len.ensures.value, parts.0.0))))
+    sym (not-true (is_formed w) (λ e. let parts = formed-parts w c.read_head-head.result c.read_head-head.ensures e in c.if-len-head.true (rest-count _ _ _ c.len-len.ensures.value parts.0.0)))
 
 pub returns-then-not-is_frame : goal.returns-then-not-is_frame
 returns-then-not-is_frame c =
     let w = c.args.words.now in
-    sym (not-true (is_formed w) (λ e. let parts = formed-parts w c.read_head-head.result c.read_head-head.ensures e in absurd (cc (c.is_frame.ensures, c.if-not-is_frame.true, parts.1))))
+    sym (not-true (is_formed w) (λ e. let parts = formed-parts w c.read_head-head.result c.read_head-head.ensures e in false≢true (sym c.if-not-is_frame.true ∙ (c.is_frame.ensures ∙ parts.1))))
 
 pub returns : goal.returns
 returns c =
     let h = c.read_head-head.result in
-    let len : length c.args.words.now ≡ 12 + h.count = omega (arith, c.len-len.ensures.value, c.if-len-lt-SIZE.false, c.if-len-head.false) in
+    let len : length c.args.words.now ≡ 12 + h.count = whole-count _ _ _ c.len-len.ensures.value c.if-len-lt-SIZE.false c.if-len-head.false in
     c.are_entries.ensures ∙ formed-rest c.args.words.now h c.read_head-head.ensures len (sym c.is_frame.ensures ∙ c.if-not-is_frame.false)

@@ -1,5 +1,6 @@
-use Rattle.std.proofs.Common.{arith}
-use Rattle.jamboree.proofs.ViewLemmas.{ranged, alpha-low, below-beta, beta-high, best-low, best-high}
+use Rattle.std.proofs.Common.{[], ap, ◌∙◌, refl, arith}
+use Rattle.jamboree_rules.specs.Frames.{is_frame}
+use Rattle.jamboree.proofs.ViewLemmas.{ranged, frame-read, alpha-low, below-beta, beta-high, best-low, best-high}
 use Rattle.jamboree.proofs.view.Head.view.Goals as goal
 
 pub score_of_word-requires-3 : goal.score_of_word-requires-3
@@ -22,3 +23,32 @@ invariant_of-result-2-clause-low c = best-low c.args.self _ (ranged c.args.self 
 
 pub invariant_of-result-2-clause-high : goal.invariant_of-result-2-clause-high
 invariant_of-result-2-clause-high c = best-high c.args.self _ (ranged c.args.self c.requires.form) c.score_of_word-3.ensures
+
+pub overflow_cast-result : goal.overflow_cast-result
+overflow_cast-result c = let r = ranged c.args.self c.requires.form in omega (arith, r.depth)
+
+pub score_of_word-requires : goal.score_of_word-requires
+score_of_word-requires c = let r = ranged c.args.self c.requires.form in omega (arith, r.alpha_high)
+
+pub score_of_word-requires-2 : goal.score_of_word-requires-2
+score_of_word-requires-2 c = let r = ranged c.args.self c.requires.form in omega (arith, r.beta_high)
+
+pub of-requires : goal.of-requires
+of-requires c = (ranged c.args.self c.requires.form).role
+
+pub of-requires-2 : goal.of-requires-2
+of-requires-2 c = (ranged c.args.self c.requires.form).phase
+
+pub invariant_of-result : goal.invariant_of-result
+invariant_of-result c = record { disjoint = (ranged c.args.self c.requires.form).disjoint }
+
+pub invariant_of-result-2-clause-form : goal.invariant_of-result-2-clause-form
+invariant_of-result-2-clause-form c =
+    rw c.requires.counted (ap is_frame (frame-read c.args.self [] c.of.result c.of-2.result _ _ _ (ranged c.args.self c.requires.form) c.score_of_word.ensures c.score_of_word-2.ensures c.of.ensures c.of-2.ensures c.score_of_word-3.ensures) ∙ c.requires.form)
+
+pub returns-clause-frame : goal.returns-clause-frame
+returns-clause-frame c entries =
+    rw c.requires.counted (frame-read c.args.self entries c.of.result c.of-2.result _ _ _ (ranged c.args.self c.requires.form) c.score_of_word.ensures c.score_of_word-2.ensures c.of.ensures c.of-2.ensures c.score_of_word-3.ensures)
+
+pub returns-clause-count : goal.returns-clause-count
+returns-clause-count c = refl
