@@ -1,8 +1,8 @@
 //! The commands as `clap` has them, with what help says of each.
-ghost use Rattle.std.specs.Prelude.{◌≡◌, IfOk, codes, false};
-ghost use Rattle.clap.specs.Words.{app_of, found_of, new_app, rows_of, rule_of, shape_of, with_rule};
+ghost use Rattle.std.specs.Prelude.{◌≡◌, IfOk, codes, false, fold};
+ghost use Rattle.clap.specs.Words.{app_of, found_of, new_app, rows_of, rule_of, shape_of, with_rule, with_subcommand};
 ghost use Rattle.clap.specs.declared.builder.command.Command.TheViews.{out-Command};
-ghost use Rattle.command_line.specs.CommandLine.{is_set, program, serve_shape, solve_shape};
+ghost use Rattle.command_line.specs.CommandLine.{bare_program, is_set, program, serve_shape, solve_shape, visited_rule};
 ghost use Rattle.command_line.specs.Settings.{number_rule};
 
 use crate::settings::{GRAIN, NODES, PORT, SEGMENTS, SESSIONS, Setting, WORKERS};
@@ -23,16 +23,28 @@ pub(crate) fn flag_in(given: &ArgMatches<'_>, flag: &str) -> bool
 pub(crate) fn othello_command<'a>(alloc: Global) -> Result<Command<'a>, AllocError>
     ensures { IfOk result (λ command. app_of command ≡ program) }
 {
-    let solve = solve_command(alloc)?;
     let serve = serve_command(alloc)?;
+    with_solve(alloc)?.subcommand(serve)
+}
+
+/// The program with the command `solve`.
+fn with_solve<'a>(alloc: Global) -> Result<Command<'a>, AllocError>
+    ensures { IfOk result (λ command. app_of command ≡ with_subcommand bare_program solve_shape) }
+{
+    let solve = solve_command(alloc)?;
+    bare_othello(alloc).subcommand(solve)
+}
+
+/// The program before it has commands.
+fn bare_othello<'a>(alloc: Global) -> Command<'a>
+    ensures { app_of result ≡ bare_program }
+{
     Command::new(alloc, "othello")
         .version(VERSION)
         .about(
             "Othello analysis: the minimax value of a position, and the first move that attains it",
         )
         .subcommand_required(true)
-        .subcommand(solve)?
-        .subcommand(serve)
 }
 
 /// The command of this name by itself, for the usage that is told of it; the program's where there is none.
@@ -46,22 +58,28 @@ pub(crate) fn command_of<'a>(alloc: Global, name: &str) -> Result<Command<'a>, A
     }
 }
 
-/// An option with a number, under its word.
-fn number_arg<'a>(
-    alloc: Global,
+/// An option with a number: what `clap` is told of it beside its limits.
+#[derive(Clone, Copy)]
+struct NumberArg {
     setting: Setting,
+    /// The letter that stands for its value in the usage.
     value: &'static str,
+    /// Whether it has to be given.
     required: bool,
+    /// What help says of it.
     help: &'static str,
-) -> Arg<'a>
-    ensures rule { rule_of result ≡ number_rule setting.name.now required }
+}
+
+/// The option under its word.
+fn number_arg<'a>(alloc: Global, number: NumberArg) -> Arg<'a>
+    ensures rule { rule_of result ≡ number_rule number.setting.name.now number.required }
     ensures local { result.global ≡ false }
 {
-    Arg::new(alloc, setting.name)
-        .long(setting.name)
-        .value_name(value)
-        .required(required)
-        .help(help)
+    Arg::new(alloc, number.setting.name)
+        .long(number.setting.name)
+        .value_name(number.value)
+        .required(number.required)
+        .help(number.help)
 }
 
 /// The command `solve`.
@@ -69,16 +87,29 @@ fn solve_command<'a>(alloc: Global) -> Result<Command<'a>, AllocError>
     ensures shape { IfOk result (λ command. shape_of command ≡ solve_shape) }
     ensures local { IfOk result (λ command. (out-Command command).has_globals ≡ false) }
 {
-    let grain = number_arg(alloc, GRAIN, "g", false, GRAIN_HELP);
-    let visited = Arg::new(alloc, "visited")
-        .long("visited")
-        .action(ArgAction::SetTrue)
-        .help("answers by one serial search, and adds the number of positions that it entered");
+    let command = with_number(alloc, bare_solve(alloc), GRAIN_ARG)?;
+    command.arg(visited_arg(alloc))
+}
+
+/// The command `solve` before it has options.
+fn bare_solve<'a>(alloc: Global) -> Command<'a>
+    ensures app { app_of result ≡ new_app (codes "solve") }
+    ensures local { (out-Command result).has_globals ≡ false }
+{
     Command::new(alloc, "solve")
         .about("answers lines `depth position` from standard input by lines `value move`")
         .after_help(SOLVE_HELP)
-        .arg(grain)?
-        .arg(visited)
+}
+
+/// The flag `--visited`.
+fn visited_arg<'a>(alloc: Global) -> Arg<'a>
+    ensures rule { rule_of result ≡ visited_rule }
+    ensures local { result.global ≡ false }
+{
+    Arg::new(alloc, "visited")
+        .long("visited")
+        .action(ArgAction::SetTrue)
+        .help("answers by one serial search, and adds the number of positions that it entered")
 }
 
 /// The command `serve`.
@@ -86,13 +117,7 @@ fn serve_command<'a>(alloc: Global) -> Result<Command<'a>, AllocError>
     ensures shape { IfOk result (λ command. shape_of command ≡ serve_shape) }
     ensures local { IfOk result (λ command. (out-Command command).has_globals ≡ false) }
 {
-    let command = bare_serve(alloc);
-    let command = with_number(alloc, command, SESSIONS, "k", true, SESSIONS_HELP)?;
-    let command = with_number(alloc, command, PORT, "p", false, PORT_HELP)?;
-    let command = with_number(alloc, command, WORKERS, "w", false, WORKERS_HELP)?;
-    let command = with_number(alloc, command, SEGMENTS, "s", false, SEGMENTS_HELP)?;
-    let command = with_number(alloc, command, NODES, "n", false, NODES_HELP)?;
-    with_number(alloc, command, GRAIN, "g", false, GRAIN_HELP)
+    with_numbers(alloc, bare_serve(alloc), &SERVE_ARGS)
 }
 
 /// The command `serve` before it has options.
@@ -105,38 +130,81 @@ fn bare_serve<'a>(alloc: Global) -> Command<'a>
         .after_help(SERVE_HELP)
 }
 
+/// A command with one more option for each of these, in turn.
+fn with_numbers<'a>(
+    alloc: Global,
+    bare: Command<'a>,
+    numbers: &[NumberArg],
+) -> Result<Command<'a>, AllocError>
+    requires { (out-Command bare).has_globals ≡ false }
+    ensures app { IfOk result (λ c. app_of c ≡ fold (λ app number. with_rule app (number_rule number.setting.name.now number.required)) (app_of bare.entry) numbers.now) }
+    ensures local { IfOk result (λ c. (out-Command c).has_globals ≡ false) }
+{
+    let mut command = bare;
+    for &number in numbers {
+        command = with_number(alloc, command, number)?;
+    }
+    Ok(command)
+}
+
 /// A command with one more option that has a number.
 fn with_number<'a>(
     alloc: Global,
     command: Command<'a>,
-    setting: Setting,
-    value: &'static str,
-    required: bool,
-    help: &'static str,
+    number: NumberArg,
 ) -> Result<Command<'a>, AllocError>
     requires { (out-Command command).has_globals ≡ false }
-    ensures app { IfOk result (λ c. app_of c ≡ with_rule (app_of command.entry) (number_rule setting.name.now required)) }
+    ensures app { IfOk result (λ c. app_of c ≡ with_rule (app_of command.entry) (number_rule number.setting.name.now number.required)) }
     ensures local { IfOk result (λ c. (out-Command c).has_globals ≡ false) }
 {
-    command.arg(number_arg(alloc, setting, value, required, help))
+    command.arg(number_arg(alloc, number))
 }
 
 /// The program's version.
 const VERSION: &str = "0.1.0";
 
-/// What help says of `--grain`.
-const GRAIN_HELP: &str = "the depth that one worker searches alone, 0 to 6 [default: 2]";
+/// The option `--grain`, which both commands have.
+const GRAIN_ARG: NumberArg = NumberArg {
+    setting: GRAIN,
+    value: "g",
+    required: false,
+    help: "the depth that one worker searches alone, 0 to 6 [default: 2]",
+};
 
-/// What help says of the options of `serve`.
-const SESSIONS_HELP: &str = "how many sessions to serve before the program ends, 1 to 1000";
-
-const PORT_HELP: &str = "the port, 0 to 65535; at 0 the system chooses one [default: 0]";
-
-const WORKERS_HELP: &str = "the workers of the pool, 1 to 32 [default: 4]";
-
-const SEGMENTS_HELP: &str = "the segments of all tenants together, 1 to 65536 [default: 4096]";
-
-const NODES_HELP: &str = "the nodes of all tenants together, 1 to 4194304 [default: 65536]";
+/// The options of `serve` that have a number.
+const SERVE_ARGS: [NumberArg; 6] = [
+    NumberArg {
+        setting: SESSIONS,
+        value: "k",
+        required: true,
+        help: "how many sessions to serve before the program ends, 1 to 1000",
+    },
+    NumberArg {
+        setting: PORT,
+        value: "p",
+        required: false,
+        help: "the port, 0 to 65535; at 0 the system chooses one [default: 0]",
+    },
+    NumberArg {
+        setting: WORKERS,
+        value: "w",
+        required: false,
+        help: "the workers of the pool, 1 to 32 [default: 4]",
+    },
+    NumberArg {
+        setting: SEGMENTS,
+        value: "s",
+        required: false,
+        help: "the segments of all tenants together, 1 to 65536 [default: 4096]",
+    },
+    NumberArg {
+        setting: NODES,
+        value: "n",
+        required: false,
+        help: "the nodes of all tenants together, 1 to 4194304 [default: 65536]",
+    },
+    GRAIN_ARG,
+];
 
 /// What a line of `solve` is, and what answers it.
 const SOLVE_HELP: &str = "A line is `depth position`, and is answered as soon as it is complete.

@@ -15,7 +15,7 @@ use Rattle.sched_rules.proofs.Isolation.{right-answer, step-taken, shared-after-
 use Rattle.sched_rules.specs.Laws.{Fitting, Rooting}
 use Rattle.sched_rules.specs.Runs.{only}
 use Rattle.sched_rules.specs.Headline.{taken}
-use Rattle.std.specs.Prelude.{is_ok}
+use Rattle.std.specs.Prelude.{OnErr, is_ok}
 use Rattle.sched_laws.specs.Fitted.{CoreFits, RootFits, RootsFit, origins_of, origins_after}
 use Rattle.sched_laws.proofs.Levels.{IsLawful}
 use Rattle.sched_laws.proofs.FitAnswers.{answer-keeps, run-fits}
@@ -54,6 +54,10 @@ one-admission functions before step answer after admits (inr is) =
 -- what follows from one step
 pub refused-stays : {I A : Type 0} (functions : Functions I A) (before : Shared) (step : StepOf A) (refusal : Refusal) (after : Shared) → IsOneStep functions before step (Err refusal) after → after ≡ before
 refused-stays functions before step refusal after is = is.left
+
+pub stays-on_err : {I A : Type 0} (functions : Functions I A) (before : Shared) (step : StepOf A) (answer : Result (DidOf I) Refusal) (after : Shared) → IsOneStep functions before step answer after → OnErr answer (after ≡ before)
+stays-on_err functions before step (Ok did) after is = tt
+stays-on_err functions before step (Err refusal) after is = is.left
 
 -- no tenant is there under a number that wasn't taken
 pub known-still : {I A : Type 0} (functions : Functions I A) (before : Shared) (step : StepOf A) (answer : Result (DidOf I) Refusal) (after : Shared) → IsKnown before → IsOneStep functions before step answer after → IsKnown after

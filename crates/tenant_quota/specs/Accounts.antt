@@ -1,5 +1,5 @@
 -- Meaning: what each tenant has reserved and used: a list of tenants with their accounts, in rising order of tenants.
-use Rattle.std.specs.Prelude.{ℕ, suc, ◌+◌, ◌-◌, ◌*◌, ◌<◌, ◌≤◌, ◌==◌, nat_lt, if◌then◌else◌, List, [], ◌∷◌, Option, Some, None, sum_by}
+use Rattle.std.specs.Prelude.{ℕ, ◌+◌, ◌-◌, ◌*◌, ◌<◌, ◌≤◌, ◌==◌, nat_lt, if◌then◌else◌, List, [], ◌∷◌, Option, Some, None, sum_by}
 use Rattle.tenant_quota.specs.Quota.{Quota}
 use Rattle.tenant_quota.specs.declared.account.Account.{Account}
 use Rattle.tenant_quota.specs.declared.account.Left.{Left}

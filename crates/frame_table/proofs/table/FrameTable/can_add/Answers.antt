@@ -38,3 +38,11 @@ returns-else-len-places-clause-otherwise g c =
       | then-may_follow w ↦ rw w.value-is (lt-ltb _ _ (omega (arith, room, w.len.ensures, w.places.ensures)))
       | else-may_follow w ↦ absurd (false≢true (sym w.if-may_follow.false ∙ c.may_follow.ensures.otherwise parent))
     ])
+
+pub find_tree-requires : goal.find_tree-requires
+find_tree-requires g c = rw c.as_slice.ensures.value c.self.invariant.0.rise
+
+pub returns-in-None-clause-otherwise : goal.returns-in-None-clause-otherwise
+returns-in-None-clause-otherwise g c =
+    let none = rw c.as_slice.ensures.value at c.in-None.ensures.none in
+    rw (← c.self.view_is, none.places) (λ above parent room. absurd (omega (arith, room)))

@@ -36,3 +36,6 @@ returns g c =
       (refl, λ _. tt, (changed_frames _ _ _ _ _ _ changed, changed_keeps _ _ _ _ _ _ changed)),
       record { ends = tt; values = c.as_slice-2.ensures.value ∙ gone },
     )
+
+pub known_tenant-at-requires-clause-rise : goal.known_tenant-at-requires-clause-rise
+known_tenant-at-requires-clause-rise g c = rw c.as_slice.ensures.value c.self.invariant.0.rise

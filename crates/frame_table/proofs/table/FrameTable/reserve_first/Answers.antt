@@ -1,5 +1,6 @@
 use Rattle.std.proofs.Common.{◌<◌, ◌≤◌, length, IsOk, not, sym, ap, vec_capacity, ◌∙◌, arith}
 use Rattle.std.proofs.lemmas.Bool.{false≢true}
+use Rattle.std.proofs.lemmas.List.Edits.{length-insert}
 use Rattle.frame_tree.specs.Frames.{TenantTree}
 use Rattle.frame_table.proofs.Tenants.{reserve_sound, reserve_here, insert_keeps, more_room}
 use Rattle.frame_table.proofs.Placing.{rising-trees, place-found}
@@ -56,3 +57,13 @@ unreachable-requires g c =
     let free : length c.self.inside.trees.items < 64 = rw (← c.self.view_is) at c.requires.free in
     let done : IsOk c.insert.result = c.insert.ensures.succeeds (omega (arith, free, c.self.invariant.1, c.self.inside.trees.ok.0)) in
     false≢true (sym (rw done at c.is_err.ensures.negation ∙ ap not c.if-is_err.true))
+
+pub new-requires : goal.new-requires
+new-requires g c = c.requires.few
+
+pub returns-clause-count : goal.returns-clause-count
+returns-clause-count g c =
+    let free : length c.self.inside.trees.items < 64 = rw (← c.self.view_is) at c.requires.free in
+    let placed = place-found c.self.inside.trees.items _ c.args.tenant c.place_of-at.result c.self.invariant.0.rise c.as_slice.ensures.value c.place_of-at.ensures in
+    let done : IsOk c.insert.result = c.insert.ensures.succeeds (omega (arith, free, c.self.invariant.1, c.self.inside.trees.ok.0)) in
+    rw (← c.self.view_is, c.insert.ensures.items, done) (length-insert c.self.inside.trees.items c.place_of-at.result c.in_ok-tree.tree placed.0)

@@ -1,6 +1,6 @@
 use Rattle.std.proofs.Common.{Result, Ok, Err, OnErr, vec_capacity, arith}
 use Rattle.frame_table.proofs.Tenants.{tree_by_places, at_tree}
-use Rattle.frame_table.proofs.Raises.{HasRaised, raised_places, raised_frames, raised_keeps, raised_sound, unraised, unraised_sound}
+use Rattle.frame_table.proofs.Raises.{HasRaised, raised_places, raised_frames, raised_keeps, raised_count, raised_sound, unraised, unraised_sound}
 use Rattle.frame_table.proofs.table.FrameTable.reserve_more.Goals as goal
 
 on_err : {T E : Type 0} (r : Result T E) (P : Type 0) → P → OnErr r P
@@ -54,3 +54,12 @@ returns-clause-kept g c =
     let here = rw c.as_slice.ensures.value at c.known_tenant-at.ensures.found in
     let raised : HasRaised _ _ _ _ _ _ = record { here = here; was = c.index_mut-tree.ensures.value; now = c.in_ok-raise.ensures.ok } in
     rw (← c.self.view_is) (raised_keeps _ _ _ _ _ _ raised)
+
+pub known_tenant-at-requires-clause-rise : goal.known_tenant-at-requires-clause-rise
+known_tenant-at-requires-clause-rise g c = rw c.as_slice.ensures.value c.self.invariant.0.rise
+
+pub raise-requires-clause-few : goal.raise-requires-clause-few
+raise-requires-clause-few g c = c.requires.few
+
+pub returns-clause-count : goal.returns-clause-count
+returns-clause-count g c = rw (← c.self.view_is) (raised_count c.self.inside.trees.items c.known_tenant-at.result c.raise.new.self)

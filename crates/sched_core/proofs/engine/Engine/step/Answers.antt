@@ -37,3 +37,66 @@ returns-in-Admit-clause-one g c = rw c.in-Admit.is (one-admission (g.P.Procedure
 
 pub returns-in-AdmitMore-clause-one : goal.returns-in-AdmitMore-clause-one
 returns-in-AdmitMore-clause-one g c = rw c.in-AdmitMore.is (one-admission (g.P.Procedure.functions c.args.self.now.procedure) c.args.self.now.store _ _ _ refl c.admit_more.ensures.admitted)
+
+pub returns-in-Admit-clause-procedure : goal.returns-in-Admit-clause-procedure
+returns-in-Admit-clause-procedure g c = c.admit.ensures.procedure
+
+pub returns-in-AdmitMore-clause-procedure : goal.returns-in-AdmitMore-clause-procedure
+returns-in-AdmitMore-clause-procedure g c = c.admit_more.ensures.procedure
+
+pub returns-in-Submit-clause-procedure : goal.returns-in-Submit-clause-procedure
+returns-in-Submit-clause-procedure g c = c.submit.ensures.procedure
+
+pub returns-in-Take-clause-procedure : goal.returns-in-Take-clause-procedure
+returns-in-Take-clause-procedure g c = c.take.ensures.procedure
+
+pub returns-in-Steal-clause-procedure : goal.returns-in-Steal-clause-procedure
+returns-in-Steal-clause-procedure g c = c.steal.ensures.procedure
+
+pub returns-in-Advance-clause-procedure : goal.returns-in-Advance-clause-procedure
+returns-in-Advance-clause-procedure g c = c.advance.ensures.procedure
+
+pub returns-in-Answer-clause-procedure : goal.returns-in-Answer-clause-procedure
+returns-in-Answer-clause-procedure g c = c.answer.ensures.procedure
+
+pub returns-in-Inlet-clause-procedure : goal.returns-in-Inlet-clause-procedure
+returns-in-Inlet-clause-procedure g c = c.inlet.ensures.procedure
+
+pub returns-in-Finish-clause-procedure : goal.returns-in-Finish-clause-procedure
+returns-in-Finish-clause-procedure g c = c.finish.ensures.procedure
+
+pub returns-in-Spend-clause-procedure : goal.returns-in-Spend-clause-procedure
+returns-in-Spend-clause-procedure g c = c.spend.ensures.procedure
+
+pub returns-in-Cancel-clause-procedure : goal.returns-in-Cancel-clause-procedure
+returns-in-Cancel-clause-procedure g c = c.cancel.ensures.procedure
+
+pub returns-in-Leave-clause-procedure : goal.returns-in-Leave-clause-procedure
+returns-in-Leave-clause-procedure g c = c.leave.ensures.procedure
+
+pub submit-requires : goal.submit-requires
+submit-requires g c = c.requires.shaped
+
+pub finish-requires : goal.finish-requires
+finish-requires g c = c.requires.shaped
+
+pub spend-requires : goal.spend-requires
+spend-requires g c = c.requires.shaped
+
+pub cancel-requires : goal.cancel-requires
+cancel-requires g c = c.requires.shaped
+
+pub answer-requires : goal.answer-requires
+answer-requires g c = c.requires.fits
+
+pub advance-requires-clause-shaped : goal.advance-requires-clause-shaped
+advance-requires-clause-shaped g c = c.requires.shaped
+
+pub advance-requires-clause-fits : goal.advance-requires-clause-fits
+advance-requires-clause-fits g c = c.requires.fits
+
+pub inlet-requires-clause-shaped : goal.inlet-requires-clause-shaped
+inlet-requires-clause-shaped g c = c.requires.shaped
+
+pub inlet-requires-clause-fits : goal.inlet-requires-clause-fits
+inlet-requires-clause-fits g c = c.requires.fits

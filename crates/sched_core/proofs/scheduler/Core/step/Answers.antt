@@ -1,4 +1,4 @@
-use Rattle.sched_core.proofs.Stepping.{kept-still, fits-still}
+use Rattle.sched_core.proofs.Stepping.{kept-still, fits-still, stays-on_err}
 use Rattle.sched_core.proofs.Fitting.{kept-fitting}
 use Rattle.sched_core.proofs.scheduler.Core.step.Goals as goal
 
@@ -27,3 +27,18 @@ returns-clause-kept g c = kept-still _ _ _ _ _ c.self.invariant.kept c.step.ensu
 
 pub returns-clause-kept_before : goal.returns-clause-kept_before
 returns-clause-kept_before g c = rw (← c.self.view_is) c.self.invariant.kept
+
+pub step-requires-clause-shaped : goal.step-requires-clause-shaped
+step-requires-clause-shaped g c = c.self.invariant.kept.shaped
+
+pub step-requires-clause-fits : goal.step-requires-clause-fits
+step-requires-clause-fits g c = c.self.invariant.fit
+
+pub returns-clause-one : goal.returns-clause-one
+returns-clause-one g c = rw (← c.self.view_is) c.step.ensures.one
+
+pub returns-clause-refused : goal.returns-clause-refused
+returns-clause-refused g c = rw (← c.self.view_is) (stays-on_err _ _ _ _ _ c.step.ensures.one)
+
+pub returns-clause-procedure : goal.returns-clause-procedure
+returns-clause-procedure g c = rw (← c.self.view_is) c.step.ensures.procedure

@@ -1,5 +1,5 @@
 -- A reservation above the tenant's own that the totals allow is written into its account; any other is refused.
-use Rattle.std.proofs.Common.{◌≡◌, ℕ, ◌-◌, ◌<◌, ◌≤◌, ◌⊎◌, inl, inr, length, ltb, true, false, Some, ap, refl, arith}
+use Rattle.std.proofs.Common.{◌≡◌, ℕ, ◌+◌, ◌-◌, ◌<◌, ◌≤◌, ◌⊎◌, inl, inr, length, ltb, true, false, Some, ap, refl, arith}
 use Rattle.std.specs.Prelude.{option_map}
 use Rattle.std.proofs.lemmas.Bool.{ltb-true, ltb-false}
 use Rattle.tenant_quota.specs.Quota.{Quota, IsAbove, IsNotAbove}
@@ -83,6 +83,22 @@ raised b new t quota now is above room raise = record {
   raise = raise;
 }
 
+-- the kept sum grows by what the reservation does
+difference : (a b m n : ℕ) → a ≡ m → b ≡ n → a - b ≡ m - n
+difference a b m n is less = rw (is, less) refl
+
+no_less : (a b m n : ℕ) → a ≡ m → b ≡ n → n ≤ m → b ≤ a
+no_less a b m n is less above = rw (is, less) above
+
+sum_raised : (kept old new now quota more : ℕ) → new + now ≡ old + quota → kept ≡ old → more ≡ quota - now → now ≤ quota → kept + more ≡ new
+sum_raised kept old new now quota more raises is more_is above = omega (arith, raises, is, more_is, above)
+
+pub overflow_sub-segments : goal.overflow_sub-segments
+overflow_sub-segments g c = no_less _ _ _ _ c.segments.ensures.value c.segments-2.ensures.value (c.is_above.ensures.0 c.if-not-is_above.false).segments
+
+pub overflow_sub-nodes : goal.overflow_sub-nodes
+overflow_sub-nodes g c = no_less _ _ _ _ c.nodes.ensures.value c.nodes-2.ensures.value (c.is_above.ensures.0 c.if-not-is_above.false).nodes
+
 pub place_of-place-requires : goal.place_of-place-requires
 place_of-place-requires g c = read-rising c.self.inside.accounts.items _ c.deref.ensures.value c.self.invariant.sound.rising
 
@@ -122,8 +138,8 @@ returns-then-rest-segments-clause-ok g c =
     let is : reserve_of c.args.tenant (held_by c.self.inside) ≡ Some c.index_mut.result.now.1.reserve = ap (option_map (λ (a : Account). a.reserve)) stands.account in
     let above : IsAbove c.index_mut.result.now.1.reserve c.args.reserve = c.is_above.ensures.0 c.if-not-is_above.false in
     let less = one_less _ _ _ _ c.then-rest-segments.either in
-    let segments_are : c.segments.result - c.segments-2.result ≡ c.args.reserve.segments - c.index_mut.result.now.1.reserve.segments = omega (arith, c.segments.ensures.value, c.segments-2.ensures.value) in
-    let nodes_are : c.nodes.result - c.nodes-2.result ≡ c.args.reserve.nodes - c.index_mut.result.now.1.reserve.nodes = omega (arith, c.nodes.ensures.value, c.nodes-2.ensures.value) in
+    let segments_are : c.segments.result - c.segments-2.result ≡ c.args.reserve.segments - c.index_mut.result.now.1.reserve.segments = difference _ _ _ _ c.segments.ensures.value c.segments-2.ensures.value in
+    let nodes_are : c.nodes.result - c.nodes-2.result ≡ c.args.reserve.nodes - c.index_mut.result.now.1.reserve.nodes = difference _ _ _ _ c.nodes.ensures.value c.nodes-2.ensures.value in
     let beyond = beyond_rest (held_by c.self.inside) c.args.reserve _ c.rest-rest.result _ _ c.self.invariant.sound (rw (← c.self.view_is) at c.rest-rest.ensures.rest) above segments_are nodes_are less in
     let many = refused (held_by c.self.inside) c.args.tenant c.args.reserve _ is above beyond in
     rw (← c.self.view_is) (λ never. absurd cc, λ can. absurd (many.taken can))
@@ -134,8 +150,8 @@ returns-then-rest-segments-clause-lower g c =
     let is : reserve_of c.args.tenant (held_by c.self.inside) ≡ Some c.index_mut.result.now.1.reserve = ap (option_map (λ (a : Account). a.reserve)) stands.account in
     let above : IsAbove c.index_mut.result.now.1.reserve c.args.reserve = c.is_above.ensures.0 c.if-not-is_above.false in
     let less = one_less _ _ _ _ c.then-rest-segments.either in
-    let segments_are : c.segments.result - c.segments-2.result ≡ c.args.reserve.segments - c.index_mut.result.now.1.reserve.segments = omega (arith, c.segments.ensures.value, c.segments-2.ensures.value) in
-    let nodes_are : c.nodes.result - c.nodes-2.result ≡ c.args.reserve.nodes - c.index_mut.result.now.1.reserve.nodes = omega (arith, c.nodes.ensures.value, c.nodes-2.ensures.value) in
+    let segments_are : c.segments.result - c.segments-2.result ≡ c.args.reserve.segments - c.index_mut.result.now.1.reserve.segments = difference _ _ _ _ c.segments.ensures.value c.segments-2.ensures.value in
+    let nodes_are : c.nodes.result - c.nodes-2.result ≡ c.args.reserve.nodes - c.index_mut.result.now.1.reserve.nodes = difference _ _ _ _ c.nodes.ensures.value c.nodes-2.ensures.value in
     let beyond = beyond_rest (held_by c.self.inside) c.args.reserve _ c.rest-rest.result _ _ c.self.invariant.sound (rw (← c.self.view_is) at c.rest-rest.ensures.rest) above segments_are nodes_are less in
     let many = refused (held_by c.self.inside) c.args.tenant c.args.reserve _ is above beyond in
     rw (← c.self.view_is) (λ never. absurd cc, λ lower. absurd (many.little lower))
@@ -146,8 +162,8 @@ returns-then-rest-segments-clause-full g c =
     let is : reserve_of c.args.tenant (held_by c.self.inside) ≡ Some c.index_mut.result.now.1.reserve = ap (option_map (λ (a : Account). a.reserve)) stands.account in
     let above : IsAbove c.index_mut.result.now.1.reserve c.args.reserve = c.is_above.ensures.0 c.if-not-is_above.false in
     let less = one_less _ _ _ _ c.then-rest-segments.either in
-    let segments_are : c.segments.result - c.segments-2.result ≡ c.args.reserve.segments - c.index_mut.result.now.1.reserve.segments = omega (arith, c.segments.ensures.value, c.segments-2.ensures.value) in
-    let nodes_are : c.nodes.result - c.nodes-2.result ≡ c.args.reserve.nodes - c.index_mut.result.now.1.reserve.nodes = omega (arith, c.nodes.ensures.value, c.nodes-2.ensures.value) in
+    let segments_are : c.segments.result - c.segments-2.result ≡ c.args.reserve.segments - c.index_mut.result.now.1.reserve.segments = difference _ _ _ _ c.segments.ensures.value c.segments-2.ensures.value in
+    let nodes_are : c.nodes.result - c.nodes-2.result ≡ c.args.reserve.nodes - c.index_mut.result.now.1.reserve.nodes = difference _ _ _ _ c.nodes.ensures.value c.nodes-2.ensures.value in
     let beyond = beyond_rest (held_by c.self.inside) c.args.reserve _ c.rest-rest.result _ _ c.self.invariant.sound (rw (← c.self.view_is) at c.rest-rest.ensures.rest) above segments_are nodes_are less in
     let many = refused (held_by c.self.inside) c.args.tenant c.args.reserve _ is above beyond in
     rw (← c.self.view_is) (λ _. many.much, λ _. refl)
@@ -157,16 +173,16 @@ invariant_of-self-2 g c =
     let stands = stands_for (held_by c.self.inside) c.args.tenant _ _ c.index_mut.result.now c.self.invariant.sound (rw (← c.self.view_is) at c.requires) c.deref.ensures.value c.place_of-place.ensures c.index_mut.ensures.value in
     let is : reserve_of c.args.tenant (held_by c.self.inside) ≡ Some c.index_mut.result.now.1.reserve = ap (option_map (λ (a : Account). a.reserve)) stands.account in
     let above : IsAbove c.index_mut.result.now.1.reserve c.args.reserve = c.is_above.ensures.0 c.if-not-is_above.false in
-    let segments_are : c.segments.result - c.segments-2.result ≡ c.args.reserve.segments - c.index_mut.result.now.1.reserve.segments = omega (arith, c.segments.ensures.value, c.segments-2.ensures.value) in
-    let nodes_are : c.nodes.result - c.nodes-2.result ≡ c.args.reserve.nodes - c.index_mut.result.now.1.reserve.nodes = omega (arith, c.nodes.ensures.value, c.nodes-2.ensures.value) in
+    let segments_are : c.segments.result - c.segments-2.result ≡ c.args.reserve.segments - c.index_mut.result.now.1.reserve.segments = difference _ _ _ _ c.segments.ensures.value c.segments-2.ensures.value in
+    let nodes_are : c.nodes.result - c.nodes-2.result ≡ c.args.reserve.nodes - c.index_mut.result.now.1.reserve.nodes = difference _ _ _ _ c.nodes.ensures.value c.nodes-2.ensures.value in
     let room = within_rest (held_by c.self.inside) c.args.reserve _ c.rest-rest.result _ _ c.self.invariant.sound (rw (← c.self.view_is) at c.rest-rest.ensures.rest) above segments_are nodes_are c.if-rest-segments.false c.if-rest-nodes.false in
     let raise = raise_by_write (held_by c.self.inside) c.args.tenant _ _ c.index_mut.result.now c.args.reserve c.self.invariant.sound (rw (← c.self.view_is) at c.requires) c.deref.ensures.value c.place_of-place.ensures c.index_mut.ensures.value c.segments.ensures.limits above room in
     let does = raised (held_by c.self.inside) _ c.args.tenant c.args.reserve _ is above room raise in
     let now = c.self.invariant in
     record {
       sound = does.raise.sound;
-      segments = omega (arith, does.raise.raises.segments, now.segments, segments_are, above.segments);
-      nodes = omega (arith, does.raise.raises.nodes, now.nodes, nodes_are, above.nodes);
+      segments = sum_raised _ _ _ _ _ _ does.raise.raises.segments now.segments segments_are above.segments;
+      nodes = sum_raised _ _ _ _ _ _ does.raise.raises.nodes now.nodes nodes_are above.nodes;
       places = now.places;
     }
 
@@ -175,8 +191,8 @@ returns g c =
     let stands = stands_for (held_by c.self.inside) c.args.tenant _ _ c.index_mut.result.now c.self.invariant.sound (rw (← c.self.view_is) at c.requires) c.deref.ensures.value c.place_of-place.ensures c.index_mut.ensures.value in
     let is : reserve_of c.args.tenant (held_by c.self.inside) ≡ Some c.index_mut.result.now.1.reserve = ap (option_map (λ (a : Account). a.reserve)) stands.account in
     let above : IsAbove c.index_mut.result.now.1.reserve c.args.reserve = c.is_above.ensures.0 c.if-not-is_above.false in
-    let segments_are : c.segments.result - c.segments-2.result ≡ c.args.reserve.segments - c.index_mut.result.now.1.reserve.segments = omega (arith, c.segments.ensures.value, c.segments-2.ensures.value) in
-    let nodes_are : c.nodes.result - c.nodes-2.result ≡ c.args.reserve.nodes - c.index_mut.result.now.1.reserve.nodes = omega (arith, c.nodes.ensures.value, c.nodes-2.ensures.value) in
+    let segments_are : c.segments.result - c.segments-2.result ≡ c.args.reserve.segments - c.index_mut.result.now.1.reserve.segments = difference _ _ _ _ c.segments.ensures.value c.segments-2.ensures.value in
+    let nodes_are : c.nodes.result - c.nodes-2.result ≡ c.args.reserve.nodes - c.index_mut.result.now.1.reserve.nodes = difference _ _ _ _ c.nodes.ensures.value c.nodes-2.ensures.value in
     let room = within_rest (held_by c.self.inside) c.args.reserve _ c.rest-rest.result _ _ c.self.invariant.sound (rw (← c.self.view_is) at c.rest-rest.ensures.rest) above segments_are nodes_are c.if-rest-segments.false c.if-rest-nodes.false in
     let raise = raise_by_write (held_by c.self.inside) c.args.tenant _ _ c.index_mut.result.now c.args.reserve c.self.invariant.sound (rw (← c.self.view_is) at c.requires) c.deref.ensures.value c.place_of-place.ensures c.index_mut.ensures.value c.segments.ensures.limits above room in
     let does = raised (held_by c.self.inside) _ c.args.tenant c.args.reserve _ is above room raise in

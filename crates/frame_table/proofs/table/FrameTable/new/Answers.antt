@@ -1,0 +1,12 @@
+-- A table with no tree.
+use Rattle.std.proofs.Common.{refl}
+use Rattle.frame_table.proofs.table.FrameTable.new.Goals as goal
+
+pub returns-clause-count : goal.returns-clause-count
+returns-clause-count g c = rw c.in_ok-trees.ensures.items refl
+
+pub returns-clause-frames : goal.returns-clause-frames
+returns-clause-frames g c = λ tenant. rw c.in_ok-trees.ensures.items refl
+
+pub returns-clause-places : goal.returns-clause-places
+returns-clause-places g c = λ tenant. rw c.in_ok-trees.ensures.items refl
