@@ -1,7 +1,6 @@
 -- What is read of a core that keeps what it keeps: nothing is cut off, and the newest ready frame has the greatest serial.
 use Rattle.std.proofs.Common.{◌≡◌, ℕ, Option, Some, None, refl}
 use Rattle.std.specs.Prelude.{IfSome, option_map, option_and_then}
-use Rattle.tenant_quota.specs.declared.account.Left.{Left}
 use Rattle.frame_tree.specs.declared.names.FrameId.{FrameId}
 use Rattle.frame_tree.specs.Frames.{newest_ready_of}
 use Rattle.frame_tree.proofs.TreeLaws.{tree-rising}

@@ -1,4 +1,3 @@
-use Rattle.std.proofs.Common.{◌∙◌, ap, ◌+◌}
 use Rattle.sched_laws.proofs.Sums.{free-whole}
 use Rattle.sched_core.proofs.scheduler.Core.free_segments.Goals as goal
 
