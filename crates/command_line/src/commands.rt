@@ -168,7 +168,7 @@ const GRAIN_ARG: NumberArg = NumberArg {
     setting: GRAIN,
     value: "g",
     required: false,
-    help: "the depth that one worker searches alone, 0 to 6 [default: 2]",
+    help: "the depth that one worker searches alone, 0 to 6; 4 is fastest for most jobs [default: 2]",
 };
 
 /// The options of `serve` that have a number.
