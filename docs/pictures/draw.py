@@ -208,7 +208,7 @@ def states():
     p.text(672, 272, "Advance: Return without a child")
     p.arrow([(825, 356), (825, 410)])
     p.lines(816, 380, ["Inlet (a child)", "Finish (a root)"], anchor="end")
-    p.lines(40, 420, ["from every state: an abort by the parent's Inlet; Spend, Cancel and Leave", "end the frame, and its worker finds out at its next step"], anchor="start")
+    p.lines(40, 420, ["from every state: an abort at a frame above, Spend, Cancel or Leave ends", "the frame; its worker finds out at its next step"], anchor="start")
     p.arrow([(560, 428), (740, 428)], dashed=True)
     return p
 
