@@ -8,6 +8,23 @@ PLACES = 1000  # lines that wait to be written; where there are more they are le
 A_LAST_MOMENT = 0.5  # seconds that the end waits for the log
 
 
+def open_descriptors():
+    """Opens what stands for a closed standard input, output or error, so that no other file comes in its place."""
+    while True:
+        made = os.open(os.devnull, os.O_RDWR)
+        if made > 2:
+            os.close(made)
+            return
+
+
+def tell(text):
+    """Writes a text to standard error, if that can be written."""
+    try:
+        os.write(2, text.encode(errors="replace"))
+    except OSError:
+        pass
+
+
 class Log:
     """Writes lines to a file descriptor, in a thread of its own, so that nobody waits for them."""
 
