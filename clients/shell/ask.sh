@@ -22,12 +22,12 @@ reach() {
   trap - USR1
 }
 
-# Sends a line, and reads its answer, which must begin so or be an ERR.
+# Sends a line, and reads its answer, which must be of this form or an ERR.
 call() {
   printf '%s\n' "$1" 2> /dev/null >&"$server" || lost "the server ended the session"
   answer=
-  IFS= read -r -t "$silence" -u "$server" answer || lost "no answer to ${1%% *}"
-  [[ "$answer " == @($2)\ * || $answer =~ ^ERR\ [0-9]+$ ]] || lost "$1 was answered by $answer"
+  IFS= read -r -t "$silence" -u "$server" answer 2> /dev/null || lost "no answer to ${1%% *}"
+  [[ $answer =~ ^($2|ERR [0-9]+)$ ]] || lost "$1 was answered by $answer"
 }
 
 # The next line of the input in `line`, where it comes within so many seconds; what came of it stays in `part`.
@@ -57,7 +57,7 @@ ask() {
 is_known() {
   answer=${asked[0]}
   if [[ $answer != ERR* ]]; then
-    call "GET $answer" "DONE $answer|SPENT $answer|CANCELLED $answer|PENDING $answer"
+    call "GET $answer" "DONE $answer -?[0-9]+ [a-z0-9-]+|(SPENT|CANCELLED|PENDING) $answer"
   fi
   [[ $answer != PENDING* ]]
 }
@@ -79,7 +79,8 @@ if [[ ${3:-} == - ]]; then words=("${@:1:3}" - "${@:4}"); fi # the lines come by
 host=${words[0]} port=${words[1]} asked=() jobs=0 failed=0 part='' ended=''
 trap '' PIPE
 reach
-call "HELLO ${words[4]:-64} ${words[5]:-4096}" "WELCOME ${words[4]:-64}"
+reserve="${words[4]:-64} ${words[5]:-4096}"
+call "HELLO $reserve" "WELCOME $reserve"
 if [[ $answer == ERR* ]]; then
   echo "$answer"
   exit 1

@@ -145,7 +145,8 @@ def try_programs(port, folder):
 
 
 def try_all(port, folder, lines, wanted):
-    try_interrupted(port)
+    with stage.server("--sessions", "9", "--segments", "65536", "--nodes", "1048576", "--grain", "4") as (_, other):
+        try_interrupted(other)  # its jobs go on for a while
     try_lost(lines, wanted)
     try_timeout()
     try_faults_in_words(port)
