@@ -1,6 +1,7 @@
-"""What the trials of this folder, of clients/ and of bench/ share: servers, supervisors and HAProxy on loopback.
+"""What the trials of this folder, of clients/ and of bench/ share: servers, supervisors, budgets and HAProxy on loopback.
 
-The program is the one that the variable OTHELLO names, and else `./othello` at the top of the repository.
+The program is the one that the variable OTHELLO names, and else the one that `./othello` at the top of the repository
+has built: it is started itself, since the time that `./othello` takes to look at the sources would be added to each start.
 """
 import contextlib
 import os
@@ -20,14 +21,25 @@ sys.path[:0] = [str(TOP / "clients" / "python"), str(TOP / "clients" / "teacher"
 from othello import Refused, Session  # noqa: E402, F401
 from review import OTHER, SQUARES, START, can_move, flips, played  # noqa: E402
 
-PROGRAM = os.environ.get("OTHELLO") or str(TOP / "othello")
 OPENING = START + " X"
 NAMES = ("one", "two", "three")  # of the servers in haproxy.cfg
 PORTS = (4711, 4712, 4713)
+ALL = "budgets: that is all\n"
+CLASSES = (4721, 4722)  # HAProxy's ports of the two classes
+BUDGETS = 4720
 
 
 def fail(text):
     sys.exit(f"{pathlib.Path(sys.argv[0]).name}: {text}")
+
+
+def built():
+    """The program that `./othello` builds, where it isn't there yet."""
+    subprocess.run([TOP / "othello", "--version"], stdout=subprocess.DEVNULL, check=True)
+    return str(TOP / "crates/othello_server/out/othello_server")
+
+
+PROGRAM = os.environ.get("OTHELLO") or built()
 
 
 def free_port():
@@ -145,40 +157,59 @@ def children(process):
         return sorted(map(int, told.read().split()))
 
 
-class Proxy:
-    """HAProxy with deploy/haproxy.cfg, at the ports of a trial."""
+def replaced(text, changes):
+    """A text with these parts changed; each must be there."""
+    for old, new in changes:
+        if old not in text:
+            fail(f"nothing to change: {old!r}")
+        text = text.replace(old, new)
+    return text
 
-    def __init__(self, ports, certificate=None):
+
+class Proxy:
+    """HAProxy with deploy/haproxy.cfg and deploy/budgets with deploy/budgets.toml, at the ports of a trial.
+
+    `certificate` is that of TLS, `authority` signs the certificates of customers; `terms` are changes of budgets.toml, and
+    `more` stands behind it."""
+
+    def __init__(self, ports, certificate=None, authority=None, terms=(), more=""):
         self.port, self.metrics, self.ports = free_port(), free_port(), ports
+        self.inner, self.classes = free_port(), [free_port() for _ in CLASSES]
         self.tls = f" ssl crt {certificate}" if certificate else ""
+        self.tls += f" ca-file {authority} verify optional" if authority else ""
+        self.terms, self.more = terms, more
+
+    def moved(self):
+        """What ports are changed in both files."""
+        return [(f"127.0.0.1:{old}", f"127.0.0.1:{new}") for old, new in zip(CLASSES, self.classes)] + [(f"127.0.0.1:{BUDGETS}", f"127.0.0.1:{self.inner}")]
 
     def __enter__(self):
         self.folder = tempfile.TemporaryDirectory()
         self.control, self.log = f"{self.folder.name}/control", pathlib.Path(self.folder.name, "log")
-        text = (HERE / "haproxy.cfg").read_text()
         moved = [(f"127.0.0.1:{old}\n", f"127.0.0.1:{new}\n") for old, new in zip(PORTS, self.ports)]
         moved += [("  bind :4700\n", f"  bind 127.0.0.1:{self.port}{self.tls}\n"), ("bind 127.0.0.1:8404", f"bind 127.0.0.1:{self.metrics}")]
         moved += [("/run/haproxy/admin.sock", self.control)]
         if os.geteuid() != 0:  # only root may take another user and another root
             moved += [(f"  {line}\n", "") for line in ("user haproxy", "group haproxy", "chroot /var/lib/haproxy")]
-        for old, new in moved:
-            if old not in text:
-                fail(f"haproxy.cfg hasn't {old!r}")
-            text = text.replace(old, new)
-        path = pathlib.Path(self.folder.name, "haproxy.cfg")
-        path.write_text(text)
+        path, self.file = (pathlib.Path(self.folder.name, name) for name in ("haproxy.cfg", "budgets.toml"))
+        path.write_text(replaced((HERE / "haproxy.cfg").read_text(), moved + self.moved()))
+        self.file.write_text(replaced((HERE / "budgets.toml").read_text(), [*self.moved(), *self.terms]) + self.more)
         with self.log.open("w") as log:
+            self.budgets = subprocess.Popen([HERE / "budgets", self.file], stdout=log, stderr=log)
             self.process = subprocess.Popen(["haproxy", "-db", "-f", str(path)], stdout=log, stderr=log)
-        until("HAProxy listens", lambda: self.process.poll() is not None or self.is_there())
+        for port in (self.metrics, self.inner):
+            until("HAProxy and the budgets listen", lambda: self.is_over() or is_there(port))
+        if self.is_over():
+            fail(f"HAProxy or the budgets ended:\n{self.log.read_text()}")
         return self
 
-    def is_there(self):
-        with socket.socket() as probe:
-            return probe.connect_ex(("127.0.0.1", self.metrics)) == 0
+    def is_over(self):
+        return self.process.poll() is not None or self.budgets.poll() is not None
 
     def __exit__(self, *_):
-        self.process.terminate()
-        self.process.wait()
+        for process in (self.process, self.budgets):
+            process.terminate()
+            process.wait()
         self.folder.cleanup()
 
     def ask(self, line):
@@ -190,7 +221,19 @@ class Proxy:
 
     def servers(self):
         """Which server each session is with, by the address and port that it comes from."""
-        return dict(re.findall(r"src=(127\.[\d.]+:\d+) .*? srv=(\w+)", self.ask("show sess")))
+        before = self.log.read_text().count(ALL)
+        self.budgets.send_signal(signal.SIGUSR1)
+        until("the budgets say who is there", lambda: self.log.read_text().count(ALL) > before)
+        told = self.log.read_text().split(ALL)[before]
+        onward = dict(re.findall(r"^budgets: session (\S+) of .*: \w+ (\S+)$", told, re.M))
+        rows = dict(re.findall(r"src=(\S+) .*? srv=(\w+)", self.ask("show sess")))
+        return {source: rows[port] for source, port in onward.items() if rows.get(port) in NAMES}
+
+
+def is_there(port):
+    """Whether somebody listens at a port."""
+    with socket.socket() as probe:
+        return probe.connect_ex(("127.0.0.1", port)) == 0
 
 
 def source_of(session):

@@ -10,12 +10,16 @@ As a class:    with Session("127.0.0.1", 4711, segments=64, nodes=4096) as sessi
                    print(answer)                           # as above, or ("ERR", 27)
 
 As a command:  othello.py HOST PORT SEGMENTS NODES < lines   where each line is `depth position`: the answers in order,
-               each in the place of its line; at the end standard error says how many sessions it took. With --tables
-               each answer is followed by the board with what is known of each choice.
+               each in the place of its line and as soon as it is known; at the end standard error says how many
+               sessions it took. With --tables each answer is followed by the board with what is known of each choice.
+
+What comes in is asked at once, `ahead` lines at a time at most:
+               (echo "2 $O"; sleep 6) | othello.py 127.0.0.1 4711 64 4096     # answers at the beginning, and ends after 6 s
+A server that isn't there, or says nothing where it answers at once, is given up after `silence` seconds (1.2), and the
+command says so in one line and ends with status 1. Where HAProxy's queue may hold a session, give `--silence 60`.
 """
 import argparse
 import collections
-import itertools
 import socket
 import ssl
 import sys
@@ -58,6 +62,13 @@ ANSWERS = {
     "BYE": {"BYE": 1},
 }
 LONGEST = 4096  # bytes of an answer, and more than any has
+SILENCE = 1.2  # seconds after which a server that says nothing is given up
+SHORTEST_PAUSE, LONGEST_PAUSE = 0.0002, 0.02  # seconds between two looks at a job
+
+
+def pause_after(seconds):
+    """How long to wait before the next look at a job that was looked at for so long."""
+    return min(max(seconds / 4, SHORTEST_PAUSE), LONGEST_PAUSE)
 
 
 class Refused(Exception):
@@ -66,6 +77,10 @@ class Refused(Exception):
     def __init__(self, number):
         super().__init__(f"ERR {number}: {FAULTS.get(number, 'a fault that this client does not know')}")
         self.number = number
+
+
+class Unreachable(ConnectionError):
+    """The server can't be reached, or was lost."""
 
 
 class Broken(ConnectionError):
@@ -101,11 +116,15 @@ def board_of(position, entries, best):
 
 
 class Session:
-    """A tenant of the server, from HELLO to BYE. Threads may share it: each call is a line and its answer."""
+    """A tenant of the server, from HELLO to BYE. Threads may share it: each call is a line and its answer.
 
-    def __init__(self, host, port, segments, nodes, timeout=None, tls=None):
+    `timeout` is how many seconds `wait` gives a job: after them the job is cancelled. `silence` is how many the server may
+    take to answer what it answers at once, which is all but WAIT; after them the session is broken. None: no limit."""
+
+    def __init__(self, host, port, segments, nodes, timeout=None, tls=None, silence=None):
         self.lock, self.broken, self.jobs = threading.Lock(), None, 0
-        self.socket = self.connect(host, port, timeout)
+        self.timeout, self.silence = timeout, silence
+        self.socket = self.connect(host, port, silence)
         try:
             self.socket.setsockopt(socket.IPPROTO_TCP, socket.TCP_NODELAY, 1)
             if tls:
@@ -128,8 +147,13 @@ class Session:
             if self.broken:
                 raise Broken(f"this session can't be used any more: {self.broken}")
             self.broken = f"{word} was interrupted"  # until its answer has been read
-            self.socket.sendall(line.encode("latin-1") + b"\n")
-            answer = self.lines.readline(LONGEST)
+            if self.silence is not None:
+                self.socket.settimeout(None if word == "WAIT" else self.silence)
+            try:
+                self.socket.sendall(line.encode("latin-1") + b"\n")
+                answer = self.lines.readline(LONGEST)
+            except TimeoutError:
+                raise TimeoutError(f"no answer to {word} in {self.socket.gettimeout():.2g} s") from None
             if not answer.endswith(b"\n"):
                 self.broken = "the server ended it"
                 raise Broken(self.broken)
@@ -164,8 +188,28 @@ class Session:
         return (state, int(found[0]), found[1]) if state == "DONE" else (state,)
 
     def wait(self, job):
-        """How a job ended. It blocks until then."""
-        return self.get(job, "WAIT")
+        """How a job ended. Without a `timeout` the server reads no other line of this session until then, so that nobody can
+        cancel the job: where another thread may, or the server may be lost meanwhile, use `poll`."""
+        return self.get(job, "WAIT") if self.timeout is None else self.poll(job, self.timeout)
+
+    def poll(self, job, timeout=None):
+        """How a job ended, by GET with pauses of up to 20 ms. Between them other threads may use the session, and cancel the
+        job. After so many seconds the job is cancelled, and TimeoutError is raised; the session goes on."""
+        begun = time.monotonic()
+        while (found := self.get(job)) == ("PENDING",):
+            taken = time.monotonic() - begun
+            if timeout is not None and taken > timeout and (found := self.stopped(job)) == ("CANCELLED",):
+                raise TimeoutError(f"job {job} was cancelled after {timeout} s")
+            time.sleep(pause_after(taken))
+        return found
+
+    def stopped(self, job):
+        """Cancels a job, if it hasn't ended meanwhile; how it ended."""
+        try:
+            self.cancel(job)
+        except Refused:
+            pass
+        return self.get(job)
 
     def table(self, job):
         """What is known of each choice of a job that is done: its move, a sign of SIGNS and a number, in the order of the
@@ -174,7 +218,7 @@ class Session:
         return [entry_of(text) for text in entries] if state == "TABLE" else None
 
     def cancel(self, job):
-        """Ends a job that hasn't ended."""
+        """Ends a job that hasn't ended. Behind a WAIT of another thread it comes when that job has ended (`poll`)."""
         self.call("CANCEL", job, again=(job,))
 
     def quota(self):
@@ -212,100 +256,177 @@ class Question:
     def __init__(self, line, tabled=False):
         self.line, self.tabled = line, tabled
         self.job = self.answer = self.table = None
+        self.asked = 0.0  # when, by the clock that never goes back
         self.alone = False  # it was spent beside others: it is asked once more, as the first job of a session
 
 
-class Client:
-    """Answers any number of positions, by as many sessions one after another as they need."""
+class Arrivals:
+    """What an iterable gives, taken from it by a thread of its own, so that what is there can be had without waiting for what
+    isn't. So many are kept at most."""
 
-    def __init__(self, host, port, segments, nodes, ahead=16, patience=30, timeout=None, tls=None):
-        self.where = (host, port, segments, nodes, timeout, tls)
-        self.ahead, self.patience = ahead, patience
+    def __init__(self, source, most):
+        self.there, self.most, self.ended, self.fault = collections.deque(), most, False, None
+        self.changed = threading.Condition()
+        threading.Thread(target=self.take, args=(source,), daemon=True).start()
+
+    def take(self, source):
+        fault = None
+        try:
+            for one in source:
+                with self.changed:
+                    self.there.append(one)
+                    self.changed.notify_all()
+                    self.changed.wait_for(lambda: len(self.there) < self.most or self.ended)
+                    if self.ended:
+                        return
+        except Exception as raised:  # it is raised again where what comes is asked for
+            fault = raised
+        with self.changed:
+            self.ended, self.fault = True, fault
+            self.changed.notify_all()
+
+    def fill(self, window, most):
+        """Moves what is there into a window of so many at most, and waits for the first where the window is empty. Whether
+        anything was moved."""
+        with self.changed:
+            if not window:
+                self.changed.wait_for(lambda: self.there or self.ended)
+            if self.fault and not self.there:
+                raise self.fault
+            count = min(most - len(window), len(self.there))
+            window.extend(self.there.popleft() for _ in range(count))
+            if count > 0:
+                self.changed.notify_all()
+            return count > 0
+
+    def pause(self, seconds):
+        """Waits so long, or until something comes."""
+        with self.changed:
+            self.changed.wait(seconds)
+
+    def stop(self):
+        with self.changed:
+            self.ended = True
+            self.changed.notify_all()
+
+
+class Client:
+    """Answers any number of positions, by as many sessions one after another as they need.
+
+    `ahead`: how many lines are asked at a time at most. `patience`: for how many seconds a server that is full (ERR 14, 19) is
+    asked again. `timeout`: how many a line may take from when it is asked; then its job is cancelled, and that is its answer.
+    `silence`: after how many a server that can't be reached, or doesn't answer what it answers at once, is given up. `tell`:
+    what is called with a line of text where there is something to wait for."""
+
+    def __init__(self, host, port, segments, nodes, ahead=16, patience=30, timeout=None, tls=None, silence=SILENCE, tell=None):
+        self.host, self.port, self.reserve, self.tls = host, port, (segments, nodes), tls
+        self.ahead, self.patience, self.timeout, self.silence = max(ahead, 1), patience, timeout, silence
+        self.tell = tell or (lambda text: None)
         self.sessions = self.lost = 0
 
-    def open(self):
-        """A new session. Where the server takes none for now, it is tried again for some seconds."""
-        until = time.monotonic() + self.patience
+    def open(self, silence=None):
+        """A new session. Where the server is full for now it is tried again, and where it can't be reached, for a moment."""
+        begun, silence, told = time.monotonic(), silence or self.silence, False
         while True:
             try:
-                session = Session(*self.where)
+                left = max(silence - (time.monotonic() - begun), 0.05)
+                session = Session(self.host, self.port, *self.reserve, tls=self.tls, silence=left)
+                session.silence = self.silence / 2
                 self.sessions += 1
                 return session
-            except (OSError, Refused) as fault:
-                if getattr(fault, "number", 14) not in LATER or time.monotonic() > until:
+            except Refused as fault:
+                if fault.number not in LATER or time.monotonic() - begun > self.patience:
                     raise
+                if not told and time.monotonic() - begun > 1:
+                    self.tell(f"{fault}; it is asked again for {self.patience:g} s")
+                    told = True
+            except (ssl.SSLCertVerificationError, socket.gaierror) as fault:
+                raise Unreachable(f"{self.host}:{self.port}: {fault.strerror or fault}") from fault
+            except OSError as fault:
+                if time.monotonic() - begun > silence - 0.1:
+                    raise Unreachable(f"{self.host}:{self.port}: {fault.strerror or fault}") from fault
             time.sleep(0.1)
 
     def answers(self, lines):
-        """Of each line `depth position`, in order: ("DONE", value, move), ("SPENT",) or ("ERR", number)."""
+        """Of each line `depth position`, in order, as soon as it is known: ("DONE", value, move), ("SPENT",), ("ERR", number) or,
+        where there is a `timeout`, ("CANCELLED",). The lines are taken from what gives them by a thread of its own."""
         return (question.answer for question in self.answered(map(Question, lines)))
 
     def tables(self, lines):
         """Of each line its answer and, where it is DONE, its table (`Session.table`)."""
         return ((question.answer, question.table) for question in self.answered(Question(line, True) for line in lines))
 
-    def answered(self, questions):
-        """The questions in order, each once it has its answer."""
-        window, session, losses = collections.deque(), None, 0
+    def answered(self, questions, session=None):
+        """The questions in order, each once it has its answer; the first are asked in this session, if there is one."""
+        window, arrivals, losses = collections.deque(), Arrivals(questions, self.ahead), 0
         try:
-            while True:
-                window.extend(itertools.islice(questions, self.ahead - len(window)))
-                if not window:
-                    return
-                session = session or self.open()
+            while arrivals.fill(window, self.ahead) or window:
+                session = session or self.open(self.silence / 2 if losses else None)
                 try:
-                    if not self.turn(session, window):
+                    if not self.turn(session, window, arrivals):
                         session.close()
                         session = None
-                except OSError:
+                except OSError as fault:
                     self.lost, losses = self.lost + 1, losses + 1
                     session.close()
                     session = None
                     for question in window:
                         question.job = None
-                    if losses > 3:
-                        raise
+                    if losses > (1 if isinstance(fault, TimeoutError) else 3):
+                        raise Unreachable(f"{self.host}:{self.port}: {fault.strerror or fault}") from fault
                 while window and window[0].answer:
                     losses = 0
                     yield window.popleft()
         finally:
+            arrivals.stop()
             if session:
                 session.close()
 
-    def turn(self, session, window):
-        """Asks ahead and waits for the oldest; or, where the session is used up, for all. Whether it can be asked more."""
+    def turn(self, session, window, arrivals):
+        """Asks what is there and waits for the oldest; or, where the session is used up, for all. Whether it can be asked more."""
         goes_on = self.ask_ahead(session, window)
-        if self.settle(session, window[0]) and goes_on:
-            return True
-        for question in window:
-            self.settle(session, question)
+        for question in list(window):
+            begun = time.monotonic()
+            while not self.is_settled(session, question):
+                arrivals.pause(pause_after(time.monotonic() - begun))
+                if goes_on and arrivals.fill(window, self.ahead):
+                    goes_on = self.ask_ahead(session, window)
+            if goes_on and question.answer:
+                return True
+            goes_on = False
         return False
 
-    def settle(self, session, question):
-        """Waits for a question that was asked. Not so where it was spent beside others: then it is asked once more."""
-        if question.job and not question.answer:
-            found = session.wait(question.job)
-            if found == ("SPENT",) and session.jobs > 1:
-                question.job, question.alone = None, True
+    def is_settled(self, session, question):
+        """Whether a question needs no more waiting in this session. Where it was spent beside others it is asked once more."""
+        if not question.job or question.answer:
+            return True
+        found = session.get(question.job)
+        if found == ("PENDING",):
+            if self.timeout is None or time.monotonic() - question.asked < self.timeout:
                 return False
-            if question.tabled and found[0] == "DONE":
-                question.table = session.table(question.job)
-            question.answer = found
+            found = session.stopped(question.job)
+        if found == ("SPENT",) and session.jobs > 1:
+            question.job, question.alone = None, True
+            return True
+        if question.tabled and found[0] == "DONE":
+            question.table = session.table(question.job)
+        question.answer = found
         return True
 
     def ask_ahead(self, session, window):
         """Asks what isn't asked yet. Whether the session can be asked more."""
         for question in window:
-            if question.job or question.answer:
+            if question.answer:
                 continue
-            if question.alone and session.jobs:
-                return False
-            try:
-                question.job = session.ask_line(question.line)
-            except Refused as refusal:
-                if refusal.number in USED_UP and session.jobs:
+            if not question.job:
+                if question.alone and session.jobs:
                     return False
-                question.answer = ("ERR", refusal.number)
+                try:
+                    question.job, question.asked = session.ask_line(question.line), time.monotonic()
+                except Refused as refusal:
+                    if refusal.number in USED_UP and session.jobs:
+                        return False
+                    question.answer = ("ERR", refusal.number)
             if question.alone:
                 break
         return True
@@ -316,15 +437,12 @@ def text_of(answer):
     return " ".join(map(str, answer)) + (f" {FAULTS.get(answer[1], '')}" if answer[0] == "ERR" else "")
 
 
-def tell_tables(client, lines):
-    """Writes each answer, and the board with its table; gives how many there were."""
-    lines, kept = itertools.tee(lines)
-    count = 0
-    for count, (line, (answer, entries)) in enumerate(zip(kept, client.tables(lines)), 1):
-        print(text_of(answer))
-        if entries is not None:
-            print("\n".join(board_of(line.split(" ", 1)[1], entries, answer[2])), flush=True)
-    return count
+def text_of_table(question):
+    """The same, and the board with what is known of each choice."""
+    text = text_of(question.answer)
+    if question.table is None:
+        return text
+    return "\n".join([text, *board_of(question.line.split(" ", 1)[1], question.table, question.answer[2])])
 
 
 def main():
@@ -333,21 +451,22 @@ def main():
     words.add_argument("port", type=int)
     words.add_argument("segments", type=int)
     words.add_argument("nodes", type=int)
-    words.add_argument("--ahead", type=int, default=16, help="how many jobs are asked ahead of the waits (16)")
-    words.add_argument("--patience", type=float, default=30, help="seconds to try for a session (30)")
+    words.add_argument("--ahead", type=int, default=16, help="how many lines are asked at a time at most (16)")
+    words.add_argument("--patience", type=float, default=30, help="seconds for which a server that is full is asked again (30)")
+    words.add_argument("--silence", type=float, default=SILENCE, help="seconds after which a server that says nothing is given up (1.2)")
+    words.add_argument("--timeout", type=float, help="seconds that a line may take; its job is cancelled then")
     words.add_argument("--tables", action="store_true", help="show what is known of each choice")
     words.add_argument("--tls", action="store_true", help="speak TLS, and check the host's certificate")
     words.add_argument("--authority", metavar="FILE", help="with --tls: the authorities to check it by")
     asked = words.parse_args()
     tls = tls_context(asked.authority) if asked.tls else None
-    client = Client(asked.host, asked.port, asked.segments, asked.nodes, max(asked.ahead, 1), asked.patience, tls=tls)
+    client = Client(asked.host, asked.port, asked.segments, asked.nodes, asked.ahead, asked.patience, asked.timeout, tls,
+                    asked.silence, lambda text: print(f"othello.py: {text}", file=sys.stderr, flush=True))  # fmt: skip
     lines = (line.rstrip("\n").removesuffix("\r") for line in open(0, encoding="latin-1", newline="\n"))
     count, start = 0, time.monotonic()
-    if asked.tables:
-        count = tell_tables(client, lines)
-    else:
-        for count, answer in enumerate(client.answers(lines), 1):
-            print(text_of(answer), flush=True)
+    questions = (Question(line, asked.tables) for line in lines)
+    for count, question in enumerate(client.answered(questions, client.open()), 1):  # a wrong port is said before any line comes
+        print(text_of_table(question), flush=True)
     taken = time.monotonic() - start
     print(f"{count} lines by {client.sessions} sessions, {count / taken:.0f} a second", file=sys.stderr)
 

@@ -1,0 +1,151 @@
+"""What the trials of clients/try share: the commands of each client, servers that answer as they are told, and checks."""
+import contextlib
+import os
+import pathlib
+import shutil
+import socket
+import subprocess
+import sys
+import threading
+import time
+
+TOP = pathlib.Path(__file__).resolve().parent.parent.parent
+sys.path.insert(0, str(TOP / "deploy"))
+import stage  # noqa: E402
+from stage import OPENING, fail  # noqa: E402
+
+LONG = stage.positions(1, 2, 20, 20)[0]  # some seconds' work to depth 12
+SOON = 2  # seconds after which a fault is said
+COMMANDS = {
+    "python": [sys.executable, TOP / "clients/python/othello.py"],
+    "javascript": ["node", TOP / "clients/javascript/othello.mjs"],
+    "java": ["java", "-cp", None, "Othello"],  # the folder of its classes: `compile_java`
+    "shell": [TOP / "clients/shell/ask.sh"],
+}
+
+
+def check(told, text):
+    if not told:
+        fail(text)
+
+
+def fails(kind, call):
+    """The fault of a call that must fail."""
+    try:
+        call()
+    except kind as fault:
+        return fault
+    return fail(f"no {kind.__name__}")
+
+
+def compile_java(folder):
+    """Compiles Java's client, so that its start takes no seconds."""
+    if shutil.which("javac"):
+        subprocess.run(["javac", "-d", folder, TOP / "clients/java/Othello.java"], check=True)
+        COMMANDS["java"][2] = folder
+
+
+def is_here(name):
+    """Whether a client can be run: what it needs is there."""
+    return None not in COMMANDS[name] and shutil.which(str(COMMANDS[name][0]))
+
+
+def words_of(name, port, segments=64, nodes=4096, *options):
+    """A client's command, so that it reads lines."""
+    lines = ["-"] if name == "shell" else []
+    return [*map(str, (*COMMANDS[name], *options, "127.0.0.1", port, *lines, segments, nodes))]
+
+
+def run(name, words, lines, **more):
+    """What a client's command writes, and its status."""
+    text = "".join(f"{line}\n" for line in lines)
+    done = subprocess.run([*map(str, (*COMMANDS[name], *words))], input=text, capture_output=True, text=True, check=False, **more)
+    return done.stdout.splitlines(), done
+
+
+def as_answer(line):
+    first, *rest = line.split()
+    if first == "ERR":
+        return ("ERR", int(rest[0]))
+    return (first, int(rest[0]), rest[1]) if first == "DONE" else (first,)
+
+
+@contextlib.contextmanager
+def scripted(answers):
+    """A server that gives one connection these answers, whatever is asked, and ends it."""
+    left = list(answers)
+    with answering(lambda _: left.pop(0) if left else None) as port:
+        yield port
+
+
+@contextlib.contextmanager
+def answering(answer_of):
+    """A server of one connection, that answers each line as this function says, and ends at None."""
+    with socket.create_server(("127.0.0.1", 0)) as listener:
+
+        def serve():
+            stream, _ = listener.accept()
+            listener.close()
+            with stream, stream.makefile("rb") as lines, contextlib.suppress(ConnectionError):
+                for line in lines:
+                    answer = answer_of(line.decode("latin-1").rstrip("\n"))
+                    if answer is None:
+                        return
+                    stream.sendall(f"{answer}\n".encode())
+
+        port, thread = listener.getsockname()[1], threading.Thread(target=serve)
+        thread.start()
+        yield port
+        thread.join()
+
+
+@contextlib.contextmanager
+def started(words):
+    """A process that is spoken to by its three streams; it is ended with the block."""
+    pipe = subprocess.PIPE
+    process = subprocess.Popen([*map(str, words)], stdin=pipe, stdout=pipe, stderr=pipe, text=True, bufsize=1)
+    with stage.ended_after(process):
+        yield process
+
+
+def within(seconds, what, stream):
+    """The next line of a stream, which must come in so many seconds."""
+    found = []
+    reader = threading.Thread(target=lambda: found.append(stream.readline()), daemon=True)
+    reader.start()
+    reader.join(seconds)
+    return found[0].rstrip("\n") if found else fail(f"{what}: nothing after {seconds} seconds")
+
+
+def start_of(words):
+    """How long a command takes to begin: by its refusal of no words, which must be status 2 and a usage."""
+    begun = time.monotonic()
+    done = subprocess.run([*map(str, words)], stdin=subprocess.DEVNULL, capture_output=True, text=True, check=False)
+    check(done.returncode == 2 and "host" in done.stderr.lower() and not done.stdout, f"{words[0]} without words: status {done.returncode}")
+    return time.monotonic() - begun
+
+
+def said_soon(process, what, begun, start=0.0):
+    """A fault is said in one line, in 2 seconds beside the start, and the status is 1."""
+    try:
+        told = process.communicate(timeout=30)[1]
+    except subprocess.TimeoutExpired:
+        fail(f"{what}: it doesn't end")
+    taken = time.monotonic() - begun
+    check(process.returncode == 1, f"{what}: status {process.returncode}")
+    check(len(told.splitlines()) == 1 and told.strip(), f"{what}: it says {told!r}")
+    check(taken < SOON + start, f"{what}: after {taken:.1f} s, and {start:.1f} s to begin")
+    return told.strip(), taken
+
+
+@contextlib.contextmanager
+def silent():
+    """A port at which somebody listens who never says anything."""
+    with socket.create_server(("127.0.0.1", 0)) as listener:
+        yield listener.getsockname()[1]
+
+
+def seconds_worked(process):
+    """The processor time that a process has taken."""
+    fields = pathlib.Path(f"/proc/{process.pid}/stat").read_text().rsplit(")", 1)[1].split()
+    return (int(fields[11]) + int(fields[12])) / os.sysconf("SC_CLK_TCK")

@@ -1,0 +1,187 @@
+"""Customers that mean the others no good, each from an address of its own: what deploy/try and deploy/soak set on a site.
+
+usage: deploy/hostile.py PORT CUSTOMERS SECONDS      (in a process of its own, so that it takes no time of those who measure)
+
+It prints how often they were welcomed, refused and cut off.
+"""
+import contextlib
+import random
+import socket
+import struct
+import sys
+import threading
+import time
+
+HOST = "127.0.0.1"
+GREAT = "---------------------------OX------XO--------------------------- X"
+counts = {"connections": 0, "WELCOME": 0, "RESERVED": 0, "ERR 14": 0, "cut off": 0}
+lock = threading.Lock()
+
+
+def count(name):
+    with lock:
+        counts[name] += 1
+
+
+class Line:
+    """A connection from an address, by which lines are sent with and without reading what is answered."""
+
+    def __init__(self, address, port):
+        self.socket = socket.create_connection((HOST, port), 10, (address, 0))
+        self.lines = self.socket.makefile("rb")
+        count("connections")
+
+    def ask(self, line):
+        """A line's answer; none where the connection is lost."""
+        self.socket.sendall(line.encode() + b"\n")
+        answer = self.lines.readline().decode("latin-1").strip()
+        for name in ("WELCOME", "RESERVED", "ERR 14"):
+            if answer.startswith(name):
+                count(name)
+        if not answer:
+            raise ConnectionError("cut off")
+        return answer
+
+    def send(self, data):
+        self.socket.sendall(data)
+
+    def close(self, by_reset=False):
+        if by_reset:
+            self.socket.setsockopt(socket.SOL_SOCKET, socket.SO_LINGER, struct.pack("ii", 1, 0))
+        self.lines.close()
+        self.socket.close()
+
+    def __enter__(self):
+        return self
+
+    def __exit__(self, *_):
+        self.close()
+
+
+def hold(address, port, _, hold_on):
+    """Opens as many sessions as it gets, the greatest first, and says no more."""
+    with contextlib.ExitStack() as open_ones:
+        for number in range(40):
+            with contextlib.suppress(OSError):
+                open_ones.enter_context(Line(address, port)).ask("HELLO 1024 65536" if number % 2 else "HELLO 1 1")
+        hold_on(5)
+
+
+def climb(address, port, _, hold_on):
+    """Small sessions that reserve all there is, by RESERVE."""
+    with contextlib.ExitStack() as open_ones:
+        for _ in range(16):
+            with contextlib.suppress(OSError):
+                line = open_ones.enter_context(Line(address, port))
+                line.ask("HELLO 1 1")
+                line.ask("RESERVE 1 65536")
+                line.ask("RESERVE 4096 65536")
+        hold_on(2)
+
+
+def hog(address, port, _, hold_on):
+    """A small session that becomes a great one and asks for the deepest job."""
+    with Line(address, port) as line:
+        line.ask("HELLO 64 1")
+        line.ask("RESERVE 512 60000")
+        line.ask(f"ASK 12 {GREAT}")
+        line.socket.settimeout(30)
+        line.ask("WAIT 1")
+
+
+def crowd(address, port, _, hold_on):
+    """All quick sessions that it gets, with as many deep jobs as they take."""
+    with contextlib.ExitStack() as open_ones:
+        lines = []
+        for _ in range(4):
+            with contextlib.suppress(OSError):
+                line = open_ones.enter_context(Line(address, port))
+                if line.ask("HELLO 512 9999").startswith("WELCOME"):
+                    lines.append(line)
+        for line in lines:
+            line.send(f"ASK 12 {GREAT}\n".encode() * 250)
+        for line in lines:
+            line.socket.settimeout(30)
+            for _ in range(250):
+                line.lines.readline()
+            line.ask("WAIT 1")
+
+
+def churn(address, port, chance, hold_on):
+    """Sessions that end as soon as they begin, one after another, half of them by a reset."""
+    for _ in range(100):
+        line = Line(address, port)
+        with contextlib.suppress(OSError):
+            line.ask("HELLO 1 1")
+        line.close(by_reset=chance.random() < 0.5)
+
+
+def leave(address, port, chance, hold_on):
+    """Sessions that wait for a great job and are gone before it ends."""
+    line = Line(address, port)
+    line.ask("HELLO 512 9999" if chance.random() < 0.5 else "HELLO 512 65536")
+    line.send(f"ASK 12 {GREAT}\nWAIT 1\nWAIT 1\n".encode())
+    hold_on(chance.random())
+    line.close(by_reset=chance.random() < 0.5)
+
+
+def flood(address, port, _, hold_on):
+    """Lines without end, and no answer is read."""
+    with Line(address, port) as line:
+        line.ask("HELLO 1 1")
+        line.socket.settimeout(1)
+        for _ in range(200):
+            line.send(b"QUOTA\n" * 1000)
+
+
+def babble(address, port, chance, hold_on):
+    """What is no line: random bytes, lines that are too long, half a line, tokens that are guessed."""
+    with Line(address, port) as line:
+        for _ in range(10):
+            line.ask(f"HELLO 1 1 guess{chance.randrange(10**9)}")
+        line.send(chance.randbytes(20000) + b"\n" + b"RESERVE " * 10000 + b"\nHELLO 1 1\nRESER")
+        hold_on(1)
+        line.send(b"VE 1 65536\n")
+        hold_on(1)
+
+
+def be_silent(address, port, _, hold_on):
+    """Connections that say nothing, or a byte now and then."""
+    with contextlib.ExitStack() as open_ones:
+        lines = [open_ones.enter_context(Line(address, port)) for _ in range(60)]
+        for _ in range(10):
+            hold_on(1)
+            with contextlib.suppress(OSError):
+                lines[0].send(b"H")
+
+
+KINDS = (hold, climb, hog, crowd, churn, leave, flood, babble, be_silent)
+
+
+def customer(number, port, end):
+    chance, kind = random.Random(number), KINDS[number % len(KINDS)]
+
+    def hold_on(seconds):
+        time.sleep(max(0.0, min(seconds, end - time.monotonic())))
+
+    while time.monotonic() < end:
+        try:
+            kind(f"127.5.{number // 200}.{number % 200 + 1}", port, chance, hold_on)
+        except OSError:
+            count("cut off")
+        hold_on(0.05)
+
+
+def main(port, customers, seconds):
+    end = time.monotonic() + seconds
+    threads = [threading.Thread(target=customer, args=(number, port, end), daemon=True) for number in range(customers)]
+    for thread in threads:
+        thread.start()
+    for thread in threads:
+        thread.join(max(0.1, end + 2 - time.monotonic()))
+    with lock:
+        print(f"{customers} hostile customers for {seconds} s:", ", ".join(f"{value} {name}" for name, value in counts.items()), flush=True)
+
+
+if __name__ == "__main__":
+    main(*map(int, sys.argv[1:4]))

@@ -1,0 +1,58 @@
+"""Lines of a log that may fail: on a full disk, at a closed pipe or at one that nobody reads, lines are left out, and
+the program lives on."""
+import os
+import queue
+import threading
+
+PLACES = 1000  # lines that wait to be written; where there are more they are left out
+A_LAST_MOMENT = 0.5  # seconds that the end waits for the log
+
+
+def open_descriptors():
+    """Opens what stands for a closed standard input, output or error, so that no other file comes in its place."""
+    while True:
+        made = os.open(os.devnull, os.O_RDWR)
+        if made > 2:
+            os.close(made)
+            return
+
+
+def tell(text):
+    """Writes a text to standard error, if that can be written."""
+    try:
+        os.write(2, text.encode(errors="replace"))
+    except OSError:
+        pass
+
+
+class Log:
+    """Writes lines to a file descriptor, in a thread of its own, so that nobody waits for them."""
+
+    def __init__(self, name, descriptor=1):
+        self.name, self.descriptor = name, descriptor
+        self.lines = queue.Queue(PLACES)
+        self.thread = threading.Thread(target=self.write, daemon=True)
+        self.thread.start()
+
+    def say(self, text):
+        try:
+            self.lines.put_nowait(f"{self.name}: {text}\n")
+        except queue.Full:
+            pass
+
+    def write(self):
+        for line in iter(self.lines.get, None):
+            rest = line.encode(errors="replace")
+            try:
+                while rest:
+                    rest = rest[os.write(self.descriptor, rest) :]
+            except OSError:
+                pass  # this line is lost, and the next one is tried
+
+    def close(self):
+        """Waits a moment for what is still to be written."""
+        try:
+            self.lines.put_nowait(None)
+        except queue.Full:
+            pass
+        self.thread.join(A_LAST_MOMENT)
