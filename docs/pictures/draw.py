@@ -159,7 +159,7 @@ def crates():
     high = 62
     picture = Picture("crates", across, high * len(rows) + 80)
     groups = list(dict.fromkeys(group_of[name] for name in uses))[0:]
-    colours = dict(zip(groups, (GREEN, YELLOW, BLUE, VIOLET, RED, "#cffafe", "#fde7d3", "#e2e8f0")))
+    colours = dict(zip(groups, (GREEN, YELLOW, BLUE, VIOLET, RED, "#cffafe", "#fde7d3", "#e2e8f0", "#fce7f3", "#ecfccb")))
 
     def at(node):
         row = next(number for number, names in enumerate(rows) if node in names)
@@ -174,11 +174,12 @@ def crates():
                 picture.box(x - size[name] / 2, y - 14, size[name], 28, [name], colours[group_of[name]], bold=False, dashed=name.endswith("_rows") or name == "counted_alloc")
     x, y = 20, picture.down - 56
     for group in [*colours, "tests"]:
-        if x + width(group, 11) + 30 > across:
+        name = group.split(",")[0]
+        if x + width(name, 11) + 30 > across:
             x, y = 20, y + 24
         picture.box(x, y, 14, 14, fill=colours.get(group, PALE), dashed=group == "tests")
-        picture.text(x + 20, y + 11, group, 11, "start")
-        x += width(group, 11) + 44
+        picture.text(x + 20, y + 11, name, 11, "start")
+        x += width(name, 11) + 44
     return picture
 
 
