@@ -83,6 +83,10 @@ class Unreachable(ConnectionError):
     """The server can't be reached, or was lost."""
 
 
+class Stopped(Exception):
+    """What was asked for isn't wanted any more."""
+
+
 class Broken(ConnectionError):
     """What this session would read next isn't known to be the answer to what it asks: a new session is needed."""
 
@@ -323,6 +327,11 @@ class Client:
         self.ahead, self.patience, self.timeout, self.silence = max(ahead, 1), patience, timeout, silence
         self.tell = tell or (lambda text: None)
         self.sessions = self.lost = 0
+        self.stopped = False
+
+    def stop(self):
+        """Ends what is asked for: `answers` raises Stopped soon, and its jobs are dropped. Another thread may call it."""
+        self.stopped = True
 
     def open(self):
         """A new session. Where the server is full for now it is tried again, and where it can't be reached, for a moment."""
@@ -389,6 +398,8 @@ class Client:
             begun = time.monotonic()
             while not self.is_settled(session, question):
                 arrivals.pause(pause_after(time.monotonic() - begun))
+                if self.stopped:
+                    raise Stopped("it was stopped")
                 if goes_on and arrivals.fill(window, self.ahead):
                     goes_on = self.ask_ahead(session, window)
             if goes_on and question.answer:
