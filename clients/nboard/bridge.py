@@ -49,7 +49,7 @@ import time
 
 HERE = pathlib.Path(__file__).resolve().parent
 sys.path[:0] = [str(HERE.parent / "python"), str(HERE.parent / "teacher")]
-from othello import SILENCE, Client, Refused, tls_context  # noqa: E402
+from othello import SILENCE, Client, Refused, Unreachable, tls_context  # noqa: E402
 from review import A_DISC, GREATEST_EVALUATION, OTHER, SQUARES, START, can_move, flips, played  # noqa: E402
 
 NAME = "Coluwen"
@@ -167,6 +167,8 @@ class Engine(threading.Thread):
             except Stopped:
                 self.tell("status")
             except (OSError, Refused) as fault:
+                if isinstance(fault, OSError) and not isinstance(fault, Unreachable):
+                    fault = Unreachable(f"{self.client.host}:{self.client.port}: {fault.strerror or fault}")
                 self.lost = fault
                 self.tell(f"status {fault}")
             finally:
