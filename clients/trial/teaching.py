@@ -161,6 +161,8 @@ def try_browser(port, text, rows, picture, depth=4):
             check("move 4, a1: white can't play there" in shown.evaluate("told.textContent"), "the browser doesn't show what is wrong")
             shown.open(f"{address}")
             check(not shown.evaluate(CUT), f"cut at {width} pixels: {shown.evaluate(CUT)}")
+            legend = shown.evaluate("document.getElementById('legend').innerText")
+            check("a corner 100" in legend and "at most -4" in legend and "wins by 12 discs" in legend, f"the legend says {legend}")
             check(shown.evaluate("[...form.depth.options].map((one) => one.text).join()") == ",".join(map(str, range(1, 13))), "other plies are offered")
             for move in re.findall("..", text):  # passes come by themselves; a click on a square that isn't legal does nothing
                 before = shown.evaluate(CELLS)
