@@ -197,14 +197,14 @@ def try_stop(board):
     """`ping` ends a search at once, and nothing more is said of it."""
     board.say("set game " + ggf([], *LONG.split(" ")))
     board.say("set depth 12")
-    for word in ("hint 3", "go", "analyze"):
+    for word, first in (("hint 3", "search"), ("go", "status"), ("analyze", "status")):
         board.say(word)
-        time.sleep(0.5)
+        board.until(first)  # it has begun, and has most of its work before it
         begun = time.monotonic()
         board.synchronized(77)
         check(time.monotonic() - begun < 2, f"{word} isn't stopped")
-        time.sleep(0.2)
-        check(board.heard.empty(), f"something is said behind the pong: {board.heard.queue}")
+        time.sleep(1)
+        check(board.heard.empty(), f"something is said behind the pong: {list(board.heard.queue)}")
 
 
 def try_unfit(board, compared):

@@ -14,7 +14,8 @@ sys.path.insert(0, str(TOP / "deploy"))
 import stage  # noqa: E402
 from stage import OPENING, fail  # noqa: E402
 
-LONG = stage.positions(1, 2, 20, 20)[0]  # some seconds' work to depth 12
+LONG = stage.positions(1, 2, 20, 20)[0]  # some seconds' work to depth 12, where 256 segments and 65,536 nodes are reserved of
+LASTING = ("--grain", "6", "--segments", "65536", "--nodes", "1048576")  # such a server
 SOON = 2  # seconds after which a fault is said
 COMMANDS = {
     "python": [sys.executable, TOP / "clients/python/othello.py"],

@@ -132,7 +132,7 @@ def try_nobody(name):
 
 def lost(name, number):
     """What a command says when its server gets a signal while a job is worked on."""
-    with stage.server("--sessions", "9", "--grain", "4") as (server, port), common.started(words_of(name, port, 64, 65536)) as process:
+    with stage.server("--sessions", "9", *common.LASTING) as (server, port), common.started(words_of(name, port, 256, 65536)) as process:
         process.stdin.write(f"12 {LONG}\n")
         stage.until(f"{name}: nothing is asked", lambda: common.seconds_worked(server) > 0.2, 20)
         pids = [server.pid, *descendants(server.pid)]

@@ -85,7 +85,7 @@ def try_page(port, text, rows, depth=4):
         common.said_in_time(f"{name} at a wrong port", lambda c=command, m=more: [*c, stage.free_port(), *m], start)
         with common.silent() as quiet:
             common.said_in_time(f"{name} at a silent port", lambda c=command, m=more, q=quiet: [*c, q, *m], start)
-    with stage.server("--sessions", "9", "--grain", "4") as (server, other), served("127.0.0.1", other) as address:
+    with stage.server("--sessions", "9", *common.LASTING) as (server, other), served("127.0.0.1", other) as address:
         with urllib.request.urlopen(f"{address}review?depth=12&moves={text}") as answer:
             stage.until("nothing is asked", lambda: common.seconds_worked(server) > 0.2, 20)
             server.kill()
@@ -97,7 +97,7 @@ def try_page(port, text, rows, depth=4):
 
 def try_left(port, text):
     """A browser that leaves in the midst of a deep review leaves no work behind."""
-    with stage.server("--sessions", "9", "--grain", "4") as (server, other), served("--at-once", 1, "127.0.0.1", other) as address:
+    with stage.server("--sessions", "9", *common.LASTING) as (server, other), served("--at-once", 1, "127.0.0.1", other) as address:
         answer = urllib.request.urlopen(f"{address}review?depth=12&moves={text}")
         stage.until("nothing is asked", lambda: common.seconds_worked(server) > 0.2, 20)
         answer.close()

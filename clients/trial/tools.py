@@ -114,7 +114,7 @@ def lost(folder, number):
     """What a run says when its server gets a signal in its midst."""
     path = pathlib.Path(f"{folder}/lost.csv")
     path.unlink(missing_ok=True)
-    with stage.server("--sessions", "99", "--segments", "65536", "--nodes", "1048576", "--grain", "4") as (server, port):
+    with stage.server("--sessions", "99", *common.LASTING) as (server, port):
         threads = lambda: int(pathlib.Path(f"/proc/{server.pid}/status").read_text().split("Threads:")[1].split()[0])  # noqa: E731
         alone = threads()
         with common.started([*BATCH, "--depth", 12, "--sessions", 5, "127.0.0.1", port, path, f"{folder}/long"]) as process:
@@ -136,7 +136,7 @@ def try_bridge(port):
     said = [common.said_in_time("bridge at a wrong port", lambda: [*BRIDGE, "127.0.0.1", stage.free_port()], start)]
 
     def trial():
-        with stage.server("--sessions", "9", "--grain", "4") as (server, other), common.started([*BRIDGE, "--depth", 12, "127.0.0.1", other]) as process:
+        with stage.server("--sessions", "9", *common.LASTING) as (server, other), common.started([*BRIDGE, "--depth", 12, "127.0.0.1", other]) as process:
             process.stdin.write(f"set game (;GM[Othello]BO[8 {LONG.replace('X', '*')}];)\ngo\n")
             stage.until("bridge: nothing is asked", lambda: common.seconds_worked(server) > 0.2, 20)
             server.kill()
