@@ -6,6 +6,7 @@ import re
 import shutil
 import subprocess
 import sys
+import threading
 import time
 import urllib.error
 import urllib.request
@@ -68,7 +69,8 @@ def try_page(port, text, rows, depth=4):
         check("1 to 12 plies deep" in lines_of(f"{address}review?depth=13&moves=f5")[0]["fault"], "any depth is taken")
         check(lines_of(f"{address}review?depth=12&moves=&start={'X' * 64}%20O")[0]["fault"].startswith("no moves"), "12 plies aren't offered")
         check("64 squares" in lines_of(f"{address}review?moves=f5&start=XO")[0]["fault"], "a start of two squares is taken")
-        for name, code in (("elsewhere", 403), (f"localhost:{address.split(':')[-1].strip('/')}", 200), ("127.0.0.1:1", 403)):
+        own = address.split(":")[-1].strip("/")
+        for name, code in ((f"elsewhere:{own}", 403), (f"localhost:{own}", 200), (f"10.1.2.3:{own}", 200), ("127.0.0.1:1", 403), ("", 403)):
             request = urllib.request.Request(address, headers={"Host": name})
             try:
                 with urllib.request.urlopen(request) as answer:
@@ -97,11 +99,15 @@ def try_page(port, text, rows, depth=4):
 
 def try_left(port, text):
     """A browser that leaves in the midst of a deep review leaves no work behind."""
-    with stage.server("--sessions", "9", *common.LASTING) as (server, other), served("--at-once", 1, "127.0.0.1", other) as address:
+    with stage.server("--sessions", "99", *common.LASTING) as (server, other), served("--at-once", 1, "127.0.0.1", other) as address:
         answer = urllib.request.urlopen(f"{address}review?depth=12&moves={text}")
         stage.until("nothing is asked", lambda: common.seconds_worked(server) > 0.2, 20)
         answer.close()
-        check(len(lines_of(f"{address}review?depth=1&moves=f5")) == 1, "the next review isn't made")
+        found = []
+        other_review = threading.Thread(target=lambda: found.extend(lines_of(f"{address}review?depth=1&moves=f5")), daemon=True)
+        other_review.start()
+        other_review.join(20)
+        check(found and "said" in found[0], f"the next review isn't made: {found}")
         worked = common.seconds_worked(server)
         time.sleep(0.5)
         check(common.seconds_worked(server) - worked < 0.2, "the server works on for a browser that left")
@@ -176,6 +182,7 @@ def try_browser(port, text, rows, picture, depth=4):
             check(shown.evaluate("form.moves.value") == text[:-2], "nothing is taken back")
         shown.size(1060, 860)
         try_start(shown, address, port, depth)
+        shown.size(1060, 1010)
         shown.open(f"{address}?depth=6&moves=f5d6c3d3c4f4f6g5e3f3g4h5")
         if picture:
             shown.picture(picture)
@@ -213,12 +220,10 @@ def try_start(shown, address, port, depth):
     moves = review.moves_of("".join(played), start[:64], start[65])
     wanted = list(review.review(othello.Client("127.0.0.1", port, 256, 65536), moves, depth))
     check([row[3] for row in shown.evaluate(TABLE)] == [row["said"] for row in wanted], "the review of a start")
-    shown.click_on("tbody tr")  # the first move's position: another move there takes the place of what follows
-    others = [square for square, at in ((square, stage.SQUARES.index(square)) for square in stage.SQUARES)
-              if start[at] == "-" and stage.flips(start[:64], start[65], at) and square != played[0]]  # fmt: skip
-    if others:
-        shown.click(*square_at(shown, others[0]))
-        check(shown.evaluate("form.moves.value") == others[0], "a move in the midst doesn't take the place of those behind it")
+    shown.open(f"{address}?depth=1&moves=f5d6c3d3c4")
+    shown.click_on("tbody tr:nth-child(3)")  # its position: another move there takes the place of those behind it
+    shown.click(*square_at(shown, "c4"))
+    check(shown.evaluate("form.moves.value") == "f5d6c4", f"a move in the midst makes {shown.evaluate('form.moves.value')}")
     check(not shown.evaluate(CUT), f"cut: {shown.evaluate(CUT)}")
 
 
