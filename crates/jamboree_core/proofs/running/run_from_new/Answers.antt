@@ -1,4 +1,4 @@
-use Rattle.std.proofs.Common.{ℕ, ap, subst, ◌∙◌}
+use Rattle.std.proofs.Common.{ℕ, ap, subst}
 use Rattle.jamboree.specs.declared.procedure.Jamboree.{Jamboree}
 use Rattle.jamboree_core.specs.Searching.{IsHeadlineInFull}
 use Rattle.jamboree_core.specs.NewRuns.{submitted_by}
