@@ -139,8 +139,8 @@ fn alone<L: Hands, R: Wait>(
 }
 
 /// The lines of a job of the opening at depth 0, which is shown again when it is done. More than there is can't be
-/// reserved, of either.
-const ONE_JOB: [&[u8]; 8] = [
+/// reserved, of either, neither at once nor later; and what can be is there.
+const ONE_JOB: [&[u8]; 18] = [
     b"HELLO 9 8\n",
     b"HELLO 8 9\n",
     b"HELLO 4 8\n",
@@ -149,38 +149,56 @@ const ONE_JOB: [&[u8]; 8] = [
     b"GET 1\n",
     b"TABLE 1\n",
     b"QUOTA\n",
+    b"RESERVE 9 8\n",
+    b"RESERVE 4 9\n",
+    b"RESERVE 4 8\n",
+    b"RESERVE 5 7\n",
+    b"QUOTA\n",
+    b"RESERVE 7 8\n",
+    b"QUOTA\n",
+    b"RESERVE 8 8\n",
+    b"QUOTA\n",
+    b"BYE\n",
 ];
 
-/// The lines of a job that has too few nodes.
-const SPENT_JOB: [&[u8]; 6] = [
+/// The lines of a job that has too few nodes, of which there are more for the jobs to come: all that a tenant may have.
+const SPENT_JOB: [&[u8]; 10] = [
     b"HELLO 8 1\n",
     b"ASK 3 ---------------------------OX------XO--------------------------- X\n",
     b"WAIT 1\n",
     b"TABLE 1\n",
     b"QUOTA\n",
     b"LIVE\n",
+    b"RESERVE 8 5\n",
+    b"QUOTA\n",
+    b"RESERVE 4096 65536\n",
+    b"QUOTA\n",
 ];
 
-/// What two sessions wrote, one after the other, at a desk of 8 segments and 8 nodes.
+/// What two sessions wrote, one after the other, at a desk of so many segments and nodes.
 fn two_sessions<L: Hands, R: Wait>(
     rt: &R,
     alloc: Global,
     blank: Blank,
     grain: u8,
+    totals: (u32, u32),
     first: &[&[u8]],
+    second: &[u8],
 ) -> Result<(Vec<u8>, Vec<u8>), Fail>
     requires grain { grain ≤ 6 }
     requires name { blank.name ≡ L.name }
     requires parts { (blank.parts ≡ L.parts) × (L.all ≡ L.parts) × (L.all ≡ 13835058055282163712) }
 {
-    let config = Config::new(8, 8).ok_or("no config")?;
+    let config = Config::new(totals.0, totals.1).ok_or("no config")?;
     let desk: Desk<L> = Desk::new(Hall::new(alloc, config, grain)?, blank);
     let (_first_end, first) = worked(rt, alloc, &desk, first)?;
-    let (_second_end, second) = alone(
-        rt,
-        alloc,
-        &desk,
-        b"HELLO 8 8
+    let (_second_end, second) = alone(rt, alloc, &desk, second);
+    Ok((first, second))
+}
+
+/// The lines of a second session, whose tenant reserves all.
+const SECOND_LINES: &[u8] = b"HELLO 8 8
+QUOTA
 ASK 6 ---------------------------OX------XO--------------------------- X
 GET 1
 LIVE
@@ -192,14 +210,23 @@ TABLE 2
 QUOTA
 LIVE
 BYE
-",
-    );
-    Ok((first, second))
-}
+";
 
-/// What the second session writes, whose tenant reserves all. While its job is pending there is one frame, of 12 words.
+/// What it writes. While its job is pending there is one frame, of 12 words.
 const SECOND: &[u8] =
-    b"WELCOME 8 8\nJOB 1\nPENDING 1\nLIVE 1 12\nCANCELLED 1\nCANCELLED 1\nERR 17\nCANCELLED 1\nERR 17\nQUOTA 8 7 128\nLIVE 0 0\nBYE\n";
+    b"WELCOME 8 8\nQUOTA 8 8 128\nJOB 1\nPENDING 1\nLIVE 1 12\nCANCELLED 1\nCANCELLED 1\nERR 17\nCANCELLED 1\nERR 17\nQUOTA 8 7 128\nLIVE 0 0\nBYE\n";
+
+/// The same where there is as much as a tenant may have.
+const GREATEST_LINES: &[u8] = b"HELLO 4096 65536
+QUOTA
+RESERVE 4096 65536
+ASK 6 ---------------------------OX------XO--------------------------- X
+QUOTA
+";
+
+/// What is written then.
+const GREATEST: &[u8] =
+    b"WELCOME 4096 65536\nQUOTA 4096 65536 1048576\nERR 20\nJOB 1\nQUOTA 4095 65535 1048576\n";
 
 #[test]
 fn a_job_is_done_and_its_tenant_leaves(rt: HostRuntime) -> Result<(), Fail> {
@@ -208,11 +235,13 @@ fn a_job_is_done_and_its_tenant_leaves(rt: HostRuntime) -> Result<(), Fail> {
         rt.alloc(),
         Blank::new(PARTS),
         2,
+        (8, 8),
         ONE_JOB.as_slice(),
+        SECOND_LINES,
     )?;
     assert_eq!(rt;
         first.as_slice(),
-        b"ERR 14\nERR 14\nWELCOME 4 8\nJOB 1\nDONE 1 0 -\nDONE 1 0 -\nTABLE 1\nQUOTA 4 7 123\n".as_slice()
+        b"ERR 14\nERR 14\nWELCOME 4 8\nJOB 1\nDONE 1 0 -\nDONE 1 0 -\nTABLE 1\nQUOTA 4 7 123\nERR 14\nERR 14\nERR 20\nERR 20\nQUOTA 4 7 123\nRESERVED 7 8\nQUOTA 7 7 123\nRESERVED 8 8\nQUOTA 8 7 123\nBYE\n".as_slice()
     );
     assert_eq!(rt; second.as_slice(), SECOND);
     Ok(())
@@ -225,12 +254,14 @@ fn a_job_is_spent_and_its_tenant_leaves(rt: HostRuntime) -> Result<(), Fail> {
         rt.alloc(),
         Blank::new(PARTS),
         0,
+        (4096, 65536),
         SPENT_JOB.as_slice(),
+        GREATEST_LINES,
     )?;
     assert_eq!(rt;
         first.as_slice(),
-        b"WELCOME 8 1\nJOB 1\nSPENT 1\nSPENT 1\nQUOTA 8 0 14\nLIVE 0 0\n".as_slice()
+        b"WELCOME 8 1\nJOB 1\nSPENT 1\nSPENT 1\nQUOTA 8 0 14\nLIVE 0 0\nRESERVED 8 5\nQUOTA 8 4 78\nRESERVED 4096 65536\nQUOTA 4096 65535 1048574\n".as_slice()
     );
-    assert_eq!(rt; second.as_slice(), SECOND);
+    assert_eq!(rt; second.as_slice(), GREATEST);
     Ok(())
 }

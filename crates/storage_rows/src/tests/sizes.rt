@@ -48,10 +48,12 @@ fn books_of_all_sizes(rt: HostRuntime) -> Result<(), Fail> {
     Ok(())
 }
 
-/// How much memory a table takes whose tenant has so many places at first, and then as many as can be.
+/// How much memory a table takes whose tenant has so many places at first, and then as many as can be, if they are more.
 fn used_after_a_raise(rt: &impl Abort, heap: &LocalHeap, places: usize) -> Result<usize, Fail> {
     let mut table: FrameTable<u64, &LocalHeap> = table_of(rt, heap, 7, places)?;
-    reserve(rt, &mut table, 7, 4096)?;
+    if places < 4096 {
+        reserve(rt, &mut table, 7, 4096)?;
+    }
     Ok(heap.used())
 }
 
