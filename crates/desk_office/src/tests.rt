@@ -123,19 +123,16 @@ fn worked<L: Hands, R: Wait>(rt: &R, alloc: Global, desk: &Desk<L>, lines: &[&[u
     Ok((result, sink.writer))
 }
 
-/// A session whose jobs nobody runs.
-fn alone<L: Hands, R: Wait>(
-    rt: &R,
-    alloc: Global,
-    desk: &Desk<L>,
-    lines: &[u8],
-) -> (Result<End, SessionFault>, Vec<u8>)
+/// What sessions write, one after the other, whose jobs nobody runs.
+fn alone<L: Hands, R: Wait>(rt: &R, alloc: Global, desk: &Desk<L>, sessions: &[&[u8]]) -> Vec<u8>
     requires { L.all ≡ L.parts }
 {
-    let mut source = FromReader { reader: lines };
     let mut sink = FromWriter::new(Vec::new(alloc));
-    let result = serve_desk(rt, &mut source, &mut sink, desk);
-    (result, sink.writer)
+    for lines in sessions {
+        let mut source = FromReader { reader: *lines };
+        let _end = serve_desk(rt, &mut source, &mut sink, desk);
+    }
+    sink.writer
 }
 
 /// The lines of a job of the opening at depth 0, which is shown again when it is done. More than there is can't be
@@ -175,15 +172,15 @@ const SPENT_JOB: [&[u8]; 10] = [
     b"QUOTA\n",
 ];
 
-/// What two sessions wrote, one after the other, at a desk of so many segments and nodes.
-fn two_sessions<L: Hands, R: Wait>(
+/// What a session wrote whose jobs are worked on, and what those after it did, at a desk of so many segments and nodes.
+fn all_written<L: Hands, R: Wait>(
     rt: &R,
     alloc: Global,
     blank: Blank,
     grain: u8,
     totals: (u32, u32),
     first: &[&[u8]],
-    second: &[u8],
+    others: &[&[u8]],
 ) -> Result<(Vec<u8>, Vec<u8>), Fail>
     requires grain { grain ≤ 6 }
     requires name { blank.name ≡ L.name }
@@ -192,8 +189,7 @@ fn two_sessions<L: Hands, R: Wait>(
     let config = Config::new(totals.0, totals.1).ok_or("no config")?;
     let desk: Desk<L> = Desk::new(Hall::new(alloc, config, grain)?, blank);
     let (_first_end, first) = worked(rt, alloc, &desk, first)?;
-    let (_second_end, second) = alone(rt, alloc, &desk, second);
-    Ok((first, second))
+    Ok((first, alone(rt, alloc, &desk, others)))
 }
 
 /// The lines of a second session, whose tenant reserves all.
@@ -216,28 +212,34 @@ BYE
 const SECOND: &[u8] =
     b"WELCOME 8 8\nQUOTA 8 8 128\nJOB 1\nPENDING 1\nLIVE 1 12\nCANCELLED 1\nCANCELLED 1\nERR 17\nCANCELLED 1\nERR 17\nQUOTA 8 7 128\nLIVE 0 0\nBYE\n";
 
-/// The same where there is as much as a tenant may have.
-const GREATEST_LINES: &[u8] = b"HELLO 4096 65536
+/// The lines of two sessions that reserve as much as a tenant may have, at once and from the least on.
+const GREATEST_LINES: [&[u8]; 2] = [
+    b"HELLO 4096 65536\nQUOTA\nRESERVE 4096 65536\n",
+    b"HELLO 1 1
 QUOTA
-RESERVE 4096 65536
 ASK 6 ---------------------------OX------XO--------------------------- X
 QUOTA
-";
+RESERVE 4096 65536
+QUOTA
+CANCEL 1
+QUOTA
+",
+];
 
-/// What is written then.
+/// What they write.
 const GREATEST: &[u8] =
-    b"WELCOME 4096 65536\nQUOTA 4096 65536 1048576\nERR 20\nJOB 1\nQUOTA 4095 65535 1048576\n";
+    b"WELCOME 4096 65536\nQUOTA 4096 65536 1048576\nERR 20\nWELCOME 1 1\nQUOTA 1 1 16\nJOB 1\nQUOTA 0 0 16\nRESERVED 4096 65536\nQUOTA 4095 65535 1048576\nCANCELLED 1\nQUOTA 4096 65535 1048576\n";
 
 #[test]
 fn a_job_is_done_and_its_tenant_leaves(rt: HostRuntime) -> Result<(), Fail> {
-    let (first, second) = two_sessions::<Brand, HostRuntime>(
+    let (first, second) = all_written::<Brand, HostRuntime>(
         &rt,
         rt.alloc(),
         Blank::new(PARTS),
         2,
         (8, 8),
         ONE_JOB.as_slice(),
-        SECOND_LINES,
+        [SECOND_LINES].as_slice(),
     )?;
     assert_eq!(rt;
         first.as_slice(),
@@ -249,14 +251,14 @@ fn a_job_is_done_and_its_tenant_leaves(rt: HostRuntime) -> Result<(), Fail> {
 
 #[test]
 fn a_job_is_spent_and_its_tenant_leaves(rt: HostRuntime) -> Result<(), Fail> {
-    let (first, second) = two_sessions::<Brand, HostRuntime>(
+    let (first, second) = all_written::<Brand, HostRuntime>(
         &rt,
         rt.alloc(),
         Blank::new(PARTS),
         0,
         (4096, 65536),
         SPENT_JOB.as_slice(),
-        GREATEST_LINES,
+        GREATEST_LINES.as_slice(),
     )?;
     assert_eq!(rt;
         first.as_slice(),
