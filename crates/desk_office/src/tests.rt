@@ -7,7 +7,7 @@ use desk::{Badge, Config, Desk, DidOf, Hall, Hands, LeafAnswer, PARTS, StepOf, W
 use frame_tree::FrameId;
 use line_io::{FromReader, FromWriter, ReadFailed, Source};
 use session::{End, SessionFault};
-use std::alloc::Global;
+use std::alloc::{AllocError, Global};
 use std::marker::Brand;
 use std::sync::Wait;
 use std::sync::ledger::Blank;
@@ -229,6 +229,65 @@ QUOTA
 /// What they write.
 const GREATEST: &[u8] =
     b"WELCOME 4096 65536\nQUOTA 4096 65536 1048576\nERR 20\nWELCOME 1 1\nQUOTA 1 1 16\nJOB 1\nQUOTA 0 0 16\nRESERVED 4096 65536\nQUOTA 4095 65535 1048576\nCANCELLED 1\nQUOTA 4096 65535 1048576\n";
+
+/// The lines of a session that asks for as many jobs as a tenant may have and one more, and what it writes.
+fn many_jobs(alloc: Global) -> Result<(Vec<u8>, String), AllocError> {
+    let mut lines = Vec::new(alloc);
+    let mut due = String::new(alloc);
+    lines.extend_from_slice(b"HELLO 300 300\n")?;
+    due.push_str("WELCOME 300 300\n")?;
+    for job in 1..257 {
+        lines.extend_from_slice(
+            b"ASK 6 ---------------------------OX------XO--------------------------- X\n",
+        )?;
+        writeln!(due, "JOB {job}")?;
+    }
+    lines.extend_from_slice(
+        b"ASK 6 ---------------------------OX------XO--------------------------- X
+GET 1
+GET 256
+GET 257
+LIVE
+QUOTA
+CANCEL 256
+WAIT 256
+GET 255
+QUOTA
+",
+    )?;
+    due.push_str(
+        "ERR 13
+PENDING 1
+PENDING 256
+ERR 17
+LIVE 256 3072
+QUOTA 44 44 4800
+CANCELLED 256
+CANCELLED 256
+PENDING 255
+QUOTA 45 44 4800
+",
+    )?;
+    Ok((lines, due))
+}
+
+/// Whether that is what a session writes.
+fn are_all_asked<L: Hands, R: Wait>(rt: &R, alloc: Global, blank: Blank) -> Result<bool, Fail>
+    requires name { blank.name ≡ L.name }
+    requires parts { (blank.parts ≡ L.parts) × (L.all ≡ L.parts) × (L.all ≡ 13835058055282163712) }
+{
+    let config = Config::new(300, 300).ok_or("no config")?;
+    let desk: Desk<L> = Desk::new(Hall::new(alloc, config, 0)?, blank);
+    let (lines, due) = many_jobs(alloc)?;
+    let written = alone(rt, alloc, &desk, [lines.as_slice()].as_slice());
+    Ok(written.as_slice() == due.as_bytes())
+}
+
+#[test]
+fn a_session_has_256_jobs(rt: HostRuntime) -> Result<(), Fail> {
+    assert!(rt; are_all_asked::<Brand, HostRuntime>(&rt, rt.alloc(), Blank::new(PARTS))?);
+    Ok(())
+}
 
 #[test]
 fn a_job_is_done_and_its_tenant_leaves(rt: HostRuntime) -> Result<(), Fail> {
