@@ -51,7 +51,7 @@ fn no_more_than_256_jobs(rt: HostRuntime) -> Result<(), Miss> {
 /// Admits 64 tenants, from this number on, one with a segment and the next with two.
 fn admit_all(core: &mut Core<Fan>, from: u64) -> Result<(), Miss> {
     for number in from..from.saturating_add(64) {
-        let count = number as u32 % 2 + 1;
+        let count = if number % 2 == 0 { 1 } else { 2 };
         walk(
             core,
             PlainStep::Admit(number, count, count),
