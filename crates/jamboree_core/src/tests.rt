@@ -253,23 +253,38 @@ fn taken(answers: &[Result<Did<Jamboree>, Refusal>]) -> u32 {
     count
 }
 
-/// A list of steps as one call: one answer each, all taken.
-fn run_list(alloc: Global, core: &mut Core<Jamboree>) -> Result<u32, Fail> {
-    let reserve = Reserve::new(4, 8).ok_or("a reservation")?;
-    let worker = Worker::new(3).ok_or("a worker")?;
-    let steps = seven_steps(reserve, worker, &opening()?);
-    let mut answers = Vec::new(alloc);
-    run_searches(core, &steps, &mut answers)?;
-    Ok(taken(&answers))
+/// The seven steps, and 655 Submits more.
+fn many_steps(
+    alloc: Global,
+    reserve: Reserve,
+    worker: Worker,
+    position: &Position,
+) -> Result<Vec<Step<Jamboree>>, AllocError> {
+    let mut steps = Vec::from_array(alloc, seven_steps(reserve, worker, position))?;
+    for _more in 0..655 {
+        steps.push(submit(7, position, 0))?;
+    }
+    Ok(steps)
 }
 
-/// The example at the head of the crate.
+/// A list of 662 steps as one call: one answer each. The seven are taken, and then four Submits, for which the tenant
+/// has segments.
+fn run_list(alloc: Global, core: &mut Core<Jamboree>) -> Result<(usize, u32), Fail> {
+    let reserve = Reserve::new(4, 8).ok_or("a reservation")?;
+    let worker = Worker::new(3).ok_or("a worker")?;
+    let steps = many_steps(alloc, reserve, worker, &opening()?)?;
+    let mut answers = Vec::new(alloc);
+    run_searches(core, &steps, &mut answers)?;
+    Ok((answers.len(), taken(&answers)))
+}
+
+/// The example at the head of the crate, and more.
 #[test]
 fn a_list_of_steps(rt: HostRuntime) -> Result<(), Fail> {
     let config = Config::new(64, 64).ok_or("the totals")?;
     let jamboree = Jamboree::new(2).ok_or("the grain")?;
     let mut core = Core::new(rt.alloc(), config, jamboree)?;
-    assert_eq!(rt; run_list(rt.alloc(), &mut core)?, 7);
+    assert_eq!(rt; run_list(rt.alloc(), &mut core)?, (662, 11));
     assert_eq!(rt; value_and_choice(core.job(7, 1)), Some((1_000_000, 65)));
     Ok(())
 }

@@ -386,8 +386,8 @@ fn a_lost_connection_gives_all_back(rt: HostRuntime) -> Result<(), Fail> {
 }
 
 #[test]
-fn thirty_two_are_told_of_their_own(rt: HostRuntime) -> Result<(), Fail> {
-    let found = visited::<Brand, HostRuntime>(&rt, rt.alloc(), Blank::new(PARTS), 32, Visit::Many)?;
+fn sixty_four_are_told_of_their_own(rt: HostRuntime) -> Result<(), Fail> {
+    let found = visited::<Brand, HostRuntime>(&rt, rt.alloc(), Blank::new(PARTS), 64, Visit::Many)?;
     assert_eq!(rt; found, (true, true));
     Ok(())
 }
