@@ -3,6 +3,7 @@ ghost use Rattle.std.specs.Prelude.{◌≡◌, ◌≤◌, true};
 mod endings;
 mod reserving;
 mod waiting;
+mod wakes;
 
 use super::*;
 use frame_tree::FrameId;
