@@ -1,6 +1,7 @@
 ghost use Rattle.std.specs.Prelude.{◌≡◌, ◌≤◌, true};
 
 mod endings;
+mod numbers;
 mod reserving;
 mod waiting;
 mod wakes;

@@ -1,8 +1,8 @@
 //! Several threads that wait at a desk at once: each is woken for what it waits for, and they sleep until then.
 ghost use Rattle.std.specs.Prelude.{◌≡◌};
 
-use super::{asks, badge_of, compute, desk_of, seat_of};
-use crate::{Badge, Desk, Hands, Outcome, PARTS, Seat, Worker};
+use super::{asks, badge_of, cancels, compute, desk_of, seat_of};
+use crate::{Badge, Desk, Hands, PARTS, Seat, Worker};
 use frame_tree::FrameId;
 use std::alloc::Global;
 use std::marker::Brand;
@@ -17,7 +17,7 @@ use std::time::{Clock, CpuClock, Duration};
 /// Who waits.
 #[derive(Clone, Copy, Debug, PartialEq, Eq)]
 enum Who {
-    /// Seats, each for its own first job.
+    /// Seats, each for its own second job; its first was cancelled.
     Seats,
     /// Workers, for a frame.
     Workers,
@@ -36,11 +36,10 @@ enum What {
     Silence,
 }
 
-/// A seat waits for its first job, and is counted once it is back.
+/// A seat waits for its second job, and is counted once it is back.
 fn wait_for_own<L: Hands, R: Wait>(rt: &R, desk: &Desk<L>, seat: Seat<L>, back: &AtomicU64) {
-    if desk.wait(rt, &seat, 1) != Ok(Outcome::Cancelled) {
-        back.fetch_add(1, Ordering::SeqCst);
-    }
+    let _found = desk.wait(rt, &seat, 2);
+    back.fetch_add(1, Ordering::SeqCst);
     drop(seat);
 }
 
@@ -50,10 +49,12 @@ fn look_there<L: Hands, R: Wait>(rt: &R, desk: &Desk<L>, back: &AtomicU64) {
     back.fetch_add(1, Ordering::SeqCst);
 }
 
-/// A seat of a tenant with one node and one job, at depth 0.
+/// A seat of a tenant with two jobs, at depth 0, of which the first is cancelled.
 fn asked<L: Hands, R: Wait + Abort>(rt: &R, desk: &Desk<L>) -> Seat<L> {
-    let mut seat = seat_of(rt, desk, 1, 1);
+    let mut seat = seat_of(rt, desk, 1, 2);
     asks(rt, desk, &mut seat, 0, Ok(1));
+    cancels(rt, desk, &mut seat, 1, Ok(()));
+    asks(rt, desk, &mut seat, 0, Ok(2));
     seat
 }
 
@@ -99,7 +100,7 @@ fn are_back(back: &AtomicU64, many: u64) -> bool {
     back.load(Ordering::SeqCst) == many
 }
 
-/// The jobs of the seats are finished one by one, the last first; each seat is back once its own is, and not before.
+/// The second jobs of the seats are finished one by one, the last first; each seat is back once its own is, and not before.
 fn finish_all<L: Hands, R: Wait + Abort + Clock>(
     rt: &R,
     desk: &Desk<L>,
@@ -110,9 +111,9 @@ fn finish_all<L: Hands, R: Wait + Abort + Clock>(
     for done in 0..8u64 {
         let root = FrameId {
             tenant: 8 - done,
-            serial: 1,
+            serial: 2,
         };
-        let finished = compute(rt, desk, badge, worker, root) == Some(1);
+        let finished = compute(rt, desk, badge, worker, root) == Some(2);
         assert!(rt; finished && come_back(rt, back, done + 1), "job {done}");
         assert!(rt; are_back(back, done + 1), "the others wait on");
     }
@@ -121,7 +122,9 @@ fn finish_all<L: Hands, R: Wait + Abort + Clock>(
 /// Seats ask one by one; a worker is back after each.
 fn ask_all<L: Hands, R: Wait + Abort + Clock>(rt: &R, desk: &Desk<L>, back: &AtomicU64) {
     for done in 0..2u64 {
-        drop(asked(rt, desk));
+        let mut seat = seat_of(rt, desk, 1, 1);
+        asks(rt, desk, &mut seat, 0, Ok(1));
+        drop(seat);
         assert!(rt; come_back(rt, back, done + 1), "ask {done}");
     }
 }
