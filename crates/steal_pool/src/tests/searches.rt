@@ -1,10 +1,10 @@
 //! Searches at the same time: a short one is over before a long one that began earlier.
 ghost use Rattle.std.specs.Prelude.{◌≡◌};
 
-use super::seats::{opening, seat};
+use super::seats::{is_found, opening, seat};
 use super::{Scenario, Table, play};
 use crate::{Gate, Task};
-use desk::{Desk, Hands, Outcome, Refusal, Seat};
+use desk::{Desk, Hands, Seat};
 use othello_board::Board;
 use position_text::{Position, Side};
 use sched_rules::Worker;
@@ -36,7 +36,7 @@ impl<C: Clock> Long<'_, C> {
 
     /// Whether all short searches are over within ten seconds.
     fn are_over(&self) -> bool {
-        self.comes(|| self.over.load(Ordering::SeqCst) == SHORT)
+        self.comes(|| self.over.load(Ordering::SeqCst) >= SHORT)
     }
 
     /// Whether something comes within ten seconds.
@@ -84,7 +84,7 @@ fn middle() -> Position {
     }
 }
 
-/// A long search, and the short ones once it has begun.
+/// A job whose first leaf is a long search, and short ones once it has begun. The first is left before it ends.
 #[derive(Drop)]
 struct Beside<'g, 'c, C> {
     gate: &'g Long<'c, C>,
@@ -92,24 +92,19 @@ struct Beside<'g, 'c, C> {
 
 impl<C: Clock> Scenario for Beside<'_, '_, C> {
     fn play<L: Hands, R: Wait>(&self, rt: &R, desk: &Desk<L>) -> bool {
-        let (Some(mut long), Some(mut short)) = (seat(rt, desk, 4, 4), seat(rt, desk, 64, 64))
+        let (Some(mut long), Some(mut short)) = (seat(rt, desk, 64, 512), seat(rt, desk, 64, 64))
         else {
             return false;
         };
-        let asked = desk.ask(rt, &mut long, &middle(), 6) == Ok(1);
+        let asked = desk.ask(rt, &mut long, &middle(), 7) == Ok(1);
         let began = self.gate.begins();
         let all = ask_short(rt, desk, &mut short);
         let are_over = self.gate.are_over();
-        let found = is_done(desk.wait(rt, &short, SHORT)) && is_done(desk.wait(rt, &long, 1));
+        let found = is_found(rt, desk, &short, SHORT, &opening(), 0);
         desk.leave(rt, long);
         desk.leave(rt, short);
         asked && began && all && are_over && found
     }
-}
-
-/// Whether a job is done.
-fn is_done(outcome: Result<Outcome, Refusal>) -> bool {
-    matches!(outcome, Ok(Outcome::Done(_)))
 }
 
 /// Asks for all short searches.

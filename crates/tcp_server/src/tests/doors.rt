@@ -71,7 +71,7 @@ struct Before {
     taken: Vec<TcpListener>,
 }
 
-/// Takes up all descriptors but two.
+/// Takes up all descriptors but two, by more names of the listener.
 fn taken_up(alloc: Global, listener: &TcpListener) -> Result<Vec<TcpListener>, Fail> {
     let mut taken = Vec::new(alloc);
     for _ in 0..MOST_DESCRIPTORS {
@@ -182,10 +182,8 @@ fn are_turned_away<R: Net<Stream = TcpStream> + Clock + CpuClock>(
     drop(one);
     let four = visitor(rt, address)?;
     let told = told && are_answered(&four, &ANSWERED)?;
-    drop((two, three));
-    let told = told && is_refused(rt, address);
     drop(taken);
-    Ok(told)
+    Ok(told && is_refused(rt, address))
 }
 
 /// Whether a guest is content.
