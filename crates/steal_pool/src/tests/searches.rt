@@ -11,24 +11,26 @@ use sched_rules::Worker;
 use std::sync::Wait;
 use std::sync::atomic::{AtomicBool, AtomicU64, Ordering};
 use std::test::Fail;
-use std::thread;
-use std::time::{Clock, Duration};
+use std::time::{Clock, CpuClock, Duration};
+use std::{io, thread};
 
 /// How many short searches there are.
 const SHORT: u64 = 8;
 
-/// The first computation is a long search. How many of the short ones are over when it is, is kept; it stays there
-/// until all of them are, within a limit.
+/// The first computation is a long search. What its worker has used of a processor before it, and what the process had
+/// used when the last of the short ones was over, is kept in nanoseconds. It stays there until they are, within a limit.
 #[derive(Drop)]
 struct Long<'c, C> {
     clock: &'c C,
     began: AtomicBool,
+    before: AtomicU64,
     over: AtomicU64,
-    beside: AtomicU64,
-    late: AtomicBool,
+    over_at: AtomicU64,
+    is_beside: AtomicBool,
+    is_late: AtomicBool,
 }
 
-impl<C: Clock> Long<'_, C> {
+impl<C: Clock + CpuClock> Long<'_, C> {
     /// Whether the long search begins within ten seconds.
     fn begins(&self) -> bool {
         self.comes(|| self.began.load(Ordering::SeqCst))
@@ -49,27 +51,51 @@ impl<C: Clock> Long<'_, C> {
         }
         false
     }
+
+    /// A short search is over.
+    fn count(&self) {
+        if self.over.fetch_add(1, Ordering::SeqCst) + 1 == SHORT {
+            let now = nanos(self.clock.process_cpu_time());
+            self.over_at.store(now, Ordering::SeqCst);
+        }
+    }
+
+    /// Whether the short searches were over before nine tenths of the long one were done.
+    fn are_beside(&self) -> bool {
+        let after = nanos(self.clock.thread_cpu_time());
+        let long = after.saturating_sub(self.before.load(Ordering::SeqCst));
+        let now = nanos(self.clock.process_cpu_time());
+        let over_at = self.over_at.load(Ordering::SeqCst);
+        over_at > 0 && now.saturating_sub(over_at) > long / 10
+    }
 }
 
-impl<C: Clock> Gate for Long<'_, C> {
+/// The nanoseconds of a time, or 0.
+fn nanos(time: io::Result<Duration>) -> u64 {
+    match time {
+        Ok(time) => time.as_nanos() as u64,
+        Err(_) => 0,
+    }
+}
+
+impl<C: Clock + CpuClock> Gate for Long<'_, C> {
     fn before(&self, _worker: Worker, _task: &Task) {}
 
     fn inside(&self, _worker: Worker, number: u64) {
         if number == 1 {
+            let before = nanos(self.clock.thread_cpu_time());
+            self.before.store(before, Ordering::SeqCst);
             self.began.store(true, Ordering::SeqCst);
         }
     }
 
     fn after(&self, _worker: Worker, number: u64) {
         if number > 1 {
-            self.over.fetch_add(1, Ordering::SeqCst);
+            self.count();
             return;
         }
-        self.beside
-            .store(self.over.load(Ordering::SeqCst), Ordering::SeqCst);
-        if !self.are_over() {
-            self.late.store(true, Ordering::SeqCst);
-        }
+        self.is_beside.store(self.are_beside(), Ordering::SeqCst);
+        self.is_late.store(!self.are_over(), Ordering::SeqCst);
     }
 }
 
@@ -90,7 +116,7 @@ struct Beside<'g, 'c, C> {
     gate: &'g Long<'c, C>,
 }
 
-impl<C: Clock> Scenario for Beside<'_, '_, C> {
+impl<C: Clock + CpuClock> Scenario for Beside<'_, '_, C> {
     fn play<L: Hands, R: Wait>(&self, rt: &R, desk: &Desk<L>) -> bool {
         let (Some(mut long), Some(mut short)) = (seat(rt, desk, 64, 512), seat(rt, desk, 64, 64))
         else {
@@ -123,9 +149,11 @@ fn a_short_search_is_over_before_a_long_one(rt: HostRuntime) -> Result<(), Fail>
     let gate = Long {
         clock: &rt,
         began: AtomicBool::new(false),
+        before: AtomicU64::new(0),
         over: AtomicU64::new(0),
-        beside: AtomicU64::new(0),
-        late: AtomicBool::new(false),
+        over_at: AtomicU64::new(0),
+        is_beside: AtomicBool::new(false),
+        is_late: AtomicBool::new(false),
     };
     let table = Table {
         scenario: &Beside { gate: &gate },
@@ -137,10 +165,7 @@ fn a_short_search_is_over_before_a_long_one(rt: HostRuntime) -> Result<(), Fail>
     };
     let played = play(&rt, rt.alloc(), &table).ok_or("no pool")?;
     assert!(rt; played.content && played.whole);
-    assert!(rt; !gate.late.load(Ordering::SeqCst), "held after the search");
-    assert!(rt;
-        gate.beside.load(Ordering::SeqCst) > 0,
-        "held in the search"
-    );
+    let is_held = gate.is_late.load(Ordering::SeqCst) || !gate.is_beside.load(Ordering::SeqCst);
+    assert!(rt; !is_held, "one search holds up another");
     Ok(())
 }

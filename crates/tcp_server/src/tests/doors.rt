@@ -19,6 +19,19 @@ use std::time::{Clock, CpuClock, Duration};
 use steal_pool::desk::{Desk, Hall, Hands, PARTS};
 use steal_pool::{Gate, Task};
 
+/// A job with a table.
+const TABLED: [Row; 3] = [
+    ("HELLO 8 8\n", "WELCOME 8 8\n"),
+    (
+        "ASK 1 ---------------------------OX------XO--------------------------- X\n",
+        "JOB 1\n",
+    ),
+    ("WAIT 1\n", "DONE 1 -3 d3\n"),
+];
+
+/// Four lines that ask for a table.
+const TABLES: [u8; 32] = *b"TABLE 1\nTABLE 1\nTABLE 1\nTABLE 1\n";
+
 /// The last line of a session.
 const LAST: Row = ("BYE\n", "BYE\n");
 
@@ -91,11 +104,15 @@ fn visitor<R: Net<Stream = TcpStream>>(rt: &R, address: SocketAddr) -> io::Resul
     Ok(stream)
 }
 
-/// Whether who comes is refused, within some tries.
+/// Whether nobody who comes is let in: each is refused, or closed without a word where the listener is just being closed.
 fn is_refused<R: Net<Stream = TcpStream> + Clock>(rt: &R, address: SocketAddr) -> bool {
     for _ in 0..TRIES {
-        if TcpStream::connect(rt, address).is_err() {
+        let Ok(stream) = visitor(rt, address) else {
             return true;
+        };
+        match is_answered(&stream, LAST) {
+            Err(error) if error.kind() != ErrorKind::WouldBlock => {}
+            _ => return false,
         }
         thread::sleep(rt, Duration::from_millis(50));
     }
@@ -114,21 +131,30 @@ fn is_followed<R: Net<Stream = TcpStream> + Clock>(
 }
 
 /// Whether somebody is answered while another's answers find no room any more.
-fn is_answered_beside<R: Net<Stream = TcpStream>>(rt: &R, address: SocketAddr) -> io::Result<bool> {
+fn is_answered_beside<R: Net<Stream = TcpStream> + Clock + CpuClock>(
+    rt: &R,
+    address: SocketAddr,
+) -> io::Result<bool> {
     let silent = visitor(rt, address)?;
-    let told = are_told(&silent, &ANSWERED[..4])?;
-    stuff(&silent)?;
+    let told = are_told(&silent, &TABLED)?;
+    stuff(rt, &silent)?;
     let other = visitor(rt, address)?;
     let is_answered = are_answered(&other, &ANSWERED)?;
     drop(silent);
     Ok(told && is_answered)
 }
 
-/// Sends lines until their answers, which nobody reads, have filled what there is between the server and its peer.
-fn stuff(mut stream: &TcpStream) -> io::Result<()> {
+/// Sends lines until their answers, which nobody reads, have filled what there is between the server and its peer, and
+/// nobody works any more.
+fn stuff<R: Clock + CpuClock>(rt: &R, mut stream: &TcpStream) -> io::Result<()> {
     stream.set_write_timeout(Some(Duration::from_millis(500)))?;
     for _ in 0..super::TURNS {
-        if stream.write(&[b'\n'; 4_096]).is_err() {
+        if stream.write(&TABLES).is_err() {
+            break;
+        }
+    }
+    for _ in 0..TRIES {
+        if is_idle(rt)? {
             return Ok(());
         }
     }
@@ -158,12 +184,13 @@ fn is_closed(mut stream: &TcpStream) -> io::Result<bool> {
     Ok(stream.read(&mut [0; 1])? == 0)
 }
 
-/// Whether the process uses less than a tenth of a second's processor time in a second.
+/// Whether the process uses less than a hundredth of a second's processor time in a second.
 fn is_idle<R: Clock + CpuClock>(rt: &R) -> io::Result<bool> {
+    thread::sleep(rt, Duration::from_millis(50));
     let before = rt.process_cpu_time()?;
     thread::sleep(rt, Duration::from_secs(1));
     let after = rt.process_cpu_time()?;
-    Ok(after.saturating_sub(before) < Duration::from_millis(100))
+    Ok(after.saturating_sub(before) < Duration::from_millis(10))
 }
 
 /// Whether of three who came at once one is served and two are turned away, while no processor is used, and a fourth is
@@ -235,7 +262,7 @@ where
     requires name { blank.name ≡ L.name }
     requires parts { (blank.parts ≡ L.parts) × (L.all ≡ L.parts) × (L.all ≡ PARTS) }
 {
-    let config = Config::new(8, 16).ok_or("the limits")?;
+    let config = Config::new(16, 16).ok_or("the limits")?;
     let workers = Worker::new(workers).ok_or("the limits")?;
     let desk: Desk<L> = Desk::new(Hall::new(alloc, config, 0)?, blank);
     let listener = TcpListener::bind(rt, "127.0.0.1:0")?;
