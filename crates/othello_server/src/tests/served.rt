@@ -59,16 +59,14 @@ fn answered<R: Net<Stream = TcpStream> + Alloc>(rt: &R, line: &[u8]) -> Option<u
     let address = line.strip_prefix("listening ")?.trim_end();
     let port = address.strip_prefix("127.0.0.1:")?;
     let other = format!(in rt.alloc(); "127.0.0.2:{port}").ok()?;
-    if TcpStream::connect(rt, other.as_str()).is_ok() {
-        return None;
-    }
+    let is_elsewhere = TcpStream::connect(rt, other.as_str()).is_ok();
     let mut count = 0;
     for _ in 0..SESSIONS {
         if is_visited(rt, address).unwrap_or(false) {
             count += 1;
         }
     }
-    Some(count)
+    if is_elsewhere { None } else { Some(count) }
 }
 
 /// Whether a session of one line is answered and ends.
