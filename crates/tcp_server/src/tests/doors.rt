@@ -94,7 +94,7 @@ fn taken_up(alloc: Global, listener: &TcpListener) -> Result<Vec<TcpListener>, F
         };
         taken.push(one)?;
     }
-    Err(Fail::from("there is no limit of descriptors"))
+    Err(Fail::from("too many descriptors: set a limit, as by ulimit -n"))
 }
 
 /// A connection that answers within ten seconds or fails.
