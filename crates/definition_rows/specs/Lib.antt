@@ -1,0 +1,3 @@
+pub mod SmallCores
+pub mod SmallSearches
+pub mod SmallSessions
