@@ -6,6 +6,7 @@ use Rattle.frame_tree.specs.declared.names.State.{State}
 use Rattle.frame_tree.specs.declared.names.State.TheVariants.{Ready, Running}
 use Rattle.frame_tree.specs.Frames.{Frame}
 use Rattle.sched_rules.specs.declared.act.Then.TheVariants.{Go}
+use Rattle.sched_rules.specs.declared.job.Job.{Job}
 use Rattle.sched_rules.specs.declared.job.Job.TheVariants.{Live}
 use Rattle.sched_rules.specs.Functions.{Functions}
 use Rattle.sched_rules.specs.Trees.{Tenant}
@@ -54,3 +55,7 @@ running_two = (2, tenant_with_root (Running 5))
 -- tenant 1, whose root is ready in the hall, and tenant 2, whose root worker 5 runs
 abbrev pub two_tenants : Shared
 two_tenants = core_with (ready_one ∷ running_two ∷ [])
+
+-- a tenant of 4 segments and 8 nodes with this job and no frame
+abbrev pub tenant_with_job : Job → Tenant
+tenant_with_job job = record { reserve = quota 4 8; serials = 1; steps = 0; jobs = job ∷ []; frames = [] }

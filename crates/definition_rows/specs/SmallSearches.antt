@@ -67,3 +67,8 @@ below_it own opp depth alpha beta role number phase = record {
 -- the same once it knows the board after d3
 abbrev pub after_d3 : ℕ → ℤ → ℤ → ℕ → Frame
 after_d3 depth alpha beta role = below_it 68719476736 34762915840 depth alpha beta role 0 1
+
+-- the words of the root whose alpha is 0 (1000000), in this phase, with this word of the best score and no choice, so many choices
+-- spawned, and these entries of d3 and c4
+abbrev pub above_its_best : ℕ → ℕ → ℕ → ℕ → ℕ → List ℕ
+above_its_best phase best spawned d3 c4 = 34628173824 ∷ 68853694464 ∷ 1 ∷ 1000000 ∷ 1200000 ∷ 0 ∷ 0 ∷ phase ∷ best ∷ 65 ∷ 4 ∷ spawned ∷ d3 ∷ c4 ∷ 0 ∷ 0 ∷ []

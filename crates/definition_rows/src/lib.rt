@@ -12,8 +12,14 @@
 //! ```
 #![tactic(auto)]
 
+pub mod acts;
+pub mod deques;
+pub mod desks;
 pub mod done_lines;
 pub mod frames;
+pub mod halls;
+pub mod jobs;
 pub mod replies;
+pub mod solved_lines;
 pub mod steps;
 pub mod tables;

@@ -4,7 +4,7 @@ ghost use Rattle.std.specs.Prelude.{◌≡◌, ℕ, List, [], ◌∷◌, negsuc,
 ghost use Rattle.sched_rules.specs.declared.job.Job.TheVariants.{Done};
 ghost use Rattle.sched_rules.specs.declared.refusal.Refusal.{Refusal};
 ghost use Rattle.sched_rules.specs.declared.step.StepOf.{StepOf};
-ghost use Rattle.sched_rules.specs.declared.step.StepOf.TheVariants.{Leave};
+ghost use Rattle.sched_rules.specs.declared.step.StepOf.TheVariants.{Leave, Submit};
 ghost use Rattle.sched_rules.specs.declared.step.DidOf.{DidOf};
 ghost use Rattle.sched_rules.specs.declared.step.DidOf.TheVariants.{Left};
 ghost use Rattle.sched_rules.specs.Trees.{Tenant};
@@ -35,4 +35,10 @@ pub fn what_a_reply_is_to()
     ensures own { (words : List ℕ) → IsReplyTo asked words → slice_index words 0 ≡ 34628173824 }
     ensures opp { (words : List ℕ) → IsReplyTo asked words → slice_index words 1 ≡ 68853694464 }
     ensures depth { (words : List ℕ) → IsReplyTo asked words → slice_index words 2 ≡ 1 }
+{}
+
+/// What a tenant asked for is what its own Submits carried, and no other tenant's.
+pub fn whose_submits_count()
+    ensures one { origins_of {A = LeafAnswer} (only 1 (Submit 2 (7 ∷ []) 12 ∷ Submit 1 asked 12 ∷ [])) ≡ asked ∷ [] }
+    ensures two { origins_of {A = LeafAnswer} (only 2 (Submit 2 (7 ∷ []) 12 ∷ Submit 1 asked 12 ∷ [])) ≡ (7 ∷ []) ∷ [] }
 {}
