@@ -95,7 +95,7 @@ impl<P: Procedure, A: Allocator> Engine<P, A> {
         self.may_spend(name)?;
         let root = self.store.root(name);
         let job = self.store.job_under(root.tenant, root.serial) as u64;
-        end_at(&mut self.store, root, Job::Spent); if self.store.has_tenant(1) { self.store.leave(1); }
+        end_at(&mut self.store, root, Job::Spent);
         Ok(DidOf::Spent(job))
     }
 
