@@ -189,8 +189,10 @@ def try_start(board, compared, depth):
     said = try_go(board, compared, cells, side, depth)
     board.say(f"move {said}")
     move = said.split("/")[0].lower()
+    check(cells[SQUARES.index(move)] == "-" and flips(cells, side, SQUARES.index(move)), f"{said} isn't legal at the start that was given")
     after = played(cells, side, SQUARES.index(move))
-    try_hints(board, compared, after, OTHER[side] if can_move(after, OTHER[side]) else side, 1, 2) if can_move(after, OTHER[side]) else None
+    if can_move(after, OTHER[side]):
+        try_hints(board, compared, after, OTHER[side], 1, 2)
 
 
 def try_stop(board):

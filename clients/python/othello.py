@@ -123,10 +123,13 @@ class Session:
     """A tenant of the server, from HELLO to BYE. Threads may share it: each call is a line and its answer.
 
     `timeout` is how many seconds `wait` gives a job: after them the job is cancelled. `silence` is how many the server may
-    take to answer what it answers at once, which is all but WAIT; after them the session is broken. None: no limit."""
+    take to answer what it answers at once, which is all but WAIT; after them the session is broken. Without either there is
+    no limit; with a `timeout` alone silence has as many seconds, 1.5 at least."""
 
     def __init__(self, host, port, segments, nodes, timeout=None, tls=None, silence=None):
         self.lock, self.broken, self.jobs = threading.Lock(), None, 0
+        if silence is None and timeout is not None:
+            silence = max(timeout, SILENCE)
         self.timeout, self.silence = timeout, silence
         self.socket = self.connect(host, port, silence)
         try:

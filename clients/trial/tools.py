@@ -31,8 +31,8 @@ def asked_positions():
     """Positions with a depth of their own, without one, and faulty lines; and the rows that they must have."""
     positions = stage.positions(240, 13)
     asked = [position if number % 3 else f"{number % 4} {position}" for number, position in enumerate(positions)]
-    for number, foul in enumerate((f"13 {OPENING}", OPENING[:-1] + "Y", "nonsense", f"2 {OPENING[1:]}")):
-        asked.insert(50 * number + 7, foul)
+    for number, foul in enumerate((f"13 {OPENING}", OPENING[:-1] + "Y", "nonsense", f"2 {OPENING[1:]}", '2 say "x",y')):
+        asked.insert(40 * number + 7, foul)
     lines = [line if line[1:2] == " " or line.startswith("13 ") else f"2 {line}" if len(line) == 66 else f" {line}" for line in asked]
     wanted = []
     for line, answer in zip(lines, stage.solve(lines)):
