@@ -42,6 +42,11 @@ def built():
 PROGRAM = os.environ.get("OTHELLO") or built()
 
 
+def check(told, text):
+    if not told:
+        fail(text)
+
+
 def free_port():
     """A port that nobody listens at, below those that the system gives to connections."""
     for port in random.sample(range(20000, 32000), 100):

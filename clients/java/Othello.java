@@ -33,7 +33,7 @@ import javax.net.ssl.SSLSocketFactory;
  * soon as it is known. With {@code --tables} each is followed by the board with what is known of each choice. It opens as many
  * sessions as it needs. What comes in is asked at once, N lines at a time at most (16): {@code (echo "2 $O"; sleep 6) | java
  * Othello.java 127.0.0.1 4711 64 4096} answers at the beginning, and ends after 6 s. A server that isn't there, or says nothing
- * where it answers at once, is given up after {@code --silence} seconds (1.2): one line, and status 1. One that is full is asked
+ * where it answers at once, is given up after {@code --silence} seconds (1.5): one line, and status 1. One that is full is asked
  * again for {@code --patience} seconds (30). A line that takes {@code --timeout} seconds is cancelled.
  */
 public final class Othello implements AutoCloseable {
@@ -280,7 +280,7 @@ public final class Othello implements AutoCloseable {
         + "[--timeout S] HOST PORT SEGMENTS NODES < lines";
     static final Question END = new Question("");
     final List<String> words = new ArrayList<>(); // host, port, segments, nodes
-    final Map<String, Double> numbers = new HashMap<>(Map.of("--ahead", 16.0, "--patience", 30.0, "--silence", 1.2, "--timeout", 0.0));
+    final Map<String, Double> numbers = new HashMap<>(Map.of("--ahead", 16.0, "--patience", 30.0, "--silence", 1.5, "--timeout", 0.0));
     boolean secure;
     boolean tabled;
     final ArrayDeque<Question> window = new ArrayDeque<>(); // what was asked, or is to be asked at once
@@ -346,7 +346,7 @@ public final class Othello implements AutoCloseable {
         try {
           var left = (int) Math.max(silence - since(begun), 50);
           session = new Othello(words.get(0), Integer.parseInt(words.get(1)), Integer.parseInt(words.get(2)),
-              Integer.parseInt(words.get(3)), secure, left, silence / 2);
+              Integer.parseInt(words.get(3)), secure, left, silence);
           return;
         } catch (Refused refusal) {
           if (!LATER.contains(refusal.number) || since(begun) > milliseconds("--patience")) throw refusal;
@@ -357,7 +357,7 @@ public final class Othello implements AutoCloseable {
         } catch (UnknownHostException fault) {
           throw new IOException("there is no such host");
         } catch (IOException fault) {
-          if (fault instanceof SSLException || since(begun) > silence - 100) throw fault;
+          if (fault instanceof SSLException || since(begun) > silence * 0.8) throw fault;
         }
         Thread.sleep(100);
       }

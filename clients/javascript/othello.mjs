@@ -9,7 +9,7 @@
 // With --tables each is followed by the board with what is known of each choice; with --tls the variable NODE_EXTRA_CA_CERTS
 // may name a file of authorities. What comes in is asked at once, N lines at a time at most (16):
 //   (echo "2 $O"; sleep 6) | othello.mjs 127.0.0.1 4711 64 4096    # answers at the beginning, and ends after 6 s
-// A server that isn't there, or says nothing where it answers at once, is given up after --silence seconds (1.2): one line, and
+// A server that isn't there, or says nothing where it answers at once, is given up after --silence seconds (1.5): one line, and
 // status 1. One that is full is asked again for --patience seconds (30). A line that takes --timeout is cancelled.
 import net from "node:net";
 import readline from "node:readline";
@@ -30,7 +30,7 @@ const ENDS = { DONE: 4, SPENT: 2, CANCELLED: 2 }; // and what each line may be a
 const ANSWERS = { HELLO: { WELCOME: 3 }, RESERVE: { RESERVED: 3 }, ASK: { JOB: 2 }, GET: { PENDING: 2, ...ENDS }, WAIT: ENDS, BYE: { BYE: 1 },
   TABLE: { PENDING: 2, TABLE: 0, SPENT: 2, CANCELLED: 2 }, CANCEL: { CANCELLED: 2 }, QUOTA: { QUOTA: 4 }, LIVE: { LIVE: 3 } };
 const ENTRY = /^([a-h][1-8]|pass)([=<>])(-?\d+)$/; // of a table: worth just, at most, at least
-const SILENCE = 1200; // milliseconds after which a server that says nothing is given up
+const SILENCE = 1500; // milliseconds after which a server that says nothing is given up
 const pauseAfter = (taken) => Math.min(Math.max(taken / 4, 1), 20); // before the next look at a job, in milliseconds
 
 /** The server answered `ERR number`. The session goes on. */
@@ -243,13 +243,13 @@ async function opened(where, { patience = 30000, silence = SILENCE, tell = () =>
     const taken = () => performance.now() - begun;
     try {
       const session = await Session.open({ ...where, silence: Math.max(silence - taken(), 50) });
-      session.silence = silence / 2;
+      session.silence = silence;
       return session;
     } catch (fault) {
       if (fault instanceof Refused) {
         if (!LATER.includes(fault.number) || taken() > patience) throw fault;
         if (!told && taken() > 1000) told = (tell(`${fault.message}; it is asked again for ${patience / 1000} s`), true);
-      } else if (taken() > silence - 100 || /CERT|SIGNED|VERIFY|ENOTFOUND/.test(fault.code)) {
+      } else if (taken() > 0.8 * silence || /CERT|SIGNED|VERIFY|ENOTFOUND/.test(fault.code)) {
         throw new Lost(`${where.host}:${where.port}: ${fault.message || fault.code}`);
       }
     }

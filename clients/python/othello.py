@@ -15,7 +15,7 @@ As a command:  othello.py HOST PORT SEGMENTS NODES < lines   where each line is 
 
 What comes in is asked at once, `ahead` lines at a time at most:
                (echo "2 $O"; sleep 6) | othello.py 127.0.0.1 4711 64 4096     # answers at the beginning, and ends after 6 s
-A server that isn't there, or says nothing where it answers at once, is given up after `silence` seconds (1.2), and the
+A server that isn't there, or says nothing where it answers at once, is given up after `silence` seconds (1.5), and the
 command says so in one line and ends with status 1. Where HAProxy's queue may hold a session, give `--silence 60`.
 """
 import argparse
@@ -62,7 +62,7 @@ ANSWERS = {
     "BYE": {"BYE": 1},
 }
 LONGEST = 4096  # bytes of an answer, and more than any has
-SILENCE = 1.2  # seconds after which a server that says nothing is given up
+SILENCE = 1.5  # seconds after which a server that says nothing is given up
 SHORTEST_PAUSE, LONGEST_PAUSE = 0.0002, 0.02  # seconds between two looks at a job
 
 
@@ -81,6 +81,10 @@ class Refused(Exception):
 
 class Unreachable(ConnectionError):
     """The server can't be reached, or was lost."""
+
+
+class Stopped(Exception):
+    """What was asked for isn't wanted any more."""
 
 
 class Broken(ConnectionError):
@@ -323,15 +327,20 @@ class Client:
         self.ahead, self.patience, self.timeout, self.silence = max(ahead, 1), patience, timeout, silence
         self.tell = tell or (lambda text: None)
         self.sessions = self.lost = 0
+        self.stopped = False
 
-    def open(self, silence=None):
+    def stop(self):
+        """Ends what is asked for: `answers` raises Stopped soon, and its jobs are dropped. Another thread may call it."""
+        self.stopped = True
+
+    def open(self):
         """A new session. Where the server is full for now it is tried again, and where it can't be reached, for a moment."""
-        begun, silence, told = time.monotonic(), silence or self.silence, False
+        begun, told = time.monotonic(), False
         while True:
             try:
-                left = max(silence - (time.monotonic() - begun), 0.05)
+                left = max(self.silence - (time.monotonic() - begun), 0.05)
                 session = Session(self.host, self.port, *self.reserve, tls=self.tls, silence=left)
-                session.silence = self.silence / 2
+                session.silence = self.silence
                 self.sessions += 1
                 return session
             except Refused as fault:
@@ -343,7 +352,7 @@ class Client:
             except (ssl.SSLCertVerificationError, socket.gaierror) as fault:
                 raise Unreachable(f"{self.host}:{self.port}: {fault.strerror or fault}") from fault
             except OSError as fault:
-                if time.monotonic() - begun > silence - 0.1:
+                if time.monotonic() - begun > 0.8 * self.silence:
                     raise Unreachable(f"{self.host}:{self.port}: {fault.strerror or fault}") from fault
             time.sleep(0.1)
 
@@ -361,7 +370,7 @@ class Client:
         window, arrivals, losses = collections.deque(), Arrivals(questions, self.ahead), 0
         try:
             while arrivals.fill(window, self.ahead) or window:
-                session = session or self.open(self.silence / 2 if losses else None)
+                session = session or self.open()
                 try:
                     if not self.turn(session, window, arrivals):
                         session.close()
@@ -372,7 +381,7 @@ class Client:
                     session = None
                     for question in window:
                         question.job = None
-                    if losses > (1 if isinstance(fault, TimeoutError) else 3):
+                    if losses > 3 or isinstance(fault, TimeoutError):
                         raise Unreachable(f"{self.host}:{self.port}: {fault.strerror or fault}") from fault
                 while window and window[0].answer:
                     losses = 0
@@ -389,6 +398,8 @@ class Client:
             begun = time.monotonic()
             while not self.is_settled(session, question):
                 arrivals.pause(pause_after(time.monotonic() - begun))
+                if self.stopped:
+                    raise Stopped("it was stopped")
                 if goes_on and arrivals.fill(window, self.ahead):
                     goes_on = self.ask_ahead(session, window)
             if goes_on and question.answer:
@@ -453,7 +464,7 @@ def main():
     words.add_argument("nodes", type=int)
     words.add_argument("--ahead", type=int, default=16, help="how many lines are asked at a time at most (16)")
     words.add_argument("--patience", type=float, default=30, help="seconds for which a server that is full is asked again (30)")
-    words.add_argument("--silence", type=float, default=SILENCE, help="seconds after which a server that says nothing is given up (1.2)")
+    words.add_argument("--silence", type=float, default=SILENCE, help="seconds after which a server that says nothing is given up (1.5)")
     words.add_argument("--timeout", type=float, help="seconds that a line may take; its job is cancelled then")
     words.add_argument("--tables", action="store_true", help="show what is known of each choice")
     words.add_argument("--tls", action="store_true", help="speak TLS, and check the host's certificate")

@@ -4,10 +4,10 @@
 #        clients/shell/ask.sh [--ahead N] HOST PORT - [SEGMENTS NODES] < lines    (16 lines are asked at a time at most)
 # Prints `DONE job value move`, `SPENT job` or `ERR number`, in order, each as soon as it is known; what comes in is asked at once:
 #        (echo "2 $O"; sleep 6) | clients/shell/ask.sh 127.0.0.1 4711 -           # answers at the beginning
-# The status is 0 where all are DONE, and 1 for anything else. A server that isn't there, or says nothing for 1.2 seconds where it
+# The status is 0 where all are DONE, and 1 for anything else. A server that isn't there, or says nothing for 1.5 seconds where it
 # answers at once, is said in one line. A session has 256 jobs at most, and no others follow it here.
 set -euo pipefail
-silence=1.2
+silence=1.5
 
 lost() { echo "ask.sh: $host:$port: $1" >&2; exit 1; }
 

@@ -1,96 +1,51 @@
 #!/usr/bin/env python3
-"""A page that reviews games over a server, for browsers on this host: http://127.0.0.1:8047/
+"""A page that reviews games over a server, for browsers on this host, or for a class: http://127.0.0.1:8047/
 
-usage: page.py [--port 8047] [--most-depth 8] HOST PORT        (host and port of the server of `othello serve`)
+usage: page.py [--port 8047] [--address 127.0.0.1] [--name NAME] [--certificate FILE] [--tls [--authority FILE]] HOST PORT
 
-What it says of a move is what review.py says. `/review?moves=f5d6c3&depth=6` answers a line of JSON for each move.
+HOST and PORT are those of the server of `othello serve`; with --tls it is spoken to over TLS. For a class, `--address 0.0.0.0` lets
+other hosts of the network in, and `--certificate FILE` (certificate and key) has their browsers speak https. They name this host by
+its address, by its own name, or by one that --name gives; any other name is refused, so that no foreign page reads this one.
+
+Moves are entered as a text or by clicks on the board, from any start. As many plies are offered as the server takes. What the page
+says of a move is what review.py says. `/review?moves=f5d6c3&depth=6&start=..` answers a line of JSON for each move, and an empty line
+each second while there is none. Where the server can't be reached the page isn't begun: one line within 2 seconds, and status 1; where
+it is lost later the page says so.
 """
 import argparse
 import http.server
+import ipaddress
 import json
+import pathlib
+import queue
+import socket
+import ssl
 import sys
 import threading
 import urllib.parse
 
 import review
-from othello import Client, Refused
+from othello import SILENCE, Client, Refused, Stopped, tls_context
 
-PAGE = """<!doctype html>
-<html lang="en"><meta charset="utf-8"><title>A game reviewed</title>
-<style>
-  body { font: 16px/1.4 sans-serif; margin: 1.5em; color: #222; max-width: 66em }
-  form { display: flex; gap: .5em; margin-bottom: 1em } input[name=moves] { flex: 1; font-family: monospace }
-  main { display: flex; gap: 2em; align-items: flex-start } svg { flex: none }
-  .list { max-height: 30em; overflow: auto; flex: 1 } table { border-collapse: collapse; width: 100% }
-  th, td { text-align: left; padding: .15em .6em; border-bottom: 1px solid #ddd } th { position: sticky; top: 0; background: #fff }
-  tr.here { background: #fff3c4 } tr.bad td:last-child { color: #b00; font-weight: bold } tbody tr { cursor: pointer }
-  #told { min-height: 1.5em }
-</style>
-<h1>A game reviewed</h1>
-<form><input name="moves" placeholder="f5d6c3d3c4" aria-label="moves">
-<label>plies <input name="depth" type="number" min="1" max="12" value="6" style="width: 3.5em"></label>
-<button>Review</button></form>
-<p id="told"></p>
-<main><svg id="board" width="440" height="440" viewBox="-20 -20 440 440" role="img" aria-label="board"></svg>
-<div class="list"><table><thead><tr><th></th><th>player</th><th>move</th><th>value</th><th>best</th><th>its value</th><th>lost</th></tr>
-</thead><tbody></tbody></table></div></main>
-<script>
-const rows = [], form = document.forms[0], body = document.querySelector("tbody"), told = document.getElementById("told");
-const shape = (name, marks, text) => {
-  const made = document.createElementNS("http://www.w3.org/2000/svg", name);
-  for (const [key, value] of Object.entries(marks)) made.setAttribute(key, value);
-  if (text) made.textContent = text;
-  return document.getElementById("board").appendChild(made);
-};
-const drawn = (row) => {
-  document.getElementById("board").replaceChildren();
-  for (let at = 0; at < 64; at += 1) {
-    const [x, y, square] = [50 * (at % 8), 50 * Math.floor(at / 8), "abcdefgh"[at % 8] + (Math.floor(at / 8) + 1)];
-    shape("rect", { x, y, width: 50, height: 50, fill: "#2c8a4b", stroke: "#1d5c32" });
-    if (row.cells[at] !== "-") shape("circle", { cx: x + 25, cy: y + 25, r: 20, fill: row.cells[at] === "X" ? "#111" : "#f5f5f5" });
-    const known = row.squares[square];
-    if (!known || row.cells[at] !== "-") continue;
-    const stroke = square === row.best ? "#ffd54a" : square === row.move ? "#ff7b6b" : "none";
-    shape("rect", { x: x + 3, y: y + 3, width: 44, height: 44, fill: "none", "stroke-width": 3, stroke });
-    const [sign, text] = known, small = text.replace(/ by (.*) discs?/, " $1");
-    shape("text", { x: x + 25, y: y + 30, "text-anchor": "middle", "font-size": small.length > 5 ? 11 : 15, fill: "#fff" }, (sign === "=" ? "" : sign) + small);
-  }
-  for (let at = 0; at < 8; at += 1) {
-    shape("text", { x: 50 * at + 25, y: -6, "text-anchor": "middle", "font-size": 13 }, "abcdefgh"[at]);
-    shape("text", { x: -12, y: 50 * at + 30, "text-anchor": "middle", "font-size": 13 }, String(at + 1));
-  }
-};
-const shown = (at) => {
-  [...body.rows].forEach((line, number) => line.classList.toggle("here", number === at));
-  drawn(rows[at]);
-  body.rows[at].scrollIntoView({ block: "nearest" });
-};
-const added = (row) => {
-  told.textContent = row.number ? row.number + " moves .." : row.fault;
-  if (!row.number) return;
-  const at = rows.push(row) - 1, line = body.insertRow();
-  const side = row.side === "X" ? "black" : "white";
-  for (const text of row.fault ? [row.number, side, row.move, row.fault] : [row.number, side, row.move, row.said, row.best, row.best_said, row.lost_said])
-    line.insertCell().textContent = text;
-  line.classList.toggle("bad", row.lost > 0);
-  line.onclick = () => shown(at);
-};
-document.onkeydown = ({ key }) => {
-  const at = [...body.rows].findIndex((line) => line.className.includes("here")) + { ArrowDown: 1, ArrowUp: -1 }[key];
-  if (rows[at]) shown(at);
-};
-const finished = () => {
-  const worst = rows.reduce((most, row, at) => (row.lost > (rows[most].lost ?? 0) ? at : most), 0);
-  if (rows.length) told.textContent = rows.length + " moves; the dearest is number " + (worst + 1) + ". Yellow is best, red what was played; < and > are bounds.";
-  if (rows.length) shown(worst);
-};
-const words = new URLSearchParams(location.search);
-for (const name of ["moves", "depth"]) if (words.get(name)) form[name].value = words.get(name);
-drawn({ cells: "-".repeat(27) + "OX" + "-".repeat(6) + "XO" + "-".repeat(27), squares: {} });
-</script>
-"""
+PAGE = pathlib.Path(__file__).with_name("page.html")
+CORNER, MOBILITY = 100, 4  # of the evaluation: what a corner counts, and a legal square
+
 LONGEST_GAME = 400  # letters: 60 moves, with spaces and passes between them
-AT_ONCE = threading.Semaphore(2)  # reviews; others wait
+FINISHED = "X" * 64 + " O"  # asked to any depth it takes one node
+
+
+def deepest(client):
+    """How many plies deep the server looks at most."""
+    with client.open() as session:
+        depth = 0
+        try:
+            while depth < 60:
+                session.poll(session.ask(depth + 1, FINISHED))
+                depth += 1
+        except Refused as refusal:
+            if refusal.number != 27:
+                raise
+    return depth
 
 
 class Handler(http.server.BaseHTTPRequestHandler):
@@ -98,48 +53,108 @@ class Handler(http.server.BaseHTTPRequestHandler):
 
     def do_GET(self):
         asked = urllib.parse.urlsplit(self.path)
-        hosts = {f"{name}:{self.server.server_port}" for name in ("127.0.0.1", "localhost")}
-        if self.headers.get("Host") not in hosts:  # a page of elsewhere that was given this address for its name
+        words = urllib.parse.parse_qs(asked.query)
+        if not self.is_named():  # a page of elsewhere that was given this address for its name
             self.send_error(403)
         elif asked.path == "/":
-            self.say("text/html; charset=utf-8", self.page(urllib.parse.parse_qs(asked.query)))
+            self.say("text/html; charset=utf-8", self.page(words))
         elif asked.path == "/review":
-            self.say("application/x-ndjson", self.rows(urllib.parse.parse_qs(asked.query)))
+            self.say("application/x-ndjson", self.rows(words))
         else:
             self.send_error(404)
 
+    def is_named(self):
+        """Whether the browser names this host as it may: by an address, which no page can be given for its name, or by a name."""
+        name, _, port = self.headers.get("Host", "").rpartition(":")
+        if port != str(self.server.server_port):
+            return False
+        if name in self.server.names:
+            return True
+        try:
+            return bool(ipaddress.ip_address(name.strip("[]")))
+        except ValueError:
+            return False
+
     def page(self, words):
         """The page, and after it each row as soon as it is known: a browser shows them as they come."""
-        yield PAGE
+        values = {"MOST_DEPTH": self.server.most_depth, "CORNER": CORNER, "MOBILITY": MOBILITY}
+        text = PAGE.read_text(encoding="utf-8")
+        for name, value in values.items():
+            text = text.replace(name, str(value))
+        yield text
         if words.get("moves"):
             for row in self.rows(words):
-                yield "<script>added(" + row.strip().replace("<", "\\u003c") + ")</script>\n"
+                yield "<script>added(" + row.strip().replace("<", "\\u003c") + ")</script>\n" if row.strip() else row
             yield "<script>finished()</script>\n"
         yield "</html>\n"
 
     def rows(self, words):
-        """Of each move of the game a line of JSON, or a fault."""
+        """Of each move of the game a line of JSON, or a fault; an empty line each second, so that a browser that left is noticed."""
+        client, found, wanted = Client(*self.server.othello, **self.server.how), queue.Queue(), threading.Event()
+        wanted.set()
+        worker = threading.Thread(target=self.review, args=(client, words, found.put, wanted), daemon=True)
+        worker.start()
         try:
-            moves = review.moves_of(words.get("moves", [""])[0][:LONGEST_GAME])
+            while True:
+                try:
+                    row = found.get(timeout=1)
+                except queue.Empty:
+                    yield "\n"
+                    continue
+                if row is None:
+                    return
+                yield json.dumps(row) + "\n"
+        finally:
+            wanted.clear()
+            client.stop()
+
+    def review(self, client, words, put, wanted):
+        """Puts each row, or a fault, and None at the end. So many reviews go on at once; others wait."""
+        try:
+            cells, side = review.start_of(words.get("start", [""])[0])
+            moves = review.moves_of(words.get("moves", [""])[0][:LONGEST_GAME], cells, side)
             depth = int(words.get("depth", ["6"])[0])
             if not 1 <= depth <= self.server.most_depth:
                 raise ValueError(f"this page looks 1 to {self.server.most_depth} plies deep")
-            with AT_ONCE:
-                for row in review.review(Client(*self.server.othello, 256, 65536), moves, depth):
-                    yield json.dumps(row) + "\n"
+            with self.server.places:
+                for row in review.review(client, moves, depth) if wanted.is_set() else ():
+                    put(row)
         except (OSError, Refused, ValueError) as fault:
-            yield json.dumps({"fault": str(fault)}) + "\n"
+            put({"fault": str(fault)})
+        except Stopped:  # the browser left
+            pass
+        put(None)
 
     def say(self, kind, texts):
         self.send_response(200)
         self.send_header("Content-Type", kind)
         self.send_header("Cache-Control", "no-store")
         self.end_headers()
-        for text in texts:
-            self.wfile.write(text.encode())
+        try:
+            for text in texts:
+                self.wfile.write(text.encode())
+        except ConnectionError:  # the browser left
+            texts.close()
 
     def log_message(self, *_):
         pass
+
+
+class Server(http.server.ThreadingHTTPServer):
+    """The page's server; over TLS each connection's handshake is made in its own thread."""
+
+    context = None
+    request_queue_size = 64
+
+    def finish_request(self, request, address):
+        request.settimeout(60)
+        if self.context:
+            request = self.context.wrap_socket(request, server_side=True)
+        super().finish_request(request, address)
+
+    def handle_error(self, request, address):
+        if not isinstance(sys.exc_info()[1], (ConnectionError, TimeoutError, ssl.SSLError)):
+            super().handle_error(request, address)
 
 
 def main():
@@ -147,18 +162,32 @@ def main():
     words.add_argument("host")
     words.add_argument("port", type=int)
     words.add_argument("--port", dest="page", type=int, default=8047)
-    words.add_argument("--most-depth", type=int, default=8)
+    words.add_argument("--address", default="127.0.0.1", help="where browsers come in; 0.0.0.0 for those of other hosts (127.0.0.1)")
+    words.add_argument("--name", action="append", default=[], help="a name that browsers have for this host")
+    words.add_argument("--certificate", metavar="FILE", help="certificate and key, by which browsers speak https")
+    words.add_argument("--most-depth", type=int, default=99, help="offer no more plies (as many as the server takes)")
+    words.add_argument("--at-once", type=int, default=4, help="how many reviews go on at once; others wait (4)")
+    words.add_argument("--silence", type=float, default=SILENCE, help="seconds after which a server that says nothing is given up (1.5)")
+    words.add_argument("--tls", action="store_true", help="speak TLS to the server, and check its host's certificate")
+    words.add_argument("--authority", metavar="FILE", help="with --tls: the authorities to check it by")
     asked = words.parse_args()
-    with http.server.ThreadingHTTPServer(("127.0.0.1", asked.page), Handler) as server:
-        server.othello, server.most_depth = (asked.host, asked.port), asked.most_depth
-        print(f"http://127.0.0.1:{server.server_port}/", flush=True)
+    tls = tls_context(asked.authority) if asked.tls else None
+    most = deepest(Client(asked.host, asked.port, 8, 64, tls=tls, silence=asked.silence, patience=5))
+    with Server((asked.address, asked.page), Handler) as server:
+        server.othello, server.how = (asked.host, asked.port, 256, 65536), {"tls": tls, "silence": asked.silence}
+        server.most_depth, server.places = min(asked.most_depth, most), threading.Semaphore(asked.at_once)
+        server.names = {"localhost", socket.gethostname(), *asked.name}
+        if asked.certificate:
+            server.context = ssl.create_default_context(ssl.Purpose.CLIENT_AUTH)
+            server.context.load_cert_chain(asked.certificate)
+        print(f"http{'s' * bool(asked.certificate)}://{asked.address}:{server.server_port}/", flush=True)
         server.serve_forever()
 
 
 if __name__ == "__main__":
     try:
         main()
-    except OSError as fault:
+    except (OSError, Refused) as fault:
         sys.exit(f"page.py: {fault}")
     except KeyboardInterrupt:
         sys.exit(130)

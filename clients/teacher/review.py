@@ -1,7 +1,8 @@
 #!/usr/bin/env python3
 """Reviews a game over a server: for each move its value, the best move of its position, and what was lost by it.
 
-usage: review.py [--depth D] [--boards last|worst|all] HOST PORT MOVES      (`f5d6c3d3c4..`; passes need not be written)
+usage: review.py [--depth D] [--boards last|worst|all] [--start POSITION] [--tls [--authority FILE]] HOST PORT MOVES
+       (`f5d6c3d3c4..`; passes need not be written; a start has 64 squares from a1 to h8, a space, and who moves)
 
 Values are seen by the player who moves, so many plies deep (6). A value of 1,184 at most is the evaluation's, in its
 points; a greater one is the end of the game: 'wins by 12 discs'. A loss is what the best move is worth more.
@@ -13,13 +14,14 @@ import re
 import sys
 
 sys.path.insert(0, str(pathlib.Path(__file__).resolve().parent.parent / "python"))
-from othello import Client, Refused, text_of  # noqa: E402
+from othello import SILENCE, Client, Refused, text_of, tls_context  # noqa: E402
 
 START = "-" * 27 + "OX" + "-" * 6 + "XO" + "-" * 27
 OTHER = {"X": "O", "O": "X"}
 NAMES = {"X": "black", "O": "white"}
 SQUARES = [column + row for row in "12345678" for column in "abcdefgh"]
 GREATEST_EVALUATION, A_DISC = 1184, 2000
+SPENT = "not known: that takes more than is reserved; look fewer plies deep"
 
 
 def flips(cells, side, square):
@@ -58,13 +60,21 @@ class Move:
         return f"{depth} {self.before} {self.side}", f"{depth - 1} {self.after} {OTHER[self.side]}"
 
 
-def moves_of(text):
-    """The moves of a game from the opening, with black to begin. A player who can't move passes."""
+def start_of(text):
+    """The cells and the side of a start: X, x or * is black, O or o white, - or . empty. The opening where there is no text."""
+    cells = re.sub(r"\s", "", text).upper().replace("*", "X").replace(".", "-") or START + "X"
+    if not re.fullmatch("[XO-]{64}[XO]", cells):
+        raise ValueError("a start has 64 squares (X, O or -), a space, and X or O for who moves")
+    return cells[:64], cells[64]
+
+
+def moves_of(text, cells=START, side="X"):
+    """The moves of a game, from the opening with black to begin if no start is given. A player who can't move passes."""
     words = re.findall(r"[a-h][1-8]", text.lower())
     left = re.sub(r"[a-h][1-8]|pass|pa|ps|--|\d+\.|[\s,;]", "", text.lower())
     if left or not words:
         raise ValueError(f"no moves can be read from {left or text!r}")
-    cells, side, moves = START, "X", []
+    moves = []
     for number, word in enumerate(words, 1):
         if not can_move(cells, side):
             side = OTHER[side]
@@ -104,7 +114,7 @@ def review(client, moves, depth):
     answers = client.tables(lines)
     for move, (at_best, table), (after, _) in zip(moves, answers, answers):
         row = {"number": move.number, "side": move.side, "move": move.move, "cells": move.before, "after": move.after}
-        wrong = [text_of(answer) for answer in (at_best, after) if answer[0] != "DONE"]
+        wrong = [SPENT if answer == ("SPENT",) else text_of(answer) for answer in (at_best, after) if answer[0] != "DONE"]
         if wrong:
             yield row | {"fault": wrong[0], "squares": {}}
             continue
@@ -158,12 +168,18 @@ def main():
     words.add_argument("--boards", choices=("last", "worst", "all"), default="worst")
     words.add_argument("--segments", type=int, default=256)
     words.add_argument("--nodes", type=int, default=65536)
+    words.add_argument("--start", default="", metavar="POSITION", help="where the game begins (the opening)")
+    words.add_argument("--silence", type=float, default=SILENCE, help="seconds after which a server that says nothing is given up (1.5)")
+    words.add_argument("--tls", action="store_true", help="speak TLS, and check the host's certificate")
+    words.add_argument("--authority", metavar="FILE", help="with --tls: the authorities to check it by")
     asked = words.parse_args()
     colours = sys.stdout.isatty() and "NO_COLOR" not in os.environ
-    client = Client(asked.host, asked.port, asked.segments, asked.nodes)
+    moves = moves_of(" ".join(asked.moves), *start_of(asked.start))
+    tls = tls_context(asked.authority) if asked.tls else None
+    client = Client(asked.host, asked.port, asked.segments, asked.nodes, tls=tls, silence=asked.silence)
     rows = []
-    print(f"{'':>3} {'player':6} {'move':5}{'value':20}{'best':5}{'its value':20}lost")
-    for row in review(client, moves_of(" ".join(asked.moves)), asked.depth):
+    print(f"{'':>3} {'player':6} {'move':5}{'value':20}{'best':5}{'its value':20}lost", flush=True)
+    for row in review(client, moves, asked.depth):
         rows.append(row)
         if asked.boards == "all":
             show(row, colours)

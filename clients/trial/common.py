@@ -14,7 +14,8 @@ sys.path.insert(0, str(TOP / "deploy"))
 import stage  # noqa: E402
 from stage import OPENING, fail  # noqa: E402
 
-LONG = stage.positions(1, 2, 20, 20)[0]  # some seconds' work to depth 12
+LONG = stage.positions(1, 2, 20, 20)[0]  # some seconds' work to depth 12, where 256 segments and 65,536 nodes are reserved of
+LASTING = ("--grain", "6", "--segments", "65536", "--nodes", "1048576")  # such a server
 SOON = 2  # seconds after which a fault is said
 COMMANDS = {
     "python": [sys.executable, TOP / "clients/python/othello.py"],
@@ -126,16 +127,37 @@ def start_of(words):
 
 
 def said_soon(process, what, begun, start=0.0):
-    """A fault is said in one line, in 2 seconds beside the start, and the status is 1."""
+    """A fault is said in one line and with status 1: the line, and after how many seconds beside those of the start."""
     try:
         told = process.communicate(timeout=30)[1]
     except subprocess.TimeoutExpired:
         fail(f"{what}: it doesn't end")
-    taken = time.monotonic() - begun
+    taken = time.monotonic() - begun - start
     check(process.returncode == 1, f"{what}: status {process.returncode}")
     check(len(told.splitlines()) == 1 and told.strip(), f"{what}: it says {told!r}")
-    check(taken < SOON + start, f"{what}: after {taken:.1f} s, and {start:.1f} s to begin")
-    return told.strip(), taken
+    return told.strip(), max(taken, 0.0)
+
+
+def in_time(what, trial):
+    """What a trial says of a fault, which is to come within 2 seconds. A machine that is busy has three tries."""
+    for _ in range(3):
+        told, taken = trial()
+        if taken < SOON:
+            return told, taken
+    return fail(f"{what}: said after {taken:.1f} s: {told}")
+
+
+def said_in_time(what, words_of_trial, start, line=None):
+    """The same of a command that is started, and given a line, if any."""
+
+    def trial():
+        with started(words_of_trial()) as process:
+            begun = time.monotonic()
+            if line:
+                process.stdin.write(line)
+            return said_soon(process, what, begun, start)
+
+    return in_time(what, trial)
 
 
 @contextlib.contextmanager

@@ -121,26 +121,28 @@ def try_ahead(name):
 
 def try_nobody(name):
     """A wrong port, one who says nothing, a server that is killed in the midst and one that falls silent: each is said soon."""
-    start, said = common.start_of(common.COMMANDS[name]), []
-    port = stage.free_port()
-    with common.started(words_of(name, port)) as process:  # no line comes
-        if name == "shell":
-            process.stdin.write(f"1 {OPENING}\n")
-        said.append(common.said_soon(process, f"{name} at a wrong port", time.monotonic(), start))
-    with common.silent() as port, common.started(words_of(name, port)) as process:
-        said.append(common.said_soon(process, f"{name} at a silent port", time.monotonic(), start))
+    start = common.start_of(common.COMMANDS[name])
+    said = [common.said_in_time(f"{name} at a wrong port", lambda: words_of(name, stage.free_port()), start)]  # no line comes
+    with common.silent() as port:
+        said.append(common.said_in_time(f"{name} at a silent port", lambda: words_of(name, port), start))
     for number in (signal.SIGKILL, signal.SIGSTOP):
-        with stage.server("--sessions", "9", "--grain", "4") as (server, port), common.started(words_of(name, port, 64, 65536)) as process:
-            process.stdin.write(f"12 {LONG}\n")
-            process.stdin.flush()
-            stage.until(f"{name}: nothing is asked", lambda: common.seconds_worked(server) > 0.2, 20)  # noqa: B023
-            server_of = [server.pid, *descendants(server.pid)]
-            for pid in server_of:
-                os.kill(pid, number)
-            said.append(common.said_soon(process, f"{name}: a server that gets {number.name}", time.monotonic()))
-            for pid in server_of if number == signal.SIGSTOP else ():
-                os.kill(pid, signal.SIGKILL)
+        said.append(common.in_time(f"{name}: a server that gets {number.name}", lambda: lost(name, number)))  # noqa: B023
     print(f"{name}: a wrong port, a silent one, a server killed, one stopped: said after {', '.join(f'{taken:.1f}' for _, taken in said)} s; {said[2][0]}")
+
+
+def lost(name, number):
+    """What a command says when its server gets a signal while a job is worked on."""
+    with stage.server("--sessions", "9", *common.LASTING) as (server, port), common.started(words_of(name, port, 256, 65536)) as process:
+        process.stdin.write(f"12 {LONG}\n")
+        stage.until(f"{name}: nothing is asked", lambda: common.seconds_worked(server) > 0.2, 20)
+        pids = [server.pid, *descendants(server.pid)]
+        for pid in pids:
+            os.kill(pid, number)
+        try:
+            return common.said_soon(process, f"{name}: a server that gets {number.name}", time.monotonic())
+        finally:
+            for pid in pids if number == signal.SIGSTOP else ():
+                os.kill(pid, signal.SIGKILL)
 
 
 def descendants(pid):
@@ -235,8 +237,9 @@ def try_tls(folder, port, lines, wanted):
             given, done = run(name, ("--tls", "127.0.0.1", proxy.port, 64, 4096), few)
             check(done.returncode == 1 and not given and len(done.stderr.splitlines()) == 1, f"{name} trusts any certificate, or says {done.stderr}")
             print(f"{name}: over TLS {len(few)} lines right; an unknown authority is refused")
-        with common.silent() as quiet, common.started([*common.COMMANDS["python"], "--tls", "127.0.0.1", quiet, 64, 4096]) as process:
-            common.said_soon(process, "python over TLS at a silent port", time.monotonic(), 0.5)
+        with common.silent() as quiet:
+            words = [*common.COMMANDS["python"], "--tls", "127.0.0.1", quiet, 64, 4096]
+            common.said_in_time("python over TLS at a silent port", lambda: words, common.start_of(words[:2]))
 
 
 def certificate(folder):

@@ -15,7 +15,7 @@ from common import LONG, OPENING, check, fails
 # that had 300 ms, and whether the session is of use after it.
 JAVASCRIPT = """
 import { Session } from "%s";
-const session = await Session.open({ host: "127.0.0.1", port: %d, segments: 64, nodes: 65536 });
+const session = await Session.open({ host: "127.0.0.1", port: %d, segments: 256, nodes: 65536 });
 const job = await session.ask("12 %s");
 setTimeout(() => session.cancel(job), 200);
 console.log((await session.poll(job)).join(" "));
@@ -27,7 +27,7 @@ await session.close();
 JAVA = """
 public final class Cancels {
   public static void main(String[] arguments) throws Exception {
-    try (var session = new Othello("127.0.0.1", %d, 64, 65536, false)) {
+    try (var session = new Othello("127.0.0.1", %d, 256, 65536, false)) {
       int job = session.ask("12 %s");
       var other = new Thread(() -> {
         try {
@@ -88,11 +88,31 @@ def try_lost(lines, wanted):
     print(f"python: {len(answers)} lines right, though the server was full at first and was killed in the midst")
 
 
+def check_idle(server):
+    """A server has no work."""
+    time.sleep(0.2)
+    worked = common.seconds_worked(server)
+    time.sleep(0.5)
+    check(common.seconds_worked(server) - worked < 0.1, "the server works on")
+
+
 def try_timeout():
     """What is given up is cancelled: no work is left behind, and nothing is reserved. A job that is waited for can be cancelled."""
-    with stage.server("--sessions", "20", "--segments", "4096", "--nodes", "65536", "--grain", "4") as (server, port):
-        client = othello.Client("127.0.0.1", port, 64, 65536, timeout=0.05, patience=5)
-        given = list(client.answers([f"12 {LONG}", f"1 {OPENING}", f"12 {LONG}"]))
+    with stage.server("--sessions", "20", "--segments", "4096", "--nodes", "65536", "--grain", "6") as (server, port):
+        client = othello.Client("127.0.0.1", port, 256, 65536, timeout=0.05, patience=5)
+        later = threading.Event()
+
+        def lines():
+            yield f"12 {LONG}"
+            later.wait(20)
+            yield f"1 {OPENING}"
+            yield f"12 {LONG}"
+
+        answers = client.answers(lines())
+        given = [next(answers)]
+        check_idle(server)  # while the session goes on
+        later.set()
+        given += list(answers)
         check(given == [("CANCELLED",), ("DONE", -3, "d3"), ("CANCELLED",)] and client.sessions == 1, f"python: {given} of {client.sessions} sessions")
         with othello.Session("127.0.0.1", port, 4096, 65536, timeout=0.05, silence=2) as session:  # all that the server has
             fault = fails(TimeoutError, lambda: session.wait(session.ask(12, LONG)))
@@ -101,9 +121,7 @@ def try_timeout():
             job = session.ask(12, LONG)
             threading.Timer(0.3, lambda: session.cancel(job)).start()
             check(session.poll(job) == ("CANCELLED",), "a job that was waited for wasn't cancelled")
-        worked = common.seconds_worked(server)
-        time.sleep(0.5)
-        check(common.seconds_worked(server) - worked < 0.2, "the server works on")
+        check_idle(server)
     print(f"python: {fault}; no work is left behind; a job that is waited for is cancelled by another thread")
 
 
@@ -145,10 +163,11 @@ def try_programs(port, folder):
 
 
 def try_all(port, folder, lines, wanted):
-    with stage.server("--sessions", "9", "--segments", "65536", "--nodes", "1048576", "--grain", "4") as (_, other):
+    with stage.server("--sessions", "9", *common.LASTING) as (_, other):
         try_interrupted(other)  # its jobs go on for a while
+    with stage.server("--sessions", "9", *common.LASTING) as (_, other):
+        try_programs(other, folder)
     try_lost(lines, wanted)
     try_timeout()
     try_faults_in_words(port)
     try_more_quota(port)
-    try_programs(port, folder)

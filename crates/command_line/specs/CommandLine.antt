@@ -39,11 +39,13 @@ solve_shape = (with_rule (with_rule (new_app (codes "solve")) (number_rule (code
 abbrev pub with_number : App → Text → App
 with_number app name = with_rule app (number_rule name false)
 
+-- the command `serve` with the options of its sessions alone: `serve --sessions k [--port p] [--workers w]`
+abbrev pub serve_of_sessions : App
+serve_of_sessions = with_number (with_number (with_rule (new_app (codes "serve")) (number_rule (codes "sessions") true)) (codes "port")) (codes "workers")
+
 -- the command `serve --sessions k [--port p] [--workers w] [--segments s] [--nodes n] [--grain g]`
 abbrev pub serve_shape : Shape
-serve_shape =
-    let serve = with_rule (new_app (codes "serve")) (number_rule (codes "sessions") true) in
-    (with_number (with_number (with_number (with_number (with_number serve (codes "port")) (codes "workers")) (codes "segments")) (codes "nodes")) (codes "grain")).top
+serve_shape = (with_number (with_number (with_number serve_of_sessions (codes "segments")) (codes "nodes")) (codes "grain")).top
 
 -- the program before it has commands: it tells its version, and one of its commands has to be named
 abbrev pub bare_program : App

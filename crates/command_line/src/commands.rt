@@ -1,8 +1,8 @@
 //! The commands as `clap` has them, with what help says of each.
-ghost use Rattle.std.specs.Prelude.{◌≡◌, IfOk, codes, false, fold};
+ghost use Rattle.std.specs.Prelude.{◌≡◌, IfOk, codes, false};
 ghost use Rattle.clap.specs.Words.{app_of, found_of, new_app, rows_of, rule_of, shape_of, with_rule, with_subcommand};
 ghost use Rattle.clap.specs.declared.builder.command.Command.TheViews.{out-Command};
-ghost use Rattle.command_line.specs.CommandLine.{bare_program, is_set, program, serve_shape, solve_shape, visited_rule};
+ghost use Rattle.command_line.specs.CommandLine.{bare_program, is_set, program, serve_of_sessions, serve_shape, solve_shape, visited_rule};
 ghost use Rattle.command_line.specs.Settings.{number_rule};
 
 use crate::settings::{GRAIN, NODES, PORT, SEGMENTS, SESSIONS, Setting, WORKERS};
@@ -117,7 +117,19 @@ fn serve_command<'a>(alloc: Global) -> Result<Command<'a>, AllocError>
     ensures shape { IfOk result (λ command. shape_of command ≡ serve_shape) }
     ensures local { IfOk result (λ command. (out-Command command).has_globals ≡ false) }
 {
-    with_numbers(alloc, bare_serve(alloc), &SERVE_ARGS)
+    let command = with_number(alloc, serve_of_sessions(alloc)?, SEGMENTS_ARG)?;
+    let command = with_number(alloc, command, NODES_ARG)?;
+    with_number(alloc, command, GRAIN_ARG)
+}
+
+/// The command `serve` with the options of its sessions alone: how many, on which port, by how many workers.
+fn serve_of_sessions<'a>(alloc: Global) -> Result<Command<'a>, AllocError>
+    ensures app { IfOk result (λ command. app_of command ≡ serve_of_sessions) }
+    ensures local { IfOk result (λ command. (out-Command command).has_globals ≡ false) }
+{
+    let command = with_number(alloc, bare_serve(alloc), SESSIONS_ARG)?;
+    let command = with_number(alloc, command, PORT_ARG)?;
+    with_number(alloc, command, WORKERS_ARG)
 }
 
 /// The command `serve` before it has options.
@@ -128,23 +140,6 @@ fn bare_serve<'a>(alloc: Global) -> Command<'a>
     Command::new(alloc, "serve")
         .about("serves sessions of many tenants over TCP on 127.0.0.1, with one pool of workers")
         .after_help(SERVE_HELP)
-}
-
-/// A command with one more option for each of these, in turn.
-fn with_numbers<'a>(
-    alloc: Global,
-    bare: Command<'a>,
-    numbers: &[NumberArg],
-) -> Result<Command<'a>, AllocError>
-    requires { (out-Command bare).has_globals ≡ false }
-    ensures app { IfOk result (λ c. app_of c ≡ fold (λ app number. with_rule app (number_rule number.setting.name.now number.required)) (app_of bare.entry) numbers.now) }
-    ensures local { IfOk result (λ c. (out-Command c).has_globals ≡ false) }
-{
-    let mut command = bare;
-    for &number in numbers {
-        command = with_number(alloc, command, number)?;
-    }
-    Ok(command)
 }
 
 /// A command with one more option that has a number.
@@ -171,40 +166,45 @@ const GRAIN_ARG: NumberArg = NumberArg {
     help: "the depth that one worker searches alone, 0 to 6; 4 is fastest for most jobs [default: 2]",
 };
 
-/// The options of `serve` that have a number.
-const SERVE_ARGS: [NumberArg; 6] = [
-    NumberArg {
-        setting: SESSIONS,
-        value: "k",
-        required: true,
-        help: "how many sessions to serve before the program ends, 1 to 1000",
-    },
-    NumberArg {
-        setting: PORT,
-        value: "p",
-        required: false,
-        help: "the port, 0 to 65535; at 0 the system chooses one [default: 0]",
-    },
-    NumberArg {
-        setting: WORKERS,
-        value: "w",
-        required: false,
-        help: "the workers of the pool, 1 to 32 [default: 4]",
-    },
-    NumberArg {
-        setting: SEGMENTS,
-        value: "s",
-        required: false,
-        help: "the segments of all tenants together, 1 to 65536 [default: 4096]",
-    },
-    NumberArg {
-        setting: NODES,
-        value: "n",
-        required: false,
-        help: "the nodes of all tenants together, 1 to 4194304 [default: 65536]",
-    },
-    GRAIN_ARG,
-];
+/// The option `--sessions`.
+const SESSIONS_ARG: NumberArg = NumberArg {
+    setting: SESSIONS,
+    value: "k",
+    required: true,
+    help: "how many sessions to serve before the program ends, 1 to 1000",
+};
+
+/// The option `--port`.
+const PORT_ARG: NumberArg = NumberArg {
+    setting: PORT,
+    value: "p",
+    required: false,
+    help: "the port, 0 to 65535; at 0 the system chooses one [default: 0]",
+};
+
+/// The option `--workers`.
+const WORKERS_ARG: NumberArg = NumberArg {
+    setting: WORKERS,
+    value: "w",
+    required: false,
+    help: "the workers of the pool, 1 to 32 [default: 4]",
+};
+
+/// The option `--segments`.
+const SEGMENTS_ARG: NumberArg = NumberArg {
+    setting: SEGMENTS,
+    value: "s",
+    required: false,
+    help: "the segments of all tenants together, 1 to 65536 [default: 4096]",
+};
+
+/// The option `--nodes`.
+const NODES_ARG: NumberArg = NumberArg {
+    setting: NODES,
+    value: "n",
+    required: false,
+    help: "the nodes of all tenants together, 1 to 4194304 [default: 65536]",
+};
 
 /// What a line of `solve` is, and what answers it.
 const SOLVE_HELP: &str = "A line is `depth position`, and is answered as soon as it is complete.

@@ -1,8 +1,10 @@
 ghost use Rattle.std.specs.Prelude.{◌≡◌, ◌≤◌, true};
 
 mod endings;
+mod numbers;
 mod reserving;
 mod waiting;
+mod wakes;
 
 use super::*;
 use frame_tree::FrameId;

@@ -21,7 +21,7 @@ use Rattle.jamboree_rules.specs.Procedure.{jamboree}
 use Rattle.jamboree_core.specs.Replies.{IsSearch, AreSearches, AreReplies, AreAllSound}
 use Rattle.jamboree_core.proofs.Replying.{replies-held, all-sound, searches-fit}
 use Rattle.jamboree_core.specs.Searching.{AreAllRootWords, TenantSearches, ServesSearches, CoreSearches, HoldsReplies, submitted_to, IsHeadlineInFull}
-use Rattle.jamboree_core.specs.NewRuns.{IsHeadlineFromNew}
+use Rattle.jamboree_core.specs.NewRuns.{IsHeadlineFromNew, submitted_by}
 
 pub nobody-searches : (totals : Quota) → CoreSearches (λ number. []) (shared_by_nobody totals)
 nobody-searches totals = record { fits = nobody-fits AreFitting IsRoot totals; asked = λ number. tt }
@@ -135,12 +135,12 @@ taken-searches (step ∷ steps) [] are = tt
 taken-searches (step ∷ steps) (Ok did ∷ answers) are = (are.0, taken-searches steps answers are.1)
 taken-searches (step ∷ steps) (Err refusal ∷ answers) are = taken-searches steps answers are.1
 
--- the headline from a new core
+-- the headline from a new core, and that its jobs are searches
 pub headline-from-new : (grain : ℕ) (totals : Quota) (before : Shared) (steps : List (StepOf LeafAnswer)) (answered : List (Result (DidOf Leaf) Refusal)) (after : Shared) → before ≡ shared_by_nobody totals → AreSearches steps →
-    IsHeadlineInFull grain before steps answered after → IsHeadlineFromNew grain totals steps answered after
+    IsHeadlineInFull grain before steps answered after → IsHeadlineFromNew grain totals steps answered after × CoreSearches (submitted_by steps answered) after
 headline-from-new grain totals before steps answered after new are whole =
     let full = rw new at whole in
-    record {
-      tenants = full.tenants;
-      replies = (full.replies (λ number. []) (nobody-searches totals) (taken-searches steps answered are)).replies;
-    }
+    let nobody = nobody-searches totals in
+    let search = taken-searches steps answered are in
+    let held = full.replies (λ number. []) nobody search in
+    (record { tenants = full.tenants; replies = held.replies; sound = held.sound }, full.searches (λ number. []) nobody search)

@@ -1,4 +1,4 @@
--- Meaning: what a list of searches comes to from a new core: the headline, and every reply.
+-- Meaning: what a list of searches comes to from a new core: the headline, every reply, and that every frame is sound.
 use Rattle.std.specs.Prelude.{◌≡◌, ℕ, List, Some, Result}
 use Rattle.tenant_quota.specs.Quota.{Quota}
 use Rattle.sched_rules.specs.declared.refusal.Refusal.{Refusal}
@@ -12,11 +12,16 @@ use Rattle.sched_laws.specs.Fitted.{origins_of}
 use Rattle.jamboree_rules.specs.declared.leaf.Leaf.{Leaf}
 use Rattle.jamboree_rules.specs.declared.leaf.LeafAnswer.{LeafAnswer}
 use Rattle.jamboree_rules.specs.Procedure.{jamboree}
-use Rattle.jamboree_core.specs.Replies.{AreReplies}
+use Rattle.jamboree_core.specs.Replies.{AreReplies, AreAllSound}
+
+-- the words that were submitted under each number, in the order of the Submits of a list that were taken
+abbrev pub submitted_by : {I A : Type 0} → List (StepOf A) → List (Result (DidOf I) Refusal) → ℕ → List (List ℕ)
+submitted_by steps answers number = origins_of (only number (taken steps answers))
 
 -- a list of steps on a core with this grain and these totals that has no tenant: no tenant is disturbed, a step is refused only for
--- its own tenant's state or a busy worker, and each job of a tenant that is done holds the minimax value and the best choice of the
--- board and the depth that its Submit carried, the k-th job those of the tenant's k-th taken Submit
+-- its own tenant's state or a busy worker; each job of a tenant that is done holds the minimax value, the best choice and a table of
+-- the board and the depth that its Submit carried, the k-th job those of the tenant's k-th taken Submit; and every frame is sound
 pub record IsHeadlineFromNew (grain : ℕ) (totals : Quota) (steps : List (StepOf LeafAnswer)) (answers : List (Result (DidOf Leaf) Refusal)) (after : Shared) : Type 0 where
   pub tenants : IsHeadline (jamboree grain) (shared_by_nobody totals) steps answers after
-  pub replies : (number : ℕ) (tenant : Tenant) → tenant_in after.tenants number ≡ Some tenant → AreReplies (origins_of (only number (taken steps answers))) tenant.jobs
+  pub replies : (number : ℕ) (tenant : Tenant) → tenant_in after.tenants number ≡ Some tenant → AreReplies (submitted_by steps answers number) tenant.jobs
+  pub sound : (number : ℕ) (tenant : Tenant) → tenant_in after.tenants number ≡ Some tenant → AreAllSound tenant.frames tenant.frames

@@ -3,13 +3,14 @@ ghost use Rattle.std.specs.Prelude.{◌≡◌, ◌≢◌, ◌++◌, ℕ, List, [
 ghost use Rattle.sched_rules.specs.declared.refusal.Refusal.{Refusal as RefusalOf};
 ghost use Rattle.sched_rules.specs.declared.refusal.Refusal.TheVariants.{BadAct, OutOfMemory};
 ghost use Rattle.sched_rules.specs.declared.step.DidOf.{DidOf};
+ghost use Rattle.sched_rules.specs.Cores.{tenant_in};
 ghost use Rattle.sched_rules.specs.Headline.{IsOneStep, IsKnown, is_admission};
 ghost use Rattle.sched_laws.specs.Fitted.{origins_after, submits};
 ghost use Rattle.jamboree_rules.specs.declared.leaf.Leaf.{Leaf};
 ghost use Rattle.jamboree_rules.specs.Procedure.{jamboree};
 ghost use Rattle.jamboree_core.specs.Replies.{AreSearches, IsSearch};
-ghost use Rattle.jamboree_core.specs.NewRuns.{IsHeadlineFromNew};
-ghost use Rattle.jamboree_core.specs.Searching.{CoreSearches, IsHeadlineInFull};
+ghost use Rattle.jamboree_core.specs.NewRuns.{IsHeadlineFromNew, submitted_by};
+ghost use Rattle.jamboree_core.specs.Searching.{CoreSearches, ServesSearches, IsHeadlineInFull};
 
 use jamboree::Jamboree;
 use sched_core::{Config, Core};
@@ -53,8 +54,9 @@ pub fn run_searches<A: Allocator + Clone>(
 }
 
 /// A new core of these totals, and a list of searches on it: each step that submits a job asks for a
-/// search. One answer each is appended. It fails only where a growth was refused, and then no answer is
-/// appended and no core is left.
+/// search. One answer each is appended. The core's jobs are searches, those that were submitted by the
+/// steps that were taken, so that [`outcome_of`](crate::outcome_of) may be asked of it and further steps
+/// made. It fails only where a growth was refused, and then no answer is appended and no core is left.
 pub fn run_from_new<A: Allocator + Clone>(
     alloc: A,
     config: Config,
@@ -64,7 +66,10 @@ pub fn run_from_new<A: Allocator + Clone>(
 ) -> Result<Core<Jamboree, A>, AllocError>
     requires { AreSearches steps.now }
     ensures headline { IfOk result (λ core. (answered : List (Result (DidOf Leaf) RefusalOf)) × (answers.new.items ≡ answers.old.items ++ answered)
-        × IsHeadlineFromNew procedure.grain config steps.now answered core.shared) }
+        × IsHeadlineFromNew procedure.grain config steps.now answered core.shared
+        × CoreSearches (submitted_by steps.now answered) core.shared) }
+    ensures serves { IfOk result (λ core. (number : ℕ) → ServesSearches (tenant_in core.shared.tenants number)) }
+    ensures procedure { IfOk result (λ core. core.procedure ≡ procedure) }
     ensures untried { IfErr result (λ error. answers.new.items ≡ answers.old.items) }
 {
     let mut core = Core::new(alloc, config, procedure)?;

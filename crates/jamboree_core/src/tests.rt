@@ -6,6 +6,7 @@ use driver::{SearchCore, drive};
 use frame_tree::FrameId;
 use jamboree::{Bound, BoundKind, Jamboree, Leaf, LeafAnswer, Reply};
 use jamboree_rules::leaf_search::{INF, search_full};
+use linked_list_allocator::LocalHeap;
 use orders::{Crew, Draw};
 use othello_board::Board;
 use othello_moves::{Choice, after, choice, choice_count};
@@ -252,23 +253,38 @@ fn taken(answers: &[Result<Did<Jamboree>, Refusal>]) -> u32 {
     count
 }
 
-/// A list of steps as one call: one answer each, all taken.
-fn run_list(alloc: Global, core: &mut Core<Jamboree>) -> Result<u32, Fail> {
-    let reserve = Reserve::new(4, 8).ok_or("a reservation")?;
-    let worker = Worker::new(3).ok_or("a worker")?;
-    let steps = seven_steps(reserve, worker, &opening()?);
-    let mut answers = Vec::new(alloc);
-    run_searches(core, &steps, &mut answers)?;
-    Ok(taken(&answers))
+/// The seven steps, and 655 Submits more.
+fn many_steps(
+    alloc: Global,
+    reserve: Reserve,
+    worker: Worker,
+    position: &Position,
+) -> Result<Vec<Step<Jamboree>>, AllocError> {
+    let mut steps = Vec::from_array(alloc, seven_steps(reserve, worker, position))?;
+    for _more in 0..655 {
+        steps.push(submit(7, position, 0))?;
+    }
+    Ok(steps)
 }
 
-/// The example at the head of the crate.
+/// A list of 662 steps as one call: one answer each. The seven are taken, and then four Submits, for which the tenant
+/// has segments.
+fn run_list(alloc: Global, core: &mut Core<Jamboree>) -> Result<(usize, u32), Fail> {
+    let reserve = Reserve::new(4, 8).ok_or("a reservation")?;
+    let worker = Worker::new(3).ok_or("a worker")?;
+    let steps = many_steps(alloc, reserve, worker, &opening()?)?;
+    let mut answers = Vec::new(alloc);
+    run_searches(core, &steps, &mut answers)?;
+    Ok((answers.len(), taken(&answers)))
+}
+
+/// The example at the head of the crate, and more.
 #[test]
 fn a_list_of_steps(rt: HostRuntime) -> Result<(), Fail> {
     let config = Config::new(64, 64).ok_or("the totals")?;
     let jamboree = Jamboree::new(2).ok_or("the grain")?;
     let mut core = Core::new(rt.alloc(), config, jamboree)?;
-    assert_eq!(rt; run_list(rt.alloc(), &mut core)?, 7);
+    assert_eq!(rt; run_list(rt.alloc(), &mut core)?, (662, 11));
     assert_eq!(rt; value_and_choice(core.job(7, 1)), Some((1_000_000, 65)));
     Ok(())
 }
@@ -282,9 +298,62 @@ fn a_list_of_steps_from_a_new_core(rt: HostRuntime) -> Result<(), Fail> {
     let worker = Worker::new(3).ok_or("a worker")?;
     let steps = seven_steps(reserve, worker, &opening()?);
     let mut answers = Vec::new(rt.alloc());
+    let reply = (opening()?.board, 0, 0, None);
     let core = run_from_new(rt.alloc(), config, jamboree, &steps, &mut answers)?;
     assert_eq!(rt; taken(&answers), 7);
-    assert_eq!(rt; value_and_choice(core.job(7, 1)), Some((1_000_000, 65)));
+    assert_eq!(rt; told(outcome_of(&core, 7, 1)), Some(reply));
+    Ok(())
+}
+
+/// Runs the steps from nothing, the core in a heap of so many bytes and the answers in another: how many
+/// were taken, or none where a growth was refused, and then nothing was answered. All is given back.
+fn run_in(
+    rt: &impl Abort,
+    alloc: Global,
+    steps: &[Step<Jamboree>],
+    bytes: usize,
+    answer_bytes: usize,
+) -> Result<Option<u32>, Fail>
+    requires { AreSearches steps.now }
+{
+    let config = Config::new(64, 64).ok_or("the totals")?;
+    let jamboree = Jamboree::new(2).ok_or("the grain")?;
+    let heap = LocalHeap::new(alloc, bytes)?;
+    let answer_heap = LocalHeap::new(alloc, answer_bytes)?;
+    let count = {
+        let mut answers = Vec::new(&answer_heap);
+        match run_from_new(&heap, config, jamboree, steps, &mut answers) {
+            Ok(_) => Some(taken(&answers)),
+            Err(AllocError) => {
+                assert_eq!(rt; answers.len(), 0);
+                None
+            }
+        }
+    };
+    assert_eq!(rt; (heap.used(), answer_heap.used()), (0, 0));
+    Ok(count)
+}
+
+/// In heaps with more and more room each growth of the core is refused in turn, and with more room the
+/// admission, so that no step is taken. Where the answers find no room, no core is left.
+#[test]
+fn each_growth_of_a_run_from_new(rt: HostRuntime) -> Result<(), Fail> {
+    let reserve = Reserve::new(4, 8).ok_or("a reservation")?;
+    let worker = Worker::new(3).ok_or("a worker")?;
+    let steps = seven_steps(reserve, worker, &opening()?);
+    let (mut refused, mut none, mut all) = (0u32, 0u32, 0u32);
+    for units in 0..256usize {
+        match run_in(&rt, rt.alloc(), &steps, units * 1024, 4096)? {
+            None => refused = refused.wrapping_add(1),
+            Some(0) => none = none.wrapping_add(1),
+            Some(_) => all = all.wrapping_add(1),
+        }
+    }
+    assert!(rt;
+        refused > 0 && none > 0 && all > 0,
+        "{refused} {none} {all}"
+    );
+    assert_eq!(rt; run_in(&rt, rt.alloc(), &steps, 262_144, 0)?, None);
     Ok(())
 }
 

@@ -131,24 +131,40 @@ fn the_grain_is_the_one_that_is_asked(rt: HostRuntime) -> Result<(), Fail> {
     Ok(())
 }
 
-/// Deep searches are done by their core, which is that of 4,096 segments and 65,536 nodes.
+/// Deep searches are done by their core, which is that of 4,096 segments and 65,536 nodes, at each grain.
 #[test]
 fn deep_searches_are_done_by_a_core(rt: HostRuntime) -> Result<(), Fail> {
     let position = read(NEAR_THE_END).ok().ok_or("no position")?;
     for depth in 7..13 {
-        let found = solve_by_core(rt.alloc(), &position, depth, 0)?;
-        assert_eq!(rt;
-            (found.answer.value, found.answer.choice),
-            (52_000, Some(Choice::Square(0)))
-        );
-        assert_eq!(rt; found.way, Way::Done, "depth {depth}");
-        assert_eq!(rt; found.left.segments, 4096);
-        assert!(rt;
-            found.left.nodes < 65_520 && found.left.nodes > 60_000,
-            "{} nodes",
-            found.left.nodes
-        );
+        for grain in 0..7 {
+            let found = solve_by_core(rt.alloc(), &position, depth, grain)?;
+            assert_eq!(rt;
+                (found.answer.value, found.answer.choice),
+                (52_000, Some(Choice::Square(0)))
+            );
+            assert_eq!(rt; found.way, Way::Done, "depth {depth}, grain {grain}");
+            assert_eq!(rt; found.left.segments, 4096);
+            assert!(rt;
+                found.left.nodes > 60_000 && (grain > 0 || found.left.nodes < 65_520),
+                "{} nodes",
+                found.left.nodes
+            );
+        }
     }
+    Ok(())
+}
+
+/// A search that needs more nodes than there are goes on until none is left.
+#[test]
+fn a_search_goes_on_to_its_last_node(rt: HostRuntime) -> Result<(), Fail> {
+    let found = solve_by_core(rt.alloc(), &opening()?, 11, 0)?;
+    assert_eq!(rt; found.way, Way::Spent);
+    assert_eq!(rt;
+        (found.left.segments, found.left.nodes),
+        (4096, 0),
+        "{} steps",
+        found.left.steps
+    );
     Ok(())
 }
 

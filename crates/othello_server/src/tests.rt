@@ -1,4 +1,6 @@
 //! What the words of the command line ask for, the exit statuses, and where each text goes.
+mod served;
+
 use crate::running::{Input, Output, run};
 use command_line::{Options, WordsFault};
 use line_io::{FromWriter, ReadFailed, Sink, Source, WriteFailed};

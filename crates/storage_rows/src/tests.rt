@@ -3,3 +3,4 @@ mod guess_tables;
 mod nodes;
 mod quotas;
 mod segments;
+mod sizes;

@@ -100,9 +100,7 @@ fn paired<A: Allocator>(
     let mut rows = rows;
     let mut all = Vec::with_capacity(alloc, owners.len())?;
     for own in owners {
-        let Some(thieves) = rows.pop() else {
-            unreachable!()
-        };
+        let thieves = rows.take_last();
         all.push_reserved(DequeEnds { own, thieves });
     }
     Ok(all)

@@ -214,6 +214,39 @@ fn as_the_list(rt: HostRuntime) -> Result<(), Fail> {
     Ok(())
 }
 
+/// How many of so many pushes by a worker are kept.
+fn kept<A: Allocator>(all: &mut Vec<DequeEnds<A>, A>, worker: Worker, many: u64) -> u64 {
+    let mut kept = 0u64;
+    for serial in 1..many {
+        if pushes(all, worker, serial) {
+            kept = kept.saturating_add(1);
+        }
+    }
+    kept
+}
+
+/// How many of so many takes by a worker find a task.
+fn found<A: Allocator>(all: &mut Vec<DequeEnds<A>, A>, worker: Worker, many: u64) -> u64 {
+    let mut found = 0u64;
+    for _turn in 1..many {
+        if takes(all, worker) != 0 {
+            found = found.saturating_add(1);
+        }
+    }
+    found
+}
+
+/// Of as many workers as can be, each has room for as many tasks as were asked for, and the last takes all of the second's.
+#[test]
+fn a_deque_holds_as_many_as_it_has_room_for(rt: HostRuntime) -> Result<(), Fail> {
+    let second = Worker::new(2).ok_or("a worker")?;
+    let last = Worker::new(32).ok_or("a worker")?;
+    let mut all = deal(rt.alloc(), last, 1024)?;
+    assert_eq!(rt; kept(&mut all, second, 1100), 1024);
+    assert_eq!(rt; found(&mut all, last, 1100), 1024);
+    Ok(())
+}
+
 /// Room that can't be had is refused, for tasks and for ends that come back.
 #[test]
 fn no_room(rt: HostRuntime) -> Result<(), Fail> {

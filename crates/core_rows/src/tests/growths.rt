@@ -305,15 +305,16 @@ fn each_growth_is_refused_in_turn(rt: HostRuntime) -> Result<(), Fail> {
 }
 
 /// Segments of a core, from the least to the most.
-const SEGMENTS: [u32; 23] = [
-    1, 7, 63, 64, 65, 300, 501, 1_000, 2_000, 3_333, 4_095, 4_096, 4_097, 5_001, 9_999, 16_384,
-    20_000, 32_768, 32_769, 40_000, 50_000, 65_535, 65_536,
+const SEGMENTS: [u32; 26] = [
+    1, 7, 63, 64, 65, 300, 501, 1_000, 2_000, 3_333, 3_400, 3_700, 4_090, 4_095, 4_096, 4_097,
+    5_001, 9_999, 16_384, 20_000, 32_768, 32_769, 40_000, 50_000, 65_535, 65_536,
 ];
 
 /// Nodes of a core, from the least to the most.
-const NODES: [u32; 21] = [
-    1, 100, 501, 4_095, 4_096, 9_999, 20_000, 40_000, 65_535, 65_536, 65_537, 70_001, 70_002,
-    100_000, 500_000, 1_000_000, 2_000_000, 3_000_000, 4_000_000, 4_194_303, 4_194_304,
+const NODES: [u32; 24] = [
+    1, 100, 501, 1_100, 2_500, 4_000, 4_095, 4_096, 9_999, 20_000, 40_000, 65_535, 65_536, 65_537,
+    70_001, 70_002, 100_000, 500_000, 1_000_000, 2_000_000, 3_000_000, 4_000_000, 4_194_303,
+    4_194_304,
 ];
 
 /// The most that a tenant may reserve of a core of so many segments and nodes.
@@ -324,33 +325,45 @@ fn most_of(segments: u32, nodes: u32) -> Option<Reserve> {
     )
 }
 
-/// A new core admits a tenant, and no segment is taken.
-fn is_used(rt: &impl Abort, core: &mut Core<Fan>, reserve: Reserve, segments: u32) {
-    admits(rt, core, 1, reserve, Ok(DidOf::Admitted));
+/// A new core admits a tenant, and no segment is taken. Another comes after it with the least there is, and reserves as
+/// much.
+fn is_used(rt: &impl Abort, core: &mut Core<Fan>, least: Reserve, reserve: Reserve, segments: u32) {
+    does(rt, core, &StepOf::Admit(1, reserve), Ok(DidOf::Admitted));
     assert_eq!(rt; core.free_segments(), segments as usize);
+    does(rt, core, &StepOf::Leave(1), Ok(DidOf::Left));
+    does(rt, core, &StepOf::Admit(2, least), Ok(DidOf::Admitted));
+    if reserve != least {
+        does(
+            rt,
+            core,
+            &StepOf::AdmitMore(2, reserve),
+            Ok(DidOf::AdmittedMore),
+        );
+    }
 }
 
-/// Makes a core, and admits a tenant that reserves as much of it as a tenant may.
+/// Makes a core, and admits tenants that reserve as much of it as a tenant may.
 fn is_made(rt: &impl Abort, alloc: Global, segments: u32, nodes: u32) -> Result<(), Fail> {
     let config = Config::new(segments, nodes).ok_or("within the limits")?;
+    let least = Reserve::new(1, 1).ok_or("within the limits")?;
     let reserve = most_of(segments, nodes).ok_or("within the limits")?;
     let mut core = Core::new(alloc, config, Fan)?;
-    is_used(rt, &mut core, reserve, segments);
+    is_used(rt, &mut core, least, reserve, segments);
     Ok(())
 }
 
-/// Admits a tenant, which is answered so.
-fn admits(
+/// Takes a step, which is answered so.
+fn does(
     rt: &impl Abort,
     core: &mut Core<Fan>,
-    number: u64,
-    reserve: Reserve,
+    step: &Step<Fan>,
     answer: Result<DidOf<u64>, Refusal>,
 ) {
-    assert_eq!(rt; core.step(&StepOf::Admit(number, reserve)), answer);
+    assert_eq!(rt; core.step(step), answer);
 }
 
-/// Where there is room no growth is refused: cores of all sizes are made, and tenants of all sizes admitted.
+/// Where there is room no growth is refused: cores of all sizes are made, and tenants of all sizes admitted, at once or
+/// from the least on.
 #[test]
 fn cores_and_tenants_of_all_sizes(rt: HostRuntime) -> Result<(), Fail> {
     for segments in SEGMENTS {
@@ -364,9 +377,14 @@ fn cores_and_tenants_of_all_sizes(rt: HostRuntime) -> Result<(), Fail> {
 /// 16 tenants that each reserve the most, and no more.
 fn admit_sixteen(rt: &impl Abort, core: &mut Core<Fan>, reserve: Reserve) {
     for number in 1..17 {
-        admits(rt, core, number, reserve, Ok(DidOf::Admitted));
+        does(
+            rt,
+            core,
+            &StepOf::Admit(number, reserve),
+            Ok(DidOf::Admitted),
+        );
     }
-    admits(rt, core, 17, reserve, Err(Refusal::Full));
+    does(rt, core, &StepOf::Admit(17, reserve), Err(Refusal::Full));
 }
 
 /// The greatest core has room for 16 tenants that each reserve the most.

@@ -48,10 +48,15 @@ fn no_more_than_256_jobs(rt: HostRuntime) -> Result<(), Miss> {
     with_all_jobs(rt.alloc(), &mut core)
 }
 
-/// Admits 64 tenants, from this number on.
+/// Admits 64 tenants, from this number on, one with a segment and the next with two.
 fn admit_all(core: &mut Core<Fan>, from: u64) -> Result<(), Miss> {
     for number in from..from.saturating_add(64) {
-        walk(core, PlainStep::Admit(number, 1, 1), Ok(DidOf::Admitted))?;
+        let count = if number % 2 == 0 { 1 } else { 2 };
+        walk(
+            core,
+            PlainStep::Admit(number, count, count),
+            Ok(DidOf::Admitted),
+        )?;
     }
     Ok(())
 }
@@ -78,7 +83,7 @@ const ONE_TENANT_MORE: [Row; 6] = [
 const TAKEN_BEFORE: [Row; 3] = [
     Refused(PlainStep::Leave(64), Refusal::NoTenant),
     Refused(PlainStep::Admit(64, 1, 1), Refusal::OldTenant),
-    Free("128 free, none ready"),
+    Free("159 free, none ready"),
 ];
 
 /// Once more there are 64.
@@ -101,7 +106,7 @@ fn next_tenants(alloc: Global, core: &mut Core<Fan>) -> Result<(), Miss> {
 /// There are 64 tenants at once, and once all have left, 64 more.
 #[test]
 fn no_more_than_64_tenants(rt: HostRuntime) -> Result<(), Miss> {
-    let mut core = core_of(rt.alloc(), 128, 128, Fan)?;
+    let mut core = core_of(rt.alloc(), 159, 159, Fan)?;
     first_tenants(rt.alloc(), &mut core)?;
     next_tenants(rt.alloc(), &mut core)
 }

@@ -1,16 +1,17 @@
-//! HELLO where memory is wanting, and then isn't: a session at a desk whose hall lies in a small heap.
+//! HELLO and RESERVE where memory is wanting, and then isn't: sessions at a desk whose hall lies in a small heap.
 ghost use Rattle.std.specs.Prelude.{◌≡◌};
 
 use super::*;
 use linked_list_allocator::LocalHeap;
 
-/// How many bytes are taken before the hall is made, and given back after the first HELLO.
+/// How many bytes are taken before the hall is made, and given back before a later line.
 const BALLAST: usize = 262_144;
 
-/// Gives one line a call, and gives the ballast back before the second.
+/// Gives one line a call, and the ballast back before one of them.
 struct Ballasted<'a> {
     ballast: Option<Vec<u8, &'a LocalHeap>>,
     lines: &'a [&'a [u8]],
+    back: usize,
     given: usize,
 }
 
@@ -20,6 +21,7 @@ impl Ballasted<'_> {
         let Ballasted {
             ballast: _ballast,
             lines: _lines,
+            back: _back,
             given: _given,
         } = self;
     }
@@ -32,7 +34,7 @@ impl Source for Ballasted<'_> {
         let lines = self.lines;
         match lines.get(self.given) {
             Some(line) if line.len() <= block.len() => {
-                if self.given == 1 {
+                if self.given == self.back {
                     let _ = self.ballast.take();
                 }
                 self.given = self.given.saturating_add(1);
@@ -44,27 +46,54 @@ impl Source for Ballasted<'_> {
     }
 }
 
+/// The lines of a session, before which of them the ballast is given back, and what is written.
+#[derive(Clone, Copy)]
+struct Plan {
+    lines: &'static [&'static [u8]],
+    back: usize,
+    /// What all that is written begins with where the heap has room for the lines before the one that is tried.
+    begins: &'static [u8],
+    /// What is written where memory is wanting for that line.
+    refused: &'static [u8],
+    /// What is written where it isn't.
+    taken: &'static [u8],
+}
+
 /// A session that says HELLO twice.
-const LINES: [&[u8]; 10] = [
-    b"HELLO 1 2\n",
-    b"HELLO 1 2\n",
-    b"ASK 0 ---------------------------OX------XO--------------------------- X\n",
-    b"GET 1\n",
-    b"QUOTA\n",
-    b"LIVE\n",
-    b"CANCEL 1\n",
-    b"WAIT 1\n",
-    b"QUOTA\n",
-    b"BYE\n",
-];
+const HELLO: Plan = Plan {
+    lines: &[
+        b"HELLO 1 2\n",
+        b"HELLO 1 2\n",
+        b"ASK 0 ---------------------------OX------XO--------------------------- X\n",
+        b"GET 1\n",
+        b"QUOTA\n",
+        b"LIVE\n",
+        b"CANCEL 1\n",
+        b"WAIT 1\n",
+        b"QUOTA\n",
+        b"BYE\n",
+    ],
+    back: 1,
+    begins: b"",
+    refused: b"ERR 19\nWELCOME 1 2\nJOB 1\nPENDING 1\nQUOTA 0 1 32\nLIVE 1 12\nCANCELLED 1\nCANCELLED 1\nQUOTA 1 1 32\nBYE\n",
+    taken: b"WELCOME 1 2\nERR 29\nJOB 1\nPENDING 1\nQUOTA 0 1 32\nLIVE 1 12\nCANCELLED 1\nCANCELLED 1\nQUOTA 1 1 32\nBYE\n",
+};
 
-/// What it reads where memory is wanting at the first HELLO.
-const REFUSED: &[u8] =
-    b"ERR 19\nWELCOME 1 2\nJOB 1\nPENDING 1\nQUOTA 0 1 32\nLIVE 1 12\nCANCELLED 1\nCANCELLED 1\nQUOTA 1 1 32\nBYE\n";
-
-/// What it reads where it isn't.
-const TAKEN: &[u8] =
-    b"WELCOME 1 2\nERR 29\nJOB 1\nPENDING 1\nQUOTA 0 1 32\nLIVE 1 12\nCANCELLED 1\nCANCELLED 1\nQUOTA 1 1 32\nBYE\n";
+/// One that says RESERVE twice.
+const RESERVE: Plan = Plan {
+    lines: &[
+        b"HELLO 1 2\n",
+        b"RESERVE 3 4\n",
+        b"QUOTA\n",
+        b"RESERVE 3 4\n",
+        b"QUOTA\n",
+        b"BYE\n",
+    ],
+    back: 3,
+    begins: b"WELCOME",
+    refused: b"WELCOME 1 2\nERR 19\nQUOTA 1 2 32\nRESERVED 3 4\nQUOTA 3 4 64\nBYE\n",
+    taken: b"WELCOME 1 2\nRESERVED 3 4\nQUOTA 3 4 64\nERR 20\nQUOTA 3 4 64\nBYE\n",
+};
 
 /// What the session reads at a desk over this heap; None where not even the hall could be made.
 fn told_in<L: Hands, R: Wait>(
@@ -72,6 +101,7 @@ fn told_in<L: Hands, R: Wait>(
     alloc: Global,
     heap: &LocalHeap,
     blank: Blank,
+    plan: Plan,
 ) -> Option<Vec<u8>>
     requires name { blank.name ≡ L.name }
     requires parts { (blank.parts ≡ L.parts) × (L.all ≡ L.parts) × (L.all ≡ 13835058055282163712) }
@@ -81,7 +111,8 @@ fn told_in<L: Hands, R: Wait>(
     let desk: Desk<L, &LocalHeap> = Desk::new(hall, blank);
     let mut source = Ballasted {
         ballast: Some(ballast),
-        lines: LINES.as_slice(),
+        lines: plan.lines,
+        back: plan.back,
         given: 0,
     };
     let mut sink = FromWriter::new(Vec::new(alloc));
@@ -90,28 +121,82 @@ fn told_in<L: Hands, R: Wait>(
     Some(sink.writer)
 }
 
+/// Whether memory was wanting for the line of the plan, in a heap with room for so many units beside the ballast, which
+/// gets all back. None where there isn't even room for what comes before.
+fn is_wanting<L: Hands, R: Wait>(
+    rt: &R,
+    alloc: Global,
+    units: usize,
+    blank: Blank,
+    plan: Plan,
+) -> Result<Option<bool>, Fail>
+    requires few { units < 16384 }
+    requires name { blank.name ≡ L.name }
+    requires parts { (blank.parts ≡ L.parts) × (L.all ≡ L.parts) × (L.all ≡ 13835058055282163712) }
+{
+    let heap = LocalHeap::new(alloc, BALLAST + units * 32)?;
+    let told = told_in::<L, R>(rt, alloc, &heap, blank, plan);
+    if heap.used() != 0 {
+        return Err(Fail::new("memory is kept"));
+    }
+    match told {
+        None => Ok(None),
+        Some(told) => judged(told.as_slice(), plan),
+    }
+}
+
+/// The same of what was written.
+fn judged(told: &[u8], plan: Plan) -> Result<Option<bool>, Fail> {
+    if !told.starts_with(plan.begins) {
+        return Ok(None);
+    }
+    if told == plan.taken {
+        return Ok(Some(false));
+    }
+    if told == plan.refused {
+        return Ok(Some(true));
+    }
+    Err(Fail::new("answered otherwise"))
+}
+
 /// In heaps with more and more room HELLO is refused for want of memory until it is taken. Where it is
 /// refused it is taken once there is room, on the same session; every other line is answered as ever, and
 /// each heap gets all back.
 #[test]
 fn a_refused_hello_is_taken_later(rt: HostRuntime) -> Result<(), Fail> {
     let mut refused = 0u32;
-    let mut is_taken = false;
     for units in 0..16384usize {
-        let heap = LocalHeap::new(rt.alloc(), BALLAST + units * 32)?;
-        let told = told_in::<Brand, HostRuntime>(&rt, rt.alloc(), &heap, Blank::new(PARTS));
-        assert_eq!(rt; heap.used(), 0);
-        let Some(told) = told else {
-            continue;
-        };
-        if told.as_slice() == TAKEN {
-            is_taken = true;
-            break;
+        match is_wanting::<Brand, HostRuntime>(&rt, rt.alloc(), units, Blank::new(PARTS), HELLO)? {
+            None => {}
+            Some(true) => refused = refused.saturating_add(1),
+            Some(false) => {
+                assert!(rt; refused > 786 * 56 / 32);
+                return Ok(());
+            }
         }
-        assert_eq!(rt; told.as_slice(), REFUSED);
-        refused = refused.saturating_add(1);
     }
-    assert!(rt; is_taken);
-    assert!(rt; refused > 786 * 56 / 32);
-    Ok(())
+    Err(Fail::new("more is wanting"))
+}
+
+/// So it is of RESERVE, which leaves all as it was where it is refused.
+#[test]
+fn a_refused_raise_is_taken_later(rt: HostRuntime) -> Result<(), Fail> {
+    let mut refused = 0u32;
+    for units in 0..16384usize {
+        match is_wanting::<Brand, HostRuntime>(
+            &rt,
+            rt.alloc(),
+            units,
+            Blank::new(PARTS),
+            RESERVE,
+        )? {
+            None => {}
+            Some(true) => refused = refused.saturating_add(1),
+            Some(false) => {
+                assert!(rt; refused > 834 * 48 / 32);
+                return Ok(());
+            }
+        }
+    }
+    Err(Fail::new("more is wanting"))
 }

@@ -109,12 +109,13 @@ impl Write for Failing {
 
 #[test]
 fn whole_blocks_are_read_and_written_and_errors_answered_at_once(rt: HostRuntime) {
-    for (error, failures, calls) in [
-        (ErrorKind::ConnectionReset, 0, 1),
-        (ErrorKind::Interrupted, 2, 3),
-        (ErrorKind::ConnectionReset, 1, 1),
+    for (error, failures, calls, fails) in [
+        (ErrorKind::ConnectionReset, 0, 1, false),
+        (ErrorKind::Interrupted, 2, 3, false),
+        (ErrorKind::ConnectionReset, 1, 1, true),
+        (ErrorKind::Interrupted, 65_535, 65_536, false),
+        (ErrorKind::Interrupted, 65_536, 65_536, true),
     ] {
-        let fails = error != ErrorKind::Interrupted && failures > 0;
         let mut block = [0u8; 4096];
         let mut source = FromReader {
             reader: Failing::new(error, failures),
@@ -199,8 +200,9 @@ impl Ends for Echo {
 #[test]
 fn each_answer_is_written_before_more_is_read(rt: HostRuntime) {
     for (lines, answered, end) in [
-        ([*b"one\n", *b"two\n", *b"six\n"], 3, TalkEnd::Input),
-        ([*b"one\n", *b"bye\n", *b"six\n"], 2, TalkEnd::Line),
+        ([*b"one\n", *b"two\n", *b"six\n"], 3, Some(TalkEnd::Input)),
+        ([*b"one\n", *b"bye\n", *b"six\n"], 2, Some(TalkEnd::Line)),
+        ([*b"one\n", *b"bye\n", *b"six\n"], 3, None),
     ] {
         let ear = Ear {
             asked: Cell::new(0),
@@ -211,8 +213,12 @@ fn each_answer_is_written_before_more_is_read(rt: HostRuntime) {
             ear: &ear,
             lines: lines.as_slice(),
         };
-        let result = talk_lines(&rt, &mut source, &mut Hearing(&ear), &mut Echo::new());
-        assert_eq!(rt; result, Ok(end));
+        let (mut sink, mut echo) = (Hearing(&ear), Echo::new());
+        let is_over = match end {
+            Some(_) => talk_lines(&rt, &mut source, &mut sink, &mut echo).ok() == end,
+            None => answer_lines(&mut source, &mut sink, &mut echo).is_ok(),
+        };
+        assert!(rt; is_over);
         assert_eq!(rt; ear.answered.get(), answered);
         assert_eq!(rt; ear.asked.get(), answered);
         assert!(rt; !ear.too_early.get());

@@ -12,7 +12,7 @@ fn name(tenant: u64, serial: u64) -> FrameId {
 }
 
 /// Makes places where that can be done.
-fn reserve<T: Copy, A: Allocator + Copy>(
+pub fn reserve<T: Copy, A: Allocator + Copy>(
     rt: &impl Abort,
     table: &mut FrameTable<T, A>,
     tenant: u64,
@@ -51,12 +51,12 @@ fn abort_under(rt: &impl Abort, table: &mut FrameTable<u64>, f: FrameId, values:
 }
 
 /// A table where this tenant has so many places.
-fn table_of(
+pub fn table_of<A: Allocator + Copy>(
     rt: &impl Abort,
-    alloc: Global,
+    alloc: A,
     tenant: u64,
     places: usize,
-) -> Result<FrameTable<u64>, AllocError> {
+) -> Result<FrameTable<u64, A>, AllocError> {
     let mut table = FrameTable::new(alloc)?;
     reserve(rt, &mut table, tenant, places)?;
     Ok(table)
@@ -88,14 +88,14 @@ fn twice_five(rt: &impl Abort, alloc: Global) -> Result<FrameTable<u64>, AllocEr
 }
 
 /// The value of a leaf, which goes.
-fn remove(rt: &impl Abort, table: &mut FrameTable<u64>, f: FrameId) -> u64 {
+fn remove<A: Allocator>(rt: &impl Abort, table: &mut FrameTable<u64, A>, f: FrameId) -> u64 {
     assert!(rt; table.contains(f));
     assert!(rt; !table.has_child(f));
     table.remove(f)
 }
 
 /// A leaf goes that has ten times its serial as its value.
-fn remove_leaf(rt: &impl Abort, table: &mut FrameTable<u64>, f: FrameId) {
+fn remove_leaf<A: Allocator>(rt: &impl Abort, table: &mut FrameTable<u64, A>, f: FrameId) {
     assert_eq!(rt; remove(rt, table, f), f.serial.wrapping_mul(10));
 }
 
@@ -117,7 +117,7 @@ fn release(rt: &impl Abort, table: &mut FrameTable<u64>, tenant: u64) {
 }
 
 /// Whether a frame is there.
-fn is_there(rt: &impl Abort, table: &FrameTable<u64>, f: FrameId, is: bool) {
+fn is_there<A: Allocator>(rt: &impl Abort, table: &FrameTable<u64, A>, f: FrameId, is: bool) {
     assert_eq!(rt; table.contains(f), is, "{f:?}");
 }
 
@@ -138,12 +138,12 @@ fn can_add(
 }
 
 /// How many frames a tenant has.
-fn counts(rt: &impl Abort, table: &FrameTable<u64>, tenant: u64, count: usize) {
+fn counts<A: Allocator>(rt: &impl Abort, table: &FrameTable<u64, A>, tenant: u64, count: usize) {
     assert_eq!(rt; table.frame_count(tenant), count);
 }
 
 /// A tenant's newest ready frame, which is at home 0.
-fn newest(rt: &impl Abort, table: &FrameTable<u64>, f: FrameId) {
+fn newest<A: Allocator>(rt: &impl Abort, table: &FrameTable<u64, A>, f: FrameId) {
     assert_eq!(rt; table.newest_ready(f.tenant), Some((f, 0)));
 }
 
@@ -425,7 +425,7 @@ fn all_frames_of_a_tenant_go_and_its_places_stay(rt: HostRuntime) -> Result<(), 
 
 /// Two tenants that share a guess have a frame more each; of the first the frame before the last goes,
 /// and of the second the newest.
-fn come_and_go(rt: &impl Abort, table: &mut FrameTable<u64>, serial: u64)
+fn come_and_go<A: Allocator>(rt: &impl Abort, table: &mut FrameTable<u64, A>, serial: u64)
     requires { (2 ≤ serial) × (serial < 400) }
 {
     add(rt, table, name(300, serial), Some(1));
@@ -437,7 +437,7 @@ fn come_and_go(rt: &impl Abort, table: &mut FrameTable<u64>, serial: u64)
 }
 
 /// What is found then.
-fn found_after(rt: &impl Abort, table: &FrameTable<u64>, serial: u64) {
+fn found_after<A: Allocator>(rt: &impl Abort, table: &FrameTable<u64, A>, serial: u64) {
     is_there(rt, table, name(300, serial), true);
     is_there(rt, table, name(300, 1), true);
     is_there(rt, table, name(44, 2), true);
@@ -446,17 +446,20 @@ fn found_after(rt: &impl Abort, table: &FrameTable<u64>, serial: u64) {
 }
 
 /// Frames come and go far more often than there are places, the oldest first of one tenant and the newest
-/// first of another that shares its guess, so that lists move and guesses are wrong.
+/// first of another that shares its guess, so that lists move and guesses are wrong. No list grows.
 #[test]
 fn names_are_found_while_many_come_and_go(rt: HostRuntime) -> Result<(), Fail> {
-    let mut table = table_of(&rt, rt.alloc(), 300, 4)?;
+    let heap = LocalHeap::new(rt.alloc(), 1 << 16)?;
+    let mut table = table_of(&rt, &heap, 300, 4)?;
     reserve(&rt, &mut table, 44, 4)?;
+    let used = heap.used();
     add(&rt, &mut table, name(300, 1), None);
     add(&rt, &mut table, name(44, 1), None);
     for serial in 2u64..400 {
         come_and_go(&rt, &mut table, serial);
         found_after(&rt, &table, serial);
     }
+    assert_eq!(rt; heap.used(), used);
     counts(&rt, &table, 300, 3);
     counts(&rt, &table, 44, 3);
     Ok(())

@@ -144,13 +144,6 @@ fn segments_come_back_in_any_order(rt: HostRuntime) -> Result<(), Fail> {
     Ok(())
 }
 
-#[test]
-fn a_region_of_the_greatest_count(rt: HostRuntime) -> Result<(), Fail> {
-    let region = Region::new(rt.alloc(), 65536)?;
-    assert_eq!(rt; region.free_count(), 65536);
-    Ok(())
-}
-
 // In a heap with room for 0, 1, 2, .. units of 16 bytes each growth is refused in turn, and whatever
 // was made is given back.
 #[test]

@@ -1,4 +1,4 @@
-use Rattle.std.proofs.Common.{◌≡◌, ◌-◌, ◌+◌, ◌<◌, [], List, length, map, refl, sym, ap, ◌∙◌, arith, rules}
+use Rattle.std.proofs.Common.{◌≡◌, ◌-◌, ◌+◌, ◌<◌, [], List, length, map, refl, sym, ap, ◌∙◌, arith, rules, vec_len}
 use Rattle.std.proofs.lemmas.List.Elements.{All-map, All-same, All-push}
 use Rattle.task_deques.specs.Tallies.{tally}
 use Rattle.task_deques.specs.Seats.{DequeSeatIn, owner_seat, with_part_cut, new_thief}
@@ -39,3 +39,21 @@ loop-made-preserved g c =
       search rules,
       c.in_ok-row.ensures.room ∙ c.loop-made.invariant.5,
     )
+
+pub push_reserved-requires : goal.push_reserved-requires
+push_reserved-requires g c = omega arith
+
+pub returns-clause-count : goal.returns-clause-count
+returns-clause-count g c = omega arith
+
+pub returns-clause-owners : goal.returns-clause-owners
+returns-clause-owners g c =
+    let before : List (DequeSeatIn g.row.A.Denot) = owner_seats c.args.owners.now.items in
+    let all : c.loop-made._made ≡ vec_len c.args.owners.now = omega arith in
+    c.loop-made.invariant.0 ∙ ap (λ n. map (fresh_with (64 - n)) before) all
+
+pub returns-clause-room : goal.returns-clause-room
+returns-clause-room g c = c.loop-made.invariant.5
+
+pub returns-clause-rows : goal.returns-clause-rows
+returns-clause-rows g c = c.loop-made.invariant.1

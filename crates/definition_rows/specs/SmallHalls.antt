@@ -1,0 +1,9 @@
+-- Representation: small halls on which the definitions are tried.
+use Rattle.std.specs.Prelude.{ℕ, List}
+use Rattle.sched_rules.specs.Cores.{Shared}
+use Rattle.hall.specs.Journals.{JournalOf}
+use Rattle.hall.specs.Halls.{HallOf}
+
+-- a hall of grain 0 that shares this, with these journals, and so many steps gone
+abbrev pub hall_with : Shared → List JournalOf → ℕ → HallOf
+hall_with shared journals gone = record { grain = 0; shared = shared; journals = journals; gone = gone; kept = 0 }

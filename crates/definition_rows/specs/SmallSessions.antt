@@ -1,0 +1,35 @@
+-- Representation: lines of a session, and an office's asks, on which the definitions of DONE lines are tried: the opening is asked for, to depth 1.
+use Rattle.std.specs.Prelude.{◌≡◌, ℕ, ◌+◌, List, [], ◌∷◌, codes}
+use Rattle.tenant_quota.specs.Quota.{Quota}
+use Rattle.position_text.specs.declared.positions.Side.TheVariants.{Black}
+use Rattle.line_io.specs.Lines.{LineText, Whole}
+use Rattle.line_io.specs.Streams.{ReadAnswer, WriteAnswer}
+use Rattle.session.specs.Calls.{Call, Ask}
+use Rattle.session.specs.Asks.{Asked}
+use Rattle.session.specs.Rows.{opening_board}
+
+-- the line that asks for it
+abbrev pub ask_line : LineText
+ask_line = Whole (codes "ASK 1 ---------------------------OX------XO--------------------------- X")
+
+-- what was said before: HELLO and this line, answered by JOB 1; the last one stands foremost
+abbrev pub asked_once : List (LineText × List ℕ)
+asked_once = (ask_line, codes "JOB 1") ∷ (Whole (codes "HELLO 4 8"), codes "WELCOME 4 8") ∷ []
+
+-- what is asked for, and the call that asks for it
+abbrev pub opening_to_1 : Asked
+opening_to_1 = record { board = opening_board; depth = 1 }
+
+abbrev pub ask : Call
+ask = Ask 1 opening_board Black
+
+-- 4 segments and 8 nodes
+abbrev pub few : Quota
+few = record { segments = 4; nodes = 8 }
+
+-- a source that counts its reads, and a sink that counts its writes
+abbrev pub counts_reads : ℕ → ReadAnswer → ℕ → Type 0
+counts_reads before answer after = after ≡ before + 1
+
+abbrev pub counts_writes : ℕ → WriteAnswer → ℕ → Type 0
+counts_writes before answer after = after ≡ before + 1
