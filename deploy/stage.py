@@ -56,7 +56,7 @@ def free_port():
     return fail("no port is free")
 
 
-def until(what, told, seconds=10):
+def until(what, told, seconds=60):
     """Waits until something is so."""
     end = time.monotonic() + seconds
     while not told():
@@ -152,7 +152,7 @@ def supervised(port, *words, most=8, log=subprocess.DEVNULL):
     """A supervisor with a server at a port."""
     command = [str(HERE / "supervise"), "--most", str(most), PROGRAM, "serve", "--port", str(port), *words]
     with ended_after(subprocess.Popen(command, stdout=log)) as process:
-        subprocess.run([str(HERE / "ready"), str(port), "60"], check=True)
+        subprocess.run([str(HERE / "ready"), str(port), "120"], check=True)
         yield process
 
 
