@@ -161,6 +161,22 @@ fn come<L: Hands, R: Wait + Abort + Clock + CpuClock>(
 }
 
 /// So many wait at a desk, and this comes to them.
+fn come_back_there<L, R>(rt: &R, desk: &Desk<L>, who: Who, many: u64, what: What)
+where
+    L: Hands + Send + Sync,
+    R: Wait + Abort + Threads + Clock + CpuClock + Sync,
+{
+    let count = AtomicU64::new(0);
+    let back = &count;
+    thread::scope(thread::scope_env(), rt, |scope| {
+        assert!(rt; start(scope, rt, desk, back, who, many));
+        thread::sleep(rt, Duration::from_millis(100));
+        assert!(rt; are_back(back, 0), "{what:?} hasn't come");
+        come(rt, desk, back, what, many);
+    })
+}
+
+/// The same at a new desk.
 fn all_come_back<L, R>(
     rt: &R,
     alloc: Global,
@@ -176,14 +192,7 @@ where
     requires parts { (blank.parts ≡ L.parts) × (L.all ≡ L.parts) × (L.all ≡ 13835058055282163712) }
 {
     let desk: Desk<L> = desk_of(alloc, blank, 8, 32)?;
-    let back = AtomicU64::new(0);
-    let (desk, back) = (&desk, &back);
-    thread::scope(thread::scope_env(), rt, |scope| {
-        assert!(rt; start(scope, rt, desk, back, who, many));
-        thread::sleep(rt, Duration::from_millis(100));
-        assert!(rt; are_back(back, 0), "{what:?} hasn't come");
-        come(rt, desk, back, what, many);
-    });
+    come_back_there(rt, &desk, who, many, what);
     Ok(())
 }
 

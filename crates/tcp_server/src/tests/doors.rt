@@ -144,21 +144,26 @@ fn is_answered_beside<R: Net<Stream = TcpStream> + Clock + CpuClock>(
     Ok(told && is_answered)
 }
 
-/// Sends lines until their answers, which nobody reads, have filled what there is between the server and its peer, and
-/// nobody works any more.
+/// Sends lines until their answers, which nobody reads, have filled what there is between the server and its peer: nobody
+/// works any more, and no line can be sent.
 fn stuff<R: Clock + CpuClock>(rt: &R, mut stream: &TcpStream) -> io::Result<()> {
     stream.set_write_timeout(Some(Duration::from_millis(500)))?;
-    for _ in 0..super::TURNS {
-        if stream.write(&TABLES).is_err() {
-            break;
-        }
-    }
     for _ in 0..TRIES {
-        if is_idle(rt)? {
+        fill(stream);
+        if is_idle(rt)? && stream.write(&TABLES).is_err() {
             return Ok(());
         }
     }
     Err(Error::from(ErrorKind::TimedOut))
+}
+
+/// Sends lines for as long as they are taken.
+fn fill(mut stream: &TcpStream) {
+    for _ in 0..super::TURNS {
+        if stream.write(&TABLES).is_err() {
+            return;
+        }
+    }
 }
 
 /// Whether four jobs that are asked at once are done.
