@@ -15,7 +15,7 @@ use std::thread::{self, Scope, Threads};
 use std::time::{Clock, CpuClock, Duration};
 
 /// Who waits.
-#[derive(Clone, Copy, Debug, PartialEq, Eq)]
+#[derive(Clone, Copy)]
 enum Who {
     /// Seats, each for its own second job; its first was cancelled.
     Seats,
@@ -24,7 +24,7 @@ enum Who {
 }
 
 /// What comes to those who wait.
-#[derive(Clone, Copy, Debug, PartialEq, Eq)]
+#[derive(Clone, Copy)]
 enum What {
     /// The jobs are finished one by one, the last that was asked first.
     Finishes,
@@ -157,7 +157,7 @@ fn come<L: Hands, R: Wait + Abort + Clock + CpuClock>(
             desk.close(rt);
         }
     }
-    assert!(rt; come_back(rt, back, many), "{what:?}");
+    assert!(rt; come_back(rt, back, many), "all are woken");
 }
 
 /// So many wait at a desk, and this comes to them.
@@ -171,7 +171,7 @@ where
     thread::scope(thread::scope_env(), rt, |scope| {
         assert!(rt; start(scope, rt, desk, back, who, many));
         thread::sleep(rt, Duration::from_millis(100));
-        assert!(rt; are_back(back, 0), "{what:?} hasn't come");
+        assert!(rt; are_back(back, 0), "nothing has come");
         come(rt, desk, back, what, many);
     })
 }
