@@ -42,7 +42,7 @@ const TRIES: u32 = 100;
 const MOST_DESCRIPTORS: usize = 1 << 21;
 
 /// Who comes to a server.
-#[derive(Clone, Copy, Debug, PartialEq, Eq)]
+#[derive(Clone, Copy)]
 enum Guest {
     /// The only one, who is followed by others once it is there.
     Followed,
@@ -242,7 +242,7 @@ fn come_before<R: Net<Stream = TcpStream>>(
 ) -> Result<Before, Fail> {
     let mut streams = Vec::new(alloc);
     let mut taken = Vec::new(alloc);
-    if guest == Guest::Crowd {
+    if matches!(guest, Guest::Crowd) {
         for _ in 0..3 {
             streams.push(visitor(rt, listener.local_addr()?)?)?;
         }
