@@ -280,7 +280,7 @@ where
     };
     let (content, served) = thread::join(
         rt,
-        || is_content(rt, address, guest, before),
+        move || is_content(rt, address, guest, before),
         ||
             requires { L.all ≡ L.parts }
         { serve_through(rt, alloc, &desk, listener, sessions, workers, &gate) },
