@@ -1,7 +1,6 @@
 ghost use Rattle.std.specs.Prelude.{◌≡◌, ◌≤◌, true};
 
 mod endings;
-mod numbers;
 mod reserving;
 mod waiting;
 mod wakes;
@@ -372,6 +371,7 @@ fn ask_and_read<L: Hands, R: Wait + Abort>(
     let job = desk
         .ask(rt, seat, position, depth)
         .expect(rt, "there is room");
+    has_one_frame(rt, desk, seat);
     let root = next_root(rt, desk, seat);
     assert_eq!(rt; compute(rt, desk, badge, worker, root), Some(job));
     assert_eq!(rt; reply_of(desk.get(rt, seat, job)), Some(reply));
@@ -386,7 +386,7 @@ fn ask_in_turn<L: Hands, R: Wait + Abort>(
     asked: [(Position, u8, (i32, Option<Choice>)); 3],
 ) {
     let mut one = seat_of(rt, desk, 4, 8);
-    let mut other = seat_of(rt, desk, 4, 8);
+    let mut other = seat_of(rt, desk, 3, 9);
     let mut badge = badge_of(rt, desk);
     for (position, most, reply) in asked {
         let depth = most.min(12);
@@ -397,6 +397,8 @@ fn ask_in_turn<L: Hands, R: Wait + Abort>(
             rt, desk, &mut badge, worker, &mut other, &position, depth, reply,
         );
     }
+    has_left(rt, desk, &one, 4, 5, 113);
+    has_left(rt, desk, &other, 3, 6, 129);
     assert_eq!(rt;
         (one.asked().len(), other.share(), badge.share()),
         (3, 4, 30)

@@ -15,7 +15,7 @@ use std::thread::{self, Scope, Threads};
 use std::time::{Clock, CpuClock, Duration};
 
 /// Who waits.
-#[derive(Clone, Copy, Debug, PartialEq, Eq)]
+#[derive(Clone, Copy)]
 enum Who {
     /// Seats, each for its own second job; its first was cancelled.
     Seats,
@@ -24,7 +24,7 @@ enum Who {
 }
 
 /// What comes to those who wait.
-#[derive(Clone, Copy, Debug, PartialEq, Eq)]
+#[derive(Clone, Copy)]
 enum What {
     /// The jobs are finished one by one, the last that was asked first.
     Finishes,
@@ -157,10 +157,26 @@ fn come<L: Hands, R: Wait + Abort + Clock + CpuClock>(
             desk.close(rt);
         }
     }
-    assert!(rt; come_back(rt, back, many), "{what:?}");
+    assert!(rt; come_back(rt, back, many), "all are woken");
 }
 
 /// So many wait at a desk, and this comes to them.
+fn come_back_there<L, R>(rt: &R, desk: &Desk<L>, who: Who, many: u64, what: What)
+where
+    L: Hands + Send + Sync,
+    R: Wait + Abort + Threads + Clock + CpuClock + Sync,
+{
+    let count = AtomicU64::new(0);
+    let back = &count;
+    thread::scope(thread::scope_env(), rt, |scope| {
+        assert!(rt; start(scope, rt, desk, back, who, many));
+        thread::sleep(rt, Duration::from_millis(100));
+        assert!(rt; are_back(back, 0), "nothing has come");
+        come(rt, desk, back, what, many);
+    })
+}
+
+/// The same at a new desk.
 fn all_come_back<L, R>(
     rt: &R,
     alloc: Global,
@@ -176,14 +192,7 @@ where
     requires parts { (blank.parts ≡ L.parts) × (L.all ≡ L.parts) × (L.all ≡ 13835058055282163712) }
 {
     let desk: Desk<L> = desk_of(alloc, blank, 8, 32)?;
-    let back = AtomicU64::new(0);
-    let (desk, back) = (&desk, &back);
-    thread::scope(thread::scope_env(), rt, |scope| {
-        assert!(rt; start(scope, rt, desk, back, who, many));
-        thread::sleep(rt, Duration::from_millis(100));
-        assert!(rt; are_back(back, 0), "{what:?} hasn't come");
-        come(rt, desk, back, what, many);
-    });
+    come_back_there(rt, &desk, who, many, what);
     Ok(())
 }
 

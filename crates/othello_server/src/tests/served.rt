@@ -60,10 +60,10 @@ fn answered<R: Net<Stream = TcpStream> + Alloc>(rt: &R, line: &[u8]) -> Option<u
     let port = address.strip_prefix("127.0.0.1:")?;
     let other = format!(in rt.alloc(); "127.0.0.2:{port}").ok()?;
     let is_elsewhere = TcpStream::connect(rt, other.as_str()).is_ok();
-    let mut count = 0;
+    let mut count: u32 = 0;
     for _ in 0..SESSIONS {
         if is_visited(rt, address).unwrap_or(false) {
-            count += 1;
+            count = count.saturating_add(1);
         }
     }
     if is_elsewhere { None } else { Some(count) }

@@ -22,7 +22,7 @@ const SHORT: u64 = 8;
 #[derive(Drop)]
 struct Long<'c, C> {
     clock: &'c C,
-    began: AtomicBool,
+    began: AtomicU64,
     before: AtomicU64,
     over: AtomicU64,
     over_at: AtomicU64,
@@ -30,31 +30,31 @@ struct Long<'c, C> {
     is_late: AtomicBool,
 }
 
+/// Whether a count comes to so many within ten seconds.
+fn comes<C: Clock>(clock: &C, count: &AtomicU64, many: u64) -> bool {
+    for _ in 0..10_000u32 {
+        if count.load(Ordering::SeqCst) >= many {
+            return true;
+        }
+        thread::sleep(clock, Duration::from_millis(1));
+    }
+    false
+}
+
 impl<C: Clock + CpuClock> Long<'_, C> {
     /// Whether the long search begins within ten seconds.
     fn begins(&self) -> bool {
-        self.comes(|| self.began.load(Ordering::SeqCst))
+        comes(self.clock, &self.began, 1)
     }
 
     /// Whether all short searches are over within ten seconds.
     fn are_over(&self) -> bool {
-        self.comes(|| self.over.load(Ordering::SeqCst) >= SHORT)
-    }
-
-    /// Whether something comes within ten seconds.
-    fn comes<F: Fn() -> bool>(&self, is_there: F) -> bool {
-        for _ in 0..10_000u32 {
-            if is_there() {
-                return true;
-            }
-            thread::sleep(self.clock, Duration::from_millis(1));
-        }
-        false
+        comes(self.clock, &self.over, SHORT)
     }
 
     /// A short search is over.
     fn count(&self) {
-        if self.over.fetch_add(1, Ordering::SeqCst) + 1 == SHORT {
+        if self.over.fetch_add(1, Ordering::SeqCst) == SHORT - 1 {
             let now = nanos(self.clock.process_cpu_time());
             self.over_at.store(now, Ordering::SeqCst);
         }
@@ -85,7 +85,7 @@ impl<C: Clock + CpuClock> Gate for Long<'_, C> {
         if number == 1 {
             let before = nanos(self.clock.thread_cpu_time());
             self.before.store(before, Ordering::SeqCst);
-            self.began.store(true, Ordering::SeqCst);
+            self.began.store(1, Ordering::SeqCst);
         }
     }
 
@@ -148,7 +148,7 @@ fn ask_short<L: Hands, R: Wait>(rt: &R, desk: &Desk<L>, seat: &mut Seat<L>) -> b
 fn a_short_search_is_over_before_a_long_one(rt: HostRuntime) -> Result<(), Fail> {
     let gate = Long {
         clock: &rt,
-        began: AtomicBool::new(false),
+        began: AtomicU64::new(0),
         before: AtomicU64::new(0),
         over: AtomicU64::new(0),
         over_at: AtomicU64::new(0),

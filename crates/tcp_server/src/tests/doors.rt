@@ -42,7 +42,7 @@ const TRIES: u32 = 100;
 const MOST_DESCRIPTORS: usize = 1 << 21;
 
 /// Who comes to a server.
-#[derive(Clone, Copy, Debug, PartialEq, Eq)]
+#[derive(Clone, Copy)]
 enum Guest {
     /// The only one, who is followed by others once it is there.
     Followed,
@@ -144,21 +144,26 @@ fn is_answered_beside<R: Net<Stream = TcpStream> + Clock + CpuClock>(
     Ok(told && is_answered)
 }
 
-/// Sends lines until their answers, which nobody reads, have filled what there is between the server and its peer, and
-/// nobody works any more.
+/// Sends lines until their answers, which nobody reads, have filled what there is between the server and its peer: nobody
+/// works any more, and no line can be sent.
 fn stuff<R: Clock + CpuClock>(rt: &R, mut stream: &TcpStream) -> io::Result<()> {
     stream.set_write_timeout(Some(Duration::from_millis(500)))?;
-    for _ in 0..super::TURNS {
-        if stream.write(&TABLES).is_err() {
-            break;
-        }
-    }
     for _ in 0..TRIES {
-        if is_idle(rt)? {
+        fill(stream);
+        if is_idle(rt)? && stream.write(&TABLES).is_err() {
             return Ok(());
         }
     }
     Err(Error::from(ErrorKind::TimedOut))
+}
+
+/// Sends lines for as long as they are taken.
+fn fill(mut stream: &TcpStream) {
+    for _ in 0..super::TURNS {
+        if stream.write(&TABLES).is_err() {
+            return;
+        }
+    }
 }
 
 /// Whether four jobs that are asked at once are done.
@@ -237,7 +242,7 @@ fn come_before<R: Net<Stream = TcpStream>>(
 ) -> Result<Before, Fail> {
     let mut streams = Vec::new(alloc);
     let mut taken = Vec::new(alloc);
-    if guest == Guest::Crowd {
+    if matches!(guest, Guest::Crowd) {
         for _ in 0..3 {
             streams.push(visitor(rt, listener.local_addr()?)?)?;
         }
@@ -275,7 +280,7 @@ where
     };
     let (content, served) = thread::join(
         rt,
-        || is_content(rt, address, guest, before),
+        move || is_content(rt, address, guest, before),
         ||
             requires { L.all ≡ L.parts }
         { serve_through(rt, alloc, &desk, listener, sessions, workers, &gate) },
