@@ -1,11 +1,10 @@
 -- What was asked for is the opening to depth 1: its value and its best choice.
-use Rattle.std.proofs.Common.{◌≡◌, ℤ, negsuc, List, [], ◌∷◌, Option, Some, None, refl, ap, sym, ◌∙◌, subst}
+use Rattle.std.proofs.Common.{◌≡◌, negsuc, [], ◌∷◌, Some, refl, ap, ◌∙◌, subst}
 use Rattle.std.specs.Fmt.{digits}
 use Rattle.othello_board.specs.Rules.{squares, squares_beside}
 use Rattle.othello_moves.specs.Choices.{in_order}
 use Rattle.othello_eval.specs.Values.{weights}
 use Rattle.othello_eval.specs.Minimax.{minimax, best_choice}
-use Rattle.othello_moves.specs.declared.choices.Choice.{Choice}
 use Rattle.othello_moves.specs.declared.choices.Choice.TheVariants.{Square}
 use Rattle.othello_eval.specs.Tables.{IsTable}
 use Rattle.session.specs.declared.standings.Analysis.{Analysis}

@@ -4,7 +4,6 @@ use Rattle.tenant_quota.specs.Quota.{Quota}
 use Rattle.frame_tree.specs.declared.names.FrameId.{FrameId}
 use Rattle.frame_tree.specs.declared.names.State.{State}
 use Rattle.frame_tree.specs.declared.names.State.TheVariants.{Ready, Running}
-use Rattle.frame_tree.specs.Frames.{Frame}
 use Rattle.sched_rules.specs.declared.act.Then.TheVariants.{Go}
 use Rattle.sched_rules.specs.declared.job.Job.{Job}
 use Rattle.sched_rules.specs.declared.job.Job.TheVariants.{Live}

@@ -1,5 +1,5 @@
 -- Representation: frames of a search of the opening to depth 1, each of whose four moves (d3, c4, f5, e6) is worth -3, and frames under it.
-use Rattle.std.specs.Prelude.{ℕ, ℤ, pos, negsuc, List, [], ◌∷◌}
+use Rattle.std.specs.Prelude.{ℕ, ℤ, pos, List, [], ◌∷◌}
 use Rattle.leaf_search.specs.othello_eval.declared.bound.BoundKind.{BoundKind}
 use Rattle.jamboree_rules.specs.Frames.{Frame, role_root, status_settled, least, greatest}
 use Rattle.jamboree_rules.specs.Places.{rest_with}

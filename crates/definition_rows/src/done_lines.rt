@@ -1,6 +1,6 @@
 //! What a DONE line is worth: the opening was asked for to depth 1 as job 1, and nothing else. Its value is
 //! -3, and its first best move d3 (19).
-ghost use Rattle.std.specs.Prelude.{◌≡◌, ℕ, [], ◌∷◌, ◌++◌, codes, negsuc, Some, Result, Ok, replicate, false};
+ghost use Rattle.std.specs.Prelude.{◌≡◌, [], ◌∷◌, ◌++◌, codes, negsuc, Some, Result, Ok, replicate, false};
 ghost use Rattle.line_io.specs.Lines.{Whole};
 ghost use Rattle.othello_eval.specs.Tables.{IsTable};
 ghost use Rattle.othello_moves.specs.declared.choices.Choice.TheVariants.{Square};
@@ -9,8 +9,8 @@ ghost use Rattle.session.specs.declared.faults.End.TheVariants.{Bye, EndOfInput}
 ghost use Rattle.session.specs.declared.faults.SessionFault.{SessionFault};
 ghost use Rattle.session.specs.declared.standings.Analysis.{Analysis};
 ghost use Rattle.session.specs.declared.standings.Standing.TheVariants.{Pending, Done};
-ghost use Rattle.session.specs.Calls.{Hello, Reserve, Get, Wait, Cancel, AskQuota, AskLive, Leave, Welcome, Reserved, Job, Told, Gone, Refused};
-ghost use Rattle.session.specs.Asks.{Asked, AllTrue, KeepsAsks};
+ghost use Rattle.session.specs.Calls.{Hello, Reserve, Get, Wait, Cancel, AskQuota, AskLive, Leave, Welcome, Job, Told, Gone, Refused};
+ghost use Rattle.session.specs.Asks.{AllTrue, KeepsAsks};
 ghost use Rattle.session.specs.Turns.{Made, Tabulated, turns};
 ghost use Rattle.session.specs.DoneLines.{EachDoneIsTrue, TrueSession, TurnHolds};
 ghost use Rattle.definition_rows.specs.SmallSessions.{ask, ask_line, asked_once, counts_reads, counts_writes, few, opening_to_1};

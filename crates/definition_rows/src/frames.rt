@@ -1,6 +1,6 @@
 //! What a frame of a search may say, and what its children may search: the opening to depth 1, where each of
 //! the four moves (d3, c4, f5, e6, of codes 19, 26, 37, 44) is worth -3.
-ghost use Rattle.std.specs.Prelude.{◌≡◌, [], ◌∷◌, pos, negsuc};
+ghost use Rattle.std.specs.Prelude.{[], ◌∷◌, pos, negsuc};
 ghost use Rattle.leaf_search.specs.Bounds.{IsBound};
 ghost use Rattle.leaf_search.specs.othello_eval.declared.bound.BoundKind.TheVariants.{Low, High, Exact};
 ghost use Rattle.jamboree_rules.specs.Frames.{phase_new, phase_first, phase_tests, phase_done, role_root, role_first_child, role_test, role_again, least, greatest};

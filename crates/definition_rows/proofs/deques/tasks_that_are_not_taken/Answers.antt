@@ -1,4 +1,4 @@
-use Rattle.std.proofs.Common.{◌≡◌, ◌⊎◌, ℕ, ◌+◌, List, [], ◌∷◌, ◌++◌, refl, inl, inr, ap, arith}
+use Rattle.std.proofs.Common.{◌≡◌, ℕ, ◌+◌, List, [], ◌∷◌, ◌++◌, inl, inr, ap, arith}
 use Rattle.pool_rules.specs.declared.task.Task.{Task}
 use Rattle.task_deques.specs.Tallies.{weigh}
 use Rattle.task_deques.specs.Seats.{Deque, DequeSeat, with_taken}

@@ -1,4 +1,4 @@
-use Rattle.std.proofs.Common.{◌≡◌, ℕ, ◌+◌, Result, Ok, Err, if◌then◌else◌, is_ok, refl, ap, ◌∙◌, arith}
+use Rattle.std.proofs.Common.{◌≡◌, ◌+◌, Result, Ok, Err, if◌then◌else◌, is_ok, refl, ap, ◌∙◌, arith}
 use Rattle.sched_rules.specs.declared.refusal.Refusal.{Refusal}
 use Rattle.sched_rules.specs.declared.refusal.Refusal.TheVariants.{NoTenant}
 use Rattle.sched_rules.specs.declared.step.StepOf.TheVariants.{Leave}
@@ -24,6 +24,6 @@ returns c = record {
   kept = λ after is. is.kept ∙ ap (λ (answer : Result (DidOf Leaf) Refusal). 0 + 2 + (if is_ok answer then 1 else 0)) (refused is.answer _ is.step);
   left_alone = λ is.
       let e : 9 ≡ 0 = ap (λ (hall : HallOf). hall.gone)
-          (is.step.left ∙ ap (λ (answer : Result (DidOf Leaf) Refusal). after_offer (empty_hall 0 (quota 12 32)) (Leave 1) answer (record (empty_hall 0 (quota 12 32)) { gone = 9 })) (refused is.answer _ is.step)) in
+      (is.step.left ∙ ap (λ (answer : Result (DidOf Leaf) Refusal). after_offer (empty_hall 0 (quota 12 32)) (Leave 1) answer (record (empty_hall 0 (quota 12 32)) { gone = 9 })) (refused is.answer _ is.step)) in
       omega (arith, e);
 }

@@ -1,4 +1,4 @@
-use Rattle.std.proofs.Common.{◌≡◌, ℕ, List, length, ap, arith}
+use Rattle.std.proofs.Common.{◌≡◌, List, length, ap, arith}
 use Rattle.session.specs.Asks.{Asked}
 use Rattle.definition_rows.proofs.OpeningLemmas.{value_shown, choice_shown, table_shown}
 use Rattle.definition_rows.proofs.done_lines.what_an_office_shows.Goals as goal

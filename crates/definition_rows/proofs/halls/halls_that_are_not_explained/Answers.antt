@@ -1,8 +1,7 @@
-use Rattle.std.proofs.Common.{◌≡◌, ℕ, ◌+◌, ◌^◌, ◌≤◌, List, [], ◌∷◌, Option, Some, None, length, refl, ap, arith}
+use Rattle.std.proofs.Common.{◌≡◌, ℕ, ◌+◌, ◌^◌, ◌≤◌, List, Option, Some, None, length, ap, arith}
 use Rattle.sched_rules.specs.declared.step.StepOf.{StepOf}
-use Rattle.sched_rules.specs.Trees.{Tenant, admitted_with}
+use Rattle.sched_rules.specs.Trees.{Tenant}
 use Rattle.jamboree_core.specs.jamboree_rules.declared.leaf.LeafAnswer.{LeafAnswer}
-use Rattle.definition_rows.specs.SmallCores.{quota}
 use Rattle.definition_rows.proofs.halls.halls_that_are_not_explained.Goals as goal
 
 -- what a tenant reserves, 0 where none is there

@@ -1,4 +1,4 @@
-use Rattle.std.proofs.Common.{◌≡◌, ℕ, ◌+◌, List, ◌++◌, codes, get_or, length, refl, ap, arith}
+use Rattle.std.proofs.Common.{◌≡◌, ℕ, List, get_or, length, ap, arith}
 use Rattle.definition_rows.proofs.solved_lines.outputs_that_are_cut.Goals as goal
 
 pub returns : goal.returns
