@@ -1,5 +1,7 @@
 ghost use Rattle.std.specs.Prelude.{◌≤◌};
+ghost use Rattle.sched_rules.specs.Cores.{tenant_in};
 ghost use Rattle.jamboree_core.specs.Replies.{AreSearches};
+ghost use Rattle.jamboree_core.specs.Searching.{ServesSearches};
 
 use super::*;
 use driver::{SearchCore, drive};
@@ -13,7 +15,7 @@ use othello_moves::{Choice, after, choice, choice_count};
 use position_text::{Position, Side};
 use sched_core::Core;
 use sched_rules::{Config, Did, Job, Refusal, Step, StepOf, Worker};
-use std::alloc::{AllocError, Global};
+use std::alloc::{AllocError, Allocator, Global};
 use std::process::Abort;
 use std::test::Fail;
 use tenant_quota::{Left, Reserve};
@@ -289,6 +291,13 @@ fn a_list_of_steps(rt: HostRuntime) -> Result<(), Fail> {
     Ok(())
 }
 
+/// What is told of the one job of tenant 7.
+fn told_first(core: &Core<Jamboree>) -> Option<(Board, u8, i32, Option<Choice>)>
+    requires { ServesSearches (tenant_in core.now.shared.tenants 7) }
+{
+    told(outcome_of(core, 7, 1))
+}
+
 /// The same from nothing: the core is made by the call.
 #[test]
 fn a_list_of_steps_from_a_new_core(rt: HostRuntime) -> Result<(), Fail> {
@@ -296,18 +305,39 @@ fn a_list_of_steps_from_a_new_core(rt: HostRuntime) -> Result<(), Fail> {
     let jamboree = Jamboree::new(2).ok_or("the grain")?;
     let reserve = Reserve::new(4, 8).ok_or("a reservation")?;
     let worker = Worker::new(3).ok_or("a worker")?;
-    let steps = seven_steps(reserve, worker, &opening()?);
+    let position = opening()?;
+    let steps = seven_steps(reserve, worker, &position);
     let mut answers = Vec::new(rt.alloc());
-    let reply = (opening()?.board, 0, 0, None);
     let core = run_from_new(rt.alloc(), config, jamboree, &steps, &mut answers)?;
     assert_eq!(rt; taken(&answers), 7);
-    assert_eq!(rt; told(outcome_of(&core, 7, 1)), Some(reply));
+    assert_eq!(rt; told_first(&core), Some((position.board, 0, 0, None)));
     Ok(())
 }
 
-/// Runs the steps from nothing, the core in a heap of so many bytes and the answers in another: how many
-/// were taken, or none where a growth was refused, and then nothing was answered. All is given back.
-fn run_in(
+/// Runs steps from nothing: how many were taken, or none where a growth was refused, and then nothing was
+/// answered.
+fn taken_from_new<A: Allocator + Copy>(
+    rt: &impl Abort,
+    alloc: A,
+    answer_alloc: A,
+    config: Config,
+    jamboree: Jamboree,
+    steps: &[Step<Jamboree>],
+) -> Option<u32>
+    requires { AreSearches steps.now }
+{
+    let mut answers = Vec::new(answer_alloc);
+    match run_from_new(alloc, config, jamboree, steps, &mut answers) {
+        Ok(_) => Some(taken(&answers)),
+        Err(AllocError) => {
+            assert!(rt; answers.is_empty());
+            None
+        }
+    }
+}
+
+/// The same, the core in a heap of so many bytes and the answers in another. All is given back.
+fn taken_in(
     rt: &impl Abort,
     alloc: Global,
     steps: &[Step<Jamboree>],
@@ -320,17 +350,8 @@ fn run_in(
     let jamboree = Jamboree::new(2).ok_or("the grain")?;
     let heap = LocalHeap::new(alloc, bytes)?;
     let answer_heap = LocalHeap::new(alloc, answer_bytes)?;
-    let count = {
-        let mut answers = Vec::new(&answer_heap);
-        match run_from_new(&heap, config, jamboree, steps, &mut answers) {
-            Ok(_) => Some(taken(&answers)),
-            Err(AllocError) => {
-                assert_eq!(rt; answers.len(), 0);
-                None
-            }
-        }
-    };
-    assert_eq!(rt; (heap.used(), answer_heap.used()), (0, 0));
+    let count = taken_from_new(rt, &heap, &answer_heap, config, jamboree, steps);
+    assert!(rt; heap.used() == 0 && answer_heap.used() == 0);
     Ok(count)
 }
 
@@ -343,7 +364,7 @@ fn each_growth_of_a_run_from_new(rt: HostRuntime) -> Result<(), Fail> {
     let steps = seven_steps(reserve, worker, &opening()?);
     let (mut refused, mut none, mut all) = (0u32, 0u32, 0u32);
     for units in 0..256usize {
-        match run_in(&rt, rt.alloc(), &steps, units * 1024, 4096)? {
+        match taken_in(&rt, rt.alloc(), &steps, units * 1024, 4096)? {
             None => refused = refused.wrapping_add(1),
             Some(0) => none = none.wrapping_add(1),
             Some(_) => all = all.wrapping_add(1),
@@ -353,7 +374,7 @@ fn each_growth_of_a_run_from_new(rt: HostRuntime) -> Result<(), Fail> {
         refused > 0 && none > 0 && all > 0,
         "{refused} {none} {all}"
     );
-    assert_eq!(rt; run_in(&rt, rt.alloc(), &steps, 262_144, 0)?, None);
+    assert!(rt; taken_in(&rt, rt.alloc(), &steps, 262_144, 0)?.is_none());
     Ok(())
 }
 

@@ -1,0 +1,168 @@
+-- What a step that is no admission is refused for.
+use Rattle.std.proofs.Common.{◌≡◌, ◌≢◌, ℕ, ◌⊎◌, inl, inr, Bool, true, false, ◌==◌, List, [], ◌∷◌, ◌++◌, length, Option, Some, None, Result, Ok, Err, refl, sym, ap, ◌∙◌, subst, arith}
+use Rattle.std.specs.Prelude.{if◌then◌else◌, not, ◌&&◌, ◌||◌}
+use Rattle.std.proofs.lemmas.Bool.Decides.{nat_tests}
+use Rattle.std.proofs.lemmas.Bool.{cases_Bool}
+use Rattle.tenant_quota.specs.Quota.{Quota}
+use Rattle.sched_rules.specs.declared.refusal.Refusal.{Refusal}
+use Rattle.sched_rules.specs.declared.refusal.Refusal.TheVariants.{Busy}
+use Rattle.sched_rules.specs.declared.step.StepOf.{StepOf}
+use Rattle.sched_rules.specs.declared.step.StepOf.TheVariants.{Admit, AdmitMore, Submit, Take, Steal, Advance, Answer, Inlet, Finish, Spend, Cancel, Leave}
+use Rattle.sched_rules.specs.declared.step.DidOf.{DidOf}
+use Rattle.sched_rules.specs.Functions.{Functions}
+use Rattle.sched_rules.specs.Trees.{Tenant, is_busy_in}
+use Rattle.sched_rules.specs.Lone.{Outcome, lone, lone_refusal, refusal_in}
+use Rattle.sched_rules.specs.Runs.{tenant_of, only, answer_of}
+use Rattle.sched_rules.specs.Cores.{Shared, shared_by_nobody, tenant_in, with_tenant, without_tenant, with_outcome, is_busy_elsewhere, meets_busy, judged, shared_after}
+use Rattle.sched_rules.specs.Headline.{IsAnswerTo, IsAnswerToStep, AreAnswersTo, after_answer, after_answers, is_admission, taken}
+use Rattle.sched_rules.proofs.Isolation.{headline}
+use Rattle.sched_rules.proofs.Tenants.{tenant_in_other-with_tenant, tenant_in_other-without_tenant}
+use Rattle.jamboree_core.specs.jamboree_rules.declared.leaf.Leaf.{Leaf}
+use Rattle.jamboree_core.specs.jamboree_rules.Procedure.{jamboree}
+use Rattle.jamboree_core.specs.NewRuns.{IsHeadlineFromNew}
+use Rattle.promises.specs.Tenants.{SearchStep, SearchAnswer, stands, free_worker, IsBusyWithAnother, IsForOwnState, IsForBusyWorker, AreRefusedForThese}
+
+abbrev Entries : Type 0
+Entries = List (ℕ × Tenant)
+
+-- ---- each tenant stands once
+
+abbrev AreApart : Entries → Type 0
+AreApart [] = Unit {0}
+AreApart (entry ∷ entries) = (tenant_in entries entry.0 ≡ None) × AreApart entries
+
+apart-with_tenant : (n : ℕ) (t : Tenant) (es : Entries) → AreApart es → AreApart (with_tenant n t es)
+apart-with_tenant n t [] apart = (refl, tt)
+apart-with_tenant n t (e ∷ es) apart =
+    elim (e.0 == n) as (λ b. (e.0 == n) ≡ b → AreApart (if b then (n, t) ∷ es else e ∷ with_tenant n t es)) [
+      | true ↦ λ same. (let is : e.0 ≡ n = grind (arith, nat_tests) in let P : ℕ → Type 0 = λ m. tenant_in es m ≡ None in subst P is apart.0, apart.1)
+      | false ↦ λ differs. (tenant_in_other-with_tenant e.0 n t es (λ is. let same : (e.0 == n) ≡ true = grind (arith, nat_tests) in cc) ∙ apart.0, apart-with_tenant n t es apart.1)
+    ] refl
+
+apart-without_tenant : (n : ℕ) (es : Entries) → AreApart es → AreApart (without_tenant n es)
+apart-without_tenant n [] apart = tt
+apart-without_tenant n (e ∷ es) apart =
+    elim (e.0 == n) as (λ b. (e.0 == n) ≡ b → AreApart (if b then without_tenant n es else e ∷ without_tenant n es)) [
+      | true ↦ λ same. apart-without_tenant n es apart.1
+      | false ↦ λ differs. (tenant_in_other-without_tenant e.0 n es (λ is. let same : (e.0 == n) ≡ true = grind (arith, nat_tests) in cc) ∙ apart.0, apart-without_tenant n es apart.1)
+    ] refl
+
+apart-with_outcome : (n : ℕ) (t : Option Tenant) (es : Entries) → AreApart es → AreApart (with_outcome n t es)
+apart-with_outcome n None es apart = apart-without_tenant n es apart
+apart-with_outcome n (Some t) es apart = apart-with_tenant n t es apart
+
+apart-shared_after : {I A : Type 0} (before : Shared) (step : StepOf A) (result : Result (Outcome I) Refusal) → AreApart before.tenants → AreApart (shared_after before step result).tenants
+apart-shared_after before step (Err refusal) apart = apart
+apart-shared_after before step (Ok outcome) apart = apart-with_outcome (tenant_of step) outcome.0 before.tenants apart
+
+apart-after : {I A : Type 0} (functions : Functions I A) (before : Shared) (steps : List (StepOf A)) (answers : List (Result (DidOf I) Refusal)) → AreApart before.tenants → AreApart (after_answers functions before steps answers).tenants
+apart-after functions before [] answers apart = apart
+apart-after functions before (step ∷ steps) [] apart = apart
+apart-after functions before (step ∷ steps) (Err refusal ∷ answers) apart = apart-after functions before steps answers apart
+apart-after functions before (step ∷ steps) (Ok did ∷ answers) apart =
+    apart-after functions (after_answer functions before step (Ok did)) steps answers (apart-shared_after before step (judged functions before step) apart)
+
+-- ---- who is busy elsewhere
+
+record IsBusyThere (worker number : ℕ) (es : Entries) : Type 0 where
+  another : ℕ
+  other : another ≢ number
+  tenant : Tenant
+  there : tenant_in es another ≡ Some tenant
+  busy : is_busy_in worker tenant.frames ≡ true
+
+there-later : (e : ℕ × Tenant) (es : Entries) (another : ℕ) (tenant : Tenant) → tenant_in es e.0 ≡ None → tenant_in es another ≡ Some tenant → tenant_in (e ∷ es) another ≡ Some tenant
+there-later e es another tenant apart there =
+    elim (e.0 == another) as (λ b. (e.0 == another) ≡ b → (if b then Some e.1 else tenant_in es another) ≡ Some tenant) [
+      | true ↦ λ same. let is : e.0 ≡ another = grind (arith, nat_tests) in let P : ℕ → Type 0 = λ m. tenant_in es m ≡ None in let none = subst P is apart in absurd cc
+      | false ↦ λ differs. there
+    ] refl
+
+busy-there : (worker number : ℕ) (es : Entries) → AreApart es → is_busy_elsewhere worker number es ≡ true → IsBusyThere worker number es
+busy-there worker number [] apart busy = absurd cc
+busy-there worker number (e ∷ es) apart busy =
+    elim (not (e.0 == number) && is_busy_in worker e.1.frames) as (λ b. (not (e.0 == number) && is_busy_in worker e.1.frames) ≡ b → (b || is_busy_elsewhere worker number es) ≡ true → IsBusyThere worker number (e ∷ es)) [
+      | true ↦ λ here some. record {
+        another = e.0;
+        other = grind (arith, nat_tests);
+        tenant = e.1;
+        there = let own : (e.0 == e.0) ≡ true = grind (arith, nat_tests) in rw own refl;
+        busy = grind (arith, nat_tests);
+      }
+      | false ↦ λ not_here some.
+          let later = busy-there worker number es apart.1 some in
+          record { another = later.another; other = later.other; tenant = later.tenant; there = there-later e es later.another later.tenant apart.0 later.there; busy = later.busy }
+    ] refl busy
+
+record MeetsBusy (step : SearchStep) (es : Entries) : Type 0 where
+  worker : ℕ
+  free : free_worker step ≡ Some worker
+  elsewhere : IsBusyThere worker (tenant_of step) es
+
+meets-there : (step : SearchStep) (es : Entries) → AreApart es → meets_busy step es ≡ true → MeetsBusy step es
+meets-there (Take worker name) es apart busy = record { worker = worker; free = refl; elsewhere = busy-there worker name.tenant es apart busy }
+meets-there (Steal worker from name) es apart busy = record { worker = worker; free = refl; elsewhere = busy-there worker name.tenant es apart busy }
+meets-there (Inlet worker name) es apart busy = record { worker = worker; free = refl; elsewhere = busy-there worker name.tenant es apart busy }
+meets-there (Finish worker name) es apart busy = record { worker = worker; free = refl; elsewhere = busy-there worker name.tenant es apart busy }
+meets-there (Admit number quota) es apart busy = absurd cc
+meets-there (AdmitMore number quota) es apart busy = absurd cc
+meets-there (Submit number words size) es apart busy = absurd cc
+meets-there (Advance worker name) es apart busy = absurd cc
+meets-there (Answer worker name answer) es apart busy = absurd cc
+meets-there (Spend name) es apart busy = absurd cc
+meets-there (Cancel number job) es apart busy = absurd cc
+meets-there (Leave number) es apart busy = absurd cc
+
+-- ---- one step that was refused
+
+-- by what it comes to alone, and whether its worker is busy
+refused-for : (busy : Bool) (own : Result (Outcome Leaf) Refusal) (refusal : Refusal) →
+    ((other : Refusal) → refusal_in own ≡ Some other → ◌≡◌ {A = SearchAnswer} (Err refusal) (Err other)) →
+    (refusal_in own ≡ None → busy ≡ true → ◌≡◌ {A = SearchAnswer} (Err refusal) (Err Busy)) →
+    (refusal_in own ≡ None → busy ≡ false → ◌≡◌ {A = SearchAnswer} (Err refusal) (answer_of own)) →
+    (refusal_in own ≡ Some refusal) ⊎ ((refusal ≡ Busy) × (busy ≡ true))
+refused-for busy (Err other) refusal own_state busy_worker else_taken = inl (let same : ◌≡◌ {A = SearchAnswer} (Err refusal) (Err other) = own_state other refl in cc)
+refused-for true (Ok outcome) refusal own_state busy_worker else_taken = inr (let same : ◌≡◌ {A = SearchAnswer} (Err refusal) (Err Busy) = busy_worker refl refl in cc, refl)
+refused-for false (Ok outcome) refusal own_state busy_worker else_taken =
+    let same : ◌≡◌ {A = SearchAnswer} (Err refusal) (answer_of (Ok outcome)) = else_taken refl refl in absurd cc
+
+-- ---- in a list
+
+-- the answers before it are right, and its own is
+split-answers : {I A : Type 0} (functions : Functions I A) (at : Shared) (before later : List (StepOf A)) (said more : List (Result (DidOf I) Refusal)) (step : StepOf A) (answer : Result (DidOf I) Refusal) → length said ≡ length before →
+    AreAnswersTo functions at (before ++ step ∷ later) (said ++ answer ∷ more) → AreAnswersTo functions at before said × IsAnswerTo functions (after_answers functions at before said) step answer
+split-answers functions at [] later [] more step answer len right = (tt, right.0)
+split-answers functions at [] later (a ∷ said) more step answer len right = absurd (omega arith)
+split-answers functions at (s ∷ before) later [] more step answer len right = absurd (omega arith)
+split-answers functions at (s ∷ before) later (a ∷ said) more step answer len right =
+    let rest = split-answers functions (after_answer functions at s a) before later said more step answer (omega arith) right.1 in ((right.0, rest.0), rest.1)
+
+-- a step that was refused after these, where each tenant is what its own steps give
+refused-there : (grain : ℕ) (at : Shared) (before : List SearchStep) (said : List SearchAnswer) (step : SearchStep) (refusal : Refusal) →
+    ((number : ℕ) → tenant_in at.tenants number ≡ stands grain number before said) → AreApart at.tenants → IsAnswerToStep (jamboree grain) at step (Err refusal) →
+    IsForOwnState grain before said step refusal ⊎ IsForBusyWorker grain before said step refusal
+refused-there grain at before said step refusal own apart right =
+    elim (refused-for (meets_busy step at.tenants) (lone (jamboree grain) (tenant_in at.tenants (tenant_of step)) step) refusal right.own_state right.busy_worker right.else_taken) [
+      | inl is ↦ inl (ap (λ (t : Option Tenant). lone_refusal (jamboree grain) t step) (sym (own (tenant_of step))) ∙ is)
+      | inr is ↦ inr (
+          let met = meets-there step at.tenants apart is.1 in
+          let there = met.elsewhere in
+          record {
+            is = is.0;
+            worker = met.worker;
+            free = met.free;
+            elsewhere = record { another = there.another; other = there.other; tenant = there.tenant; there = sym (own there.another) ∙ there.there; busy = there.busy };
+          })
+    ]
+
+pub refused-for-these : (grain : ℕ) (totals : Quota) (steps : List SearchStep) (answers : List SearchAnswer) (after : Shared) → IsHeadlineFromNew grain totals steps answers after → AreRefusedForThese grain steps answers
+refused-for-these grain totals steps answers after whole before later said more step refusal steps_are answers_are len no_admission =
+    let f = jamboree grain in
+    let nobody = shared_by_nobody totals in
+    let right = rw (steps_are, answers_are) at whole.tenants.refused in
+    let both = split-answers f nobody before later said more step (Err refusal) len right in
+    let first = headline f nobody before said tt both.0 in
+    refused-there grain (after_answers f nobody before said) before said step refusal
+    (λ number. (first.undisturbed number).state)
+    (apart-after f nobody before said tt)
+    (both.1.1 no_admission)

@@ -1,0 +1,87 @@
+-- Meaning: what no other tenant changes, and what alone a step is refused for.
+use Rattle.std.specs.Prelude.{◌≡◌, ◌≢◌, ◌⊎◌, ℕ, true, false, List, [], ◌∷◌, ◌++◌, length, Option, Some, None, Result, Err, is_ok}
+use Rattle.tenant_quota.specs.Quota.{Quota}
+use Rattle.tenant_quota.specs.declared.account.Left.{Left}
+use Rattle.sched_rules.specs.declared.job.Job.{Job}
+use Rattle.sched_rules.specs.declared.refusal.Refusal.{Refusal}
+use Rattle.sched_rules.specs.declared.refusal.Refusal.TheVariants.{Busy}
+use Rattle.sched_rules.specs.declared.step.StepOf.{StepOf}
+use Rattle.sched_rules.specs.declared.step.StepOf.TheVariants.{Admit, AdmitMore, Submit, Take, Steal, Advance, Answer, Inlet, Finish, Spend, Cancel, Leave}
+use Rattle.sched_rules.specs.declared.step.DidOf.{DidOf}
+use Rattle.sched_rules.specs.Trees.{Tenant, left, is_busy_in}
+use Rattle.sched_rules.specs.Lone.{lone_refusal}
+use Rattle.sched_rules.specs.Runs.{tenant_of, only, alone}
+use Rattle.sched_rules.specs.Headline.{is_admission, taken}
+use Rattle.jamboree_core.specs.jamboree_rules.declared.leaf.Leaf.{Leaf}
+use Rattle.jamboree_core.specs.jamboree_rules.declared.leaf.LeafAnswer.{LeafAnswer}
+use Rattle.jamboree_core.specs.jamboree_rules.Procedure.{jamboree}
+
+-- a step of searches, and what it is answered
+abbrev pub SearchStep : Type 0
+SearchStep = StepOf LeafAnswer
+
+abbrev pub SearchAnswer : Type 0
+SearchAnswer = Result (DidOf Leaf) Refusal
+
+-- the steps of a list that are this tenant's and were taken, in order
+abbrev pub own_steps : ℕ → List SearchStep → List SearchAnswer → List SearchStep
+own_steps number steps answers = only number (taken steps answers)
+
+-- two tenants don't differ: each job stands as it does, with the same words where it is done; there are the same frames, in the same
+-- states, with the same words; the same is reserved, and the same is left
+pub record IsSameTenant (one other : Tenant) : Type 0 where
+  pub jobs : one.jobs ≡ other.jobs
+  pub frames : one.frames ≡ other.frames
+  pub reserve : one.reserve ≡ other.reserve
+  pub left : left one ≡ left other
+
+-- the same of tenants that may not be there: both are, or neither is
+abbrev pub AreSame : Option Tenant → Option Tenant → Type 0
+AreSame None None = Unit {0}
+AreSame None (Some other) = ⊥
+AreSame (Some one) None = ⊥
+AreSame (Some one) (Some other) = IsSameTenant one other
+
+-- each admission in a list was taken: there was room, and memory wasn't wanting
+abbrev pub AreAdmissionsTaken : List SearchStep → List SearchAnswer → Type 0
+AreAdmissionsTaken [] answers = Unit {0}
+AreAdmissionsTaken (step ∷ steps) [] = Unit {0}
+AreAdmissionsTaken (step ∷ steps) (answer ∷ answers) = (is_admission step ≡ true → is_ok answer ≡ true) × AreAdmissionsTaken steps answers
+
+-- a tenant as it stands after the first steps of a list: what its own taken steps give it alone
+abbrev pub stands : ℕ → ℕ → List SearchStep → List SearchAnswer → Option Tenant
+stands grain number steps answers = alone (jamboree grain) (own_steps number steps answers)
+
+-- the worker that has to be free for a step
+abbrev pub free_worker : SearchStep → Option ℕ
+free_worker (Take worker name) = Some worker
+free_worker (Steal worker from name) = Some worker
+free_worker (Inlet worker name) = Some worker
+free_worker (Finish worker name) = Some worker
+free_worker _ = None
+
+-- a worker runs or computes a frame of a tenant other than this one
+pub record IsBusyWithAnother (grain worker number : ℕ) (steps : List SearchStep) (answers : List SearchAnswer) : Type 0 where
+  pub another : ℕ
+  pub other : another ≢ number
+  pub tenant : Tenant
+  pub there : stands grain another steps answers ≡ Some tenant
+  pub busy : is_busy_in worker tenant.frames ≡ true
+
+-- after these steps, answered so, a step is refused for its own tenant's state, which its tenant alone is refused for by the same number
+abbrev pub IsForOwnState : ℕ → List SearchStep → List SearchAnswer → SearchStep → Refusal → Type 0
+IsForOwnState grain steps answers step refusal = lone_refusal (jamboree grain) (stands grain (tenant_of step) steps answers) step ≡ Some refusal
+
+-- or by Busy, since the worker that has to be free for it is busy with another tenant
+pub record IsForBusyWorker (grain : ℕ) (steps : List SearchStep) (answers : List SearchAnswer) (step : SearchStep) (refusal : Refusal) : Type 0 where
+  pub is : refusal ≡ Busy
+  pub worker : ℕ
+  pub free : free_worker step ≡ Some worker
+  pub elsewhere : IsBusyWithAnother grain worker (tenant_of step) steps answers
+
+-- each step of a list that is no admission and was refused was refused for one of the two
+abbrev pub AreRefusedForThese : ℕ → List SearchStep → List SearchAnswer → Type 0
+AreRefusedForThese grain steps answers =
+    (before later : List SearchStep) (said more : List SearchAnswer) (step : SearchStep) (refusal : Refusal) →
+    steps ≡ before ++ step ∷ later → answers ≡ said ++ Err refusal ∷ more → length said ≡ length before → is_admission step ≡ false →
+    IsForOwnState grain before said step refusal ⊎ IsForBusyWorker grain before said step refusal

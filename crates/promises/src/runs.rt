@@ -1,0 +1,92 @@
+//! What comes of lists of searches on new cores.
+ghost use Rattle.std.specs.Prelude.{◌≡◌, ℕ, List, Some, IfOk, length};
+ghost use Rattle.sched_rules.specs.declared.job.Job.TheVariants.{Done};
+ghost use Rattle.sched_rules.specs.Trees.{Tenant, job_at};
+ghost use Rattle.sched_rules.specs.Cores.{tenant_in};
+ghost use Rattle.sched_rules.specs.Headline.{told};
+ghost use Rattle.jamboree_core.specs.Replies.{AreSearches};
+ghost use Rattle.jamboree_core.specs.NewRuns.{IsHeadlineFromNew, submitted_by};
+ghost use Rattle.jamboree_core.specs.Searching.{CoreSearches};
+ghost use Rattle.promises.specs.Tenants.{own_steps, AreSame, AreAdmissionsTaken, AreRefusedForThese};
+ghost use Rattle.promises.specs.Replies.{RepliesToSubmit};
+
+use jamboree_core::jamboree::Jamboree;
+use jamboree_core::run_from_new;
+use jamboree_core::sched_core::Core;
+use sched_rules::{Config, Did, Refusal, Step};
+use std::alloc::{AllocError, Allocator};
+
+/// A core after a list of steps, and what each was answered.
+#[derive(Drop)]
+pub struct After<A: Allocator> {
+    /// The core.
+    pub core: Core<Jamboree, A>,
+    /// One answer for each step.
+    pub answers: Vec<Result<Did<Jamboree>, Refusal>, A>,
+}
+
+/// A list of searches on a new core of these totals, by any workers for any tenants.
+fn ran<A: Allocator + Clone>(
+    alloc: A,
+    procedure: Jamboree,
+    config: Config,
+    steps: &[Step<Jamboree>],
+) -> Result<After<A>, AllocError>
+    requires { AreSearches steps.now }
+    ensures headline { IfOk result (λ run. IsHeadlineFromNew procedure.grain config steps.now run.answers.items run.core.shared) }
+    ensures searches { IfOk result (λ run. CoreSearches (submitted_by steps.now run.answers.items) run.core.shared) }
+{
+    let mut answers = Vec::new(alloc.clone()?);
+    let core = run_from_new(alloc, config, procedure, steps, &mut answers)?;
+    Ok(After { core, answers })
+}
+
+/// A list of searches on a new core of these totals, by any workers for any tenants. A step that is no
+/// admission is refused only for its own tenant's state, or by Busy where the worker that has to be
+/// free for it is busy with another tenant (`refused`). Each job that is done, of any tenant, replies
+/// to the board and the depth of the Submit of its number: the minimax value, the best choice, and a
+/// true table (`replies`).
+pub fn run<A: Allocator + Clone>(
+    alloc: A,
+    procedure: Jamboree,
+    config: Config,
+    steps: &[Step<Jamboree>],
+) -> Result<After<A>, AllocError>
+    requires { AreSearches steps.now }
+    ensures answered { IfOk result (λ run. length run.answers.items ≡ length steps.now) }
+    ensures refused { IfOk result (λ run. AreRefusedForThese procedure.grain steps.now run.answers.items) }
+    ensures replies { IfOk result (λ run. (number job : ℕ) (tenant : Tenant) (words : List ℕ) →
+        tenant_in run.core.shared.tenants number ≡ Some tenant → job_at tenant.jobs job ≡ Some (Done words) →
+        RepliesToSubmit (own_steps number steps.now run.answers.items) job words) }
+{
+    ran(alloc, procedure, config, steps)
+}
+
+/// Two lists of searches on new cores of any totals, by any workers for any tenants. A tenant whose own
+/// taken steps are the same in both doesn't differ after them, and was answered the same: no other
+/// tenant disturbs it (`undisturbed`). So it is where the second list is the tenant's own taken steps
+/// of the first, all other tenants' steps removed, and the admissions in it are taken, since there is
+/// room and memory: then each of its steps is taken too, and answered as in the first (`alone`).
+pub fn run_two<A: Allocator + Clone>(
+    alloc: A,
+    procedure: Jamboree,
+    config: Config,
+    steps: &[Step<Jamboree>],
+    other_config: Config,
+    other_steps: &[Step<Jamboree>],
+) -> Result<(After<A>, After<A>), AllocError>
+    requires searches { AreSearches steps.now }
+    requires other_searches { AreSearches other_steps.now }
+    ensures undisturbed { IfOk result (λ runs. (number : ℕ) →
+        own_steps number steps.now runs.0.answers.items ≡ own_steps number other_steps.now runs.1.answers.items →
+        AreSame (tenant_in runs.0.core.shared.tenants number) (tenant_in runs.1.core.shared.tenants number)
+        × (told number steps.now runs.0.answers.items ≡ told number other_steps.now runs.1.answers.items)) }
+    ensures alone { IfOk result (λ runs. (number : ℕ) →
+        other_steps.now ≡ own_steps number steps.now runs.0.answers.items → AreAdmissionsTaken other_steps.now runs.1.answers.items →
+        AreSame (tenant_in runs.0.core.shared.tenants number) (tenant_in runs.1.core.shared.tenants number)
+        × (told number steps.now runs.0.answers.items ≡ runs.1.answers.items)) }
+{
+    let one = ran(alloc.clone()?, procedure, config, steps)?;
+    let other = ran(alloc, procedure, other_config, other_steps)?;
+    Ok((one, other))
+}
