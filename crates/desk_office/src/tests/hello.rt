@@ -1,5 +1,5 @@
 //! HELLO and RESERVE where memory is wanting, and then isn't: sessions at a desk whose hall lies in a small heap.
-ghost use Rattle.std.specs.Prelude.{◌≡◌};
+ghost use Rattle.std.specs.Prelude.{◌≡◌, ◌<◌};
 
 use super::*;
 use linked_list_allocator::LocalHeap;
