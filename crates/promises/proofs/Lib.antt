@@ -3,3 +3,8 @@ pub mod Same
 pub mod Alone
 pub mod Refused
 pub mod Replied
+pub mod HallLemmas
+pub mod Spelled
+pub mod Lines
+pub mod SessionLemmas
+pub mod SolvingLemmas

@@ -8,6 +8,8 @@
 //!
 //! - [`run_two`]: no tenant is disturbed. [`run`]: what a step is refused for, and that each completed
 //!   reply is the minimax value (with the best choice and a true table) of what was asked.
+//! - [`same_journals`], [`entry_in`]: the same of a hall, which lies under the server's lock.
+//! - [`serve`]: each line that a session writes. [`solve`]: each line that `solve` writes.
 //!
 //! ```text
 //! // two lists of any steps on new cores of any totals: a tenant whose own taken steps are the same in
@@ -16,6 +18,12 @@
 //! ```
 #![tactic(auto)]
 
+mod halls;
 mod runs;
+mod sessions;
+mod solving;
 
+pub use halls::{entry_in, same_journals};
 pub use runs::{After, run, run_two};
+pub use sessions::serve;
+pub use solving::solve;

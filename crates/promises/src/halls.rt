@@ -1,0 +1,35 @@
+//! What a hall tells of its tenants.
+ghost use Rattle.std.specs.Prelude.{◌≡◌, ℕ, IfSome};
+ghost use Rattle.sched_rules.specs.Cores.{tenant_in};
+ghost use Rattle.hall.specs.Journals.{journal_in};
+ghost use Rattle.promises.specs.Tenants.{AreSame};
+ghost use Rattle.promises.specs.Replies.{IsEntryOfSubmit};
+
+use hall::{Hall, Outcome};
+use othello_eval::Bound;
+use std::alloc::Allocator;
+
+/// Of two halls whose searches have the same grain: a tenant whose journals, the lists of its own taken
+/// steps, are the same in both doesn't differ. What else was offered to either hall doesn't show.
+pub fn same_journals<A: Allocator, B: Allocator>(one: &Hall<A>, other: &Hall<B>)
+    ensures { one.now.grain ≡ other.now.grain → (number : ℕ) → journal_in one.now.journals number ≡ journal_in other.now.journals number →
+        AreSame (tenant_in one.now.shared.tenants number) (tenant_in other.now.shared.tenants number) }
+{
+    let _one = one.count();
+    let _other = other.count();
+}
+
+/// An entry of the table that a hall tells of a job that is done, by its number from 0 on: it is true of
+/// that choice of the board to the depth that the Submit of the job's number asked for.
+pub fn entry_in<A: Allocator>(hall: &Hall<A>, tenant: u64, job: u64, number: usize) -> Option<Bound>
+    ensures { IfSome result (λ entry. IsEntryOfSubmit (journal_in hall.now.journals tenant) job number entry) }
+{
+    let _count = hall.count();
+    match hall.outcome(tenant, job) {
+        Some(Outcome::Done(reply)) => {
+            let _entries = reply.bound_count();
+            reply.bound(number)
+        }
+        _ => None,
+    }
+}

@@ -1,0 +1,27 @@
+//! What a session writes.
+ghost use Rattle.std.specs.Prelude.{◌≡◌};
+ghost use Rattle.promises.specs.Sessions.{TrueBytes};
+
+use desk::{Desk, Hands};
+use desk_office::serve_desk;
+use line_io::{Sink, Source};
+use session::{End, SessionFault};
+use std::alloc::Allocator;
+use std::sync::Wait;
+
+/// Serves one session of one tenant at a desk. Each line that it writes and that begins with `DONE` is
+/// `DONE k value move`: a line `ASK depth position` before it was answered by `JOB k`, and value and move
+/// are the minimax value and the best choice of the position that the text spells, to that depth. Each
+/// that begins with `TABLE` is `TABLE k` and the entries of a true table of the same; each that begins
+/// with `JOB` bears the next number.
+pub fn serve<S: Source, K: Sink, L: Hands, R: Wait, A: Allocator + Clone>(
+    rt: &R,
+    source: &mut S,
+    sink: &mut K,
+    desk: &Desk<L, A>,
+) -> Result<End, SessionFault>
+    requires { L.all ≡ L.parts }
+    ensures { TrueBytes S.gives K.takes source.old sink.old source.new sink.new result }
+{
+    serve_desk(rt, source, sink, desk)
+}

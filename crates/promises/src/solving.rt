@@ -1,0 +1,22 @@
+//! What `solve` writes.
+ghost use Rattle.std.specs.Prelude.{◌≤◌};
+ghost use Rattle.promises.specs.Solving.{SolvedBytes};
+
+use line_io::{LineFault, Sink, Source};
+use std::alloc::Allocator;
+
+/// Answers each line of an input by a line. One that doesn't begin with `ERR` is `value move`: its line is
+/// `depth position`, and value and move are the minimax value and the best choice of the position that
+/// the text spells, to that depth; and each line `depth position` is answered so, or by `ERR 19` where
+/// memory was wanting.
+pub fn solve<A: Allocator + Copy, S: Source, K: Sink>(
+    alloc: A,
+    source: &mut S,
+    sink: &mut K,
+    grain: u8,
+) -> Result<(), LineFault>
+    requires { grain ≤ 6 }
+    ensures { SolvedBytes S.gives K.takes source.old sink.old source.new sink.new result }
+{
+    solve_engine::solve(alloc, source, sink, grain)
+}
