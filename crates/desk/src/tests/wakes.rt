@@ -129,12 +129,12 @@ fn ask_all<L: Hands, R: Wait + Abort + Clock>(rt: &R, desk: &Desk<L>, back: &Ato
     }
 }
 
-/// Whether those who wait use less than a hundredth of a second's processor time in a second.
+/// Whether those who wait use less than a twentieth of a second's processor time in a second.
 fn is_silent<R: Clock + CpuClock + Abort>(rt: &R) -> bool {
     let before = rt.process_cpu_time().expect(rt, "a clock");
     thread::sleep(rt, Duration::from_secs(1));
     let after = rt.process_cpu_time().expect(rt, "a clock");
-    after.saturating_sub(before) < Duration::from_millis(10)
+    after.saturating_sub(before) < Duration::from_millis(50)
 }
 
 /// What comes to so many who wait.

@@ -32,15 +32,15 @@ impl<C: Clock + CpuClock> Scenario for Silence<'_, C> {
     }
 }
 
-/// Whether less than a hundredth of a second lies between two times of a clock.
+/// Whether less than a twentieth of a second lies between two times of a clock.
 fn is_short(before: Option<Duration>, after: Option<Duration>) -> bool {
     match (before, after) {
-        (Some(before), Some(after)) => after.saturating_sub(before) < Duration::from_millis(10),
+        (Some(before), Some(after)) => after.saturating_sub(before) < Duration::from_millis(50),
         _ => false,
     }
 }
 
-/// Four workers with nothing to do use less than a hundredth of a second's processor time in a second, and then do what is
+/// Four workers with nothing to do use less than a twentieth of a second's processor time in a second, and then do what is
 /// asked.
 #[test]
 fn an_idle_pool_sleeps(rt: HostRuntime) -> Result<(), Fail> {

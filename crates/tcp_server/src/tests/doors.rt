@@ -189,13 +189,13 @@ fn is_closed(mut stream: &TcpStream) -> io::Result<bool> {
     Ok(stream.read(&mut [0; 1])? == 0)
 }
 
-/// Whether the process uses less than a hundredth of a second's processor time in a second.
+/// Whether the process uses less than a twentieth of a second's processor time in a second.
 fn is_idle<R: Clock + CpuClock>(rt: &R) -> io::Result<bool> {
     thread::sleep(rt, Duration::from_millis(50));
     let before = rt.process_cpu_time()?;
     thread::sleep(rt, Duration::from_secs(1));
     let after = rt.process_cpu_time()?;
-    Ok(after.saturating_sub(before) < Duration::from_millis(10))
+    Ok(after.saturating_sub(before) < Duration::from_millis(50))
 }
 
 /// Whether of three who came at once one is served and two are turned away, while no processor is used, and a fourth is
