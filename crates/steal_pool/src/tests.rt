@@ -5,10 +5,8 @@ ghost use Rattle.std.specs.Prelude.{◌≡◌};
 mod announced;
 mod faults;
 mod games;
-mod idle;
 mod overlaps;
 mod rows;
-mod searches;
 mod seats;
 
 use crate::pool::{Sizes, USUAL, run_pool_of};
