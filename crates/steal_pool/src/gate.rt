@@ -11,6 +11,9 @@ pub trait Gate {
     /// Called inside a computation, before the search, with its number among the pool's computations,
     /// from 1 on; it stays at the greatest u64.
     fn inside(&self, worker: Worker, number: u64);
+
+    /// Called inside a computation, after the search, with the same number.
+    fn after(&self, _worker: Worker, _number: u64) {}
 }
 
 /// A gate that lets all pass.

@@ -15,9 +15,9 @@
 //! was computed from just the leaf it was given, that its badge counts the steps that were taken, and
 //! that its ends of the deques come back at the same deques. Of a pool it is that there is a deque for
 //! each worker, that what was pushed is what was taken and what is left, on each deque and of all
-//! together, and that these are the sums it ends with. That the badge it ends with is that of all its
-//! workers, so that [`desk::Desk::into_hall`] can tell whether every step in the hall is one that
-//! somebody took, is tested. No order between threads is promised, nor that a job ends, nor that no task
+//! together, that these are the sums it ends with, and that it had as many workers as were asked for. That
+//! the badge it ends with is that of all its workers, so that [`desk::Desk::into_hall`] can tell whether
+//! every step in the hall is one that somebody took, is tested. No order between threads is promised, nor that a job ends, nor that no task
 //! is left where none is found.
 //!
 //! ```text

@@ -55,6 +55,8 @@ pub enum BeginFault {
 /// What a pool ends with.
 #[derive(Drop)]
 pub struct PoolEnd<L: Hands> {
+    /// How many workers it had.
+    pub workers: usize,
     /// All workers' badges, joined: its share is the number of steps that they took.
     pub badge: Badge<L>,
     /// How many tasks were pushed on all deques together.
@@ -89,6 +91,7 @@ pub fn run_pool<L: Hands + Send + Sync, G: Gate + Sync, R: Threads + Wait + Sync
     gate: &G,
 ) -> Result<PoolEnd<L>, PoolFault>
     requires { L.all ≡ L.parts }
+    ensures workers { IfOk result (λ end. end.workers ≡ workers) }
 {
     let (_quiet, ended) = run_pool_of(rt, alloc, desk, workers, gate, USUAL, Quiet);
     match ended {
@@ -118,6 +121,7 @@ pub fn run_pool_announced<
     call: A,
 ) -> (A, Result<PoolEnd<L>, BeginFault>)
     requires { L.all ≡ L.parts }
+    ensures workers { IfOk result.1 (λ end. end.workers ≡ workers) }
     ensures said { IfOk result.1 (λ _. A.says call true result.0) }
     ensures unsaid { IfErr result.1 (λ fault. IsUnsaid A.says call fault result.0) }
 {
@@ -172,6 +176,7 @@ pub(crate) fn run_pool_of<
     call: A,
 ) -> (A, Result<PoolEnd<L>, NotRun>)
     requires { L.all ≡ L.parts }
+    ensures workers { IfOk result.1 (λ end. end.workers ≡ workers) }
     ensures said { IfOk result.1 (λ _. A.says call true result.0) }
     ensures unsaid { IfErr result.1 (λ not_run. IsUnsaid A.says call not_run.fault result.0) }
 {
@@ -213,14 +218,17 @@ pub(crate) fn run_pool_of<
 /// What a pool ends with whose workers left this: their badge, and the sums of their deques, on each of
 /// which what was pushed is what was taken and what is left, each task as often.
 fn end_of<L: Hands>(worked: Worked<L>) -> PoolEnd<L>
+    ensures workers { result.workers ≡ length (returned worked.back) }
     ensures badge { result.badge ≡ worked.badge }
     ensures pushed { result.pushed ≡ sum_by (λ deque. length deque.tally.pushed) (whole_deques (returned worked.back)) }
     ensures taken { result.taken ≡ sum_by (λ deque. length deque.tally.taken) (whole_deques (returned worked.back)) }
     ensures each_once { All IsAccounted (whole_deques (returned worked.back)) }
 {
     let Worked { badge, back } = worked;
+    let workers = back.count();
     let sums = back.sums();
     PoolEnd {
+        workers,
         badge,
         pushed: sums.pushed,
         taken: sums.taken,

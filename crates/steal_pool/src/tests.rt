@@ -5,8 +5,10 @@ ghost use Rattle.std.specs.Prelude.{◌≡◌};
 mod announced;
 mod faults;
 mod games;
+mod idle;
 mod overlaps;
 mod rows;
+mod searches;
 mod seats;
 
 use crate::pool::{Sizes, USUAL, run_pool_of};

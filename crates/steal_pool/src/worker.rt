@@ -91,7 +91,9 @@ fn computed<G: Gate>(worker: Worker, number: u64, gate: &G, frame: FrameId, leaf
     ensures { BringsAnswerTo frame leaf result }
 {
     gate.inside(worker, number);
-    Holding::Next(Deed::Bring(frame, LeafAnswer::compute(leaf)))
+    let answer = LeafAnswer::compute(leaf);
+    gate.after(worker, number);
+    Holding::Next(Deed::Bring(frame, answer))
 }
 
 /// Offers the step of what the worker holds, and pushes the task that it makes.

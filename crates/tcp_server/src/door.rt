@@ -1,11 +1,12 @@
 //! Where connections are taken, one after another.
 //!
 //! A process has so many file descriptors and no more. A door keeps a spare one, a second name of its listener: where no
-//! descriptor is left for a connection, the spare is given up for it, the connection is taken and closed at once, and
-//! the spare is made anew. So who can't be served is told so, the connections after it are taken as ever, and the
-//! sessions that are there go on.
+//! descriptor is left, the spare is given up and the next connection is taken with it. If a descriptor has become free by
+//! then it is the new spare, and the connection is served; else the connection is closed at once, and the spare is made
+//! anew. So who can't be served is told so, the connections after it are taken as ever, and the sessions that are there
+//! go on. Meanwhile the door waits in the system, and uses no processor.
 use std::io::{self, ErrorKind};
-use std::net::{TcpListener, TcpStream};
+use std::net::OpenListener;
 use std::sync::Wait;
 
 /// `accept` found no descriptor left in the process (Linux's EMFILE).
@@ -16,29 +17,31 @@ const SYSTEM_IS_FULL: i32 = 23;
 
 /// A listener and its spare descriptor.
 #[derive(Drop)]
-pub(crate) struct Door {
-    listener: TcpListener,
-    spare: Option<TcpListener>,
+pub(crate) struct Door<N> {
+    listener: N,
+    spare: Option<N>,
 }
 
-impl Door {
+impl<N: OpenListener + Drop> Door<N> {
     /// The door of a listener.
-    pub(crate) fn new(listener: TcpListener) -> Door {
+    pub(crate) fn new(listener: N) -> Door<N> {
         let spare = listener.try_clone().ok();
         Door { listener, spare }
     }
 
     /// The next connection, or None where it had to be turned away. One that was lost before it could be taken is
     /// passed over.
-    pub(crate) fn next<R: Wait>(&mut self, rt: &R) -> io::Result<Option<TcpStream>> {
+    pub(crate) fn next<R: Wait>(&mut self, rt: &R) -> io::Result<Option<N::Stream>> {
         for _ in rt.forever() {
             match self.listener.accept() {
                 Ok((stream, _)) => return Ok(Some(stream)),
                 Err(error) if is_passing(error.kind()) => {}
                 Err(error) if is_full(&error) && self.spare.is_some() => {
-                    if self.turn_away() {
-                        return Ok(None);
+                    self.spare = None;
+                    if let Ok((stream, _)) = self.listener.accept() {
+                        return Ok(self.with_spare(stream));
                     }
+                    self.spare = self.listener.try_clone().ok();
                 }
                 Err(error) => return Err(error),
             }
@@ -46,12 +49,15 @@ impl Door {
         unreachable!()
     }
 
-    /// Takes a connection with the spare descriptor, and closes it; tells whether one was taken.
-    pub(crate) fn turn_away(&mut self) -> bool {
-        self.spare = None;
-        let is_taken = self.listener.accept().is_ok();
+    /// A connection that was taken with the spare descriptor: None, and it is closed, where there is no other spare.
+    fn with_spare(&mut self, stream: N::Stream) -> Option<N::Stream> {
         self.spare = self.listener.try_clone().ok();
-        is_taken
+        if self.spare.is_some() {
+            return Some(stream);
+        }
+        drop(stream);
+        self.spare = self.listener.try_clone().ok();
+        None
     }
 }
 

@@ -31,6 +31,7 @@ pub fn serve<L: Hands + Send + Sync, G: Gate + Sync, R: Net + Threads + Wait + S
     gate: &G,
 ) -> Result<PoolEnd<L>, ServeFault>
     requires { L.all ≡ L.parts }
+    ensures workers { IfOk result (λ end. end.workers ≡ workers) }
 {
     let served = serve_announced(rt, alloc, desk, listener, sessions, workers, gate, Quiet);
     match served {
@@ -58,7 +59,8 @@ pub fn serve_announced<
     call: A,
 ) -> Result<(A, PoolEnd<L>), ServeFault>
     requires { L.all ≡ L.parts }
-    ensures { IfOk result (λ served. A.says call true served.0) }
+    ensures said { IfOk result (λ served. A.says call true served.0) }
+    ensures workers { IfOk result (λ served. served.1.workers ≡ workers) }
 {
     let asked = Sessions {
         count: sessions,
@@ -86,7 +88,8 @@ pub(crate) fn serve_of<
     call: A,
 ) -> Result<(A, PoolEnd<L>), ServeFault>
     requires { L.all ≡ L.parts }
-    ensures { IfOk result (λ served. A.says call true served.0) }
+    ensures said { IfOk result (λ served. A.says call true served.0) }
+    ensures workers { IfOk result (λ served. served.1.workers ≡ workers) }
 {
     serve_beside(
         rt,
@@ -115,7 +118,8 @@ fn run_announced<
     call: A,
 ) -> Result<(A, PoolEnd<L>), ServeFault>
     requires { L.all ≡ L.parts }
-    ensures { IfOk result (λ served. A.says call true served.0) }
+    ensures said { IfOk result (λ served. A.says call true served.0) }
+    ensures workers { IfOk result (λ served. served.1.workers ≡ workers) }
 {
     let (call, ended) = run_pool_announced(rt, alloc, desk, workers, gate, stack, call);
     match ended {

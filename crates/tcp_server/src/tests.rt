@@ -2,10 +2,10 @@
 //! the server does.
 ghost use Rattle.std.specs.Prelude.{◌≡◌};
 
+mod doors;
 mod reserving;
 mod tables;
 
-use crate::door::Door;
 use crate::server::{Sessions, serve_beside, serve_of};
 use crate::{ServeFault, serve};
 use reserving::MORE;
@@ -386,8 +386,8 @@ fn a_lost_connection_gives_all_back(rt: HostRuntime) -> Result<(), Fail> {
 }
 
 #[test]
-fn thirty_two_are_told_of_their_own(rt: HostRuntime) -> Result<(), Fail> {
-    let found = visited::<Brand, HostRuntime>(&rt, rt.alloc(), Blank::new(PARTS), 32, Visit::Many)?;
+fn sixty_four_are_told_of_their_own(rt: HostRuntime) -> Result<(), Fail> {
+    let found = visited::<Brand, HostRuntime>(&rt, rt.alloc(), Blank::new(PARTS), 64, Visit::Many)?;
     assert_eq!(rt; found, (true, true));
     Ok(())
 }
@@ -539,27 +539,5 @@ where
 fn a_connection_without_a_thread_is_closed_and_counts(rt: HostRuntime) -> Result<(), Fail> {
     let found = refused_threads::<Brand, HostRuntime>(&rt, rt.alloc(), Blank::new(PARTS))?;
     assert_eq!(rt; found, [0, 0]);
-    Ok(())
-}
-
-#[test]
-fn a_connection_without_a_descriptor_is_closed(rt: HostRuntime) -> Result<(), Fail> {
-    let listener = TcpListener::bind(&rt, "127.0.0.1:0")?;
-    let address = listener.local_addr()?;
-    let mut door = Door::new(listener);
-    for _ in 0..3 {
-        let turned = TcpStream::connect(&rt, address)?;
-        assert!(rt; door.turn_away());
-        assert_eq!(rt; (&turned).read(&mut [0; 1])?, 0);
-    }
-    let stream = TcpStream::connect(&rt, address)?;
-    let taken = door.next(&rt)?;
-    let Some(mut taken) = taken else {
-        panic!(rt; "turned away");
-    };
-    taken.write_all(b"?")?;
-    assert_eq!(rt; (&stream).read(&mut [0; 1])?, 1);
-    drop(door);
-    assert!(rt; TcpStream::connect(&rt, address).is_err());
     Ok(())
 }

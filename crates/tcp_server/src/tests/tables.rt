@@ -1,7 +1,7 @@
-//! Tables of jobs, over TCP.
+//! Tables of jobs, over TCP, and what jobs leave, at each grain and by one worker and by eight.
 ghost use Rattle.std.specs.Prelude.{◌≡◌};
 
-use super::{Row, are_answered};
+use super::{ANSWERED, Row, SPENT, are_answered};
 use crate::{ServeFault, serve};
 use sched_rules::{Config, Worker};
 use std::alloc::Global;
@@ -46,13 +46,14 @@ const TABLES: [Row; 15] = [
     ("BYE\n", "BYE\n"),
 ];
 
-/// Whether they are told so at a server of this grain with so many workers.
-fn are_tabled<L, R>(
+/// Whether these rows are told at a server of this grain with so many workers.
+fn are_told_by<L, R>(
     rt: &R,
     alloc: Global,
     blank: Blank,
     grain: u8,
     workers: u8,
+    rows: &[Row],
 ) -> Result<bool, Fail>
 where
     L: Hands + Send + Sync,
@@ -67,7 +68,7 @@ where
     let stream = TcpStream::connect(rt, listener.local_addr()?)?;
     let (told, served) = thread::join(
         rt,
-        || are_answered(&stream, &TABLES),
+        || are_answered(&stream, rows),
         ||
             requires { L.all ≡ L.parts }
         { serve_one(rt, alloc, &desk, listener, workers) },
@@ -94,16 +95,27 @@ where
 }
 
 #[test]
-fn tables_are_told_at_each_grain(rt: HostRuntime) -> Result<(), Fail> {
-    for (grain, workers) in [(0, 1), (0, 8), (2, 1), (2, 8), (6, 1), (6, 8)] {
-        let told = are_tabled::<Brand, HostRuntime>(
-            &rt,
-            rt.alloc(),
-            Blank::new(PARTS),
-            grain,
-            workers,
-        )?;
-        assert!(rt; told, "grain {grain}, {workers} workers");
+fn jobs_are_told_at_each_grain(rt: HostRuntime) -> Result<(), Fail> {
+    for (grain, rows) in [
+        (0, TABLES.as_slice()),
+        (2, TABLES.as_slice()),
+        (6, TABLES.as_slice()),
+        (0, ANSWERED.as_slice()),
+        (2, ANSWERED.as_slice()),
+        (6, ANSWERED.as_slice()),
+        (0, SPENT.as_slice()),
+    ] {
+        for workers in [1, 8] {
+            let told = are_told_by::<Brand, HostRuntime>(
+                &rt,
+                rt.alloc(),
+                Blank::new(PARTS),
+                grain,
+                workers,
+                rows,
+            )?;
+            assert!(rt; told, "grain {grain}, {workers} workers, {}", rows.len());
+        }
     }
     Ok(())
 }

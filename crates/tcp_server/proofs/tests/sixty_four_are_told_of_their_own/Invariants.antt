@@ -1,4 +1,4 @@
-use Rattle.tcp_server.proofs.tests.thirty_two_are_told_of_their_own.Given as goal
+use Rattle.tcp_server.proofs.tests.sixty_four_are_told_of_their_own.Given as goal
 
 abbrev pub ghosts-visited-L-Ledger : goal.ghosts-visited-L-Ledger
 ghosts-visited-L-Ledger g a = record { name = a.blank.name; parts = a.blank.parts }

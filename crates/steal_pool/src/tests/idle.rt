@@ -1,0 +1,58 @@
+//! A pool with nothing to do.
+ghost use Rattle.std.specs.Prelude.{◌≡◌};
+
+use super::seats::{is_found, opening, seat};
+use super::{Scenario, Table, play};
+use crate::Open;
+use desk::{Desk, Hands};
+use std::sync::Wait;
+use std::test::Fail;
+use std::thread;
+use std::time::{Clock, CpuClock, Duration};
+
+/// Nothing is asked for a second, and one job then.
+#[derive(Drop)]
+struct Silence<'c, C> {
+    clock: &'c C,
+}
+
+impl<C: Clock + CpuClock> Scenario for Silence<'_, C> {
+    fn play<L: Hands, R: Wait>(&self, rt: &R, desk: &Desk<L>) -> bool {
+        let Some(mut seat) = seat(rt, desk, 8, 8) else {
+            return false;
+        };
+        thread::sleep(self.clock, Duration::from_millis(100));
+        let before = self.clock.process_cpu_time().ok();
+        thread::sleep(self.clock, Duration::from_secs(1));
+        let after = self.clock.process_cpu_time().ok();
+        let asked = desk.ask(rt, &mut seat, &opening(), 1) == Ok(1);
+        let found = is_found(rt, desk, &seat, 1, &opening(), 1);
+        desk.leave(rt, seat);
+        asked && found && is_short(before, after)
+    }
+}
+
+/// Whether less than a twentieth of a second lies between two times of a clock.
+fn is_short(before: Option<Duration>, after: Option<Duration>) -> bool {
+    match (before, after) {
+        (Some(before), Some(after)) => after.saturating_sub(before) < Duration::from_millis(50),
+        _ => false,
+    }
+}
+
+/// Four workers with nothing to do use less than a twentieth of a second's processor time in a second, and then do what is
+/// asked.
+#[test]
+fn an_idle_pool_sleeps(rt: HostRuntime) -> Result<(), Fail> {
+    let table = Table {
+        scenario: &Silence { clock: &rt },
+        gate: &Open,
+        workers: 4,
+        grain: 0,
+        room: None,
+        segments: 8,
+    };
+    let played = play(&rt, rt.alloc(), &table).ok_or("no pool")?;
+    assert!(rt; played.content && played.whole);
+    Ok(())
+}
