@@ -10,3 +10,6 @@ returns-clause-small c =
     let f = frame_in c.args.frame.now in
     let told = child-told f (frame_in c.args.child.now) c.requires in
     omega (arith, told.2, few-choices (board f))
+
+pub returns-clause-inside : goal.returns-clause-inside
+returns-clause-inside c = (child-told (frame_in c.args.frame.now) (frame_in c.args.child.now) c.requires).2

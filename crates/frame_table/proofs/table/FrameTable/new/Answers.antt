@@ -1,5 +1,5 @@
 -- A table with no tree.
-use Rattle.std.proofs.Common.{refl}
+use Rattle.std.proofs.Common.{refl, rules}
 use Rattle.frame_table.proofs.table.FrameTable.new.Goals as goal
 
 pub returns-clause-count : goal.returns-clause-count
@@ -10,3 +10,6 @@ returns-clause-frames g c = λ tenant. rw c.in_ok-trees.ensures.items refl
 
 pub returns-clause-places : goal.returns-clause-places
 returns-clause-places g c = λ tenant. rw c.in_ok-trees.ensures.items refl
+
+pub invariant_of-result : goal.invariant_of-result
+invariant_of-result g c = search rules
