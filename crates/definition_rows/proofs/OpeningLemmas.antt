@@ -9,7 +9,7 @@ use Rattle.othello_moves.specs.declared.choices.Choice.TheVariants.{Square}
 use Rattle.othello_eval.specs.Tables.{IsTable}
 use Rattle.session.specs.declared.standings.Analysis.{Analysis}
 use Rattle.session.specs.Asks.{Asked, IsAnalysisOf}
-use Rattle.session.specs.DoneLines.{IsTrueDone}
+use Rattle.session.specs.DoneLines.{IsTrueDone, IsTrueTable}
 use Rattle.session.specs.Rows.{opening_board}
 use Rattle.definition_rows.specs.SmallSessions.{opening_to_1, asked_once}
 
@@ -39,6 +39,11 @@ value_of_done analysis is = is.value ∙ minimax_of is.asked is.is
 pub choice_of_done : (analysis : Analysis) → IsTrueDone asked_once 1 analysis → analysis.best.choice ≡ Some (Square 19)
 unfolding digits squares
 choice_of_done analysis is = is.choice ∙ best_of is.asked is.is
+
+-- a TABLE of job 1
+pub table_told : (analysis : Analysis) → IsTrueTable asked_once 1 analysis → IsTable 1 opening_board analysis.bounds
+unfolding digits squares
+table_told analysis is = subst (λ a. IsTable a.depth a.board analysis.bounds) (same opening_to_1 is.asked is.is) is.table
 
 -- what an office shows of job 1
 pub value_shown : (analysis : Analysis) → IsAnalysisOf (opening_to_1 ∷ []) 1 analysis → analysis.best.value ≡ negsuc 2

@@ -72,3 +72,7 @@ after_d3 depth alpha beta role = below_it 68719476736 34762915840 depth alpha be
 -- spawned, and these entries of d3 and c4
 abbrev pub above_its_best : ℕ → ℕ → ℕ → ℕ → ℕ → List ℕ
 above_its_best phase best spawned d3 c4 = 34628173824 ∷ 68853694464 ∷ 1 ∷ 1000000 ∷ 1200000 ∷ 0 ∷ 0 ∷ phase ∷ best ∷ 65 ∷ 4 ∷ spawned ∷ d3 ∷ c4 ∷ 0 ∷ 0 ∷ []
+
+-- the words of a root that searches although its best score is beta, which is 0 (1000000)
+abbrev pub at_its_beta : List ℕ
+at_its_beta = 34628173824 ∷ 68853694464 ∷ 1 ∷ 800000 ∷ 1000000 ∷ 0 ∷ 0 ∷ 3 ∷ 1000000 ∷ 65 ∷ 4 ∷ 4 ∷ 0 ∷ 0 ∷ 0 ∷ 0 ∷ []

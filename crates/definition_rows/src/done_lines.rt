@@ -26,6 +26,12 @@ pub fn what_a_done_line_is_worth()
     ensures no_job_of_a_table { TurnHolds asked_once (Tabulated 1 (Job 1)) → ⊥ }
 {}
 
+/// A TABLE of job 1 is a table of what was asked for, and there is none of another job.
+pub fn what_a_table_is_worth()
+    ensures table { (analysis : Analysis) → TurnHolds asked_once (Tabulated 1 (Told 1 (Done analysis))) → IsTable 1 opening_to_1.board analysis.bounds }
+    ensures unasked { (analysis : Analysis) → TurnHolds asked_once (Tabulated 2 (Told 2 (Done analysis))) → ⊥ }
+{}
+
 /// So it is of each line of a session, whatever came before it.
 pub fn what_each_done_line_is_worth()
     ensures first { (analysis : Analysis) → EachDoneIsTrue asked_once (Whole (codes "GET 1") ∷ []) (Made (Get 1) (Told 1 (Done analysis)) ∷ []) → analysis.best.value ≡ negsuc 2 }

@@ -1,6 +1,7 @@
 //! What a list of searches on a new core comes to, where its only Submit asked for the opening to depth 1,
 //! which is worth -3.
 ghost use Rattle.std.specs.Prelude.{◌≡◌, ℕ, List, [], ◌∷◌, negsuc, slice_index, Some, Result, Ok};
+ghost use Rattle.frame_tree.specs.declared.names.State.TheVariants.{Ready};
 ghost use Rattle.sched_rules.specs.declared.job.Job.TheVariants.{Done};
 ghost use Rattle.sched_rules.specs.declared.refusal.Refusal.{Refusal};
 ghost use Rattle.sched_rules.specs.declared.step.StepOf.{StepOf};
@@ -18,8 +19,10 @@ ghost use Rattle.jamboree_core.specs.sched_laws.Fitted.{origins_of};
 ghost use Rattle.jamboree_core.specs.Replies.{IsReplyTo};
 ghost use Rattle.jamboree_core.specs.NewRuns.{IsHeadlineFromNew};
 ghost use Rattle.jamboree_core.specs.Rows.{asked, few};
+ghost use Rattle.definition_rows.specs.SmallSearches.{at_its_beta};
 
-/// The job that is done holds -3 and d3; and it is a headline: nobody leaves a new core.
+/// The job that is done holds -3 and d3; no frame that searches has a best score of beta; and it is a headline:
+/// nobody leaves a new core.
 pub fn what_a_new_core_comes_to()
     ensures value { (steps : List (StepOf LeafAnswer)) (answers : List (Result (DidOf Leaf) Refusal)) (after : Shared) (tenant : Tenant) (words : List ℕ)
         → IsHeadlineFromNew 0 few steps answers after → tenant_in after.tenants 1 ≡ Some tenant → origins_of (only 1 (taken steps answers)) ≡ asked ∷ [] → tenant.jobs ≡ Done words ∷ []
@@ -27,6 +30,9 @@ pub fn what_a_new_core_comes_to()
     ensures choice { (steps : List (StepOf LeafAnswer)) (answers : List (Result (DidOf Leaf) Refusal)) (after : Shared) (tenant : Tenant) (words : List ℕ)
         → IsHeadlineFromNew 0 few steps answers after → tenant_in after.tenants 1 ≡ Some tenant → origins_of (only 1 (taken steps answers)) ≡ asked ∷ [] → tenant.jobs ≡ Done words ∷ []
         → slice_index words 9 ≡ 19 }
+    ensures sound { (steps : List (StepOf LeafAnswer)) (answers : List (Result (DidOf Leaf) Refusal)) (after : Shared) (tenant : Tenant)
+        → IsHeadlineFromNew 0 few steps answers after → tenant_in after.tenants 1 ≡ Some tenant
+        → tenant.frames ≡ (record { serial = 1; path = 1 ∷ []; state = Ready 0; value = at_its_beta }) ∷ [] → ⊥ }
     ensures steps { (after : Shared) → IsHeadlineFromNew 0 few (Leave 1 ∷ []) (Ok Left ∷ []) after → ⊥ }
 {}
 

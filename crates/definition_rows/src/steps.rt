@@ -6,7 +6,7 @@ ghost use Rattle.sched_rules.specs.declared.step.DidOf.TheVariants.{Admitted, Ad
 ghost use Rattle.sched_rules.specs.declared.step.StepOf.TheVariants.{Admit, AdmitMore, Leave, Steal, Submit, Take};
 ghost use Rattle.sched_rules.specs.Cores.{Shared};
 ghost use Rattle.sched_rules.specs.Headline.{AreAnswersTo, IsAnswerTo, IsHeadline, IsOneStep, IsUndisturbed};
-ghost use Rattle.definition_rows.specs.SmallCores.{core_with, going_on, quota, ready_one, root_of_tenant, two_tenants};
+ghost use Rattle.definition_rows.specs.SmallCores.{core_with, going_on, quota, ready_one, root_of_tenant, two_tenants, untaken_three};
 
 /// A step that its tenant alone is refused is refused by that number; one that meets a busy worker by Busy;
 /// any other is taken, and not refused for want of memory.
@@ -52,9 +52,10 @@ pub fn an_undisturbed_tenant()
     ensures replies { (after : Shared) → IsUndisturbed going_on (core_with []) (Admit 3 (quota 4 8) ∷ []) (Ok Left ∷ []) after 3 → ⊥ }
 {}
 
-/// The headline of a list: no tenant is disturbed, no answer is wrong, and the core is what the answers leave.
+/// The headline of a list: no tenant is disturbed (here one whose number was never taken is admitted again),
+/// no answer is wrong, and the core is what the answers leave.
 pub fn a_headline()
-    ensures undisturbed { (after : Shared) → IsHeadline going_on two_tenants (Leave 2 ∷ []) (Ok Left ∷ []) after → IsUndisturbed going_on two_tenants (Leave 2 ∷ []) (Ok Left ∷ []) after 1 }
+    ensures undisturbed { (after : Shared) → IsHeadline going_on (core_with (untaken_three ∷ [])) (Admit 3 (quota 4 8) ∷ []) (Ok Admitted ∷ []) after → ⊥ }
     ensures refused { IsHeadline going_on two_tenants (Take 1 (record { tenant = 1; serial = 9 }) ∷ []) (Err Busy ∷ []) two_tenants → ⊥ }
-    ensures left { IsHeadline going_on two_tenants [] [] (core_with (ready_one ∷ [])) → ⊥ }
+    ensures left { IsHeadline going_on two_tenants [] [] (record two_tenants { newest = 9 }) → ⊥ }
 {}

@@ -24,7 +24,7 @@ use Rattle.jamboree_core.proofs.Serving.{searches-asked}
 use Rattle.hall.specs.Journals.{journal_in}
 use Rattle.hall.specs.Halls.{HallOf, Explains, IsExplained}
 use Rattle.promises.specs.Tenants.{SearchStep, AreSame}
-use Rattle.promises.specs.Replies.{IsAskedBy, IsTrueTable, IsEntryOfSubmit}
+use Rattle.promises.specs.Replies.{IsAskedBy, IsTrueTable, IsValueOfSubmit, IsEntryOfSubmit}
 use Rattle.promises.proofs.Same.{are-same}
 use Rattle.promises.proofs.Replied.{root-at, true-table}
 
@@ -61,6 +61,11 @@ asked-by journal job reply searches answers = by (origin_at (origins_of journal)
           shallow = (let P : ℕ → Type 0 = λ d. d ≤ 12 in subst P places.2 root.shallow);
           words = at ∙ ap (λ (ws : List ℕ). Some ws) (root.are ∙ rw (places.0, places.1, places.2) refl);
         }
+
+pub value-of : (journal : List SearchStep) (job : ℕ) (reply : Reply) (value : ℤ) (choice : Option Choice) → AreSearches journal → AnswersTo (origin_at (origins_of journal) job) (Some (Done reply)) →
+    value ≡ minimax (depth_of reply) (cells_of (board_of reply).own (board_of reply).opp) → choice ≡ best_choice (depth_of reply) (cells_of (board_of reply).own (board_of reply).opp) → IsValueOfSubmit journal job value choice
+value-of journal job reply value choice searches answers value_is choice_is =
+    record { own = (board_of reply).own; opp = (board_of reply).opp; depth = depth_of reply; asked = asked-by journal job reply searches answers; value_is = value_is; choice_is = choice_is }
 
 pub entry-of-submit : (journal : List SearchStep) (job : ℕ) (reply : Reply) (entries : List Bound) (i : ℕ) (entry : Bound) → AreSearches journal → AnswersTo (origin_at (origins_of journal) job) (Some (Done reply)) →
     IsTable (depth_of reply) (cells_of (board_of reply).own (board_of reply).opp) entries → slice_get entries i ≡ Some entry → IsEntryOfSubmit journal job i entry

@@ -50,6 +50,15 @@ pub record RepliesToSubmit (steps : List SearchStep) (job : ℕ) (words : List �
   pub asked : IsAskedBy steps job own opp depth
   pub reply : IsReplyInWords own opp depth words
 
+-- a value and a choice are the minimax value and the best choice of what the Submit of this number asked for
+pub record IsValueOfSubmit (steps : List SearchStep) (job : ℕ) (value : ℤ) (choice : Option Choice) : Type 0 where
+  pub own : ℕ
+  pub opp : ℕ
+  pub depth : ℕ
+  pub asked : IsAskedBy steps job own opp depth
+  pub value_is : value ≡ minimax depth (cells_of own opp)
+  pub choice_is : choice ≡ best_choice depth (cells_of own opp)
+
 -- entry i of the table of what the Submit of this number asked for
 pub record IsEntryOfSubmit (steps : List SearchStep) (job i : ℕ) (entry : Bound) : Type 0 where
   pub own : ℕ

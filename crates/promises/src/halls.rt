@@ -3,10 +3,10 @@ ghost use Rattle.std.specs.Prelude.{◌≡◌, ℕ, IfSome};
 ghost use Rattle.sched_rules.specs.Cores.{tenant_in};
 ghost use Rattle.hall.specs.Journals.{journal_in};
 ghost use Rattle.promises.specs.Tenants.{AreSame};
-ghost use Rattle.promises.specs.Replies.{IsEntryOfSubmit};
+ghost use Rattle.promises.specs.Replies.{IsValueOfSubmit, IsEntryOfSubmit};
 
 use hall::{Hall, Outcome};
-use othello_eval::Bound;
+use othello_eval::{Bound, Valued};
 use std::alloc::Allocator;
 
 /// Of two halls whose searches have the same grain: a tenant whose journals, the lists of its own taken
@@ -17,6 +17,21 @@ pub fn same_journals<A: Allocator, B: Allocator>(one: &Hall<A>, other: &Hall<B>)
 {
     let _one = one.count();
     let _other = other.count();
+}
+
+/// The value and the choice that a hall tells of a job that is done: the minimax value and the best
+/// choice of the board to the depth that the Submit of its number asked for, by its tenant's journal.
+pub fn value_in<A: Allocator>(hall: &Hall<A>, tenant: u64, job: u64) -> Option<Valued>
+    ensures { IfSome result (λ told. IsValueOfSubmit (journal_in hall.now.journals tenant) job told.value told.choice) }
+{
+    let _count = hall.count();
+    match hall.outcome(tenant, job) {
+        Some(Outcome::Done(reply)) => Some(Valued {
+            value: reply.value(),
+            choice: reply.choice(),
+        }),
+        _ => None,
+    }
 }
 
 /// An entry of the table that a hall tells of a job that is done, by its number from 0 on: it is true of

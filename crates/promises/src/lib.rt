@@ -8,7 +8,7 @@
 //!
 //! - [`run_two`]: no tenant is disturbed. [`run`]: what a step is refused for, and that each completed
 //!   reply is the minimax value (with the best choice and a true table) of what was asked.
-//! - [`same_journals`], [`entry_in`]: the same of a hall, which lies under the server's lock.
+//! - [`same_journals`], [`value_in`], [`entry_in`]: the same of a hall, which lies under the server's lock.
 //! - [`serve`]: each line that a session writes. [`solve`]: each line that `solve` writes.
 //!
 //! ```text
@@ -23,7 +23,7 @@ mod runs;
 mod sessions;
 mod solving;
 
-pub use halls::{entry_in, same_journals};
+pub use halls::{entry_in, same_journals, value_in};
 pub use runs::{After, run, run_two};
 pub use sessions::serve;
 pub use solving::solve;
