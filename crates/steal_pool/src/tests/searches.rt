@@ -73,7 +73,7 @@ impl<C: Clock + CpuClock> Long<'_, C> {
 /// The nanoseconds of a time, or 0.
 fn nanos(time: io::Result<Duration>) -> u64 {
     match time {
-        Ok(time) => time.as_nanos() as u64,
+        Ok(time) => u64::try_from(time.as_nanos()).unwrap_or(0),
         Err(_) => 0,
     }
 }
