@@ -236,14 +236,16 @@ fn found<A: Allocator>(all: &mut Vec<DequeEnds<A>, A>, worker: Worker, many: u64
     found
 }
 
-/// Of as many workers as can be, each has room for as many tasks as were asked for, and the last takes all of the second's.
+/// Of as many workers as can be, each has room for as many tasks as were asked for, and the third takes all of the second's,
+/// whose deque it tries last.
 #[test]
 fn a_deque_holds_as_many_as_it_has_room_for(rt: HostRuntime) -> Result<(), Fail> {
     let second = Worker::new(2).ok_or("a worker")?;
+    let third = Worker::new(3).ok_or("a worker")?;
     let last = Worker::new(32).ok_or("a worker")?;
     let mut all = deal(rt.alloc(), last, 1024)?;
     assert_eq!(rt; kept(&mut all, second, 1100), 1024);
-    assert_eq!(rt; found(&mut all, last, 1100), 1024);
+    assert_eq!(rt; found(&mut all, third, 1100), 1024);
     Ok(())
 }
 
