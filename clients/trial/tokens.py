@@ -1,9 +1,12 @@
 """Trials of each client's token, by deploy/budgets where guests have no session: with it a client is served, else not."""
+import contextlib
 import hashlib
 import json
 import pathlib
+import socket
 import subprocess
 import sys
+import threading
 import urllib.request
 
 import common
@@ -27,6 +30,24 @@ deep = { sessions = 3, segments = 3072, nodes = 196608 }
 PATIENT = ("--silence", 20)  # a line goes through three programs more, on a machine that may be busy
 
 
+@contextlib.contextmanager
+def unfit():
+    """A server that answers each connection by what doesn't fit its HELLO."""
+    with socket.create_server(("127.0.0.1", 0)) as listener:
+
+        def serve():
+            with contextlib.suppress(OSError):
+                while True:
+                    stream, _ = listener.accept()
+                    with stream:
+                        stream.recv(100)
+                        stream.sendall(b"WELCOME 9 9\n")
+
+        threading.Thread(target=serve, daemon=True).start()
+        yield listener.getsockname()[1]
+        listener.shutdown(socket.SHUT_RDWR)
+
+
 def try_lines(name, port, files, asked, wanted):
     """With the token the lines are answered; without it, and with another one, HELLO is refused by 14."""
     own, other, foul = files
@@ -41,9 +62,9 @@ def try_lines(name, port, files, asked, wanted):
         given, done = run(name, (*words, *(() if name == "shell" else (*PATIENT, "--patience", 0)), *here), asked)
         said = given[0] if name == "shell" and given else done.stderr
         check(done.returncode == 1 and "ERR 14" in said and not any(line.startswith("DONE") for line in given), f"{name} {words}: {said}")
-    with common.scripted(["WELCOME 9 9"]) as false_port:
+    with unfit() as false_port:
         told = run(name, ("--token", own, "127.0.0.1", false_port, *here[2:]), asked)[1]
-    check(told.returncode == 1 and TOKEN not in told.stderr and len(told.stderr.splitlines()) == 1, f"{name}: says {told.stderr!r}")
+    check(told.returncode == 1 and "WELCOME 9 9" in told.stderr and TOKEN not in told.stderr, f"{name}: of an answer that doesn't fit it says {told.stderr!r}")
     for foul in ("/nowhere", foul):
         told = run(name, ("--token", foul, *here), asked)[1]
         check(told.returncode == 1 and len(told.stderr.splitlines()) == 1, f"{name}: of a file without a token it says {told.stderr!r}")
