@@ -27,6 +27,7 @@ PORTS = (4711, 4712, 4713)
 ALL = "budgets: that is all\n"
 CLASSES = (4721, 4722)  # HAProxy's ports of the two classes
 BUDGETS = 4720
+kept = []  # a lock for each port that this trial was given
 
 
 def fail(text):
@@ -48,8 +49,16 @@ def check(told, text):
 
 
 def free_port():
-    """A port that nobody listens at, below those that the system gives to connections."""
+    """A port that nobody listens at, below those that the system gives to connections. No other is given it until this trial's end:
+    two that find it free at once would both take it."""
     for port in random.sample(range(20000, 32000), 100):
+        lock = socket.socket(socket.AF_UNIX)
+        try:
+            lock.bind(f"\0othello {port}")
+        except OSError:
+            lock.close()
+            continue
+        kept.append(lock)
         with socket.socket() as probe:
             if probe.connect_ex(("127.0.0.1", port)):
                 return port

@@ -6,6 +6,8 @@ import java.net.Socket;
 import java.net.SocketTimeoutException;
 import java.net.UnknownHostException;
 import java.nio.charset.StandardCharsets;
+import java.nio.file.Files;
+import java.nio.file.Path;
 import java.util.ArrayDeque;
 import java.util.ArrayList;
 import java.util.Arrays;
@@ -28,13 +30,14 @@ import javax.net.ssl.SSLSocketFactory;
  * position); System.out.println(session.await(job) + " " + session.table(job)); }}, which prints {@code [DONE, -3, d3]} and
  * the table, {@code [d3=-3, c4<-3, ..]}.
  *
- * <p>As a command: {@code java Othello.java [--tls] [--tables] [--ahead N] [--patience S] [--silence S] [--timeout S] HOST PORT
- * SEGMENTS NODES < lines}, where each line is {@code depth position}: the answers in order, each in the place of its line and as
+ * <p>As a command: {@code java Othello.java [--tls] [--token FILE] [--tables] [--ahead N] [--patience S] [--silence S] [--timeout S]
+ * HOST PORT SEGMENTS NODES < lines}, where each line is {@code depth position}: the answers in order, each in the place of its line and as
  * soon as it is known. With {@code --tables} each is followed by the board with what is known of each choice. It opens as many
  * sessions as it needs. What comes in is asked at once, N lines at a time at most (16): {@code (echo "2 $O"; sleep 6) | java
  * Othello.java 127.0.0.1 4711 64 4096} answers at the beginning, and ends after 6 s. A server that isn't there, or says nothing
  * where it answers at once, is given up after {@code --silence} seconds (1.5): one line, and status 1. One that is full is asked
- * again for {@code --patience} seconds (30). A line that takes {@code --timeout} seconds is cancelled.
+ * again for {@code --patience} seconds (30). A line that takes {@code --timeout} seconds is cancelled. FILE has the token of a customer
+ * of deploy/budgets.
  */
 public final class Othello implements AutoCloseable {
   /** What the numbers of {@code ERR} say. */
@@ -82,20 +85,23 @@ public final class Othello implements AutoCloseable {
   private final Socket socket;
   private final BufferedReader lines;
   private final int silence;
+  private final String token;
   private String broken; // why this session can't be used any more
   private int jobs;
 
   public Othello(String host, int port, int segments, int nodes, boolean secure) throws IOException, Refused {
-    this(host, port, segments, nodes, secure, 0, 0);
+    this(host, port, segments, nodes, secure, 0, 0, null);
   }
 
   /**
    * The same, with the milliseconds that the server may take to answer what it answers at once, which is all but WAIT: for
-   * HELLO and the connection, and for all else. No limit where they are 0.
+   * HELLO and the connection, and for all else; no limit where they are 0. And with the token of a customer of deploy/budgets, or
+   * null.
    */
-  public Othello(String host, int port, int segments, int nodes, boolean secure, int hello, int silence)
+  public Othello(String host, int port, int segments, int nodes, boolean secure, int hello, int silence, String token)
       throws IOException, Refused {
     this.silence = silence;
+    this.token = token;
     var plain = new Socket();
     try {
       plain.connect(new InetSocketAddress(host, port), hello);
@@ -122,7 +128,8 @@ public final class Othello implements AutoCloseable {
     var line = String.join(" ", Arrays.stream(words).map(String::valueOf).toList());
     if (line.contains("\n")) throw new IllegalArgumentException("a line has one LF, at its end");
     broken = words[0] + " was interrupted"; // until its answer has been read
-    socket.getOutputStream().write((line + "\n").getBytes(StandardCharsets.ISO_8859_1));
+    var last = token != null && words[0].equals("HELLO") ? " " + token : ""; // it stands in no fault
+    socket.getOutputStream().write((line + last + "\n").getBytes(StandardCharsets.ISO_8859_1));
     if (words[0].equals("WAIT")) socket.setSoTimeout(0);
     String text;
     try {
@@ -276,13 +283,15 @@ public final class Othello implements AutoCloseable {
 
   /** The command: it asks what comes in, so many lines at a time, and writes the answers in their order. */
   private static final class Command {
-    static final String USAGE = "usage: java Othello.java [--tls] [--tables] [--ahead N] [--patience S] [--silence S] "
+    static final String USAGE = "usage: java Othello.java [--tls] [--token FILE] [--tables] [--ahead N] [--patience S] [--silence S] "
         + "[--timeout S] HOST PORT SEGMENTS NODES < lines";
     static final Question END = new Question("");
     final List<String> words = new ArrayList<>(); // host, port, segments, nodes
     final Map<String, Double> numbers = new HashMap<>(Map.of("--ahead", 16.0, "--patience", 30.0, "--silence", 1.5, "--timeout", 0.0));
     boolean secure;
     boolean tabled;
+    String tokenFile; // or null
+    String token;
     final ArrayDeque<Question> window = new ArrayDeque<>(); // what was asked, or is to be asked at once
     BlockingQueue<Question> arrivals; // what came in behind it
     boolean ended; // nothing more comes in
@@ -292,6 +301,7 @@ public final class Othello implements AutoCloseable {
       for (int at = 0; at < arguments.length; at++) {
         if (arguments[at].equals("--tls")) secure = true;
         else if (arguments[at].equals("--tables")) tabled = true;
+        else if (arguments[at].equals("--token")) tokenFile = arguments[++at];
         else if (numbers.containsKey(arguments[at])) numbers.put(arguments[at], Double.valueOf(arguments[++at]));
         else if (arguments[at].startsWith("--")) throw new IllegalArgumentException(arguments[at]);
         else words.add(arguments[at]);
@@ -346,7 +356,7 @@ public final class Othello implements AutoCloseable {
         try {
           var left = (int) Math.max(silence - since(begun), 50);
           session = new Othello(words.get(0), Integer.parseInt(words.get(1)), Integer.parseInt(words.get(2)),
-              Integer.parseInt(words.get(3)), secure, left, silence);
+              Integer.parseInt(words.get(3)), secure, left, silence, token);
           return;
         } catch (Refused refusal) {
           if (!LATER.contains(refusal.number) || since(begun) > milliseconds("--patience")) throw refusal;
@@ -418,7 +428,15 @@ public final class Othello implements AutoCloseable {
       return false;
     }
 
+    /** The token that the file has: what stands in a command's line every user of the host can read. */
+    void readToken() throws IOException {
+      if (tokenFile == null) return;
+      token = Files.readString(Path.of(tokenFile), StandardCharsets.ISO_8859_1).trim();
+      if (!token.matches("[!-~]{1,64}")) throw new IOException(tokenFile + " has no token: 1 to 64 letters, digits and signs");
+    }
+
     void run() throws IOException, Refused, InterruptedException {
+      readToken();
       var reader = new Thread(this::read);
       reader.setDaemon(true);
       reader.start();

@@ -4,13 +4,15 @@
 //   const job = await session.ask(`6 ${position}`);
 //   console.log(await session.wait(job));  // [ 'DONE', -3, 'd3' ] or [ 'SPENT' ]
 //   console.log(await session.table(job)); // [ [ 'd3', '=', -3 ], [ 'c4', '<', -3 ], .. ]
-// As a command: othello.mjs [--tls] [--tables] [--ahead N] [--patience S] [--silence S] [--timeout S] HOST PORT SEGMENTS NODES
-// < lines, where each is `depth position`: the answers in order, each in the place of its line and as soon as it is known.
+// As a command: othello.mjs [--tls] [--token FILE] [--tables] [--ahead N] [--patience S] [--silence S] [--timeout S] HOST PORT
+// SEGMENTS NODES < lines, where each is `depth position`: the answers in order, each in the place of its line and as soon as it is known.
 // With --tables each is followed by the board with what is known of each choice; with --tls the variable NODE_EXTRA_CA_CERTS
 // may name a file of authorities. What comes in is asked at once, N lines at a time at most (16):
 //   (echo "2 $O"; sleep 6) | othello.mjs 127.0.0.1 4711 64 4096    # answers at the beginning, and ends after 6 s
 // A server that isn't there, or says nothing where it answers at once, is given up after --silence seconds (1.5): one line, and
-// status 1. One that is full is asked again for --patience seconds (30). A line that takes --timeout is cancelled.
+// status 1. One that is full is asked again for --patience seconds (30). A line that takes --timeout is cancelled. FILE has the token of
+// a customer of deploy/budgets.
+import fs from "node:fs";
 import net from "node:net";
 import readline from "node:readline";
 import { setTimeout as sleep } from "node:timers/promises";
@@ -66,22 +68,24 @@ export function boardOf(position, entries, best) {
 export class Session {
   waiting = []; // what was sent and isn't answered: its line, what must stand in the answer again, and its promise
   jobs = 0; broken = null; // how many were asked, and why the session can't be used any more
-  /** `silence`: the milliseconds that the server may take to what it answers at once, which is all but WAIT; no limit if 0. */
-  static async open({ host, port, segments, nodes, secure, silence = 0 }) {
+  /** `silence`: the milliseconds that the server may take to what it answers at once, which is all but WAIT; no limit if 0. `token`:
+   * a customer's of deploy/budgets. */
+  static async open({ host, port, segments, nodes, secure, silence = 0, token = "" }) {
     const session = new Session();
     session.silence = silence;
     session.socket = secure ? tls.connect({ host, port, servername: net.isIP(host) ? undefined : host }) : net.connect({ host, port });
     session.socket.setNoDelay(true).on("error", (error) => session.drop(error)).on("close", () => session.drop());
     readline.createInterface({ input: session.socket }).on("line", (line) => session.answered(line)).on("error", () => {});
-    await session.call(["HELLO", segments, nodes], () => [segments, nodes]).catch((fault) => session.drop(fault, true));
+    await session.call(["HELLO", segments, nodes], () => [segments, nodes], token).catch((fault) => session.drop(fault, true));
     return session;
   }
 
-  /** Sends one line, and gives the words of its answer, in which these words must stand again. */
-  async call(words, again = () => []) {
+  /** Sends one line, and gives the words of its answer, in which these words must stand again. A token is its last word, and stands
+   * in no fault. */
+  async call(words, again = () => [], token = "") {
     const line = words.join(" ");
-    if (this.broken || line.includes("\n")) throw this.broken ?? new Error("a line has one LF, at its end");
-    this.socket.write(`${line}\n`, "latin1");
+    if (this.broken || `${line}${token}`.includes("\n")) throw this.broken ?? new Error("a line has one LF, at its end");
+    this.socket.write(token ? `${line} ${token}\n` : `${line}\n`, "latin1");
     return new Promise((resolve, reject) => {
       this.waiting.push({ line, word: words[0], again, resolve, reject });
       if (this.waiting.length === 1) this.listen();
@@ -289,11 +293,18 @@ export async function* answers(where, lines, how = {}) {
   for await (const { answer } of answered(where, lines, how)) yield answer;
 }
 
-const USAGE = "usage: othello.mjs [--tls] [--tables] [--ahead N] [--patience S] [--silence S] [--timeout S] HOST PORT SEGMENTS NODES < lines";
+const USAGE = "usage: othello.mjs [--tls] [--token FILE] [--tables] [--ahead N] [--patience S] [--silence S] [--timeout S] HOST PORT SEGMENTS NODES < lines";
+
+/** The token that a file has: what stands in a command's line every user of the host can read. */
+function tokenIn(path) {
+  const token = fs.readFileSync(path, "latin1").trim();
+  if (!/^[!-~]{1,64}$/.test(token)) throw new Lost(`${path} has no token: 1 to 64 letters, digits and signs`);
+  return token;
+}
 
 async function main() {
   const text = { type: "string" };
-  const options = { tls: { type: "boolean" }, tables: { type: "boolean" }, ahead: text, patience: text, silence: text, timeout: text };
+  const options = { tls: { type: "boolean" }, tables: { type: "boolean" }, token: text, ahead: text, patience: text, silence: text, timeout: text };
   let [given, words] = [{}, []];
   try {
     ({ values: given, positionals: words } = parseArgs({ options, allowPositionals: true }));
@@ -312,7 +323,8 @@ async function main() {
   process.stdin.setEncoding("latin1");
   const lines = readline.createInterface({ input: process.stdin });
   try {
-    for await (const { line, answer, table } of answered({ host, port, segments, nodes, secure: given.tls }, lines, how)) {
+    const token = given.token === undefined ? "" : tokenIn(given.token);
+    for await (const { line, answer, table } of answered({ host, port, segments, nodes, secure: given.tls, token }, lines, how)) {
       console.log(answer.join(" "));
       if (table) console.log(boardOf(line.slice(line.indexOf(" ") + 1), table, answer[2]).join("\n"));
     }

@@ -1,7 +1,7 @@
 #!/usr/bin/env python3
 """An engine for boards that speak NBoard's protocol, which has its values from a server of `othello serve`.
 
-usage: bridge.py [--depth 6] [--tls [--authority FILE]] HOST PORT        (what the board sends comes by standard input)
+usage: bridge.py [--depth 6] [--tls [--authority FILE]] [--token FILE] HOST PORT     (what the board sends comes by standard input)
 
 A board starts it as its engine, with this line as the command. By hand:
 
@@ -49,7 +49,7 @@ import time
 
 HERE = pathlib.Path(__file__).resolve().parent
 sys.path[:0] = [str(HERE.parent / "python"), str(HERE.parent / "teacher")]
-from othello import SILENCE, Client, Refused, Unreachable, tls_context  # noqa: E402
+from othello import Client, Refused, Unreachable, add_server_options, server_options  # noqa: E402
 from review import A_DISC, GREATEST_EVALUATION, OTHER, SQUARES, START, can_move, flips, played  # noqa: E402
 
 NAME = "Coluwen"
@@ -306,12 +306,9 @@ def main():
     words.add_argument("--depth", type=int, default=6, choices=range(1, DEEPEST + 1), metavar="1..12")
     words.add_argument("--segments", type=int, default=256)
     words.add_argument("--nodes", type=int, default=65536)
-    words.add_argument("--silence", type=float, default=SILENCE)
-    words.add_argument("--tls", action="store_true", help="speak TLS, and check the host's certificate")
-    words.add_argument("--authority", metavar="FILE", help="with --tls: the authorities to check it by")
+    add_server_options(words)
     asked = words.parse_args()
-    tls = tls_context(asked.authority) if asked.tls else None
-    client = Client(asked.host, asked.port, asked.segments, asked.nodes, tls=tls, silence=asked.silence)
+    client = Client(asked.host, asked.port, asked.segments, asked.nodes, **server_options(asked))
     lock, heard = threading.Lock(), queue.Queue()
 
     def tell(line):

@@ -17,9 +17,11 @@ What comes in is asked at once, `ahead` lines at a time at most:
                (echo "2 $O"; sleep 6) | othello.py 127.0.0.1 4711 64 4096     # answers at the beginning, and ends after 6 s
 A server that isn't there, or says nothing where it answers at once, is given up after `silence` seconds (1.5), and the
 command says so in one line and ends with status 1. Where HAProxy's queue may hold a session, give `--silence 60`.
+A customer of deploy/budgets gives its token: `token=`, or `--token FILE`.
 """
 import argparse
 import collections
+import re
 import socket
 import ssl
 import sys
@@ -96,6 +98,15 @@ def tls_context(authority=None):
     return ssl.create_default_context(cafile=authority)
 
 
+def token_in(path):
+    """The token that a file has: what stands in a command's line every user of the host can read."""
+    with open(path, encoding="latin-1") as file:
+        token = file.read().strip()
+    if not re.fullmatch("[!-~]{1,64}", token):
+        raise OSError(f"{path} has no token: 1 to 64 letters, digits and signs")
+    return token
+
+
 def entry_of(text):
     """An entry of a table, `d3=-3`: the move, the sign and the number."""
     sign = next((sign for sign in SIGNS if sign in text), None)
@@ -124,9 +135,9 @@ class Session:
 
     `timeout` is how many seconds `wait` gives a job: after them the job is cancelled. `silence` is how many the server may
     take to answer what it answers at once, which is all but WAIT; after them the session is broken. Without either there is
-    no limit; with a `timeout` alone silence has as many seconds, 1.5 at least."""
+    no limit; with a `timeout` alone silence has as many seconds, 1.5 at least. `token` is a customer's of deploy/budgets."""
 
-    def __init__(self, host, port, segments, nodes, timeout=None, tls=None, silence=None):
+    def __init__(self, host, port, segments, nodes, timeout=None, tls=None, silence=None, token=None):
         self.lock, self.broken, self.jobs = threading.Lock(), None, 0
         if silence is None and timeout is not None:
             silence = max(timeout, SILENCE)
@@ -137,7 +148,7 @@ class Session:
             if tls:
                 self.socket = tls.wrap_socket(self.socket, server_hostname=host)
             self.lines = self.socket.makefile("rb")
-            self.call("HELLO", segments, nodes, again=(segments, nodes))
+            self.call("HELLO", segments, nodes, again=(segments, nodes), token=token)
         except BaseException:
             self.socket.close()
             raise
@@ -145,10 +156,11 @@ class Session:
     def connect(self, host, port, timeout):
         return socket.create_connection((host, port), timeout)
 
-    def call(self, word, *words, again=()):
-        """Sends one line and gives the words of its answer, in which these words of the line must stand again."""
+    def call(self, word, *words, again=(), token=None):
+        """Sends one line and gives the words of its answer, in which these words of the line must stand again. A token is its last
+        word, and stands in no fault."""
         line = " ".join(map(str, (word, *words)))
-        if "\n" in line:
+        if "\n" in line or "\n" in (token or ""):
             raise ValueError("a line has one LF, at its end")
         with self.lock:
             if self.broken:
@@ -157,7 +169,7 @@ class Session:
             if self.silence is not None:
                 self.socket.settimeout(None if word == "WAIT" else self.silence)
             try:
-                self.socket.sendall(line.encode("latin-1") + b"\n")
+                self.socket.sendall((f"{line} {token}\n" if token else f"{line}\n").encode("latin-1"))
                 answer = self.lines.readline(LONGEST)
             except TimeoutError:
                 raise TimeoutError(f"no answer to {word} in {self.socket.gettimeout():.2g} s") from None
@@ -323,10 +335,10 @@ class Client:
     `ahead`: how many lines are asked at a time at most. `patience`: for how many seconds a server that is full (ERR 14, 19) is
     asked again. `timeout`: how many a line may take from when it is asked; then its job is cancelled, and that is its answer.
     `silence`: after how many a server that can't be reached, or doesn't answer what it answers at once, is given up. `tell`:
-    what is called with a line of text where there is something to wait for."""
+    what is called with a line of text where there is something to wait for. `token`: as of a `Session`."""
 
-    def __init__(self, host, port, segments, nodes, ahead=16, patience=30, timeout=None, tls=None, silence=SILENCE, tell=None):
-        self.host, self.port, self.reserve, self.tls = host, port, (segments, nodes), tls
+    def __init__(self, host, port, segments, nodes, ahead=16, patience=30, timeout=None, tls=None, silence=SILENCE, tell=None, token=None):
+        self.host, self.port, self.reserve, self.tls, self.token = host, port, (segments, nodes), tls, token
         self.ahead, self.patience, self.timeout, self.silence = max(ahead, 1), patience, timeout, silence
         self.tell = tell or (lambda text: None)
         self.sessions = self.lost = 0
@@ -336,21 +348,21 @@ class Client:
         """Ends what is asked for: `answers` raises Stopped soon, and its jobs are dropped. Another thread may call it."""
         self.stopped = True
 
-    def open(self):
+    def open(self, patience=None):
         """A new session. Where the server is full for now it is tried again, and where it can't be reached, for a moment."""
-        begun, told = time.monotonic(), False
+        begun, told, patience = time.monotonic(), False, self.patience if patience is None else patience
         while True:
             try:
                 left = max(self.silence - (time.monotonic() - begun), 0.05)
-                session = Session(self.host, self.port, *self.reserve, tls=self.tls, silence=left)
+                session = Session(self.host, self.port, *self.reserve, tls=self.tls, silence=left, token=self.token)
                 session.silence = self.silence
                 self.sessions += 1
                 return session
             except Refused as fault:
-                if fault.number not in LATER or time.monotonic() - begun > self.patience:
+                if fault.number not in LATER or time.monotonic() - begun > patience:
                     raise
                 if not told and time.monotonic() - begun > 1:
-                    self.tell(f"{fault}; it is asked again for {self.patience:g} s")
+                    self.tell(f"{fault}; it is asked again for {patience:g} s")
                     told = True
             except (ssl.SSLCertVerificationError, socket.gaierror) as fault:
                 raise Unreachable(f"{self.host}:{self.port}: {fault.strerror or fault}") from fault
@@ -459,6 +471,19 @@ def text_of_table(question):
     return "\n".join([text, *board_of(question.line.split(" ", 1)[1], question.table, question.answer[2])])
 
 
+def add_server_options(words):
+    """The options by which each command says how the server is spoken to."""
+    words.add_argument("--silence", type=float, default=SILENCE, help="seconds after which a server that says nothing is given up (1.5)")
+    words.add_argument("--tls", action="store_true", help="speak TLS, and check the host's certificate")
+    words.add_argument("--authority", metavar="FILE", help="with --tls: the authorities to check it by")
+    words.add_argument("--token", metavar="FILE", help="a file that has the customer's token (docs/DEPLOY.md, Budgets)")
+
+
+def server_options(asked):
+    """What they say, as `Client` takes it."""
+    return {"silence": asked.silence, "tls": tls_context(asked.authority) if asked.tls else None, "token": token_in(asked.token) if asked.token else None}
+
+
 def main():
     words = argparse.ArgumentParser(description="Answers lines `depth position` by a server of `othello serve`.")
     words.add_argument("host")
@@ -467,15 +492,12 @@ def main():
     words.add_argument("nodes", type=int)
     words.add_argument("--ahead", type=int, default=16, help="how many lines are asked at a time at most (16)")
     words.add_argument("--patience", type=float, default=30, help="seconds for which a server that is full is asked again (30)")
-    words.add_argument("--silence", type=float, default=SILENCE, help="seconds after which a server that says nothing is given up (1.5)")
     words.add_argument("--timeout", type=float, help="seconds that a line may take; its job is cancelled then")
     words.add_argument("--tables", action="store_true", help="show what is known of each choice")
-    words.add_argument("--tls", action="store_true", help="speak TLS, and check the host's certificate")
-    words.add_argument("--authority", metavar="FILE", help="with --tls: the authorities to check it by")
+    add_server_options(words)
     asked = words.parse_args()
-    tls = tls_context(asked.authority) if asked.tls else None
-    client = Client(asked.host, asked.port, asked.segments, asked.nodes, asked.ahead, asked.patience, asked.timeout, tls,
-                    asked.silence, lambda text: print(f"othello.py: {text}", file=sys.stderr, flush=True))  # fmt: skip
+    client = Client(asked.host, asked.port, asked.segments, asked.nodes, asked.ahead, asked.patience, asked.timeout,
+                    tell=lambda text: print(f"othello.py: {text}", file=sys.stderr, flush=True), **server_options(asked))  # fmt: skip
     lines = (line.rstrip("\n").removesuffix("\r") for line in open(0, encoding="latin-1", newline="\n"))
     count, start = 0, time.monotonic()
     questions = (Question(line, asked.tables) for line in lines)

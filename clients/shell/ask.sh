@@ -2,6 +2,7 @@
 # Asks a server for one position, or for each line `depth position` of standard input: one session, with bash alone.
 # usage: clients/shell/ask.sh HOST PORT DEPTH POSITION [SEGMENTS NODES]           (64 segments, 4096 nodes)
 #        clients/shell/ask.sh [--ahead N] HOST PORT - [SEGMENTS NODES] < lines    (16 lines are asked at a time at most)
+#        With --token FILE in front: the file has the token of a customer of deploy/budgets.
 # Prints `DONE job value move`, `SPENT job` or `ERR number`, in order, each as soon as it is known; what comes in is asked at once:
 #        (echo "2 $O"; sleep 6) | clients/shell/ask.sh 127.0.0.1 4711 -           # answers at the beginning
 # The status is 0 where all are DONE, and 1 for anything else. A server that isn't there, or says nothing for 1.5 seconds where it
@@ -22,9 +23,9 @@ reach() {
   trap - USR1
 }
 
-# Sends a line, and reads its answer, which must be of this form or an ERR.
-call() {
-  printf '%s\n' "$1" 2> /dev/null >&"$server" || lost "the server ended the session"
+# Sends a line, with a token behind it if there is one, and reads its answer, which must be of this form or an ERR.
+call() { # LINE FORM [TOKEN]
+  printf '%s\n' "$1${3:+ $3}" 2> /dev/null >&"$server" || lost "the server ended the session"
   answer=
   IFS= read -r -t "$silence" -u "$server" answer 2> /dev/null || lost "no answer to ${1%% *}"
   [[ $answer =~ ^($2|ERR [0-9]+)$ ]] || lost "$1 was answered by $answer"
@@ -68,19 +69,25 @@ tell() {
   asked=("${asked[@]:1}")
 }
 
-ahead=16
-if [[ ${1:-} == --ahead ]]; then
-  ahead=${2:-16}
+ahead=16 token=''
+while [[ ${1:-} == --* && $# -gt 1 ]]; do
+  case $1 in
+    --ahead) ahead=$2 ;;
+    --token)
+      { read -r token < "$2"; } 2> /dev/null || true
+      [[ $token =~ ^[[:graph:]]{1,64}$ ]] || { echo "ask.sh: $2 has no token: 1 to 64 letters, digits and signs" >&2; exit 1; } ;;
+    *) break ;;
+  esac
   shift 2
-fi
+done
 words=("$@")
 if [[ ${3:-} == - ]]; then words=("${@:1:3}" - "${@:4}"); fi # the lines come by standard input
-((${#words[@]} == 4 || ${#words[@]} == 6)) || { sed -n '2,8s/^# //p' "$0" >&2; exit 2; }
+((${#words[@]} == 4 || ${#words[@]} == 6)) || { sed -n '2,9s/^# //p' "$0" >&2; exit 2; }
 host=${words[0]} port=${words[1]} asked=() jobs=0 failed=0 part='' ended=''
 trap '' PIPE
 reach
 reserve="${words[4]:-64} ${words[5]:-4096}"
-call "HELLO $reserve" "WELCOME $reserve"
+call "HELLO $reserve" "WELCOME $reserve" "$token"
 if [[ $answer == ERR* ]]; then
   echo "$answer"
   exit 1

@@ -1,7 +1,7 @@
 #!/usr/bin/env python3
 """A page that reviews games over a server, for browsers on this host, or for a class: http://127.0.0.1:8047/
 
-usage: page.py [--port 8047] [--address 127.0.0.1] [--name NAME] [--certificate FILE] [--tls [--authority FILE]] HOST PORT
+usage: page.py [--port 8047] [--address 127.0.0.1] [--name NAME] [--certificate FILE] [--tls [--authority FILE]] [--token FILE] HOST PORT
 
 HOST and PORT are those of the server of `othello serve`; with --tls it is spoken to over TLS. For a class, `--address 0.0.0.0` lets
 other hosts of the network in, and `--certificate FILE` (certificate and key) has their browsers speak https. They name this host by
@@ -25,7 +25,7 @@ import threading
 import urllib.parse
 
 import review
-from othello import SILENCE, Client, Refused, Stopped, tls_context
+from othello import Client, Refused, Stopped, add_server_options, server_options
 
 PAGE = pathlib.Path(__file__).with_name("page.html")
 CORNER, MOBILITY = 100, 4  # of the evaluation: what a corner counts, and a legal square
@@ -167,14 +167,12 @@ def main():
     words.add_argument("--certificate", metavar="FILE", help="certificate and key, by which browsers speak https")
     words.add_argument("--most-depth", type=int, default=99, help="offer no more plies (as many as the server takes)")
     words.add_argument("--at-once", type=int, default=4, help="how many reviews go on at once; others wait (4)")
-    words.add_argument("--silence", type=float, default=SILENCE, help="seconds after which a server that says nothing is given up (1.5)")
-    words.add_argument("--tls", action="store_true", help="speak TLS to the server, and check its host's certificate")
-    words.add_argument("--authority", metavar="FILE", help="with --tls: the authorities to check it by")
+    add_server_options(words)
     asked = words.parse_args()
-    tls = tls_context(asked.authority) if asked.tls else None
-    most = deepest(Client(asked.host, asked.port, 8, 64, tls=tls, silence=asked.silence, patience=5))
+    how = server_options(asked)
+    most = deepest(Client(asked.host, asked.port, 8, 64, patience=5, **how))
     with Server((asked.address, asked.page), Handler) as server:
-        server.othello, server.how = (asked.host, asked.port, 256, 65536), {"tls": tls, "silence": asked.silence}
+        server.othello, server.how = (asked.host, asked.port, 256, 65536), how
         server.most_depth, server.places = min(asked.most_depth, most), threading.Semaphore(asked.at_once)
         server.names = {"localhost", socket.gethostname(), *asked.name}
         if asked.certificate:

@@ -1,7 +1,7 @@
 #!/usr/bin/env python3
 """Reviews a game over a server: for each move its value, the best move of its position, and what was lost by it.
 
-usage: review.py [--depth D] [--boards last|worst|all] [--start POSITION] [--tls [--authority FILE]] HOST PORT MOVES
+usage: review.py [--depth D] [--boards last|worst|all] [--start POSITION] [--tls [--authority FILE]] [--token FILE] HOST PORT MOVES
        (`f5d6c3d3c4..`; passes need not be written; a start has 64 squares from a1 to h8, a space, and who moves)
 
 Values are seen by the player who moves, so many plies deep (6). A value of 1,184 at most is the evaluation's, in its
@@ -14,7 +14,7 @@ import re
 import sys
 
 sys.path.insert(0, str(pathlib.Path(__file__).resolve().parent.parent / "python"))
-from othello import SILENCE, Client, Refused, text_of, tls_context  # noqa: E402
+from othello import Client, Refused, add_server_options, server_options, text_of  # noqa: E402
 
 START = "-" * 27 + "OX" + "-" * 6 + "XO" + "-" * 27
 OTHER = {"X": "O", "O": "X"}
@@ -169,14 +169,11 @@ def main():
     words.add_argument("--segments", type=int, default=256)
     words.add_argument("--nodes", type=int, default=65536)
     words.add_argument("--start", default="", metavar="POSITION", help="where the game begins (the opening)")
-    words.add_argument("--silence", type=float, default=SILENCE, help="seconds after which a server that says nothing is given up (1.5)")
-    words.add_argument("--tls", action="store_true", help="speak TLS, and check the host's certificate")
-    words.add_argument("--authority", metavar="FILE", help="with --tls: the authorities to check it by")
+    add_server_options(words)
     asked = words.parse_args()
     colours = sys.stdout.isatty() and "NO_COLOR" not in os.environ
     moves = moves_of(" ".join(asked.moves), *start_of(asked.start))
-    tls = tls_context(asked.authority) if asked.tls else None
-    client = Client(asked.host, asked.port, asked.segments, asked.nodes, tls=tls, silence=asked.silence)
+    client = Client(asked.host, asked.port, asked.segments, asked.nodes, **server_options(asked))
     rows = []
     print(f"{'':>3} {'player':6} {'move':5}{'value':20}{'best':5}{'its value':20}lost", flush=True)
     for row in review(client, moves, asked.depth):
