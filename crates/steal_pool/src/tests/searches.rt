@@ -17,6 +17,9 @@ use std::{io, thread};
 /// How many short searches there are.
 const SHORT: u64 = 8;
 
+/// How often it is tried.
+const TRIES: u32 = 200;
+
 /// The first computation is a long search. What its worker has used of a processor before it, and what the process had
 /// used when the last of the short ones was over, is kept in nanoseconds. It stays there until they are, within a limit.
 #[derive(Drop)]
@@ -60,13 +63,13 @@ impl<C: Clock + CpuClock> Long<'_, C> {
         }
     }
 
-    /// Whether the short searches were over before nine tenths of the long one were done.
+    /// Whether the short searches were over before three quarters of the long one were done.
     fn are_beside(&self) -> bool {
         let after = nanos(self.clock.thread_cpu_time());
         let long = after.saturating_sub(self.before.load(Ordering::SeqCst));
         let now = nanos(self.clock.process_cpu_time());
         let over_at = self.over_at.load(Ordering::SeqCst);
-        over_at > 0 && now.saturating_sub(over_at) > long / 10
+        over_at > 0 && now.saturating_sub(over_at) > long / 4
     }
 }
 
@@ -143,29 +146,34 @@ fn ask_short<L: Hands, R: Wait>(rt: &R, desk: &Desk<L>, seat: &mut Seat<L>) -> b
     true
 }
 
-/// A worker does short searches while another is in the midst of a long one.
+/// A worker does short searches while another is in the midst of a long one: in one try at least, as the system may let
+/// the long one end before the short ones are asked.
 #[test]
 fn a_short_search_is_over_before_a_long_one(rt: HostRuntime) -> Result<(), Fail> {
-    let gate = Long {
-        clock: &rt,
-        began: AtomicU64::new(0),
-        before: AtomicU64::new(0),
-        over: AtomicU64::new(0),
-        over_at: AtomicU64::new(0),
-        is_beside: AtomicBool::new(false),
-        is_late: AtomicBool::new(false),
-    };
-    let table = Table {
-        scenario: &Beside { gate: &gate },
-        gate: &gate,
-        workers: 2,
-        grain: 6,
-        room: None,
-        segments: 128,
-    };
-    let played = play(&rt, rt.alloc(), &table).ok_or("no pool")?;
-    assert!(rt; played.content && played.whole);
-    let is_held = gate.is_late.load(Ordering::SeqCst) || !gate.is_beside.load(Ordering::SeqCst);
-    assert!(rt; !is_held, "one search holds up another");
-    Ok(())
+    for _ in 0..TRIES {
+        let gate = Long {
+            clock: &rt,
+            began: AtomicU64::new(0),
+            before: AtomicU64::new(0),
+            over: AtomicU64::new(0),
+            over_at: AtomicU64::new(0),
+            is_beside: AtomicBool::new(false),
+            is_late: AtomicBool::new(false),
+        };
+        let table = Table {
+            scenario: &Beside { gate: &gate },
+            gate: &gate,
+            workers: 2,
+            grain: 6,
+            room: None,
+            segments: 128,
+        };
+        let played = play(&rt, rt.alloc(), &table).ok_or("no pool")?;
+        assert!(rt; played.content && played.whole);
+        assert!(rt; !gate.is_late.load(Ordering::SeqCst), "a search waits");
+        if gate.is_beside.load(Ordering::SeqCst) {
+            return Ok(());
+        }
+    }
+    panic!(rt; "one search holds up another")
 }

@@ -19,18 +19,19 @@ use std::time::{Clock, CpuClock, Duration};
 use steal_pool::desk::{Desk, Hall, Hands, PARTS};
 use steal_pool::{Gate, Task};
 
-/// A job with a table.
+/// A job with a long table: one of Black's fourteen moves takes all of White's discs.
 const TABLED: [Row; 3] = [
-    ("HELLO 8 8\n", "WELCOME 8 8\n"),
+    ("HELLO 200 48\n", "WELCOME 200 48\n"),
     (
-        "ASK 1 ---------------------------OX------XO--------------------------- X\n",
+        "ASK 1 XXX---X-XO-XXO----OOOX---XO-OOX---OOO----OXO-O--X-XX--X--X--XXXX X\n",
         "JOB 1\n",
     ),
-    ("WAIT 1\n", "DONE 1 -3 d3\n"),
+    ("WAIT 1\n", "DONE 1 70000 d4\n"),
 ];
 
-/// Four lines that ask for a table.
-const TABLES: [u8; 32] = *b"TABLE 1\nTABLE 1\nTABLE 1\nTABLE 1\n";
+/// Sixteen lines that ask for the table.
+const TABLES: &str =
+    "TABLE 1\nTABLE 1\nTABLE 1\nTABLE 1\nTABLE 1\nTABLE 1\nTABLE 1\nTABLE 1\nTABLE 1\nTABLE 1\nTABLE 1\nTABLE 1\nTABLE 1\nTABLE 1\nTABLE 1\nTABLE 1\n";
 
 /// The last line of a session.
 const LAST: Row = ("BYE\n", "BYE\n");
@@ -150,7 +151,7 @@ fn stuff<R: Clock + CpuClock>(rt: &R, mut stream: &TcpStream) -> io::Result<()> 
     stream.set_write_timeout(Some(Duration::from_millis(500)))?;
     for _ in 0..TRIES {
         fill(stream);
-        if is_idle(rt)? && stream.write(&TABLES).is_err() {
+        if is_idle(rt)? && stream.write(TABLES.as_bytes()).is_err() {
             return Ok(());
         }
     }
@@ -160,7 +161,7 @@ fn stuff<R: Clock + CpuClock>(rt: &R, mut stream: &TcpStream) -> io::Result<()> 
 /// Sends lines for as long as they are taken.
 fn fill(mut stream: &TcpStream) {
     for _ in 0..super::TURNS {
-        if stream.write(&TABLES).is_err() {
+        if stream.write(TABLES.as_bytes()).is_err() {
             return;
         }
     }
@@ -267,7 +268,7 @@ where
     requires name { blank.name ≡ L.name }
     requires parts { (blank.parts ≡ L.parts) × (L.all ≡ L.parts) × (L.all ≡ PARTS) }
 {
-    let config = Config::new(16, 16).ok_or("the limits")?;
+    let config = Config::new(256, 64).ok_or("the limits")?;
     let workers = Worker::new(workers).ok_or("the limits")?;
     let desk: Desk<L> = Desk::new(Hall::new(alloc, config, 0)?, blank);
     let listener = TcpListener::bind(rt, "127.0.0.1:0")?;
