@@ -17,6 +17,7 @@ from stage import OPENING, fail  # noqa: E402
 LONG = stage.positions(1, 2, 20, 20)[0]  # some seconds' work to depth 12, where 256 segments and 65,536 nodes are reserved of
 LASTING = ("--grain", "6", "--segments", "65536", "--nodes", "1048576")  # such a server
 SOON = 2  # seconds after which a fault is said
+PATIENT = ("--silence", 20)  # where values are tried and no fault: on a busy machine an answer may take more than 1.5 seconds
 COMMANDS = {
     "python": [sys.executable, TOP / "clients/python/othello.py"],
     "javascript": ["node", TOP / "clients/javascript/othello.mjs"],

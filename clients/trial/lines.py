@@ -9,7 +9,7 @@ import time
 
 import common
 import stage
-from common import LONG, OPENING, as_answer, check, run, words_of
+from common import LONG, OPENING, PATIENT, as_answer, check, run, words_of
 
 FOULS = ["opening", f"13 {OPENING}", f"x {OPENING}", f"2 {OPENING[1:]}", f"2 {OPENING[:-1]}Y", f"1 ?{OPENING[1:]}", "9" * 140]
 TAKEN = "WELCOME 64 4096"
@@ -27,13 +27,15 @@ def asked_lines():
 
 def try_command(name, port, lines, wanted):
     """All lines with an ample reservation, and with one that is used up again and again: each job has room alone."""
-    given, done = run(name, ("127.0.0.1", port, 64, 65536), lines)
+    given, done = run(name, (*PATIENT, "127.0.0.1", port, 64, 65536), lines)
     check(done.returncode == 0, f"{name}: status {done.returncode}: {done.stderr}")
     check(list(map(as_answer, given)) == wanted, f"{name}: a wrong answer")
-    given, done = run(name, ("127.0.0.1", port, 64, 40), lines)
-    check(list(map(as_answer, given)) == wanted, f"{name}: a wrong answer of a small reservation")
+    given, done = run(name, (*PATIENT, "127.0.0.1", port, 64, 40), lines)
+    answers = list(map(as_answer, given))
+    check(answers == wanted[: len(answers)], f"{name}: a wrong answer of a small reservation: {[pair for pair in zip(lines, answers, wanted) if pair[1] != pair[2]][:2]}")
+    check(len(answers) == len(wanted), f"{name}: {len(answers)} answers of a small reservation: {done.stderr}")
     heavy = [(line, answer) for line, answer in zip(lines, wanted) if line[0] == "5"][:30]
-    given, _ = run(name, ("127.0.0.1", port, 64, 12), [line for line, _ in heavy])
+    given, _ = run(name, (*PATIENT, "127.0.0.1", port, 64, 12), [line for line, _ in heavy])
     answers = list(map(as_answer, given))
     check(len(answers) == 30, f"{name}: {len(answers)} answers for 30 lines")
     check(all(got in (wish, ("SPENT",)) for got, (_, wish) in zip(answers, heavy)), f"{name}: a wrong answer of 12 nodes")
@@ -166,7 +168,7 @@ def try_tables(name, port):
     """Each entry of a table is true by `solve`, each legal square has one, and the board that is written shows them."""
     asked = [(1 + number % 4, position) for number, position in enumerate(stage.positions(40, 5))]
     asked += [(2, "XO" + "-" * 62 + " O"), (3, "X" * 64 + " O"), (0, OPENING)]  # a pass, a finished game, a depth without a table
-    given, done = run(name, ("--tables", "127.0.0.1", port, 512, 65536), [f"{depth} {position}" for depth, position in asked])
+    given, done = run(name, ("--tables", *PATIENT, "127.0.0.1", port, 512, 65536), [f"{depth} {position}" for depth, position in asked])
     check(done.returncode == 0, f"{name} --tables: {done.stderr}")
     signs, blocks = "", []
     for line in given:
@@ -232,7 +234,7 @@ def try_tls(folder, port, lines, wanted):
                 subprocess.run(["keytool", "-importcert", "-noprompt", "-file", authority, "-keystore", store, "-storepass", "changeit"],
                                check=True, capture_output=True)  # fmt: skip
                 trust["JDK_JAVA_OPTIONS"] = f"-Djavax.net.ssl.trustStore={store} -Djavax.net.ssl.trustStorePassword=changeit"
-            given, done = run(name, (*known[name], "127.0.0.1", proxy.port, 64, 4096), few, env=trust)
+            given, done = run(name, (*known[name], *PATIENT, "127.0.0.1", proxy.port, 64, 4096), few, env=trust)
             check(list(map(as_answer, given)) == want, f"{name} over TLS: {done.stderr}")
             given, done = run(name, ("--tls", "127.0.0.1", proxy.port, 64, 4096), few)
             check(done.returncode == 1 and not given and len(done.stderr.splitlines()) == 1, f"{name} trusts any certificate, or says {done.stderr}")

@@ -13,7 +13,7 @@ import common
 import stage
 import teaching
 import tools
-from common import OPENING, TOP, as_answer, check, run
+from common import OPENING, PATIENT, TOP, as_answer, check, run
 
 TOKEN = "Some-Token_of.64/signs"
 GUESTS = [("quick = { sessions = 2, segments = 2048, nodes = 19998 }", "quick = { sessions = 0, segments = 0, nodes = 0 }"),
@@ -27,7 +27,6 @@ token_sha256 = ["%s"]
 quick = { sessions = 8, segments = 8192, nodes = 79992 }
 deep = { sessions = 3, segments = 3072, nodes = 196608 }
 """
-PATIENT = ("--silence", 20)  # a line goes through three programs more, on a machine that may be busy
 
 
 @contextlib.contextmanager

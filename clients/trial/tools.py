@@ -46,7 +46,7 @@ def try_batch(port, folder):
     """Rows in their order, by many sessions; a run that is killed goes on; other positions are refused; two runs compared."""
     asked, wanted = asked_positions()
     text, one, two = "".join(f"{line}\n" for line in asked), f"{folder}/one.csv", f"{folder}/two.csv"
-    done = batch("--depth", 2, "127.0.0.1", port, one, text=text)
+    done = batch("--depth", 2, *common.PATIENT, "127.0.0.1", port, one, text=text)
     check(done.returncode == 0 and f"{len(asked)} positions" in done.stderr, f"batch: {done.stderr}")
     check([row[:4] for row in rows_of(one)] == wanted, f"batch: {[pair for pair in zip(rows_of(one), wanted) if pair[0][:4] != pair[1]][:2]}")
     check(all(float(row[4]) > 0 for row in rows_of(one) if not row[2].startswith("ERR")), "batch: a job without a time")
@@ -54,13 +54,13 @@ def try_batch(port, folder):
     first = killed_in_between(port, folder, two, asked)
     with open(two, "a", encoding="latin-1") as file:
         file.write("-----")  # a row that was cut off
-    done = batch("--depth", 2, "--sessions", 3, "--nodes", 40, "127.0.0.1", port, two, f"{folder}/asked")  # sessions are used up
+    done = batch("--depth", 2, *common.PATIENT, "--sessions", 3, "--nodes", 40, "127.0.0.1", port, two, f"{folder}/asked")  # sessions are used up
     check(done.returncode == 0 and f"{len(first)} positions were done earlier" in done.stderr, f"batch: {done.stderr}")
     check(f"{len(asked)} of {len(asked)} positions (100 %)" in done.stderr, f"batch: no progress in {done.stderr}")
     rows = rows_of(two)
     check(rows[: len(first)] == first, "batch: it began anew")
     check([row[:4] for row in rows] == wanted, "batch: another row after it went on")
-    check(batch("--depth", 2, "127.0.0.1", port, two, f"{folder}/asked").returncode == 0 and rows_of(two) == rows, "batch: a run that was done")
+    check(batch("--depth", 2, *common.PATIENT, "127.0.0.1", port, two, f"{folder}/asked").returncode == 0 and rows_of(two) == rows, "batch: a run that was done")
     other = batch("--depth", 3, "127.0.0.1", port, two, f"{folder}/asked")
     check(other.returncode == 1 and "row 2 of" in other.stderr and rows_of(two) == rows, f"batch: rows of another depth are taken: {other.stderr}")
     try_compare(one, two)
