@@ -116,7 +116,7 @@ def try_ahead(name):
 
     with common.answering(answer_of) as port:
         done = subprocess.run(words_of(name, port, 64, 4096, "--ahead", 3), input=f"1 {OPENING}\n" * 20, capture_output=True, text=True, check=False)
-    check(done.returncode == 0 and len(done.stdout.splitlines()) == 20, f"{name}: {done.stderr}")
+    check(done.returncode == 0 and len(done.stdout.splitlines()) == 20, f"{name} --ahead 3: status {done.returncode}, {len(done.stdout.splitlines())} answers; {done.stderr}")
     check(most[0] == 3, f"{name}: {most[0]} lines were asked at a time with --ahead 3")
     print(f"{name}: of 20 lines 3 were asked at a time by --ahead 3")
 
