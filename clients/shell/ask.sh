@@ -10,7 +10,8 @@
 set -euo pipefail
 silence=1.5
 
-lost() { echo "ask.sh: $host:$port: $1" >&2; exit 1; }
+exec {said}>&2 # a fault is said there also while standard error is turned away
+lost() { echo "ask.sh: $host:$port: $1" >&"$said"; exit 1; }
 
 # Opens the connection, and gives it up when it takes too long.
 reach() {

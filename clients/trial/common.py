@@ -168,6 +168,17 @@ def silent():
         yield listener.getsockname()[1]
 
 
+@contextlib.contextmanager
+def deaf():
+    """A port at which no connection comes about, since its queue is full, as at a host that drops what it is sent."""
+    with socket.create_server(("127.0.0.1", 0), backlog=0) as listener, contextlib.ExitStack() as open_ones:
+        for _ in range(4):
+            one = open_ones.enter_context(socket.socket())
+            one.setblocking(False)
+            one.connect_ex(listener.getsockname())
+        yield listener.getsockname()[1]
+
+
 def seconds_worked(process):
     """The processor time that a process has taken."""
     fields = pathlib.Path(f"/proc/{process.pid}/stat").read_text().rsplit(")", 1)[1].split()

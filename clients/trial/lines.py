@@ -127,6 +127,8 @@ def try_nobody(name):
     said = [common.said_in_time(f"{name} at a wrong port", lambda: words_of(name, stage.free_port()), start)]  # no line comes
     with common.silent() as port:
         said.append(common.said_in_time(f"{name} at a silent port", lambda: words_of(name, port), start))
+    with common.deaf() as port:
+        common.said_in_time(f"{name} at a port that takes no connection", lambda: words_of(name, port), start)
     for number in (signal.SIGKILL, signal.SIGSTOP):
         said.append(common.in_time(f"{name}: a server that gets {number.name}", lambda: lost(name, number)))  # noqa: B023
     print(f"{name}: a wrong port, a silent one, a server killed, one stopped: said after {', '.join(f'{taken:.1f}' for _, taken in said)} s; {said[2][0]}")
