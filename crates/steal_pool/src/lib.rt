@@ -17,8 +17,8 @@
 //! each worker, that what was pushed is what was taken and what is left, on each deque and of all
 //! together, that these are the sums it ends with, and that it had as many workers as were asked for. That
 //! the badge it ends with is that of all its workers, so that [`desk::Desk::into_hall`] can tell whether
-//! every step in the hall is one that somebody took, is tested. No order between threads is promised, nor that a job ends, nor that no task
-//! is left where none is found.
+//! every step in the hall is one that somebody took, is tested. No order between threads is promised, nor
+//! that a job ends, nor that no task is left where none is found.
 //!
 //! ```text
 //! // four workers, beside whoever speaks at the desk, until it is closed
