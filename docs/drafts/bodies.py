@@ -16,15 +16,6 @@ TOP = pathlib.Path(__file__).resolve().parent.parent.parent
 
 # crate, file, call, what it does, old, new
 BODIES = [
-    ('hall', 'hall.rt', 'Hall::offer', 'a raise is not counted',
-     '        if answer.is_ok() {\n            self.count += 1;\n        }\n        answer\n    }\n\n    /// Takes a step of a tenant',
-     '        answer\n    }\n\n    /// Takes a step of a tenant'),
-    ('hall', 'hall.rt', 'Hall::offer', "a taken step isn't written",
-     '        if answer.is_ok() {\n            write(&self.index, &mut self.journals, number, step);\n            self.count += 1;\n        }',
-     '        if answer.is_ok() {\n            self.count += 1;\n        }'),
-    ('task_deques', 'ends.rt', 'DequeEnds::take', 'a task is stolen and dropped',
-     '            return Some(task);\n        }\n        steal_between(&mut self.thieves, 0, place - 1)',
-     '            return Some(task);\n        }\n        let _ = steal_between(&mut self.thieves, 0, place - 1);\n        None'),
     ('desk_office', 'outcomes.rt', 'told_answer', 'one entry less',
      '    for number in 0..reply.bound_count() {',
      '    for number in 1..reply.bound_count() {'),
