@@ -1,6 +1,7 @@
 //! What a DONE line is worth: the opening was asked for to depth 1 as job 1, and nothing else. Its value is
 //! -3, and its first best move d3 (19).
 ghost use Rattle.std.specs.Prelude.{◌≡◌, [], ◌∷◌, ◌++◌, codes, negsuc, Some, Result, Ok, replicate, false};
+ghost use Rattle.std.specs.List.{concat};
 ghost use Rattle.line_io.specs.Lines.{Whole};
 ghost use Rattle.othello_eval.specs.Tables.{IsTable};
 ghost use Rattle.othello_moves.specs.declared.choices.Choice.TheVariants.{Square};
@@ -70,12 +71,14 @@ pub fn refusals_that_are_none()
     ensures second { AllTrue [] ((Leave, Gone) ∷ (Leave, Refused 1) ∷ []) → ⊥ }
 {}
 
-/// A true session says all this of the lines that it answered, which are those that were read; one that ended by
-/// its input has read its end.
+/// A true session says all this of the lines that it answered, which are those that were read, and by which numbers
+/// they may be refused; one that ended by its input has read its end; and what it wrote is their answers.
 pub fn true_sessions()
     ensures dones { (r : Result End SessionFault) (is : TrueSession counts_reads counts_writes 0 0 1 1 r) → EachDoneIsTrue [] is.session.answered (turns false is.session.answered is.session.replies) }
     ensures numbers { (r : Result End SessionFault) (is : TrueSession counts_reads counts_writes 0 0 1 1 r) → is.session.answered ≡ Whole (codes "HELLO 4 8") ∷ Whole (codes "GET 1") ∷ [] → is.session.replies ≡ Welcome few ∷ Told 1 Pending ∷ [] → ⊥ }
     ensures unread { TrueSession counts_reads counts_writes 0 0 0 0 (Ok EndOfInput) → ⊥ }
     ensures lines { (is : TrueSession counts_reads counts_writes 0 0 1 1 (Ok Bye)) → is.session.blocks ≡ (codes "BYE" ++ 10 ∷ codes "LIVE" ++ 10 ∷ []) ∷ [] → is.session.answered ≡ Whole (codes "BYE") ∷ [] }
     ensures early { (is : TrueSession counts_reads counts_writes 0 0 1 1 (Ok Bye)) → is.session.blocks ≡ (codes "LIVE" ++ 10 ∷ []) ∷ [] → ⊥ }
+    ensures unwritten { (is : TrueSession counts_reads counts_writes 0 0 2 0 (Ok EndOfInput)) → is.session.pieces ≡ [] }
+    ensures answer { (is : TrueSession counts_reads counts_writes 0 0 1 1 (Ok Bye)) → is.session.answered ≡ Whole (codes "BYE") ∷ [] → is.session.replies ≡ [] → concat is.session.pieces ≡ codes "BYE" ++ 10 ∷ [] }
 {}

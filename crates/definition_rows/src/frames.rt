@@ -68,6 +68,8 @@ pub fn windows_that_are_none()
     ensures test_below { HasWindow (opening_root (pos 3) (pos 9) phase_tests (pos 7) 19 d3_settled nothing_found) (after_d3 0 (negsuc 2) (negsuc 1) role_test) → ⊥ }
     ensures test_above { HasWindow (opening_root (pos 3) (pos 9) phase_tests (pos 7) 19 d3_settled nothing_found) (after_d3 0 (negsuc 8) (negsuc 7) role_test) → ⊥ }
     ensures test_wide { HasWindow (opening_root (pos 3) (pos 9) phase_tests (pos 7) 19 d3_settled nothing_found) (after_d3 0 (negsuc 8) (negsuc 6) role_test) → ⊥ }
+    ensures test_beta { HasWindow (opening_root (pos 3) (pos 9) phase_tests (pos 7) 19 d3_settled nothing_found) (after_d3 0 (negsuc 7) (negsuc 5) role_test) → ⊥ }
+    ensures other_test { HasWindow (opening_root (pos 3) (pos 9) phase_tests (pos 7) 19 d3_settled nothing_found) (after_d3 0 (negsuc 7) (negsuc 6) role_root) → ⊥ }
     ensures again_alpha { HasWindow (opening_root (pos 3) (pos 9) phase_tests (pos 7) 19 d3_settled nothing_found) (after_d3 0 (negsuc 7) (negsuc 6) role_again) → ⊥ }
     ensures again_beta { HasWindow (opening_root (pos 3) (pos 9) phase_tests (pos 7) 19 d3_settled nothing_found) (after_d3 0 (negsuc 8) (negsuc 2) role_again) → ⊥ }
     ensures again_below_alpha { HasWindow (opening_root (pos 7) (pos 9) phase_tests (pos 3) 65 d3_settled nothing_found) (after_d3 0 (negsuc 8) (negsuc 2) role_again) → ⊥ }

@@ -7,7 +7,7 @@ use Rattle.std.proofs.lemmas.Bool.Decides.{nat_tests, eqb_tells}
 use Rattle.std.proofs.lemmas.List.{length-map}
 use Rattle.othello_board.specs.declared.cells.Cell.{Cell}
 use Rattle.othello_board.specs.Words.{cells}
-use Rattle.othello_moves.specs.declared.choices.Choice.{Choice}
+use Rattle.othello_eval.specs.othello_moves.declared.choices.Choice.{Choice}
 use Rattle.othello_eval.specs.Minimax.{minimax, best_choice}
 use Rattle.othello_eval.specs.Tables.{IsTable}
 use Rattle.position_text.specs.declared.positions.Position.{Position}

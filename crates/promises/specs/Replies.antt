@@ -2,7 +2,7 @@
 use Rattle.std.specs.Prelude.{◌≡◌, ℕ, ◌≤◌, ℤ, ◌≤ℤ◌, List, length, Option, Some, slice_get, slice_index}
 use Rattle.othello_board.specs.declared.cells.Cell.{Cell}
 use Rattle.othello_board.specs.Words.{cells_of}
-use Rattle.othello_moves.specs.declared.choices.Choice.{Choice}
+use Rattle.othello_eval.specs.othello_moves.declared.choices.Choice.{Choice}
 use Rattle.othello_eval.specs.declared.bound.Bound.{Bound}
 use Rattle.othello_eval.specs.declared.bound.BoundKind.TheVariants.{Low, High, Exact}
 use Rattle.othello_eval.specs.Minimax.{minimax, best_choice, choice_value}

@@ -71,18 +71,33 @@ AreAtMost most (entry ∷ entries) = (entry.0 ≤ most) × AreAtMost most entrie
 
 -- what a store keeps true
 pub record IsStored (parts : Parts) : Type 0 where
+  -- each account within its reservation, all within the totals
   pub book : IsSoundBook parts.book
+  -- each frame has one open node, and each open node one frame
   pub frames_nodes : AreFramesNodes parts.nodes parts.trees
+  -- 1 to 128 words a node
   pub sized : AreSized parts.nodes
+  -- each tenant's account agrees with its frames
   pub accounts : (number : ℕ) (account : Account) → account_of number parts.book.accounts ≡ Some account → IsAccountFor parts.nodes parts.trees number account
+  -- without an account no places for frames
   pub nobody : (number : ℕ) → account_of number parts.book.accounts ≡ None → places_of parts.trees number ≡ 0
+  -- without an account no frame
   pub nothing : (number : ℕ) → account_of number parts.book.accounts ≡ None → frames_of parts.trees number ≡ []
+  -- each tenant's frames are a tree
   pub forest : (number : ℕ) → IsTree (frames_of parts.trees number)
+  -- as many lists of frames as accounts
   pub tenants : tenant_count parts.trees ≡ length parts.book.accounts
+  -- the segments of all nodes are those charged to all accounts
   pub charges : total_charge parts.nodes ≡ charged_segments parts.book.accounts
+  -- a place for a node at each segment of the book's total
   pub segments : length parts.nodes ≡ parts.book.segments
+  -- a ledger for each account, in the same order
   pub ledgers : numbers_of parts.ledgers ≡ numbers_in parts.book.accounts
+  -- a place for each worker's number, 0 to 32
   pub workers : length parts.places ≡ 33
+  -- a worker that holds a frame has its name at its place
   pub places : ArePlaces parts.trees parts.places
+  -- no tenant's number is above the greatest so far
   pub taken : AreAtMost parts.newest parts.book.accounts
+  -- and numbers end at 2^62
   pub newest : parts.newest ≤ 2 ^ 62

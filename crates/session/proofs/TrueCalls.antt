@@ -25,7 +25,6 @@ module _ {O : Type 0} (does : O → Call → OfficeReply → O → Type 0) (asks
   pub true_session : {S K : Type 0} (gives : S → ReadAnswer → S → Type 0) (takes : K → WriteAnswer → K → Type 0) (s : S) (k : K) (o : O) (s' : S) (k' : K) (o' : O) (r : Result End SessionFault) → asks o ≡ [] → Session gives takes does s k o s' k' o' r → TrueSession gives takes s k s' k' r
   true_session gives takes s k o s' k' o' r new x =
       let led = subst (λ z. Leads (Called KeepsAsks) z (calls_for x.answered x.replies) (asks o')) new (asks-led o (calls_for x.answered x.replies) o' x.made) in
-      let numbers = all_true [] (calls_for x.answered x.replies) (asks o') led in
       record {
         asks = asks o';
         session = record {
@@ -41,6 +40,5 @@ module _ {O : Type 0} (does : O → Call → OfficeReply → O → Type 0) (asks
           writes = x.writes;
           written = x.written;
         };
-        numbers = numbers;
-        dones = each_done x.answered x.replies numbers;
+        dones = each_done x.answered x.replies (all_true [] (calls_for x.answered x.replies) (asks o') led);
       }

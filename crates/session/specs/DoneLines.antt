@@ -10,11 +10,11 @@ use Rattle.session.specs.declared.faults.SessionFault.{SessionFault}
 use Rattle.session.specs.declared.standings.Analysis.{Analysis}
 use Rattle.session.specs.declared.standings.Standing.{Standing}
 use Rattle.session.specs.declared.standings.Standing.TheVariants.{Done}
-use Rattle.session.specs.Asks.{Asked, asked_at, with_ask, KeepsAsks, AllTrue}
+use Rattle.session.specs.Asks.{Asked, asked_at, with_ask, KeepsAsks}
 use Rattle.session.specs.Calls.{OfficeReply, Job, Told}
 use Rattle.session.specs.Requests.{Request, Makes, request}
 use Rattle.session.specs.Turns.{LineTurn, Made, Tabulated, turns, turn_text}
-use Rattle.session.specs.Sessions.{Session, calls_for}
+use Rattle.session.specs.Sessions.{Session}
 
 -- the asks so far, and what this request asks for, where it is one
 abbrev pub with_request : List Asked → Request → List Asked
@@ -89,5 +89,4 @@ EachDoneIsTrue before (line ∷ lines) (turn ∷ turned) = TurnHolds before turn
 pub record TrueSession {S K : Type 0} (gives : S → ReadAnswer → S → Type 0) (takes : K → WriteAnswer → K → Type 0) (source : S) (sink : K) (source' : S) (sink' : K) (r : Result End SessionFault) : Type 0 where
   pub asks : List Asked
   pub session : Session gives takes KeepsAsks source sink [] source' sink' asks r
-  pub numbers : AllTrue [] (calls_for session.answered session.replies)
   pub dones : EachDoneIsTrue [] session.answered (turns false session.answered session.replies)

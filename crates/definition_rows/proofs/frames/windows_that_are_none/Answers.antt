@@ -35,6 +35,16 @@ not_test_wide (First role alpha beta) = let e : 2 ≡ 1 = role in omega (arith, 
 not_test_wide (Test role t alpha beta low high) = absurd (omega (arith, ints, alpha, beta, low, high))
 not_test_wide (Again role alpha beta settled) = let e : 2 ≡ 3 = role in omega (arith, e)
 
+not_test_beta : HasWindow (opening_root (pos 3) (pos 9) phase_tests (pos 7) 19 d3_settled nothing_found) (after_d3 0 (negsuc 7) (negsuc 5) role_test) → ⊥
+not_test_beta (First role alpha beta) = let e : 2 ≡ 1 = role in omega (arith, e)
+not_test_beta (Test role t alpha beta low high) = absurd (omega (arith, ints, alpha, beta, low, high))
+not_test_beta (Again role alpha beta settled) = let e : 2 ≡ 3 = role in omega (arith, e)
+
+not_other_test : HasWindow (opening_root (pos 3) (pos 9) phase_tests (pos 7) 19 d3_settled nothing_found) (after_d3 0 (negsuc 7) (negsuc 6) role_root) → ⊥
+not_other_test (First role alpha beta) = let e : 0 ≡ 1 = role in omega (arith, e)
+not_other_test (Test role t alpha beta low high) = let e : 0 ≡ 2 = role in omega (arith, e)
+not_other_test (Again role alpha beta settled) = let e : 0 ≡ 3 = role in omega (arith, e)
+
 not_again_alpha : HasWindow (opening_root (pos 3) (pos 9) phase_tests (pos 7) 19 d3_settled nothing_found) (after_d3 0 (negsuc 7) (negsuc 6) role_again) → ⊥
 not_again_alpha (First role alpha beta) = let e : 3 ≡ 1 = role in omega (arith, e)
 not_again_alpha (Test role t alpha beta low high) = let e : 3 ≡ 2 = role in omega (arith, e)
@@ -63,6 +73,8 @@ returns c = record {
   test_below = not_test_below;
   test_above = not_test_above;
   test_wide = not_test_wide;
+  test_beta = not_test_beta;
+  other_test = not_other_test;
   again_alpha = not_again_alpha;
   again_beta = not_again_beta;
   again_below_alpha = not_again_below_alpha;
