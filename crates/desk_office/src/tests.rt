@@ -14,6 +14,7 @@ use std::sync::ledger::Blank;
 use std::test::Fail;
 
 mod hello;
+mod strangers;
 
 /// Gives one line a call. Before a line WAIT a worker runs the first tenant's first job to its end.
 struct Driven<'a, L: Hands, R: Wait> {

@@ -1,4 +1,3 @@
-use Rattle.std.proofs.Common.{◌≡◌}
 use Rattle.std.specs.Fmt.{digits}
 use Rattle.othello_board.specs.Rules.{squares}
 use Rattle.definition_rows.proofs.OpeningLemmas.{table_told}
