@@ -3,11 +3,14 @@ ghost use Rattle.std.specs.Prelude.{◌≤◌};
 use crate::searching::search_within;
 use crate::{Searched, Way, solve_by_core};
 use counted_alloc::Counted;
+use frame_tree::FrameId;
 use jamboree_core::leaf_search::search_full;
 use linked_list_allocator::LocalHeap;
 use othello_eval::Valued;
 use othello_moves::Choice;
+use pool_rules::{Deed, Holding, Task, Turn};
 use position_text::{Position, read};
+use sched_rules::{DidOf, Worker};
 use std::alloc::AllocError;
 use std::test::Fail;
 use tenant_quota::{Left, Reserve};
@@ -22,6 +25,23 @@ const NEAR_THE_END: &[u8; 66] =
 /// The opening, read.
 fn opening() -> Result<Position, Fail> {
     Ok(read(OPENING).ok().ok_or("no position")?)
+}
+
+/// Worker 2's frame opens a child: the frame goes on, and the child is a task of the worker's.
+#[test]
+fn a_child_is_a_task(rt: HostRuntime) -> Result<(), Fail> {
+    let worker = Worker::new(2).ok_or("2 is a worker")?;
+    let [root, child] = [1, 2].map(|serial| FrameId { tenant: 1, serial });
+    let turn = Holding::Next(Deed::Run(root)).turned(worker, Ok(DidOf::Spawned(child)));
+    let wanted = Turn {
+        holding: Holding::Next(Deed::Run(root)),
+        task: Some(Task {
+            frame: child,
+            home: 2,
+        }),
+    };
+    assert_eq!(rt; turn, wanted);
+    Ok(())
 }
 
 /// The opening to depth 1 with grain 0 uses 5 nodes and 32 of the worker's steps.

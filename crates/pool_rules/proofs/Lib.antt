@@ -1,4 +1,3 @@
-pub mod TaskLemmas
 pub mod ReadyFrames
 pub mod ReadiedLemmas
 pub mod TaskFrames

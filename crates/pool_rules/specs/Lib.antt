@@ -1,5 +1,5 @@
 pub use Rattle.jamboree_rules.specs as jamboree_rules
-pub mod Tasks
+pub mod Counts
 pub mod Turns
 pub mod Rows
 pub mod Readied

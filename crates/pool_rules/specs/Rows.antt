@@ -1,5 +1,5 @@
--- Representation: two frames, and four tasks, on which the definitions are tried.
-use Rattle.std.specs.Prelude.{ℕ, List, [], ◌∷◌}
+-- Representation: two frames, on which the definitions are tried.
+use Rattle.std.specs.Prelude.{ℕ}
 use Rattle.frame_tree.specs.declared.names.FrameId.{FrameId}
 use Rattle.pool_rules.specs.declared.task.Task.{Task}
 
@@ -13,7 +13,3 @@ child = record { tenant = 1; serial = 2 }
 -- the task of a frame, at a home
 abbrev pub task : FrameId → ℕ → Task
 task frame home = record { frame = frame; home = home }
-
--- the oldest first
-abbrev pub four_tasks : List Task
-four_tasks = task root 1 ∷ task root 2 ∷ task child 1 ∷ task root 0 ∷ []

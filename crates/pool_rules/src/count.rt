@@ -1,6 +1,6 @@
 //! The count of computations of a pool.
 ghost use Rattle.std.specs.Prelude.{◌≡◌, ◌+◌, ◌<◌};
-ghost use Rattle.pool_rules.specs.Tasks.{greatest_count};
+ghost use Rattle.pool_rules.specs.Counts.{greatest_count};
 
 use std::marker::Model;
 

@@ -12,11 +12,7 @@
 //! the table to what steps do: each frame that a worker's step makes ready is the task of its turn, so
 //! that no ready frame is forgotten.
 //!
-//! A [`TaskList`] is one plain list of tasks, with which the tests compare the deques of `task_deques`; a pool
-//! has none. It stands for the tasks in the order in which they were pushed, the room that it took
-//! at its start, and how many tasks were pushed and taken (`specs/Tasks.antt`). Its invariant is that
-//! what was pushed is what was taken and what is there. A worker takes its own newest task, else the
-//! oldest. A [`Computations`] counts the computations of a pool. [`rows`] computes worked examples.
+//! A [`Computations`] counts the computations of a pool. [`rows`] computes worked examples.
 //!
 //! ```text
 //! // worker 2's frame opened a child: the frame goes on, and the child is a task
@@ -29,16 +25,11 @@ pub use jamboree_rules::leaf_search;
 
 mod count;
 pub mod laws;
-mod list;
 pub mod rows;
 mod table;
 mod task;
 mod turn;
 
 pub use count::Computations;
-pub use list::{Counts, TaskList};
 pub use task::Task;
 pub use turn::{Deed, Holding, Turn};
-
-#[cfg(test)]
-mod tests;

@@ -1,6 +1,6 @@
-//! The table of the worker's turn and the list of tasks, tried on small cases: each contract is
-//! computed from the definitions alone.
-ghost use Rattle.std.specs.Prelude.{◌≡◌, ℕ, [], ◌∷◌, true, false, Some, None, Ok, Err};
+//! The table of the worker's turn, tried on small cases: each contract is computed from the definitions
+//! alone.
+ghost use Rattle.std.specs.Prelude.{◌≡◌, true, false, Some, None, Ok, Err};
 ghost use Rattle.frame_tree.specs.declared.names.FrameId.{FrameId};
 ghost use Rattle.jamboree_rules.specs.declared.leaf.Leaf.{Leaf};
 ghost use Rattle.jamboree_rules.specs.declared.leaf.LeafAnswer.{LeafAnswer};
@@ -9,9 +9,8 @@ ghost use Rattle.sched_rules.specs.declared.step.StepOf.TheVariants.{Take, Steal
 ghost use Rattle.sched_rules.specs.declared.step.DidOf.TheVariants.{Took, Spawned, Waited, Computing as IsComputing, Returned, Answered, TakenIn, Finished, Spent};
 ghost use Rattle.pool_rules.specs.declared.turn.Deed.TheVariants.{Get, Run, Bring, TakeIn, Finish};
 ghost use Rattle.pool_rules.specs.declared.turn.Holding.TheVariants.{Nothing, Next, Computing, Short};
-ghost use Rattle.pool_rules.specs.Tasks.{newest_of, place_for, with_pushed, with_taken};
 ghost use Rattle.pool_rules.specs.Turns.{offered, turn, turn_after};
-ghost use Rattle.pool_rules.specs.Rows.{root, child, task, four_tasks};
+ghost use Rattle.pool_rules.specs.Rows.{root, child, task};
 
 /// A root that lies in the hall and is computed near the leaves, by worker 1: Steal, Advance, the
 /// computation, Answer, Advance, Finish.
@@ -51,17 +50,4 @@ pub fn a_step_is_refused()
     ensures gone { turn_after 1 (Short (Run child)) (Err NoFrame) ≡ turn Nothing }
     ensures no_step { turn_after 1 (Next (Get (task child 2))) (Err NoSteps) ≡ turn (Short (Get (task child 2))) }
     ensures dropped { turn_after 1 (Next (Get (task child 2))) (Err NotReady) ≡ turn Nothing }
-{}
-
-/// Of four tasks, of homes 1, 2, 1 and 0, worker 1 takes the third, worker 2 the second, and worker 3,
-/// which has none, the first.
-pub fn own_newest_else_oldest()
-    ensures own { place_for 1 four_tasks ≡ 2 }
-    ensures only_one { place_for 2 four_tasks ≡ 1 }
-    ensures oldest { place_for 3 four_tasks ≡ 0 }
-    ensures none { newest_of 3 four_tasks ≡ None }
-    ensures taken { with_taken 2 (record { list = four_tasks; room = 8; pushed = 4; taken = 0 }) ≡
-        record { list = task root 1 ∷ task root 2 ∷ task root 0 ∷ []; room = 8; pushed = 4; taken = 1 } }
-    ensures pushed { with_pushed (task root 2) (record { list = task root 1 ∷ []; room = 8; pushed = 4; taken = 3 }) ≡
-        record { list = task root 1 ∷ task root 2 ∷ []; room = 8; pushed = 5; taken = 3 } }
 {}

@@ -4,7 +4,6 @@ ghost use Rattle.task_deques.specs.Deals.{posts, IsWhole};
 
 use super::*;
 use frame_tree::FrameId;
-use pool_rules::TaskList;
 use sched_rules::Worker;
 use std::alloc::{AllocError, Allocator, Global};
 use std::test::Fail;
@@ -181,10 +180,22 @@ fn what_is_left_is_counted(rt: HostRuntime) -> Result<(), Fail> {
     Ok(())
 }
 
-/// Whether up to two workers take from their deques what they take from the list of tasks, as long as
+/// A worker takes its own newest task of a list, else the oldest.
+fn takes_of(list: &mut Vec<Task>, worker: Worker) -> u64 {
+    let own = list
+        .iter()
+        .rposition(|task| task.home == worker.number())
+        .unwrap_or(0);
+    if own >= list.len() {
+        return 0;
+    }
+    list.remove(own).frame.serial
+}
+
+/// Whether up to two workers take from their deques what they take from one list of tasks, as long as
 /// one thread plays for both: each turn pushes a task or takes one, by turns that repeat after long.
-fn are_as_the_list(alloc: Global, last: Worker) -> Result<bool, AllocError> {
-    let mut list = TaskList::with_room(alloc, 16)?;
+fn are_as_a_list(alloc: Global, last: Worker) -> Result<bool, AllocError> {
+    let mut list = Vec::new(alloc);
     let mut all = deal(alloc, last, 16)?;
     let mut draw = 1u64;
     let mut same = true;
@@ -193,23 +204,23 @@ fn are_as_the_list(alloc: Global, last: Worker) -> Result<bool, AllocError> {
         let Some(worker) = Worker::new(((draw / 2) % u64::from(last.number())) as u8 + 1) else {
             return Ok(false);
         };
-        if draw % 5 < 2 && list.counts().left < 16 {
-            let pushed = list.push(task(turn, worker.number())).is_ok();
-            same = same && pushed == pushes(&mut all, worker, turn);
+        if draw % 5 < 2 && list.len() < 16 {
+            list.push(task(turn, worker.number()))?;
+            same = same && pushes(&mut all, worker, turn);
         } else {
-            let taken = serial(list.take(worker));
+            let taken = takes_of(&mut list, worker);
             same = same && taken == takes(&mut all, worker);
         }
     }
     Ok(same)
 }
 
-/// With one or two workers in one thread the deques answer as the list of tasks does.
+/// With one or two workers in one thread the deques answer as one list of tasks does.
 #[test]
-fn as_the_list(rt: HostRuntime) -> Result<(), Fail> {
+fn as_one_list(rt: HostRuntime) -> Result<(), Fail> {
     for workers in [1, 2] {
         let last = Worker::new(workers).ok_or("a worker")?;
-        assert!(rt; are_as_the_list(rt.alloc(), last)?, "{workers} workers");
+        assert!(rt; are_as_a_list(rt.alloc(), last)?, "{workers} workers");
     }
     Ok(())
 }
