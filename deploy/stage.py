@@ -120,8 +120,10 @@ class From(Session):
 
 
 def opened(address, port, reserve, again):
-    """A session. Where no WELCOME comes it is opened once more, as a client must; how often is added up in a list."""
-    for _ in range(5):
+    """A session. Where no WELCOME comes it is opened once more, as a client must, for 20 seconds: on a busy machine the next
+    server of a port may take a while to come. How often is added up in a list."""
+    end = time.monotonic() + 20
+    while time.monotonic() < end:
         try:
             return From(address, "127.0.0.1", port, *reserve)
         except OSError:
