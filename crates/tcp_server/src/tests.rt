@@ -328,6 +328,11 @@ where
     agreed(told?, is_whole)
 }
 
+/// A visit by this process's runtime.
+fn visit(rt: &HostRuntime, sessions: u16, visit: Visit) -> Result<(), Fail> {
+    visited::<Brand, HostRuntime>(rt, rt.alloc(), Blank::new(PARTS), sessions, visit)
+}
+
 /// A server with two workers.
 fn serve_with_two<L, R>(
     rt: &R,
@@ -367,37 +372,37 @@ where
 
 #[test]
 fn a_job_is_answered(rt: HostRuntime) -> Result<(), Fail> {
-    visited::<Brand, HostRuntime>(&rt, rt.alloc(), Blank::new(PARTS), 1, Visit::Answered)
+    visit(&rt, 1, Visit::Answered)
 }
 
 #[test]
 fn a_job_is_spent(rt: HostRuntime) -> Result<(), Fail> {
-    visited::<Brand, HostRuntime>(&rt, rt.alloc(), Blank::new(PARTS), 1, Visit::Spent)
+    visit(&rt, 1, Visit::Spent)
 }
 
 #[test]
 fn two_at_once_are_served_as_each_alone(rt: HostRuntime) -> Result<(), Fail> {
-    visited::<Brand, HostRuntime>(&rt, rt.alloc(), Blank::new(PARTS), 2, Visit::Both)
+    visit(&rt, 2, Visit::Both)
 }
 
 #[test]
 fn a_byte_at_a_time_is_enough(rt: HostRuntime) -> Result<(), Fail> {
-    visited::<Brand, HostRuntime>(&rt, rt.alloc(), Blank::new(PARTS), 1, Visit::Bytes)
+    visit(&rt, 1, Visit::Bytes)
 }
 
 #[test]
 fn foreign_lines_get_their_faults(rt: HostRuntime) -> Result<(), Fail> {
-    visited::<Brand, HostRuntime>(&rt, rt.alloc(), Blank::new(PARTS), 1, Visit::Foreign)
+    visit(&rt, 1, Visit::Foreign)
 }
 
 #[test]
 fn a_lost_connection_gives_all_back(rt: HostRuntime) -> Result<(), Fail> {
-    visited::<Brand, HostRuntime>(&rt, rt.alloc(), Blank::new(PARTS), 2, Visit::Lost)
+    visit(&rt, 2, Visit::Lost)
 }
 
 #[test]
 fn sixty_four_are_told_of_their_own(rt: HostRuntime) -> Result<(), Fail> {
-    visited::<Brand, HostRuntime>(&rt, rt.alloc(), Blank::new(PARTS), 64, Visit::Many)
+    visit(&rt, 64, Visit::Many)
 }
 
 /// Whether a server of two sessions whose pool can't begin ends while nobody comes, and its listener is closed then.
