@@ -328,9 +328,12 @@ where
     agreed(told?, is_whole)
 }
 
-/// A visit by this process's runtime.
-fn visit(rt: &HostRuntime, sessions: u16, visit: Visit) -> Result<(), Fail> {
-    visited::<Brand, HostRuntime>(rt, rt.alloc(), Blank::new(PARTS), sessions, visit)
+/// The same at a new desk's blank.
+fn try_visit<R>(rt: &R, alloc: Global, sessions: u16, visit: Visit) -> Result<(), Fail>
+where
+    R: Net<Listener = TcpListener, Stream = TcpStream> + Threads + Wait + Sync,
+{
+    visited::<Brand, R>(rt, alloc, Blank::new(PARTS), sessions, visit)
 }
 
 /// A server with two workers.
@@ -372,37 +375,37 @@ where
 
 #[test]
 fn a_job_is_answered(rt: HostRuntime) -> Result<(), Fail> {
-    visit(&rt, 1, Visit::Answered)
+    try_visit(&rt, rt.alloc(), 1, Visit::Answered)
 }
 
 #[test]
 fn a_job_is_spent(rt: HostRuntime) -> Result<(), Fail> {
-    visit(&rt, 1, Visit::Spent)
+    try_visit(&rt, rt.alloc(), 1, Visit::Spent)
 }
 
 #[test]
 fn two_at_once_are_served_as_each_alone(rt: HostRuntime) -> Result<(), Fail> {
-    visit(&rt, 2, Visit::Both)
+    try_visit(&rt, rt.alloc(), 2, Visit::Both)
 }
 
 #[test]
 fn a_byte_at_a_time_is_enough(rt: HostRuntime) -> Result<(), Fail> {
-    visit(&rt, 1, Visit::Bytes)
+    try_visit(&rt, rt.alloc(), 1, Visit::Bytes)
 }
 
 #[test]
 fn foreign_lines_get_their_faults(rt: HostRuntime) -> Result<(), Fail> {
-    visit(&rt, 1, Visit::Foreign)
+    try_visit(&rt, rt.alloc(), 1, Visit::Foreign)
 }
 
 #[test]
 fn a_lost_connection_gives_all_back(rt: HostRuntime) -> Result<(), Fail> {
-    visit(&rt, 2, Visit::Lost)
+    try_visit(&rt, rt.alloc(), 2, Visit::Lost)
 }
 
 #[test]
 fn sixty_four_are_told_of_their_own(rt: HostRuntime) -> Result<(), Fail> {
-    visit(&rt, 64, Visit::Many)
+    try_visit(&rt, rt.alloc(), 64, Visit::Many)
 }
 
 /// Whether a server of two sessions whose pool can't begin ends while nobody comes, and its listener is closed then.

@@ -294,33 +294,36 @@ where
     met(content?, gate.late.load(Ordering::SeqCst))
 }
 
-/// The same by this process's runtime.
-fn attend(rt: &HostRuntime, guest: Guest, sessions: u16, workers: u8) -> Result<(), Fail> {
-    attended::<Brand, HostRuntime>(rt, rt.alloc(), Blank::new(PARTS), guest, sessions, workers)
+/// The same at a new desk's blank.
+fn attend<R>(rt: &R, alloc: Global, guest: Guest, sessions: u16, workers: u8) -> Result<(), Fail>
+where
+    R: Net<Listener = TcpListener, Stream = TcpStream> + Threads + Wait + Clock + CpuClock + Sync,
+{
+    attended::<Brand, R>(rt, alloc, Blank::new(PARTS), guest, sessions, workers)
 }
 
 /// The listener is closed with the last connection, while its session lives.
 #[test]
 fn who_comes_too_late_is_refused(rt: HostRuntime) -> Result<(), Fail> {
-    attend(&rt, Guest::Followed, 1, 1)
+    attend(&rt, rt.alloc(), Guest::Followed, 1, 1)
 }
 
 /// Who never reads its answers holds up nobody.
 #[test]
 fn a_silent_peer_holds_up_nobody(rt: HostRuntime) -> Result<(), Fail> {
-    attend(&rt, Guest::Silent, 2, 1)
+    attend(&rt, rt.alloc(), Guest::Silent, 2, 1)
 }
 
 /// Four workers that were asked for run at once.
 #[test]
 fn as_many_workers_run_as_were_asked(rt: HostRuntime) -> Result<(), Fail> {
-    attend(&rt, Guest::Four, 1, 4)
+    attend(&rt, rt.alloc(), Guest::Four, 1, 4)
 }
 
 /// Where all descriptors are used up, who comes is turned away and counts, and the sessions go on.
 #[test]
 fn descriptors_are_used_up(rt: HostRuntime) -> Result<(), Fail> {
-    attend(&rt, Guest::Crowd, 4, 1)
+    attend(&rt, rt.alloc(), Guest::Crowd, 4, 1)
 }
 
 /// A listener whose first connections are lost before they can be taken.

@@ -1,7 +1,7 @@
 //! A tenant reserves more while its jobs run.
 ghost use Rattle.std.specs.Prelude.{◌≡◌};
 
-use super::{Row, TURNS, Visit, is_answered, serve_through, visit};
+use super::{Row, TURNS, Visit, is_answered, serve_through, try_visit};
 use desk_office::serve_desk;
 use line_io::{FromReader, FromWriter};
 use sched_rules::{Config, Worker};
@@ -32,7 +32,7 @@ pub(super) const MORE: [Row; 6] = [
 
 #[test]
 fn more_is_reserved_over_tcp(rt: HostRuntime) -> Result<(), Fail> {
-    visit(&rt, 1, Visit::More)
+    try_visit(&rt, rt.alloc(), 1, Visit::More)
 }
 
 /// What a session over memory writes, at a desk of 16 segments and 16 nodes, at grain 0, with two workers.
