@@ -20,7 +20,7 @@ use std::sync::ledger::Blank;
 use std::test::Fail;
 use std::thread::{self, Threads};
 use steal_pool::desk::{Desk, Hall, Hands, PARTS};
-use steal_pool::{Announce, Open, PoolEnd};
+use steal_pool::{Announce, Gate, Open, PoolEnd};
 
 /// A line, and its answer.
 type Row = (&'static str, &'static str);
@@ -173,9 +173,14 @@ fn are_told(stream: &TcpStream, rows: &[Row]) -> io::Result<bool> {
     Ok(true)
 }
 
+/// Whether the server has closed this connection without a word.
+fn is_closed(mut stream: &TcpStream) -> io::Result<bool> {
+    Ok(stream.read(&mut [0; 1])? == 0)
+}
+
 /// Whether each line is answered as it should be, and the connection is closed then.
-fn are_answered(mut stream: &TcpStream, rows: &[Row]) -> io::Result<bool> {
-    Ok(are_told(stream, rows)? && stream.read(&mut [0; 1])? == 0)
+fn are_answered(stream: &TcpStream, rows: &[Row]) -> io::Result<bool> {
+    Ok(are_told(stream, rows)? && is_closed(stream)?)
 }
 
 /// Whether two sessions at once are answered as each is alone.
@@ -209,7 +214,7 @@ fn are_faults_told(mut stream: &TcpStream) -> io::Result<bool> {
             return Ok(false);
         }
     }
-    Ok(stream.read(&mut [0; 1])? == 0)
+    is_closed(stream)
 }
 
 /// Whether all that there is can be reserved, within so many turns.
@@ -279,15 +284,24 @@ fn are_served(visit: Visit, mut streams: Vec<TcpStream>) -> io::Result<bool> {
     }
 }
 
-/// A server for so many sessions with two workers, and clients beside it: whether they were told what they should be
-/// told, and whether all steps are accounted for at the end.
+/// Fails where a client was told something else, or not all steps are accounted for at the end.
+fn agreed(told: bool, is_whole: bool) -> Result<(), Fail> {
+    match (told, is_whole) {
+        (true, true) => Ok(()),
+        (false, _) => Err(Fail::from("a client was told something else")),
+        (true, false) => Err(Fail::from("steps are missing")),
+    }
+}
+
+/// A server for so many sessions with two workers, and clients beside it: they are told what they should be told, and
+/// all steps are accounted for at the end.
 fn visited<L, R>(
     rt: &R,
     alloc: Global,
     blank: Blank,
     sessions: u16,
     visit: Visit,
-) -> Result<(bool, bool), Fail>
+) -> Result<(), Fail>
 where
     L: Hands + Send + Sync,
     R: Net<Listener = TcpListener, Stream = TcpStream> + Threads + Wait + Sync,
@@ -311,7 +325,15 @@ where
     );
     let PoolEnd { badge, .. } = served?;
     let (_, is_whole) = desk.into_hall(badge);
-    Ok((told?, is_whole))
+    agreed(told?, is_whole)
+}
+
+/// The same at a new desk's blank.
+fn try_visit<R>(rt: &R, alloc: Global, sessions: u16, visit: Visit) -> Result<(), Fail>
+where
+    R: Net<Listener = TcpListener, Stream = TcpStream> + Threads + Wait + Sync,
+{
+    visited::<Brand, R>(rt, alloc, Blank::new(PARTS), sessions, visit)
 }
 
 /// A server with two workers.
@@ -331,70 +353,63 @@ where
     serve(rt, alloc, desk, listener, sessions, workers, &Open)
 }
 
+/// A server whose workers go through a gate, which drops what it has at the end.
+fn serve_through<L, R, G>(
+    rt: &R,
+    alloc: Global,
+    desk: &Desk<L>,
+    listener: TcpListener,
+    sessions: u16,
+    workers: Worker,
+    gate: &G,
+) -> Result<(), ServeFault>
+where
+    L: Hands + Send + Sync,
+    R: Net<Listener = TcpListener, Stream = TcpStream> + Threads + Wait + Sync,
+    G: Gate + Sync,
+    requires { L.all ≡ L.parts }
+{
+    serve(rt, alloc, desk, listener, sessions, workers, gate)?;
+    Ok(())
+}
+
 #[test]
 fn a_job_is_answered(rt: HostRuntime) -> Result<(), Fail> {
-    let found = visited::<Brand, HostRuntime>(
-        &rt,
-        rt.alloc(),
-        Blank::new(PARTS),
-        1,
-        Visit::Answered,
-    )?;
-    assert_eq!(rt; found, (true, true));
-    Ok(())
+    try_visit(&rt, rt.alloc(), 1, Visit::Answered)
 }
 
 #[test]
 fn a_job_is_spent(rt: HostRuntime) -> Result<(), Fail> {
-    let found = visited::<Brand, HostRuntime>(&rt, rt.alloc(), Blank::new(PARTS), 1, Visit::Spent)?;
-    assert_eq!(rt; found, (true, true));
-    Ok(())
+    try_visit(&rt, rt.alloc(), 1, Visit::Spent)
 }
 
 #[test]
 fn two_at_once_are_served_as_each_alone(rt: HostRuntime) -> Result<(), Fail> {
-    let found = visited::<Brand, HostRuntime>(&rt, rt.alloc(), Blank::new(PARTS), 2, Visit::Both)?;
-    assert_eq!(rt; found, (true, true));
-    Ok(())
+    try_visit(&rt, rt.alloc(), 2, Visit::Both)
 }
 
 #[test]
 fn a_byte_at_a_time_is_enough(rt: HostRuntime) -> Result<(), Fail> {
-    let found = visited::<Brand, HostRuntime>(&rt, rt.alloc(), Blank::new(PARTS), 1, Visit::Bytes)?;
-    assert_eq!(rt; found, (true, true));
-    Ok(())
+    try_visit(&rt, rt.alloc(), 1, Visit::Bytes)
 }
 
 #[test]
 fn foreign_lines_get_their_faults(rt: HostRuntime) -> Result<(), Fail> {
-    let found = visited::<Brand, HostRuntime>(
-        &rt,
-        rt.alloc(),
-        Blank::new(PARTS),
-        1,
-        Visit::Foreign,
-    )?;
-    assert_eq!(rt; found, (true, true));
-    Ok(())
+    try_visit(&rt, rt.alloc(), 1, Visit::Foreign)
 }
 
 #[test]
 fn a_lost_connection_gives_all_back(rt: HostRuntime) -> Result<(), Fail> {
-    let found = visited::<Brand, HostRuntime>(&rt, rt.alloc(), Blank::new(PARTS), 2, Visit::Lost)?;
-    assert_eq!(rt; found, (true, true));
-    Ok(())
+    try_visit(&rt, rt.alloc(), 2, Visit::Lost)
 }
 
 #[test]
 fn sixty_four_are_told_of_their_own(rt: HostRuntime) -> Result<(), Fail> {
-    let found = visited::<Brand, HostRuntime>(&rt, rt.alloc(), Blank::new(PARTS), 64, Visit::Many)?;
-    assert_eq!(rt; found, (true, true));
-    Ok(())
+    try_visit(&rt, rt.alloc(), 64, Visit::Many)
 }
 
-/// Whether a server of two sessions whose pool can't begin ends while nobody comes, and whether its listener is closed
-/// then.
-fn given_up<L, R>(rt: &R, alloc: Global, blank: Blank) -> Result<(bool, bool), Fail>
+/// Whether a server of two sessions whose pool can't begin ends while nobody comes, and its listener is closed then.
+fn is_given_up<L, R>(rt: &R, alloc: Global, blank: Blank) -> Result<bool, Fail>
 where
     L: Hands + Send + Sync,
     R: Net<Listener = TcpListener, Stream = TcpStream> + Threads + Wait + Sync,
@@ -414,13 +429,13 @@ where
         Err(ServeFault::NoThread)
     });
     let is_closed = TcpStream::connect(rt, address).is_err();
-    Ok((matches!(served, Err(ServeFault::NoThread)), is_closed))
+    Ok(matches!(served, Err(ServeFault::NoThread)) && is_closed)
 }
 
 #[test]
 fn a_pool_that_cannot_begin_ends_the_server(rt: HostRuntime) -> Result<(), Fail> {
-    let found = given_up::<Brand, HostRuntime>(&rt, rt.alloc(), Blank::new(PARTS))?;
-    assert_eq!(rt; found, (true, true));
+    let is_given_up = is_given_up::<Brand, HostRuntime>(&rt, rt.alloc(), Blank::new(PARTS))?;
+    assert!(rt; is_given_up);
     Ok(())
 }
 
@@ -507,8 +522,8 @@ fn a_beginning_that_cannot_be_said_ends_the_server(rt: HostRuntime) -> Result<()
     Ok(())
 }
 
-/// How many bytes two clients read at a server of two sessions that can't have a thread for either.
-fn refused_threads<L, R>(rt: &R, alloc: Global, blank: Blank) -> Result<[usize; 2], Fail>
+/// Whether two clients read nothing at a server of two sessions that can't have a thread for either.
+fn are_refused_threads<L, R>(rt: &R, alloc: Global, blank: Blank) -> Result<bool, Fail>
 where
     L: Hands + Send + Sync,
     R: Net<Listener = TcpListener, Stream = TcpStream> + Threads + Wait + Sync,
@@ -532,12 +547,16 @@ where
         too_large,
         || Ok(desk.next_ready(rt).is_none()),
     )?;
-    Ok([(&one).read(&mut [0; 1])?, (&two).read(&mut [0; 1])?])
+    Ok(is_closed(&one)? && is_closed(&two)?)
 }
 
 #[test]
 fn a_connection_without_a_thread_is_closed_and_counts(rt: HostRuntime) -> Result<(), Fail> {
-    let found = refused_threads::<Brand, HostRuntime>(&rt, rt.alloc(), Blank::new(PARTS))?;
-    assert_eq!(rt; found, [0, 0]);
+    let are_refused = are_refused_threads::<Brand, HostRuntime>(
+        &rt,
+        rt.alloc(),
+        Blank::new(PARTS),
+    )?;
+    assert!(rt; are_refused);
     Ok(())
 }

@@ -1,10 +1,10 @@
 //! What lies between a server and those who come: its listener, its descriptors, its threads.
 ghost use Rattle.std.specs.Prelude.{◌≡◌};
 
-use super::{ANSWERED, Row, are_answered, are_told, is_answered};
+use super::{ANSWERED, Row, are_answered, are_told, is_answered, is_closed, serve_through};
+use crate::ServeFault;
 use crate::door::Door;
 use crate::server::{Sessions, serve_beside};
-use crate::{ServeFault, serve};
 use sched_rules::{Config, Worker};
 use std::alloc::Global;
 use std::io::{self, Error, ErrorKind, Read, Write};
@@ -185,11 +185,6 @@ fn are_four_done<R: Net<Stream = TcpStream>>(rt: &R, address: SocketAddr) -> io:
     Ok(told && are_answered(&one, &[LAST])?)
 }
 
-/// Whether the server has closed this connection without a word.
-fn is_closed(mut stream: &TcpStream) -> io::Result<bool> {
-    Ok(stream.read(&mut [0; 1])? == 0)
-}
-
 /// Whether the process uses less than a twentieth of a second's processor time in a second.
 fn is_idle<R: Clock + CpuClock>(rt: &R) -> io::Result<bool> {
     thread::sleep(rt, Duration::from_millis(50));
@@ -252,8 +247,17 @@ fn come_before<R: Net<Stream = TcpStream>>(
     Ok(Before { streams, taken })
 }
 
-/// A server with so many sessions and workers, and its guest: whether the guest is content, and so many workers were in
-/// the midst of a computation at once.
+/// Fails where a guest isn't content, or workers waited for each other until the limit.
+fn met(content: bool, is_late: bool) -> Result<(), Fail> {
+    match (content, is_late) {
+        (true, false) => Ok(()),
+        (false, _) => Err(Fail::from("the guest isn't content")),
+        (true, true) => Err(Fail::from("so many workers were never at work at once")),
+    }
+}
+
+/// A server with so many sessions and workers, and its guest: the guest is content, and so many workers were in the midst
+/// of a computation at once.
 fn attended<L, R>(
     rt: &R,
     alloc: Global,
@@ -261,7 +265,7 @@ fn attended<L, R>(
     guest: Guest,
     sessions: u16,
     workers: u8,
-) -> Result<(bool, bool), Fail>
+) -> Result<(), Fail>
 where
     L: Hands + Send + Sync,
     R: Net<Listener = TcpListener, Stream = TcpStream> + Threads + Wait + Clock + CpuClock + Sync,
@@ -287,86 +291,39 @@ where
         { serve_through(rt, alloc, &desk, listener, sessions, workers, &gate) },
     );
     served?;
-    Ok((content?, !gate.late.load(Ordering::SeqCst)))
+    met(content?, gate.late.load(Ordering::SeqCst))
 }
 
-/// A server whose workers go through a gate.
-fn serve_through<L, R>(
-    rt: &R,
-    alloc: Global,
-    desk: &Desk<L>,
-    listener: TcpListener,
-    sessions: u16,
-    workers: Worker,
-    gate: &Together,
-) -> Result<(), ServeFault>
+/// The same at a new desk's blank.
+fn attend<R>(rt: &R, alloc: Global, guest: Guest, sessions: u16, workers: u8) -> Result<(), Fail>
 where
-    L: Hands + Send + Sync,
-    R: Net<Listener = TcpListener, Stream = TcpStream> + Threads + Wait + Sync,
-    requires { L.all ≡ L.parts }
+    R: Net<Listener = TcpListener, Stream = TcpStream> + Threads + Wait + Clock + CpuClock + Sync,
 {
-    serve(rt, alloc, desk, listener, sessions, workers, gate)?;
-    Ok(())
+    attended::<Brand, R>(rt, alloc, Blank::new(PARTS), guest, sessions, workers)
 }
 
 /// The listener is closed with the last connection, while its session lives.
 #[test]
 fn who_comes_too_late_is_refused(rt: HostRuntime) -> Result<(), Fail> {
-    let found = attended::<Brand, HostRuntime>(
-        &rt,
-        rt.alloc(),
-        Blank::new(PARTS),
-        Guest::Followed,
-        1,
-        1,
-    )?;
-    assert_eq!(rt; found, (true, true));
-    Ok(())
+    attend(&rt, rt.alloc(), Guest::Followed, 1, 1)
 }
 
 /// Who never reads its answers holds up nobody.
 #[test]
 fn a_silent_peer_holds_up_nobody(rt: HostRuntime) -> Result<(), Fail> {
-    let found = attended::<Brand, HostRuntime>(
-        &rt,
-        rt.alloc(),
-        Blank::new(PARTS),
-        Guest::Silent,
-        2,
-        1,
-    )?;
-    assert_eq!(rt; found, (true, true));
-    Ok(())
+    attend(&rt, rt.alloc(), Guest::Silent, 2, 1)
 }
 
 /// Four workers that were asked for run at once.
 #[test]
 fn as_many_workers_run_as_were_asked(rt: HostRuntime) -> Result<(), Fail> {
-    let found = attended::<Brand, HostRuntime>(
-        &rt,
-        rt.alloc(),
-        Blank::new(PARTS),
-        Guest::Four,
-        1,
-        4,
-    )?;
-    assert_eq!(rt; found, (true, true));
-    Ok(())
+    attend(&rt, rt.alloc(), Guest::Four, 1, 4)
 }
 
 /// Where all descriptors are used up, who comes is turned away and counts, and the sessions go on.
 #[test]
 fn descriptors_are_used_up(rt: HostRuntime) -> Result<(), Fail> {
-    let found = attended::<Brand, HostRuntime>(
-        &rt,
-        rt.alloc(),
-        Blank::new(PARTS),
-        Guest::Crowd,
-        4,
-        1,
-    )?;
-    assert_eq!(rt; found, (true, true));
-    Ok(())
+    attend(&rt, rt.alloc(), Guest::Crowd, 4, 1)
 }
 
 /// A listener whose first connections are lost before they can be taken.
@@ -402,7 +359,7 @@ fn lost_connections_are_passed_over(rt: HostRuntime) -> Result<(), Fail> {
         panic!(rt; "turned away");
     };
     taken.write_all(b"?")?;
-    assert_eq!(rt; (&stream).read(&mut [0; 1])?, 1);
+    assert!(rt; !is_closed(&stream)?);
     Ok(())
 }
 

@@ -1,8 +1,7 @@
 //! A tenant reserves more while its jobs run.
 ghost use Rattle.std.specs.Prelude.{◌≡◌};
 
-use super::{Row, TURNS, Visit, is_answered, visited};
-use crate::{ServeFault, serve};
+use super::{Row, TURNS, Visit, is_answered, serve_through, try_visit};
 use desk_office::serve_desk;
 use line_io::{FromReader, FromWriter};
 use sched_rules::{Config, Worker};
@@ -33,9 +32,7 @@ pub(super) const MORE: [Row; 6] = [
 
 #[test]
 fn more_is_reserved_over_tcp(rt: HostRuntime) -> Result<(), Fail> {
-    let found = visited::<Brand, HostRuntime>(&rt, rt.alloc(), Blank::new(PARTS), 1, Visit::More)?;
-    assert_eq!(rt; found, (true, true));
-    Ok(())
+    try_visit(&rt, rt.alloc(), 1, Visit::More)
 }
 
 /// What a session over memory writes, at a desk of 16 segments and 16 nodes, at grain 0, with two workers.
@@ -140,6 +137,7 @@ where
     let desk: Desk<L> = Desk::new(Hall::new(alloc, config, 0)?, blank);
     let listener = TcpListener::bind(rt, "127.0.0.1:0")?;
     let stream = TcpStream::connect(rt, listener.local_addr()?)?;
+    let one = Worker::new(1).ok_or("one worker")?;
     let gate = Held {
         is_there: AtomicBool::new(false),
         is_open: AtomicBool::new(false),
@@ -149,27 +147,10 @@ where
         || is_ended(&stream, &gate, more, end),
         ||
             requires { L.all ≡ L.parts }
-        { serve_with_one(rt, alloc, &desk, listener, &gate) },
+        { serve_through(rt, alloc, &desk, listener, 1, one, &gate) },
     );
     served?;
     Ok(told?)
-}
-
-/// A server of one session and one worker.
-fn serve_with_one<L, R>(
-    rt: &R,
-    alloc: Global,
-    desk: &Desk<L>,
-    listener: TcpListener,
-    gate: &Held,
-) -> Result<(), ServeFault>
-where
-    L: Hands + Send + Sync,
-    R: Net<Listener = TcpListener, Stream = TcpStream> + Threads + Wait + Sync,
-    requires { L.all ≡ L.parts }
-{
-    serve(rt, alloc, desk, listener, 1, Worker::new(1).unwrap(), gate)?;
-    Ok(())
 }
 
 #[test]

@@ -1,8 +1,7 @@
 //! Tables of jobs, over TCP, and what jobs leave, at each grain and by one worker and by eight.
 ghost use Rattle.std.specs.Prelude.{◌≡◌};
 
-use super::{ANSWERED, Row, SPENT, are_answered};
-use crate::{ServeFault, serve};
+use super::{ANSWERED, Row, SPENT, are_answered, serve_through};
 use sched_rules::{Config, Worker};
 use std::alloc::Global;
 use std::marker::Brand;
@@ -71,27 +70,10 @@ where
         || are_answered(&stream, rows),
         ||
             requires { L.all ≡ L.parts }
-        { serve_one(rt, alloc, &desk, listener, workers) },
+        { serve_through(rt, alloc, &desk, listener, 1, workers, &Open) },
     );
     served?;
     Ok(told?)
-}
-
-/// A server of one session.
-fn serve_one<L, R>(
-    rt: &R,
-    alloc: Global,
-    desk: &Desk<L>,
-    listener: TcpListener,
-    workers: Worker,
-) -> Result<(), ServeFault>
-where
-    L: Hands + Send + Sync,
-    R: Net<Listener = TcpListener, Stream = TcpStream> + Threads + Wait + Sync,
-    requires { L.all ≡ L.parts }
-{
-    serve(rt, alloc, desk, listener, 1, workers, &Open)?;
-    Ok(())
 }
 
 #[test]

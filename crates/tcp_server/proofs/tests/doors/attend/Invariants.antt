@@ -1,4 +1,4 @@
-use Rattle.tcp_server.proofs.tests.doors.a_silent_peer_holds_up_nobody.Given as goal
+use Rattle.tcp_server.proofs.tests.doors.attend.Given as goal
 
 abbrev pub ghosts-attended-L-Ledger : goal.ghosts-attended-L-Ledger
 ghosts-attended-L-Ledger g a = record { name = a.blank.name; parts = a.blank.parts }

@@ -1,4 +1,4 @@
-use Rattle.tcp_server.proofs.tests.a_job_is_answered.Given as goal
+use Rattle.tcp_server.proofs.tests.try_visit.Given as goal
 
 abbrev pub ghosts-visited-L-Ledger : goal.ghosts-visited-L-Ledger
 ghosts-visited-L-Ledger g a = record { name = a.blank.name; parts = a.blank.parts }
