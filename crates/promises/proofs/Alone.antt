@@ -1,17 +1,16 @@
 -- A list with all other tenants' steps removed.
-use Rattle.std.proofs.Common.{◌≡◌, ℕ, Bool, true, false, ◌==◌, List, [], ◌∷◌, Option, Some, None, Result, Ok, Err, refl, sym, ap, ◌∙◌, subst, arith}
-use Rattle.std.specs.Prelude.{if◌then◌else◌, is_ok, not, ◌&&◌, ◌||◌}
+use Rattle.std.proofs.Common.{◌≡◌, ℕ, true, false, ◌==◌, List, [], ◌∷◌, Option, Some, None, Result, Ok, Err, refl, sym, ap, ◌∙◌, subst, arith}
+use Rattle.std.specs.Prelude.{if◌then◌else◌, is_ok}
 use Rattle.std.proofs.lemmas.Bool.Decides.{nat_tests}
 use Rattle.tenant_quota.specs.Quota.{Quota}
 use Rattle.sched_rules.specs.declared.refusal.Refusal.{Refusal}
-use Rattle.sched_rules.specs.declared.step.StepOf.{StepOf}
 use Rattle.sched_rules.specs.declared.step.StepOf.TheVariants.{Admit, AdmitMore, Submit, Take, Steal, Advance, Answer, Inlet, Finish, Spend, Cancel, Leave}
 use Rattle.sched_rules.specs.declared.step.DidOf.{DidOf}
 use Rattle.sched_rules.specs.Functions.{Functions}
 use Rattle.sched_rules.specs.Trees.{Tenant}
 use Rattle.sched_rules.specs.Lone.{Outcome, lone, refusal_in}
-use Rattle.sched_rules.specs.Runs.{tenant_of, only, state_after, answer_of, alone_from, answers_from}
-use Rattle.sched_rules.specs.Cores.{Shared, shared_by_nobody, tenant_in, with_tenant, without_tenant, with_outcome, is_busy_elsewhere, meets_busy, judged, shared_with}
+use Rattle.sched_rules.specs.Runs.{tenant_of, only, state_after, answer_of, answers_from}
+use Rattle.sched_rules.specs.Cores.{Shared, shared_by_nobody, tenant_in, with_tenant, without_tenant, with_outcome, is_busy_elsewhere, meets_busy, shared_with}
 use Rattle.sched_rules.specs.Headline.{IsAnswerTo, AreAnswersTo, IsKnown, after_answer, is_admission, taken, told}
 use Rattle.sched_rules.proofs.Isolation.{IsTaken, step-taken}
 use Rattle.sched_rules.proofs.Tenants.{tenant_in-with_outcome}

@@ -1,30 +1,27 @@
 -- What explains a tenant of a hall, and what its replies are to.
-use Rattle.std.proofs.Common.{◌≡◌, ℕ, ◌≤◌, ℤ, List, [], ◌∷◌, ◌++◌, length, Option, Some, None, refl, sym, ap, ◌∙◌, subst}
+use Rattle.std.proofs.Common.{◌≡◌, ℕ, ◌≤◌, ℤ, List, Option, Some, None, refl, sym, ap, ◌∙◌, subst}
 use Rattle.std.specs.Prelude.{IfSome, slice_get, slice_index}
 use Rattle.othello_board.specs.Words.{cells_of}
 use Rattle.othello_eval.specs.othello_moves.declared.choices.Choice.{Choice}
 use Rattle.othello_eval.specs.declared.bound.Bound.{Bound}
 use Rattle.othello_eval.specs.Minimax.{minimax, best_choice}
 use Rattle.othello_eval.specs.Tables.{IsTable}
-use Rattle.sched_rules.specs.declared.step.StepOf.{StepOf}
 use Rattle.sched_rules.specs.Trees.{Tenant}
 use Rattle.sched_rules.specs.Runs.{alone_from}
 use Rattle.sched_rules.specs.Cores.{tenant_in}
-use Rattle.jamboree_core.specs.jamboree_rules.declared.leaf.LeafAnswer.{LeafAnswer}
 use Rattle.jamboree_core.specs.jamboree_rules.Procedure.{jamboree}
-use Rattle.jamboree_core.specs.jamboree_rules.Places.{root_words}
 use Rattle.jamboree_core.specs.jamboree.declared.reply.Reply.{Reply}
 use Rattle.jamboree_core.specs.jamboree.Replies.{board_of, depth_of}
 use Rattle.jamboree_core.specs.sched_laws.Fitted.{origins_of}
 use Rattle.jamboree_core.specs.declared.outcomes.Outcome.TheVariants.{Done}
 use Rattle.jamboree_core.specs.Replies.{AreRootWords, AreSearches}
 use Rattle.jamboree_core.specs.Searching.{origin_at}
-use Rattle.jamboree_core.specs.Outcomes.{AnswersTo, IsReplyOn}
+use Rattle.jamboree_core.specs.Outcomes.{AnswersTo}
 use Rattle.jamboree_core.proofs.Serving.{searches-asked}
 use Rattle.hall.specs.Journals.{journal_in}
 use Rattle.hall.specs.Halls.{HallOf, Explains, IsExplained}
 use Rattle.promises.specs.Tenants.{SearchStep, AreSame}
-use Rattle.promises.specs.Replies.{IsAskedBy, IsTrueTable, IsValueOfSubmit, IsEntryOfSubmit}
+use Rattle.promises.specs.Replies.{IsAskedBy, IsValueOfSubmit, IsEntryOfSubmit}
 use Rattle.promises.proofs.Same.{are-same}
 use Rattle.promises.proofs.Replied.{root-at, true-table}
 

@@ -1,12 +1,9 @@
 -- The words of a line, and the line that asks for a job.
-use Rattle.std.proofs.Common.{◌≡◌, ℕ, ◌+◌, ◌-◌, ◌<◌, ◌≤◌, inl, inr, Bool, true, false, ◌==◌, cond, eqb, List, [], ◌∷◌, ◌++◌, length, map, Option, Some, None, Result, Ok, Err, refl, sym, ap, ◌∙◌, subst, arith}
-use Rattle.std.specs.Prelude.{◌&&◌, codes, nat_le, if◌then◌else◌, unwrap_or}
+use Rattle.std.proofs.Common.{◌≡◌, ℕ, inl, inr, Bool, true, false, List, [], ◌∷◌, ◌++◌, Option, Some, None, Result, Ok, Err, refl, ap, ◌∙◌}
+use Rattle.std.specs.Prelude.{◌&&◌, codes, if◌then◌else◌, unwrap_or}
 use Rattle.std.specs.Option.{option_map, is_none}
 use Rattle.std.specs.Str.{bytes_eq}
-use Rattle.std.specs.List.{list_all}
-use Rattle.std.specs.Char.{is_ascii_digit}
-use Rattle.std.proofs.lemmas.Bool.{cases_Bool}
-use Rattle.std.proofs.lemmas.Bool.Decides.{nat_tests, eqb_tells}
+use Rattle.std.proofs.lemmas.Bool.Decides.{eqb_tells}
 use Rattle.std.proofs.lemmas.Slice.Eq.{bytes_eq-Decides}
 use Rattle.othello_board.specs.declared.cells.Cell.{Cell}
 use Rattle.position_text.specs.declared.positions.Side.{Side}
@@ -15,9 +12,9 @@ use Rattle.line_io.specs.Lines.{LineText, Whole, TooLong}
 use Rattle.protocol.specs.declared.faults.ProtocolFault.{ProtocolFault}
 use Rattle.protocol.specs.Words.{split_at_space, word_number}
 use Rattle.protocol.specs.Questions.{QuestionOf, question}
-use Rattle.session.specs.Calls.{Call, Ask, Reserve}
+use Rattle.session.specs.Calls.{Ask, Reserve}
 use Rattle.session.specs.Forms.{Form, HelloOf, ReserveOf, AskOf, GetOf, WaitOf, CancelOf, TableOf, QuotaForm, LiveForm, ByeForm, bare_form, form_of_one, form_of_two, form_after, form_by, form_of}
-use Rattle.session.specs.Requests.{Request, Makes, ask_request, quota_of, quota_request, form_request, seated_request, request}
+use Rattle.session.specs.Requests.{Makes, ask_request, quota_of, quota_request, form_request, request}
 
 -- what stands before the first space and after it are the line
 some-pair : (a b c d : List ℕ) → ◌≡◌ {A = Option (List ℕ × List ℕ)} (Some (a, b)) (Some (c, d)) → (a ≡ c) × (b ≡ d)

@@ -2,7 +2,6 @@
 use Rattle.std.proofs.Common.{◌≡◌, ◌≢◌, ℕ, ◌⊎◌, inl, inr, Bool, true, false, ◌==◌, List, [], ◌∷◌, ◌++◌, length, Option, Some, None, Result, Ok, Err, refl, sym, ap, ◌∙◌, subst, arith}
 use Rattle.std.specs.Prelude.{if◌then◌else◌, not, ◌&&◌, ◌||◌}
 use Rattle.std.proofs.lemmas.Bool.Decides.{nat_tests}
-use Rattle.std.proofs.lemmas.Bool.{cases_Bool}
 use Rattle.tenant_quota.specs.Quota.{Quota}
 use Rattle.sched_rules.specs.declared.refusal.Refusal.{Refusal}
 use Rattle.sched_rules.specs.declared.refusal.Refusal.TheVariants.{Busy}
@@ -12,15 +11,15 @@ use Rattle.sched_rules.specs.declared.step.DidOf.{DidOf}
 use Rattle.sched_rules.specs.Functions.{Functions}
 use Rattle.sched_rules.specs.Trees.{Tenant, is_busy_in}
 use Rattle.sched_rules.specs.Lone.{Outcome, lone, lone_refusal, refusal_in}
-use Rattle.sched_rules.specs.Runs.{tenant_of, only, answer_of}
+use Rattle.sched_rules.specs.Runs.{tenant_of, answer_of}
 use Rattle.sched_rules.specs.Cores.{Shared, shared_by_nobody, tenant_in, with_tenant, without_tenant, with_outcome, is_busy_elsewhere, meets_busy, judged, shared_after}
-use Rattle.sched_rules.specs.Headline.{IsAnswerTo, IsAnswerToStep, AreAnswersTo, after_answer, after_answers, is_admission, taken}
+use Rattle.sched_rules.specs.Headline.{IsAnswerTo, IsAnswerToStep, AreAnswersTo, after_answer, after_answers}
 use Rattle.sched_rules.proofs.Isolation.{headline}
 use Rattle.sched_rules.proofs.Tenants.{tenant_in_other-with_tenant, tenant_in_other-without_tenant}
 use Rattle.jamboree_core.specs.jamboree_rules.declared.leaf.Leaf.{Leaf}
 use Rattle.jamboree_core.specs.jamboree_rules.Procedure.{jamboree}
 use Rattle.jamboree_core.specs.NewRuns.{IsHeadlineFromNew}
-use Rattle.promises.specs.Tenants.{SearchStep, SearchAnswer, stands, free_worker, IsBusyWithAnother, IsForOwnState, IsForBusyWorker, AreRefusedForThese}
+use Rattle.promises.specs.Tenants.{SearchStep, SearchAnswer, stands, free_worker, IsForOwnState, IsForBusyWorker, AreRefusedForThese}
 
 abbrev Entries : Type 0
 Entries = List (ℕ × Tenant)

@@ -1,6 +1,6 @@
 -- Each job that is done replies to what was asked under its number.
-use Rattle.std.proofs.Common.{◌≡◌, ℕ, ◌<◌, ℤ, ◌≤ℤ◌, ◌==◌, ◌-◌, Bool, true, false, List, [], ◌∷◌, length, map, Option, Some, None, refl, sym, ap, ◌∙◌, subst}
-use Rattle.std.specs.Prelude.{if◌then◌else◌, slice_get, slice_index, get_or}
+use Rattle.std.proofs.Common.{◌≡◌, ℕ, ℤ, ◌≤ℤ◌, ◌==◌, ◌-◌, true, false, List, [], ◌∷◌, length, map, Option, Some, refl, sym, ap, ◌∙◌, subst}
+use Rattle.std.specs.Prelude.{if◌then◌else◌, slice_get, get_or}
 use Rattle.std.specs.Option.{option_map}
 use Rattle.std.proofs.lemmas.Option.{slice_get-map, slice_get_within, get_or_from_slice_get}
 use Rattle.std.proofs.lemmas.List.{length-map}
@@ -21,7 +21,7 @@ use Rattle.jamboree_core.specs.Replies.{AreRootWords, IsReplyTo, HoldsReply, Are
 use Rattle.jamboree_core.specs.Searching.{AreAllRootWords, CoreSearches, origin_at}
 use Rattle.jamboree_core.specs.NewRuns.{IsHeadlineFromNew, submitted_by}
 use Rattle.promises.specs.Tenants.{SearchStep, SearchAnswer, own_steps}
-use Rattle.promises.specs.Replies.{IsTrueEntry, IsTrueTable, IsReplyInWords, RepliesToSubmit}
+use Rattle.promises.specs.Replies.{IsTrueTable, IsReplyInWords, RepliesToSubmit}
 
 -- what an entry says, by its kind
 low-says : (kind : BoundKind) (score value : ℤ) → Says kind score value → kind ≡ Low → value ≤ℤ score

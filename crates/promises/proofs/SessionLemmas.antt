@@ -1,18 +1,11 @@
 -- Each text of a session is true, by the lines before it.
-use Rattle.std.proofs.Common.{◌≡◌, ℕ, suc, ◌+◌, ◌-◌, ◌==◌, ◌<◌, ◌≤◌, ◌⊎◌, inl, inr, Bool, true, false, cond, eqb, List, [], ◌∷◌, ◌++◌, length, map, Option, Some, None, Result, Ok, Err, refl, sym, ap, ap₂, ◌∙◌, subst, arith}
-use Rattle.std.specs.Prelude.{◌&&◌, nat_eq, codes, decimal, if◌then◌else◌}
-use Rattle.std.specs.List.{concat, starts_with}
-use Rattle.std.proofs.lemmas.Bool.{cases_Bool}
-use Rattle.std.proofs.lemmas.Bool.Decides.{nat_tests, eqb_tells}
-use Rattle.std.proofs.lemmas.List.{length-map}
-use Rattle.othello_board.specs.declared.cells.Cell.{Cell}
+use Rattle.std.proofs.Common.{◌≡◌, ℕ, suc, ◌+◌, ◌-◌, ◌⊎◌, inl, inr, Bool, true, false, List, [], ◌∷◌, ◌++◌, length, map, Some, Result, refl, sym, ap, ◌∙◌, subst, arith}
+use Rattle.std.specs.Prelude.{codes, decimal, if◌then◌else◌}
+use Rattle.std.specs.List.{concat}
+use Rattle.std.proofs.lemmas.Bool.Decides.{eqb_tells}
 use Rattle.othello_board.specs.Words.{cells}
-use Rattle.othello_eval.specs.othello_moves.declared.choices.Choice.{Choice}
-use Rattle.othello_eval.specs.Minimax.{minimax, best_choice}
-use Rattle.othello_eval.specs.Tables.{IsTable}
 use Rattle.position_text.specs.declared.positions.Position.{Position}
-use Rattle.protocol.specs.Texts.{value_text}
-use Rattle.line_io.specs.Lines.{LineText, Whole}
+use Rattle.line_io.specs.Lines.{LineText}
 use Rattle.line_io.specs.Runs.{bytes_due, write_result}
 use Rattle.line_io.specs.Streams.{ReadAnswer, WriteAnswer}
 use Rattle.session.specs.declared.faults.End.{End}
@@ -20,18 +13,17 @@ use Rattle.session.specs.declared.faults.SessionFault.{SessionFault}
 use Rattle.session.specs.declared.standings.Analysis.{Analysis}
 use Rattle.session.specs.declared.standings.Standing.{Standing}
 use Rattle.session.specs.declared.standings.Standing.TheVariants.{Pending, Done, Spent, Cancelled}
-use Rattle.session.specs.Asks.{Asked, asked_at, with_ask}
-use Rattle.session.specs.Calls.{Call, Hello, Reserve, Ask, Get, Wait, Cancel, AskQuota, AskLive, Leave, OfficeReply, Welcome, Reserved, Job, Told, Ended, Rest, Alive, Gone, Refused}
+use Rattle.session.specs.Asks.{Asked, asked_at}
+use Rattle.session.specs.Calls.{Hello, Reserve, Ask, Get, Wait, Cancel, AskQuota, AskLive, Leave, OfficeReply, Welcome, Reserved, Job, Told, Ended, Rest, Alive, Gone, Refused}
 use Rattle.session.specs.Requests.{Request, Fault, Makes, Tabulates, Ends, request}
-use Rattle.session.specs.Turns.{LineTurn, Faulted, Made, Tabulated, Closed, turns, turn_text, reply_text, table_text, standing_text, table_standing_text, entries_text, by_request, next_reply, later_replies, seated_after}
-use Rattle.session.specs.Sessions.{Session, session_lines, texts_for, talk_result, IsAnsweredOf, IsWrittenOf}
-use Rattle.session.specs.DoneLines.{with_request, asks_then, asks_of_lines, IsTrueDone, IsTrueTable as IsTableOfAsk, TurnHolds, ReplyHolds, TableReplyHolds, EachDoneIsTrue, TrueSession}
+use Rattle.session.specs.Turns.{LineTurn, Faulted, Made, Tabulated, Closed, turns, turn_text, reply_text, standing_text, table_standing_text, by_request, next_reply, later_replies, seated_after}
+use Rattle.session.specs.Sessions.{session_lines, talk_result, IsAnsweredOf, IsWrittenOf}
+use Rattle.session.specs.DoneLines.{with_request, asks_of_lines, IsTrueDone, IsTrueTable as IsTableOfAsk, TurnHolds, ReplyHolds, TableReplyHolds, EachDoneIsTrue, TrueSession}
 use Rattle.promises.specs.Asking.{AsksFor}
-use Rattle.promises.specs.Replies.{IsTrueTable}
-use Rattle.promises.specs.Sessions.{Said, begins, KeepTenant, IsAskedAs, IsTrueDoneText, IsTrueTableText, IsTrueText, AreTrueTexts, TrueBytes}
+use Rattle.promises.specs.Sessions.{Said, begins, IsAskedAs, IsTrueDoneText, IsTrueTableText, IsTrueText, AreTrueTexts, TrueBytes}
 use Rattle.promises.proofs.Lines.{IsAskLine, ask-line}
 use Rattle.promises.proofs.Replied.{true-table}
-use Rattle.promises.proofs.Spelled.{Asks, asks-for}
+use Rattle.promises.proofs.Spelled.{asks-for}
 
 -- ---- where an ask came from
 

@@ -1,7 +1,6 @@
 -- Each text of `solve` is true of its line.
-use Rattle.std.proofs.Common.{◌≡◌, ℕ, ◌≤◌, ◌⊎◌, inl, inr, Bool, true, false, ◌==◌, eqb, List, [], ◌∷◌, ◌++◌, length, map, Option, Some, None, Result, Ok, Err, refl, sym, ap, ◌∙◌, subst, arith}
+use Rattle.std.proofs.Common.{◌≡◌, ℕ, ◌≤◌, ◌⊎◌, inl, inr, Bool, true, false, List, [], ◌∷◌, ◌++◌, length, Option, Some, None, Result, Ok, Err, refl, sym, ap, ◌∙◌, subst, arith}
 use Rattle.std.specs.Prelude.{◌&&◌, codes, nat_le, if◌then◌else◌}
-use Rattle.std.specs.Option.{option_map}
 use Rattle.std.specs.List.{concat, list_all}
 use Rattle.std.specs.Char.{is_ascii_digit}
 use Rattle.std.proofs.lemmas.Bool.Decides.{nat_tests, eqb_tells}
@@ -10,7 +9,7 @@ use Rattle.othello_board.specs.Words.{cells}
 use Rattle.position_text.specs.declared.positions.Position.{Position}
 use Rattle.protocol.specs.declared.faults.ProtocolFault.{ProtocolFault}
 use Rattle.protocol.specs.Words.{split_at_space, word_number, number_after}
-use Rattle.protocol.specs.Questions.{QuestionOf, position_question, question}
+use Rattle.protocol.specs.Questions.{QuestionOf, question}
 use Rattle.protocol.specs.Texts.{error_text}
 use Rattle.protocol.proofs.QuestionLemmas.{asks, spelled_question}
 use Rattle.line_io.specs.declared.faults.LineFault.{LineFault}

@@ -1,5 +1,5 @@
 -- Meaning: what is true of each line that `solve` writes, by the line that it answers.
-use Rattle.std.specs.Prelude.{◌≡◌, ℕ, ◌⊎◌, Bool, false, List, [], ◌∷◌, ◌++◌, map, codes, Result}
+use Rattle.std.specs.Prelude.{◌≡◌, ℕ, ◌⊎◌, false, List, [], ◌∷◌, ◌++◌, map, codes, Result}
 use Rattle.std.specs.List.{concat}
 use Rattle.std.specs.Str.{byte}
 use Rattle.othello_board.specs.Words.{cells}

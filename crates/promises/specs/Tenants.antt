@@ -1,12 +1,9 @@
 -- Meaning: what no other tenant changes, and what alone a step is refused for.
 use Rattle.std.specs.Prelude.{◌≡◌, ◌≢◌, ◌⊎◌, ℕ, true, false, List, [], ◌∷◌, ◌++◌, length, Option, Some, None, Result, Err, is_ok}
-use Rattle.tenant_quota.specs.Quota.{Quota}
-use Rattle.tenant_quota.specs.declared.account.Left.{Left}
-use Rattle.sched_rules.specs.declared.job.Job.{Job}
 use Rattle.sched_rules.specs.declared.refusal.Refusal.{Refusal}
 use Rattle.sched_rules.specs.declared.refusal.Refusal.TheVariants.{Busy}
 use Rattle.sched_rules.specs.declared.step.StepOf.{StepOf}
-use Rattle.sched_rules.specs.declared.step.StepOf.TheVariants.{Admit, AdmitMore, Submit, Take, Steal, Advance, Answer, Inlet, Finish, Spend, Cancel, Leave}
+use Rattle.sched_rules.specs.declared.step.StepOf.TheVariants.{Take, Steal, Inlet, Finish}
 use Rattle.sched_rules.specs.declared.step.DidOf.{DidOf}
 use Rattle.sched_rules.specs.Trees.{Tenant, left, is_busy_in}
 use Rattle.sched_rules.specs.Lone.{lone_refusal}

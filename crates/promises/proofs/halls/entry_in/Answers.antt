@@ -1,4 +1,3 @@
-use Rattle.std.proofs.Common.{refl}
 use Rattle.promises.proofs.HallLemmas.{entry-in}
 use Rattle.promises.proofs.halls.entry_in.Goals as goal
 
