@@ -36,6 +36,32 @@ const TABLES: &str =
 /// The last line of a session.
 const LAST: Row = ("BYE\n", "BYE\n");
 
+/// Four jobs that are asked at once, and then awaited.
+const FOUR: [Row; 10] = [
+    ("HELLO 4 8\n", "WELCOME 4 8\n"),
+    (
+        "ASK 0 ---------------------------OX------XO--------------------------- X\n",
+        "JOB 1\n",
+    ),
+    (
+        "ASK 0 ---------------------------OX------XO--------------------------- X\n",
+        "JOB 2\n",
+    ),
+    (
+        "ASK 0 ---------------------------OX------XO--------------------------- X\n",
+        "JOB 3\n",
+    ),
+    (
+        "ASK 0 ---------------------------OX------XO--------------------------- X\n",
+        "JOB 4\n",
+    ),
+    ("WAIT 1\n", "DONE 1 0 -\n"),
+    ("WAIT 2\n", "DONE 2 0 -\n"),
+    ("WAIT 3\n", "DONE 3 0 -\n"),
+    ("WAIT 4\n", "DONE 4 0 -\n"),
+    ("BYE\n", "BYE\n"),
+];
+
 /// How often somebody tries again, with a twentieth of a second in between.
 const TRIES: u32 = 100;
 
@@ -44,7 +70,9 @@ const MOST_DESCRIPTORS: usize = 1 << 21;
 
 /// Who comes to a server.
 #[derive(Clone, Copy)]
-enum Guest {
+pub(super) enum Guest {
+    /// One who is told these answers to these lines, to the end of the session.
+    Told(&'static [Row]),
     /// The only one, who is followed by others once it is there.
     Followed,
     /// One who never reads an answer, and then one who is answered.
@@ -55,7 +83,7 @@ enum Guest {
     Crowd,
 }
 
-/// The workers that are in the midst of a computation: each stays there until four are, within a limit.
+/// The workers that are in the midst of a computation: each stays there until so many are, within a limit.
 #[derive(Drop)]
 struct Together {
     many: u32,
@@ -167,24 +195,6 @@ fn fill(mut stream: &TcpStream) {
     }
 }
 
-/// Whether four jobs that are asked at once are done.
-fn are_four_done<R: Net<Stream = TcpStream>>(rt: &R, address: SocketAddr) -> io::Result<bool> {
-    let one = visitor(rt, address)?;
-    let mut told = is_answered(&one, ANSWERED[0])?;
-    for answer in ["JOB 1\n", "JOB 2\n", "JOB 3\n", "JOB 4\n"] {
-        told = told && is_answered(&one, (ANSWERED[1].0, answer))?;
-    }
-    for (line, answer) in [
-        ("WAIT 1\n", "DONE 1 0 -\n"),
-        ("WAIT 2\n", "DONE 2 0 -\n"),
-        ("WAIT 3\n", "DONE 3 0 -\n"),
-        ("WAIT 4\n", "DONE 4 0 -\n"),
-    ] {
-        told = told && is_answered(&one, (line, answer))?;
-    }
-    Ok(told && are_answered(&one, &[LAST])?)
-}
-
 /// Whether the process uses less than a twentieth of a second's processor time in a second.
 fn is_idle<R: Clock + CpuClock>(rt: &R) -> io::Result<bool> {
     thread::sleep(rt, Duration::from_millis(50));
@@ -224,7 +234,8 @@ fn is_content<R: Net<Stream = TcpStream> + Clock + CpuClock>(
     match guest {
         Guest::Followed => is_followed(rt, address),
         Guest::Silent => is_answered_beside(rt, address),
-        Guest::Four => are_four_done(rt, address),
+        Guest::Four => are_answered(&visitor(rt, address)?, &FOUR),
+        Guest::Told(rows) => are_answered(&visitor(rt, address)?, rows),
         Guest::Crowd => are_turned_away(rt, address, before),
     }
 }
@@ -256,12 +267,21 @@ fn met(content: bool, is_late: bool) -> Result<(), Fail> {
     }
 }
 
-/// A server with so many sessions and workers, and its guest: the guest is content, and so many workers were in the midst
-/// of a computation at once.
+/// How many workers are in the midst of a computation at once.
+fn at_once(guest: Guest) -> u32 {
+    match guest {
+        Guest::Four => 4,
+        _ => 1,
+    }
+}
+
+/// A server of this grain with so many sessions and workers, and its guest: the guest is content, and so many workers as
+/// it asks for were in the midst of a computation at once.
 fn attended<L, R>(
     rt: &R,
     alloc: Global,
     blank: Blank,
+    grain: u8,
     guest: Guest,
     sessions: u16,
     workers: u8,
@@ -274,12 +294,12 @@ where
 {
     let config = Config::new(256, 64).ok_or("the limits")?;
     let workers = Worker::new(workers).ok_or("the limits")?;
-    let desk: Desk<L> = Desk::new(Hall::new(alloc, config, 0)?, blank);
+    let desk: Desk<L> = Desk::new(Hall::new(alloc, config, grain.min(6))?, blank);
     let listener = TcpListener::bind(rt, "127.0.0.1:0")?;
     let address = listener.local_addr()?;
     let before = come_before(rt, alloc, &listener, guest)?;
     let gate = Together {
-        many: u32::from(workers.number()),
+        many: at_once(guest),
         there: AtomicU32::new(0),
         late: AtomicBool::new(false),
     };
@@ -295,35 +315,50 @@ where
 }
 
 /// The same at a new desk's blank.
-fn attend<R>(rt: &R, alloc: Global, guest: Guest, sessions: u16, workers: u8) -> Result<(), Fail>
+pub(super) fn attend<R>(
+    rt: &R,
+    alloc: Global,
+    grain: u8,
+    guest: Guest,
+    sessions: u16,
+    workers: u8,
+) -> Result<(), Fail>
 where
     R: Net<Listener = TcpListener, Stream = TcpStream> + Threads + Wait + Clock + CpuClock + Sync,
 {
-    attended::<Brand, R>(rt, alloc, Blank::new(PARTS), guest, sessions, workers)
+    attended::<Brand, R>(
+        rt,
+        alloc,
+        Blank::new(PARTS),
+        grain,
+        guest,
+        sessions,
+        workers,
+    )
 }
 
 /// The listener is closed with the last connection, while its session lives.
 #[test]
 fn who_comes_too_late_is_refused(rt: HostRuntime) -> Result<(), Fail> {
-    attend(&rt, rt.alloc(), Guest::Followed, 1, 1)
+    attend(&rt, rt.alloc(), 0, Guest::Followed, 1, 1)
 }
 
 /// Who never reads its answers holds up nobody.
 #[test]
 fn a_silent_peer_holds_up_nobody(rt: HostRuntime) -> Result<(), Fail> {
-    attend(&rt, rt.alloc(), Guest::Silent, 2, 1)
+    attend(&rt, rt.alloc(), 0, Guest::Silent, 2, 1)
 }
 
 /// Four workers that were asked for run at once.
 #[test]
 fn as_many_workers_run_as_were_asked(rt: HostRuntime) -> Result<(), Fail> {
-    attend(&rt, rt.alloc(), Guest::Four, 1, 4)
+    attend(&rt, rt.alloc(), 0, Guest::Four, 1, 4)
 }
 
 /// Where all descriptors are used up, who comes is turned away and counts, and the sessions go on.
 #[test]
 fn descriptors_are_used_up(rt: HostRuntime) -> Result<(), Fail> {
-    attend(&rt, rt.alloc(), Guest::Crowd, 4, 1)
+    attend(&rt, rt.alloc(), 0, Guest::Crowd, 4, 1)
 }
 
 /// A listener whose first connections are lost before they can be taken.

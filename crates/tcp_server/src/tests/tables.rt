@@ -1,17 +1,8 @@
 //! Tables of jobs, over TCP, and what jobs leave, at each grain and by one worker and by eight.
-ghost use Rattle.std.specs.Prelude.{◌≡◌};
 
-use super::{ANSWERED, Row, SPENT, are_answered, serve_through};
-use sched_rules::{Config, Worker};
-use std::alloc::Global;
-use std::marker::Brand;
-use std::net::{Net, TcpListener, TcpStream};
-use std::sync::Wait;
-use std::sync::ledger::Blank;
+use super::doors::{Guest, attend};
+use super::{ANSWERED, Row, SPENT};
 use std::test::Fail;
-use std::thread::{self, Threads};
-use steal_pool::Open;
-use steal_pool::desk::{Desk, Hall, Hands, PARTS};
 
 /// Jobs of depth 0 and 1 with their tables, which don't depend on who searched them: the first move is searched in full,
 /// and each of the others is found to be no better.
@@ -45,37 +36,6 @@ const TABLES: [Row; 15] = [
     ("BYE\n", "BYE\n"),
 ];
 
-/// Whether these rows are told at a server of this grain with so many workers.
-fn are_told_by<L, R>(
-    rt: &R,
-    alloc: Global,
-    blank: Blank,
-    grain: u8,
-    workers: u8,
-    rows: &[Row],
-) -> Result<bool, Fail>
-where
-    L: Hands + Send + Sync,
-    R: Net<Listener = TcpListener, Stream = TcpStream> + Threads + Wait + Sync,
-    requires name { blank.name ≡ L.name }
-    requires parts { (blank.parts ≡ L.parts) × (L.all ≡ L.parts) × (L.all ≡ PARTS) }
-{
-    let config = Config::new(64, 64).ok_or("the limits")?;
-    let workers = Worker::new(workers).ok_or("the limits")?;
-    let desk: Desk<L> = Desk::new(Hall::new(alloc, config, grain.min(6))?, blank);
-    let listener = TcpListener::bind(rt, "127.0.0.1:0")?;
-    let stream = TcpStream::connect(rt, listener.local_addr()?)?;
-    let (told, served) = thread::join(
-        rt,
-        || are_answered(&stream, rows),
-        ||
-            requires { L.all ≡ L.parts }
-        { serve_through(rt, alloc, &desk, listener, 1, workers, &Open) },
-    );
-    served?;
-    Ok(told?)
-}
-
 #[test]
 fn jobs_are_told_at_each_grain(rt: HostRuntime) -> Result<(), Fail> {
     for (grain, rows) in [
@@ -88,15 +48,7 @@ fn jobs_are_told_at_each_grain(rt: HostRuntime) -> Result<(), Fail> {
         (0, SPENT.as_slice()),
     ] {
         for workers in [1, 8] {
-            let told = are_told_by::<Brand, HostRuntime>(
-                &rt,
-                rt.alloc(),
-                Blank::new(PARTS),
-                grain,
-                workers,
-                rows,
-            )?;
-            assert!(rt; told, "grain {grain}, {workers} workers, {}", rows.len());
+            attend(&rt, rt.alloc(), grain, Guest::Told(rows), 1, workers)?;
         }
     }
     Ok(())
