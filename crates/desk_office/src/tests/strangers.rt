@@ -1,5 +1,5 @@
 //! An office that has no tenant refuses by number, and one that has a tenant takes no other. Sessions ask neither of it.
-ghost use Rattle.std.specs.Prelude.{◌≡◌, ◌≤◌};
+ghost use Rattle.std.specs.Prelude.{◌≡◌};
 
 use super::*;
 use crate::DeskOffice;
