@@ -328,7 +328,7 @@ where
     agreed(told?, is_whole)
 }
 
-/// The same at a new desk's blank.
+/// The same with a blank of its own.
 fn try_visit<R>(rt: &R, alloc: Global, sessions: u16, visit: Visit) -> Result<(), Fail>
 where
     R: Net<Listener = TcpListener, Stream = TcpStream> + Threads + Wait + Sync,

@@ -267,7 +267,7 @@ fn met(content: bool, is_late: bool) -> Result<(), Fail> {
     }
 }
 
-/// How many workers are in the midst of a computation at once.
+/// How many workers this guest wants to see in the midst of a computation at once.
 fn at_once(guest: Guest) -> u32 {
     match guest {
         Guest::Four => 4,
@@ -314,7 +314,7 @@ where
     met(content?, gate.late.load(Ordering::SeqCst))
 }
 
-/// The same at a new desk's blank.
+/// The same with a blank of its own.
 pub(super) fn attend<R>(
     rt: &R,
     alloc: Global,
