@@ -39,21 +39,28 @@ answers-written answer (Ok u) pieces rest texts answered lines t e h = answers-a
 answers-written answer (Err d) pieces rest texts answered lines t e h =
     answers-begun answer pieces rest texts answered lines t e h.0 h.1.left
 
+-- a run, where what its writes left is this of the lines due
+pub Run-written : {S K A : Type 0} (gives : S → ReadAnswer → S → Type 0) (takes : K → WriteAnswer → K → Type 0) (answers : A → LineText → List ℕ → A → Type 0) (out : List LineText → List ℕ) (s : S) (k : K) (a : A) (s' : S) (k' : K) (a' : A) (r : Result (Unit {0}) LineFault) (x : Run gives takes answers s k a s' k' a' r) → IsOutput (write_result r) (concat x.lines.pieces) (out (lines_of (bytes_due r (concat x.blocks)))) → FunctionRun gives takes (λ bytes. out (lines_of bytes)) s k s' k' r
+Run-written gives takes answers out s k a s' k' a' r x written =
+    let y = x.lines in
+    record {
+      blocks = x.blocks;
+      last = x.last;
+      pieces = y.pieces;
+      reads = x.reads;
+      ends = x.ends;
+      writes = y.writes;
+      written = written;
+    }
+
 module _ {S K A : Type 0} (gives : S → ReadAnswer → S → Type 0) (takes : K → WriteAnswer → K → Type 0) (answers : A → LineText → List ℕ → A → Type 0) (holds : A → Type 0) (answer : LineText → List ℕ) (step : (a : A) (l : LineText) (t : List ℕ) (b : A) → holds a → answers a l t b → (t ≡ answer l) × holds b) where
   -- a run whose answers are a function's
   pub Run-function : (s : S) (k : K) (a : A) (s' : S) (k' : K) (a' : A) (r : Result (Unit {0}) LineFault) → holds a → Run gives takes answers s k a s' k' a' r → FunctionRun gives takes (λ bytes. answers_to answer (lines_of bytes)) s k s' k' r
   Run-function s k a s' k' a' r h x =
       let y = x.lines in
       let texts_are : y.texts ≡ map answer y.answered = Answers-function answers holds answer step a y.answered y.texts a' h y.answers_lead in
-      record {
-        blocks = x.blocks;
-        last = x.last;
-        pieces = y.pieces;
-        reads = x.reads;
-        ends = x.ends;
-        writes = y.writes;
-        written = answers-written answer (write_result r) y.pieces y.rest y.texts y.answered (lines_of (bytes_due r (concat x.blocks))) y.taken texts_are y.ends;
-      }
+      Run-written gives takes answers (answers_to answer) s k a s' k' a' r x
+      (answers-written answer (write_result r) y.pieces y.rest y.texts y.answered (lines_of (bytes_due r (concat x.blocks))) y.taken texts_are y.ends)
 
 -- answers by a relation of lines and texts alone, whatever the states
 Answers-related : {A : Type 0} (answers : A → LineText → List ℕ → A → Type 0) (related : LineText → List ℕ → Type 0) → ((a : A) (l : LineText) (t : List ℕ) (b : A) → answers a l t b → related l t) → (a : A) (ls : List LineText) (ts : List (List ℕ)) (b : A) → Answers answers a ls ts b → Answers (λ (_ : Unit {0}) l t (_ : Unit {0}). related l t) tt ls ts tt

@@ -27,25 +27,15 @@ use Rattle.lone_search.specs.Asked.{HasRun, HasReserved, WorksOn, IsWork, Keeps,
 use Rattle.lone_search.proofs.Staying.{Stays, step-stays}
 use Rattle.lone_search.proofs.Asking.{StepSearches, step-asks, submit-asks, nothing-asked}
 
--- a worker's step submits nothing
-work-submits : {A : Type 0} (step : StepOf A) → IsWork step → submits step ≡ []
-work-submits (Take worker name) work = refl
-work-submits (Steal worker from name) work = refl
-work-submits (Advance worker name) work = refl
-work-submits (Answer worker name answer) work = refl
-work-submits (Inlet worker name) work = refl
-work-submits (Finish worker name) work = refl
-work-submits (Spend name) work = refl
-work-submits _ work = absurd work
-
-work-search : {A : Type 0} (step : StepOf A) → IsWork step → IsSearch step
-work-search (Take worker name) work = tt
-work-search (Steal worker from name) work = tt
-work-search (Advance worker name) work = tt
-work-search (Answer worker name answer) work = tt
-work-search (Inlet worker name) work = tt
-work-search (Finish worker name) work = tt
-work-search (Spend name) work = tt
+-- a worker's step submits nothing, and so is one that a search may take
+work-search : {A : Type 0} (step : StepOf A) → IsWork step → (submits step ≡ []) × IsSearch step
+work-search (Take worker name) work = (refl, tt)
+work-search (Steal worker from name) work = (refl, tt)
+work-search (Advance worker name) work = (refl, tt)
+work-search (Answer worker name answer) work = (refl, tt)
+work-search (Inlet worker name) work = (refl, tt)
+work-search (Finish worker name) work = (refl, tt)
+work-search (Spend name) work = (refl, tt)
 work-search _ work = absurd work
 
 -- a run goes on
@@ -94,11 +84,12 @@ pub step-keeps : (before after : CoreOf Jamboree) (step : StepOf LeafAnswer) (an
     IsOneStep (jamboree before.procedure.grain) before.shared step answer after.shared → StepSearches before.shared step answer after.shared → Keeps before after
 step-keeps before after step answer work known same one searching task works =
     let own : IsOneStep (jamboree task.grain) before.shared step answer after.shared = rw works.grain at one in
+    let plain = work-search step work in
     record {
       grain = ap (λ (p : Jamboree). p.grain) same ∙ works.grain;
       run = run-on task.grain task.quota before.shared step answer after.shared works.run own;
       reserved = reserved-on task.grain task.quota before.shared step answer after.shared work known works.reserved own;
-      asked = step-asks task.asked before.shared after.shared step answer (work-submits step work) (work-search step work) searching works.asked;
+      asked = step-asks task.asked before.shared after.shared step answer plain.0 plain.1 searching works.asked;
     }
 
 -- the tenant comes

@@ -9,6 +9,7 @@ use Rattle.line_io.specs.Leads.{Answers}
 use Rattle.line_io.specs.Streams.{ReadAnswer, WriteAnswer}
 use Rattle.line_io.specs.Writes.{IsAnswered, written_texts, with_end}
 use Rattle.line_io.specs.Runs.{Run, IsOutput, answers_to, bytes_due, write_result}
+use Rattle.line_io.proofs.ByFunction.{Run-written}
 use Rattle.solve_engine.specs.Solving.{solve_line, solve_line_unless, IsSolvedLine, answers_unless, SolvedRun}
 
 -- which of these lines met a refused growth: a flag for each, and the answers are those texts
@@ -59,15 +60,8 @@ solved-run gives takes s k a s' k' a' r x =
     let y = x.lines in
     let refusals = refusals-of a y.answered y.texts a' y.answers_lead in (
       refusals.refused,
-      record {
-        blocks = x.blocks;
-        last = x.last;
-        pieces = y.pieces;
-        reads = x.reads;
-        ends = x.ends;
-        writes = y.writes;
-        written = written (write_result r) y.pieces y.rest y.texts y.answered (lines_of (bytes_due r (concat x.blocks))) refusals y.taken y.ends;
-      },
+      Run-written gives takes _ (answers_unless refusals.refused) s k a s' k' a' r x
+          (written (write_result r) y.pieces y.rest y.texts y.answered (lines_of (bytes_due r (concat x.blocks))) refusals y.taken y.ends),
     )
 
 -- where no growth was refused, it is what `solve` writes

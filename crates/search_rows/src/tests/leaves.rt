@@ -4,7 +4,7 @@ mod kernels;
 
 use leaf_search::{INF, Scored, search, search_full};
 use othello_board::Board;
-use othello_eval::{eval, final_value, plain};
+use othello_eval::{Valued, eval, final_value, plain};
 use othello_moves::{Choice, after, choice, choice_count, plies};
 use std::process::Abort;
 use std::test::Fail;
@@ -61,24 +61,31 @@ fn by_the_book(board: Board, depth: u8, alpha: i32, beta: i32) -> (i32, u64) {
     (best, visited)
 }
 
-/// One window: the score is the bound of the plain value that the window asks for, the choice is the
-/// plain one inside it, and score and count are those of the definition.
+/// Whether a search found what its window asks for: the score is the bound of the plain value that the
+/// window asks for, and inside it the choice is the plain one.
+fn is_found(found: &Scored, wanted: &Valued, alpha: i32, beta: i32) -> bool {
+    if found.score <= alpha {
+        wanted.value <= found.score
+    } else if found.score >= beta {
+        wanted.value >= found.score
+    } else {
+        found.score == wanted.value && found.choice == wanted.choice
+    }
+}
+
+/// One window: what is found is what it asks for, and score and count are those of the definition.
 fn check_window(rt: &impl Abort, board: Board, depth: u8, alpha: i32, beta: i32) {
     assert!(rt; depth <= 12);
     assert!(rt; -INF <= alpha && alpha < beta && beta <= INF);
     let found = search(board, depth, alpha, beta);
-    let wanted = plain(board, depth);
-    if found.score <= alpha {
-        assert!(rt; wanted.value <= found.score);
-    } else if found.score >= beta {
-        assert!(rt; wanted.value >= found.score);
-    } else {
-        assert_eq!(rt; found.score, wanted.value);
-        assert_eq!(rt; found.choice, wanted.choice);
-    }
-    let (score, visited) = by_the_book(board, depth, alpha, beta);
-    assert_eq!(rt; found.score, score);
-    assert_eq!(rt; found.visited, visited);
+    assert!(rt;
+        is_found(&found, &plain(board, depth), alpha, beta),
+        "{board:?}"
+    );
+    assert_eq!(rt;
+        (found.score, found.visited),
+        by_the_book(board, depth, alpha, beta)
+    );
 }
 
 /// All windows whose ends are the value, one below or one above it, or the ends of the full window.

@@ -4,6 +4,7 @@ ghost use Rattle.std.specs.Prelude.{◌≡◌, ℕ, List, codes, false};
 ghost use Rattle.std.specs.Str.{bytes_eq};
 ghost use Rattle.line_io.specs.Lines.{Whole, TooLong};
 
+use super::same;
 use arrayvec::ArrayVec;
 use line_io::{
     Answer, Ends, FromReader, FromWriter, Line, ReadFailed, Sink, Source, TalkEnd, WriteFailed,
@@ -11,6 +12,7 @@ use line_io::{
 };
 use std::cell::Cell;
 use std::io::{self, ErrorKind, Read, Write};
+use std::sync::Wait;
 use std::test::Fail;
 
 /// Answers a line by itself, where it has fewer than 16 bytes, and else by nothing. `bye` is the last line.
@@ -107,6 +109,23 @@ impl Write for Failing {
     }
 }
 
+/// Whether a read fails, after how many calls, and how many bytes the last one had room for.
+fn read_of(error: ErrorKind, failures: u32) -> (bool, u32, usize) {
+    let mut block = [0u8; 4096];
+    let mut source = FromReader {
+        reader: Failing::new(error, failures),
+    };
+    let fails = source.fill(&mut block).is_err();
+    (fails, source.reader.calls, source.reader.bytes)
+}
+
+/// How a write fails, after how many calls, and how many bytes the last one offered.
+fn write_of(error: ErrorKind, failures: u32) -> (bool, Option<ErrorKind>, u32, usize) {
+    let mut sink = FromWriter::new(Failing::new(error, failures));
+    let fails = sink.put([b'a'; 100].as_slice()).is_err();
+    (fails, sink.failure, sink.writer.calls, sink.writer.bytes)
+}
+
 #[test]
 fn whole_blocks_are_read_and_written_and_errors_answered_at_once(rt: HostRuntime) {
     for (error, failures, calls, fails) in [
@@ -116,20 +135,13 @@ fn whole_blocks_are_read_and_written_and_errors_answered_at_once(rt: HostRuntime
         (ErrorKind::Interrupted, 65_535, 65_536, false),
         (ErrorKind::Interrupted, 65_536, 65_536, true),
     ] {
-        let mut block = [0u8; 4096];
-        let mut source = FromReader {
-            reader: Failing::new(error, failures),
-        };
-        assert_eq!(rt; source.fill(&mut block).is_err(), fails);
-        assert_eq!(rt; source.reader.calls, calls);
-        assert_eq!(rt; source.reader.bytes, 4096);
-
-        let mut sink = FromWriter::new(Failing::new(error, failures));
-        let text = [b'a'; 100];
-        assert_eq!(rt; sink.put(text.as_slice()).is_err(), fails);
-        assert_eq!(rt; sink.writer.calls, calls);
-        assert_eq!(rt; sink.writer.bytes, 100);
-        assert_eq!(rt; sink.failure, if fails { Some(error) } else { None });
+        let failure = if fails { Some(error) } else { None };
+        assert_eq!(rt; read_of(error, failures), (fails, calls, 4096), "{error:?}");
+        assert_eq!(rt;
+            write_of(error, failures),
+            (fails, failure, calls, 100),
+            "{error:?}"
+        );
     }
 }
 
@@ -139,6 +151,21 @@ struct Ear {
     asked: Cell<usize>,
     answered: Cell<usize>,
     too_early: Cell<bool>,
+}
+
+impl Ear {
+    fn new() -> Ear {
+        Ear {
+            asked: Cell::new(0),
+            answered: Cell::new(0),
+            too_early: Cell::new(false),
+        }
+    }
+
+    /// How many lines were asked for and answered, and whether one was asked for too early.
+    fn heard(&self) -> (usize, usize, bool) {
+        (self.asked.get(), self.answered.get(), self.too_early.get())
+    }
 }
 
 /// Gives one line a call, and notes where it is asked before the last answer was written, or has no room for a
@@ -197,30 +224,34 @@ impl Ends for Echo {
     }
 }
 
+/// How a talk of these lines ends.
+fn talked<R: Wait>(rt: &R, ear: &Ear, lines: &[[u8; 4]]) -> Option<TalkEnd> {
+    let mut source = Asking { ear, lines };
+    talk_lines(rt, &mut source, &mut Hearing(ear), &mut Echo::new()).ok()
+}
+
+/// Whether these lines are answered to the end.
+fn answered(ear: &Ear, lines: &[[u8; 4]]) -> bool {
+    let mut source = Asking { ear, lines };
+    answer_lines(&mut source, &mut Hearing(ear), &mut Echo::new()).is_ok()
+}
+
 #[test]
 fn each_answer_is_written_before_more_is_read(rt: HostRuntime) {
-    for (lines, answered, end) in [
-        ([*b"one\n", *b"two\n", *b"six\n"], 3, Some(TalkEnd::Input)),
-        ([*b"one\n", *b"bye\n", *b"six\n"], 2, Some(TalkEnd::Line)),
-        ([*b"one\n", *b"bye\n", *b"six\n"], 3, None),
+    for (last, end, count) in [
+        (*b"two\n", Some(TalkEnd::Input), 3),
+        (*b"bye\n", Some(TalkEnd::Line), 2),
     ] {
-        let ear = Ear {
-            asked: Cell::new(0),
-            answered: Cell::new(0),
-            too_early: Cell::new(false),
-        };
-        let mut source = Asking {
-            ear: &ear,
-            lines: lines.as_slice(),
-        };
-        let (mut sink, mut echo) = (Hearing(&ear), Echo::new());
-        let is_over = match end {
-            Some(_) => talk_lines(&rt, &mut source, &mut sink, &mut echo).ok() == end,
-            None => answer_lines(&mut source, &mut sink, &mut echo).is_ok(),
-        };
-        assert!(rt; is_over);
-        assert_eq!(rt; ear.answered.get(), answered);
-        assert_eq!(rt; ear.asked.get(), answered);
-        assert!(rt; !ear.too_early.get());
+        let ear = Ear::new();
+        same(
+            &rt,
+            "an end",
+            &talked(&rt, &ear, &[*b"one\n", last, *b"six\n"]),
+            &end,
+        );
+        same(&rt, "a talk", &ear.heard(), &(count, count, false));
     }
+    let ear = Ear::new();
+    assert!(rt; answered(&ear, &[*b"one\n", *b"bye\n", *b"six\n"]));
+    same(&rt, "all lines", &ear.heard(), &(3, 3, false));
 }

@@ -1,18 +1,34 @@
 //! The example of `protocol`.
+use super::same;
 use arrayvec::ArrayVec;
 use othello_moves::Choice;
 use protocol::{push_move, push_value, split_at_space, word_number};
-use std::test::Fail;
+
+/// The number before the first space of a line.
+fn number_of(line: &[u8]) -> Option<u32> {
+    let (depth, _) = split_at_space(line)?;
+    word_number(depth)
+}
+
+/// Whether a line has this after its first space.
+fn goes_on(line: &[u8], rest: &[u8]) -> bool {
+    match split_at_space(line) {
+        Some((_, position)) => position == rest,
+        None => false,
+    }
+}
 
 #[test]
-fn words_are_read_and_written(rt: HostRuntime) -> Result<(), Fail> {
-    let (depth, position) = split_at_space(b"12 X-O").ok_or("no space")?;
-    assert_eq!(rt; position, b"X-O".as_slice());
-    assert_eq!(rt; word_number(depth), Some(12));
+fn words_are_read(rt: HostRuntime) {
+    same(&rt, "the first", &number_of(b"12 X-O"), &Some(12));
+    same(&rt, "the rest", &goes_on(b"12 X-O", b"X-O"), &true);
+}
+
+#[test]
+fn an_answer_is_written(rt: HostRuntime) {
     let mut text: ArrayVec<u8, 32> = ArrayVec::new();
     push_value(&mut text, -3);
     text.push(b' ');
     push_move(&mut text, Some(Choice::Square(19)));
     assert_eq!(rt; text.as_slice(), b"-3 d3".as_slice());
-    Ok(())
 }

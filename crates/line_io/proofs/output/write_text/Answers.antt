@@ -1,4 +1,4 @@
-use Rattle.std.proofs.Common.{arith}
+use Rattle.std.proofs.Common.{arith, rules}
 use Rattle.std.proofs.lemmas.List.{length-drop}
 use Rattle.std.proofs.lemmas.Result.{err_from_is_err_and}
 use Rattle.line_io.proofs.Written.{Sent-more, Sent-failed, offered-all}
@@ -15,3 +15,6 @@ loop-sent-preserved g c =
       within = omega (arith, length-drop c.loop-sent.sent c.args.bytes.now, c.in_ok-sent.ensures.bound);
       sent = Sent-more g.K.Sink.takes _ _ _ _ _ _ _ c.loop-sent.invariant.sent (offered-all c.loop-sent.sent c.args.bytes.now) c.in_ok-sent.ensures.answer;
     }
+
+pub loop-sent-init : goal.loop-sent-init
+loop-sent-init g c = search rules

@@ -1,4 +1,4 @@
-use Rattle.std.proofs.Common.{◌∙◌, ap, sym, not, arith}
+use Rattle.std.proofs.Common.{◌∙◌, ap, sym, not, arith, rules}
 use Rattle.std.proofs.lemmas.Result.{err_from_is_err_and}
 use Rattle.line_io.proofs.Talked.{Talk-start, Talk-byte, Talk-line, Talk-stopped, Talk-failed, Talk-end}
 use Rattle.line_io.proofs.talking.talk_block.Goals as goal
@@ -28,3 +28,6 @@ loop-byte-preserved g c =
 
 pub returns-clause-lines : goal.returns-clause-lines
 returns-clause-lines g c = (Talk-end g.A.Ends.ends g.K.Sink.takes g.A.Answer.answers _ _ _ _ _ _ _ _ c.loop-byte.invariant (omega arith)).0
+
+pub returns-then-branch-clause-cutter : goal.returns-then-branch-clause-cutter
+returns-then-branch-clause-cutter g c = search rules

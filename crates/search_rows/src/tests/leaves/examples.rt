@@ -1,43 +1,63 @@
 //! The examples of the root files of the crates below this one, which have no tests of their own, each public
 //! call of theirs once on an ordinary board, and the known numbers of positions after so many choices.
 use super::{BLACK, WHITE};
+use crate::tests::same;
 use othello_board::{Board, Cell, Direction};
-use othello_eval::{eval, final_value, plain};
+use othello_eval::{Valued, eval, final_value, plain};
 use othello_moves::{Choice, Choices, after, choice, choice_count, move_count, moves, over};
 use std::test::Fail;
 
+/// The opening, Black to move.
+fn opening() -> Result<Board, Fail> {
+    Ok(Board::new(BLACK, WHITE).ok_or("no board")?)
+}
+
 #[test]
 fn board_example(rt: HostRuntime) -> Result<(), Fail> {
-    let opening = Board::new(BLACK, WHITE).ok_or("no board")?;
-    assert_eq!(rt; opening.flips(19), 1 << 27);
-    assert_eq!(rt; opening.flips(20), 0);
-    assert_eq!(rt; opening.count(), (2, 2));
-    assert_eq!(rt; opening.cell(28), Cell::Own);
-    assert_eq!(rt; opening.cell(27), Cell::Opp);
-    assert_eq!(rt; opening.cell(19), Cell::Empty);
-    assert_eq!(rt; opening.swap(), Board::new(WHITE, BLACK).ok_or("no board")?);
-    assert!(rt; Board::new(3, 2).is_none());
-    assert_eq!(rt; Direction::SouthEast.step(0), Some(9));
-    assert_eq!(rt; Direction::NorthEast.step(7), None);
+    let opening = opening()?;
+    same(&rt, "a move", &opening.flips(19), &(1 << 27));
+    same(&rt, "no move", &opening.flips(20), &0);
+    same(&rt, "discs", &opening.count(), &(2, 2));
+    same(&rt, "own", &opening.cell(28), &Cell::Own);
+    same(&rt, "opposing", &opening.cell(27), &Cell::Opp);
+    same(&rt, "empty", &opening.cell(19), &Cell::Empty);
+    same(
+        &rt,
+        "the other side",
+        &Some(opening.swap()),
+        &Board::new(WHITE, BLACK),
+    );
+    same(&rt, "two discs on a square", &Board::new(3, 2), &None);
+    same(&rt, "a step", &Direction::SouthEast.step(0), &Some(9));
+    same(&rt, "the edge", &Direction::NorthEast.step(7), &None);
     Ok(())
 }
 
 #[test]
 fn moves_example(rt: HostRuntime) -> Result<(), Fail> {
-    let opening = Board::new(BLACK, WHITE).ok_or("no board")?;
+    let opening = opening()?;
     assert_eq!(rt; choice_count(opening), 4);
-    assert_eq!(rt; choice(opening, 0), Choice::Square(19));
-    assert_eq!(rt; moves(opening), 1 << 19 | 1 << 26 | 1 << 37 | 1 << 44);
-    assert_eq!(rt; move_count(opening), 4);
-    assert!(rt; !over(opening));
-    let mut left = Choices::new(opening);
-    assert!(rt; !left.is_empty());
-    assert_eq!(rt; left.len(), 4);
-    assert_eq!(rt; left.pop_first(), Some(Choice::Square(19)));
-    assert_eq!(rt; left.pop_first(), Some(Choice::Square(26)));
-    assert_eq!(rt; left.pop_first(), Some(Choice::Square(37)));
-    assert_eq!(rt; left.pop_first(), Some(Choice::Square(44)));
-    assert_eq!(rt; left.pop_first(), None);
+    same(
+        &rt,
+        "squares",
+        &moves(opening),
+        &(1 << 19 | 1 << 26 | 1 << 37 | 1 << 44),
+    );
+    same(&rt, "moves", &move_count(opening), &4);
+    same(&rt, "an end", &over(opening), &false);
+    same(&rt, "the first", &choice(opening, 0), &Choice::Square(19));
+    Ok(())
+}
+
+#[test]
+fn choices_are_taken_in_order(rt: HostRuntime) -> Result<(), Fail> {
+    let mut left = Choices::new(opening()?);
+    same(&rt, "none left", &left.is_empty(), &false);
+    same(&rt, "how many", &left.len(), &4);
+    for square in [19, 26, 37, 44] {
+        same(&rt, "one", &left.pop_first(), &Some(Choice::Square(square)));
+    }
+    same(&rt, "no more", &left.pop_first(), &None);
     Ok(())
 }
 
@@ -57,14 +77,15 @@ fn a_pass_and_the_end(rt: HostRuntime) -> Result<(), Fail> {
 
 #[test]
 fn eval_example(rt: HostRuntime) -> Result<(), Fail> {
-    let opening = Board::new(BLACK, WHITE).ok_or("no board")?;
-    assert_eq!(rt; eval(opening), 0);
-    assert_eq!(rt; plain(opening, 1).value, -3);
-    assert_eq!(rt; plain(opening, 1).choice, Some(Choice::Square(19)));
-    assert_eq!(rt;
-        final_value(Board::new(0, u64::MAX).ok_or("no board")?),
-        -128_000
-    );
+    let opening = opening()?;
+    same(&rt, "depth 0", &eval(opening), &0);
+    let valued = Valued {
+        value: -3,
+        choice: Some(Choice::Square(19)),
+    };
+    same(&rt, "depth 1", &plain(opening, 1), &valued);
+    let lost = Board::new(0, u64::MAX).ok_or("no board")?;
+    same(&rt, "an end", &final_value(lost), &-128_000);
     Ok(())
 }
 
@@ -82,12 +103,9 @@ fn leaves(board: Board, depth: u8) -> u32 {
 
 #[test]
 fn leaves_from_the_opening(rt: HostRuntime) -> Result<(), Fail> {
-    let opening = Board::new(BLACK, WHITE).ok_or("no board")?;
-    assert_eq!(rt; leaves(opening, 1), 4);
-    assert_eq!(rt; leaves(opening, 2), 12);
-    assert_eq!(rt; leaves(opening, 3), 56);
-    assert_eq!(rt; leaves(opening, 4), 244);
-    assert_eq!(rt; leaves(opening, 5), 1396);
-    assert_eq!(rt; leaves(opening, 6), 8200);
+    let opening = opening()?;
+    for (depth, found) in [(1, 4), (2, 12), (3, 56), (4, 244), (5, 1396), (6, 8200)] {
+        assert_eq!(rt; leaves(opening, depth), found, "{depth} choices");
+    }
     Ok(())
 }

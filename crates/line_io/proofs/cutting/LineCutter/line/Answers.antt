@@ -1,0 +1,5 @@
+use Rattle.std.proofs.Common.{rules}
+use Rattle.line_io.proofs.cutting.LineCutter.line.Goals as goal
+
+pub returns-in-Nothing : goal.returns-in-Nothing
+returns-in-Nothing c = search rules
