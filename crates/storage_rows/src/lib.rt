@@ -1,6 +1,6 @@
 //! The storage of the scheduling core at work: tests alone, of segments, nodes, guesses, quotas and frames.
 //!
-//! What each call of `segment_region`, `cactus_stack`, `guesses`, `tenant_quota` and `frame_table` does
+//! What each call of `segment_region`, `cactus_stack`, `number_index`, `tenant_quota` and `frame_table` does
 //! is proved in those crates. Their contracts can't say that a call succeeds where there is room, nor
 //! that a refused growth gives all back. Here each is built and driven through its public calls, with
 //! numbers that were worked out by hand, and each growth is refused in turn, by heaps of one unit more

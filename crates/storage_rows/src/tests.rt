@@ -1,4 +1,5 @@
 mod frames;
+mod growths;
 mod guess_tables;
 mod nodes;
 mod quotas;

@@ -16,15 +16,44 @@ fn a_tenant_is_found_whatever_is_guessed(rt: HostRuntime) -> Result<(), Fail> {
     Ok(())
 }
 
-/// Where the three stand, and the one that isn't there would; each is found, and that one isn't.
+/// What is found under a number, and 0 where nothing is.
+fn value_of(index: &TenantIndex, tenants: &[(u64, u32)], number: u64) -> u32
+    requires { AreRising (λ pair. pair.0) tenants.now }
+{
+    match index.find(tenants, number) {
+        Some(pair) => pair.1,
+        None => 0,
+    }
+}
+
+/// Where the thing of a number stands, or would stand, and its value.
+fn stands(
+    rt: &impl Abort,
+    index: &TenantIndex,
+    tenants: &[(u64, u32)],
+    number: u64,
+    place: usize,
+    value: u32,
+)
+    requires { AreRising (λ pair. pair.0) tenants.now }
+{
+    assert!(rt; index.place_of(tenants, number) == place);
+    assert!(rt; value_of(index, tenants, number) == value);
+}
+
+/// Each of the three is found, and one that isn't there isn't.
 fn found_there(rt: &impl Abort, index: &TenantIndex, tenants: &[(u64, u32)])
     requires { AreRising (λ pair. pair.0) tenants.now }
 {
-    assert_eq!(rt; index.place_of(tenants, 263), 2);
-    assert_eq!(rt; index.place_of(tenants, 7), 1);
-    assert_eq!(rt; index.place_of(tenants, 8), 2);
-    assert_eq!(rt; index.find(tenants, 3), Some(&(3, 30)));
-    assert_eq!(rt; index.find(tenants, 8), None);
+    stands(rt, index, tenants, 3, 0, 30);
+    stands(rt, index, tenants, 7, 1, 70);
+    stands(rt, index, tenants, 263, 2, 2630);
+    stands(rt, index, tenants, 8, 2, 0);
+}
+
+/// Where a number is guessed to stand.
+fn is_guessed(rt: &impl Abort, guesses: &Guesses, number: u64, place: usize) {
+    assert!(rt; guesses.guess(number) == place);
 }
 
 /// A number takes the guess of another that shares its place.
@@ -32,43 +61,43 @@ fn found_there(rt: &impl Abort, index: &TenantIndex, tenants: &[(u64, u32)])
 fn a_number_takes_the_guess_of_one_that_shares_its_place(rt: HostRuntime) -> Result<(), Fail> {
     let mut guesses = Guesses::new(rt.alloc(), 6)?;
     guesses.put(100, 3);
-    assert_eq!(rt; guesses.guess(100), 3);
+    is_guessed(&rt, &guesses, 100, 3);
     guesses.put(108, 7);
-    assert_eq!(rt; guesses.guess(100), 7);
-    assert_eq!(rt; guesses.guess(107), 0);
+    is_guessed(&rt, &guesses, 100, 7);
+    is_guessed(&rt, &guesses, 107, 0);
     Ok(())
+}
+
+/// Each of 256 numbers is put down at the place of its own.
+fn put_in_a_row(guesses: &mut Guesses) {
+    for number in 1_000u64..1_256 {
+        guesses.put(number, number as usize);
+    }
+}
+
+/// Each of them is guessed there.
+fn are_guessed(rt: &impl Abort, guesses: &Guesses) {
+    for number in 1_000u64..1_256 {
+        is_guessed(rt, guesses, number, number as usize);
+    }
 }
 
 /// Numbers that follow one another keep their guesses, as many as there are places.
 #[test]
 fn numbers_in_a_row_share_no_place(rt: HostRuntime) -> Result<(), Fail> {
     let mut guesses = Guesses::new(rt.alloc(), 256)?;
-    for number in 1_000u64..1_256 {
-        guesses.put(number, number as usize);
-    }
-    for number in 1_000u64..1_256 {
-        assert_eq!(rt; guesses.guess(number), number as usize);
-    }
+    put_in_a_row(&mut guesses);
+    are_guessed(&rt, &guesses);
     Ok(())
 }
 
-/// Room for 16 places is 64 bytes: with less the table is refused, and with that it is there.
-#[test]
-fn a_table_with_no_room_is_refused(rt: HostRuntime) -> Result<(), Fail> {
-    let mut refused = 0u32;
-    let mut taken = false;
-    for units in 0..100usize {
-        let heap = LocalHeap::new(rt.alloc(), units * 16)?;
-        match Guesses::new(&heap, 16) {
-            Ok(guesses) => {
-                assert_eq!(rt; guesses.guess(5), 0);
-                taken = true;
-                break;
-            }
-            Err(_) => refused = refused.saturating_add(1),
+/// Whether a table is made in this heap: room for 16 places is 64 bytes.
+pub fn is_made(rt: &impl Abort, heap: &LocalHeap) -> bool {
+    match Guesses::new(heap, 16) {
+        Ok(guesses) => {
+            assert!(rt; guesses.guess(5) == 0);
+            true
         }
+        Err(_) => false,
     }
-    assert!(rt; taken);
-    assert!(rt; refused > 3);
-    Ok(())
 }

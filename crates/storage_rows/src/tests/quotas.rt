@@ -3,7 +3,7 @@ use std::process::Abort;
 use std::test::Fail;
 use tenant_quota::{Book, Left, Refusal, Reserve, Rest};
 
-/// A tenant that isn't there reserves so much, and is answered so.
+/// A tenant that isn't there reserves so much, or one that is raises what it reserves to that, and is answered so.
 fn reserve(
     rt: &impl Abort,
     book: &mut Book,
@@ -12,23 +12,11 @@ fn reserve(
     nodes: u32,
     answer: Result<(), Refusal>,
 ) {
-    assert!(rt; book.reserved(tenant).is_none());
     let reserve = Reserve::new(segments, nodes).expect(rt, "within the limits");
-    assert_eq!(rt; book.reserve(tenant, reserve), answer, "tenant {tenant}");
-}
-
-/// A tenant that is there raises what it reserves to so much, and is answered so.
-fn raise(
-    rt: &impl Abort,
-    book: &mut Book,
-    tenant: u64,
-    segments: u32,
-    nodes: u32,
-    answer: Result<(), Refusal>,
-) {
-    assert!(rt; book.left(tenant).is_some());
-    let reserve = Reserve::new(segments, nodes).expect(rt, "within the limits");
-    assert_eq!(rt; book.raise(tenant, reserve), answer, "{segments}, {nodes}");
+    match book.reserved(tenant) {
+        None => assert!(rt; book.reserve(tenant, reserve) == answer),
+        Some(_) => assert!(rt; book.raise(tenant, reserve) == answer),
+    }
 }
 
 /// Charges a tenant that is there, which is answered so.
@@ -41,7 +29,7 @@ fn charge(
     answer: Result<(), Refusal>,
 ) {
     assert!(rt; book.left(tenant).is_some());
-    assert_eq!(rt; book.charge(tenant, segments, nodes), answer);
+    assert!(rt; book.charge(tenant, segments, nodes) == answer);
 }
 
 /// Opens a node of a tenant that is there, which is answered so.
@@ -53,13 +41,13 @@ fn open(
     answer: Result<u32, Refusal>,
 ) {
     assert!(rt; book.left(tenant).is_some());
-    assert_eq!(rt; book.open(tenant, segments), answer);
+    assert!(rt; book.open(tenant, segments) == answer);
 }
 
 /// Counts a step of a tenant that is there, which is answered so.
 fn tick(rt: &impl Abort, book: &mut Book, tenant: u64, answer: Result<(), Refusal>) {
     assert!(rt; book.left(tenant).is_some());
-    assert_eq!(rt; book.tick(tenant), answer);
+    assert!(rt; book.tick(tenant) == answer);
 }
 
 /// Gives back what a tenant is charged.
@@ -84,17 +72,17 @@ fn has_left(rt: &impl Abort, book: &Book, tenant: u64, segments: u32, nodes: u32
         nodes,
         steps,
     };
-    assert_eq!(rt; book.left(tenant), Some(left), "tenant {tenant}");
+    assert!(rt; book.left(tenant) == Some(left));
 }
 
 /// A tenant isn't there.
 fn is_gone(rt: &impl Abort, book: &Book, tenant: u64) {
-    assert_eq!(rt; book.left(tenant), None);
+    assert!(rt; book.left(tenant).is_none());
 }
 
 /// A tenant reserves so much.
 fn has_reserved(rt: &impl Abort, book: &Book, tenant: u64, segments: u32, nodes: u32) {
-    assert_eq!(rt; book.reserved(tenant), Reserve::new(segments, nodes));
+    assert!(rt; book.reserved(tenant) == Reserve::new(segments, nodes));
 }
 
 /// This isn't reserved.
@@ -104,7 +92,7 @@ fn has_rest(rt: &impl Abort, book: &Book, tenants: u32, segments: u32, nodes: u3
         segments,
         nodes,
     };
-    assert_eq!(rt; book.rest(), rest);
+    assert!(rt; book.rest() == rest);
 }
 
 #[test]
@@ -113,9 +101,7 @@ fn two_tenants_share_a_book(rt: HostRuntime) -> Result<(), Fail> {
     reserve(&rt, &mut book, 1, 5, 8, Ok(()));
     reserve(&rt, &mut book, 2, 3, 8, Ok(()));
     reserve(&rt, &mut book, 3, 1, 1, Err(Refusal::Full));
-    assert_eq!(rt; Refusal::Full.number(), 1);
     charge(&rt, &mut book, 1, 6, 0, Err(Refusal::Short));
-    assert_eq!(rt; Refusal::Short.number(), 2);
     has_left(&rt, &book, 1, 5, 8, 128);
     charge(&rt, &mut book, 1, 5, 1, Ok(()));
     has_left(&rt, &book, 1, 0, 7, 128);
@@ -140,7 +126,7 @@ fn sixty_four_tenants_and_no_more(rt: HostRuntime) -> Result<(), Fail> {
         let tenant = (step * 37) % 64 + 1;
         reserve(&rt, &mut book, tenant, 2, 3, Ok(()));
     }
-    assert_eq!(rt; book.rest().tenants, 0);
+    has_rest(&rt, &book, 0, 65408, 4194112);
     reserve(&rt, &mut book, 65, 1, 1, Err(Refusal::Full));
     for tenant in 1..65 {
         has_left(&rt, &book, tenant, 2, 3, 48);
@@ -161,16 +147,15 @@ fn a_reservation_is_raised(rt: HostRuntime) -> Result<(), Fail> {
     open(&rt, &mut book, 9, 1, Ok(0));
     tick(&rt, &mut book, 9, Ok(()));
     has_left(&rt, &book, 9, 0, 0, 15);
-    raise(&rt, &mut book, 9, 1, 1, Err(Refusal::Lower));
-    assert_eq!(rt; Refusal::Lower.number(), 3);
-    raise(&rt, &mut book, 9, 10, 20, Ok(()));
+    reserve(&rt, &mut book, 9, 1, 1, Err(Refusal::Lower));
+    reserve(&rt, &mut book, 9, 10, 20, Ok(()));
     has_left(&rt, &book, 9, 9, 19, 319);
-    raise(&rt, &mut book, 9, 9, 30, Err(Refusal::Lower));
-    raise(&rt, &mut book, 9, 30, 19, Err(Refusal::Lower));
-    raise(&rt, &mut book, 9, 17, 20, Err(Refusal::Full));
-    raise(&rt, &mut book, 9, 16, 38, Err(Refusal::Full));
+    reserve(&rt, &mut book, 9, 9, 30, Err(Refusal::Lower));
+    reserve(&rt, &mut book, 9, 30, 19, Err(Refusal::Lower));
+    reserve(&rt, &mut book, 9, 17, 20, Err(Refusal::Full));
+    reserve(&rt, &mut book, 9, 16, 38, Err(Refusal::Full));
     has_left(&rt, &book, 9, 9, 19, 319);
-    raise(&rt, &mut book, 9, 16, 37, Ok(()));
+    reserve(&rt, &mut book, 9, 16, 37, Ok(()));
     has_reserved(&rt, &book, 9, 16, 37);
     has_rest(&rt, &book, 0, 0, 0);
     release(&rt, &mut book, 9);
@@ -237,33 +222,25 @@ fn limits_of_a_reservation(rt: HostRuntime) {
         (4097, 1, false),
         (1, 65537, false),
     ] {
-        assert_eq!(rt;
-            Reserve::new(segments, nodes).is_some(),
-            within,
-            "{segments}, {nodes}"
-        );
+        assert!(rt; Reserve::new(segments, nodes).is_some() == within);
     }
 }
 
-// In a heap with room for 0, 1, 2, .. units of 16 bytes each growth is refused in turn, and whatever
-// was made is given back.
 #[test]
-fn each_growth_is_refused_in_turn(rt: HostRuntime) -> Result<(), Fail> {
-    let mut refused = 0u32;
-    let mut made = 0u32;
-    for units in 0..512 {
-        let heap = LocalHeap::new(rt.alloc(), units * 16)?;
-        match Book::new(&heap, 8, 32) {
-            Ok(book) => {
-                made = made.saturating_add(1);
-                assert_eq!(rt; book.rest().tenants, 64);
-                assert!(rt; book.left(1).is_none());
-            }
-            Err(_) => refused = refused.saturating_add(1),
+fn refusals_have_numbers(rt: HostRuntime) {
+    assert!(rt; Refusal::Full.number() == 1);
+    assert!(rt; Refusal::Short.number() == 2);
+    assert!(rt; Refusal::Lower.number() == 3);
+}
+
+/// Whether a book is made in this heap.
+pub fn is_made(rt: &impl Abort, heap: &LocalHeap) -> bool {
+    match Book::new(heap, 8, 32) {
+        Ok(book) => {
+            assert!(rt; book.rest().tenants == 64);
+            assert!(rt; book.left(1).is_none());
+            true
         }
-        assert_eq!(rt; heap.used(), 0);
+        Err(_) => false,
     }
-    assert!(rt; refused > 16);
-    assert!(rt; made > 0);
-    Ok(())
 }
