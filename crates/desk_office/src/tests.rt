@@ -1,12 +1,11 @@
 //! Sessions over a desk: no contract says that HELLO ever succeeds, that a job is done, or that the tenant is gone from the
 //! desk after its session.
-ghost use Rattle.std.specs.Prelude.{◌≡◌, ◌≤◌};
+ghost use Rattle.std.specs.Prelude.{◌≡◌};
 
 use crate::serve_desk;
 use desk::{Badge, Config, Desk, DidOf, Hall, Hands, LeafAnswer, PARTS, StepOf, Worker};
 use frame_tree::FrameId;
 use line_io::{FromReader, FromWriter, ReadFailed, Source};
-use session::{End, SessionFault};
 use std::alloc::{AllocError, Global};
 use std::marker::Brand;
 use std::sync::Wait;
@@ -103,25 +102,28 @@ impl<L: Hands, R: Wait> Source for Driven<'_, L, R> {
     }
 }
 
-/// What a session wrote, and how it ended.
-type Served = Result<(Result<End, SessionFault>, Vec<u8>), Fail>;
-
-/// A session whose jobs a worker runs.
-fn worked<L: Hands, R: Wait>(rt: &R, alloc: Global, desk: &Desk<L>, lines: &[&[u8]]) -> Served
+/// What a session writes whose jobs a worker runs.
+fn worked<L: Hands, R: Wait>(
+    rt: &R,
+    alloc: Global,
+    desk: &Desk<L>,
+    badge: Badge<L>,
+    lines: &[&[u8]],
+) -> Vec<u8>
     requires { L.all ≡ L.parts }
 {
     let mut source = Driven {
         rt,
         desk,
-        badge: desk.badge(rt).ok_or("no badge")?,
-        worker: Worker::new(1).ok_or("no worker")?,
+        badge,
+        worker: Worker::new(1).unwrap(),
         lines,
         given: 0,
     };
     let mut sink = FromWriter::new(Vec::new(alloc));
-    let result = serve_desk(rt, &mut source, &mut sink, desk);
+    let _end = serve_desk(rt, &mut source, &mut sink, desk);
     source.close();
-    Ok((result, sink.writer))
+    sink.writer
 }
 
 /// What sessions write, one after the other, whose jobs nobody runs.
@@ -173,24 +175,73 @@ const SPENT_JOB: [&[u8]; 10] = [
     b"QUOTA\n",
 ];
 
-/// What a session wrote whose jobs are worked on, and what those after it did, at a desk of so many segments and nodes.
-fn all_written<L: Hands, R: Wait>(
+/// What happens at a new desk. It fails where something else is answered.
+trait Scene {
+    /// Plays it.
+    fn play<L: Hands, R: Wait>(&self, rt: &R, alloc: Global, desk: &Desk<L>) -> Result<(), Fail>
+        requires { L.all ≡ L.parts };
+}
+
+/// How many segments and nodes a hall has, and its grain.
+#[derive(Clone, Copy)]
+struct Size {
+    segments: u32,
+    nodes: u32,
+    grain: u8,
+}
+
+/// A hall of this size.
+fn hall_of(alloc: Global, size: Size) -> Result<Hall, Fail> {
+    let config = Config::new(size.segments, size.nodes).ok_or("no config")?;
+    Ok(Hall::new(alloc, config, size.grain.min(6))?)
+}
+
+/// Plays a scene at a new desk of this size.
+fn found_at<L: Hands, R: Wait, S: Scene>(
     rt: &R,
     alloc: Global,
     blank: Blank,
-    grain: u8,
-    totals: (u32, u32),
-    first: &[&[u8]],
-    others: &[&[u8]],
-) -> Result<(Vec<u8>, Vec<u8>), Fail>
-    requires grain { grain ≤ 6 }
+    size: Size,
+    scene: &S,
+) -> Result<(), Fail>
     requires name { blank.name ≡ L.name }
     requires parts { (blank.parts ≡ L.parts) × (L.all ≡ L.parts) × (L.all ≡ 13835058055282163712) }
 {
-    let config = Config::new(totals.0, totals.1).ok_or("no config")?;
-    let desk: Desk<L> = Desk::new(Hall::new(alloc, config, grain)?, blank);
-    let (_first_end, first) = worked(rt, alloc, &desk, first)?;
-    Ok((first, alone(rt, alloc, &desk, others)))
+    let desk: Desk<L> = Desk::new(hall_of(alloc, size)?, blank);
+    scene.play(rt, alloc, &desk)
+}
+
+/// The same with a blank of its own.
+fn found<R: Wait, S: Scene>(rt: &R, alloc: Global, size: Size, scene: &S) -> Result<(), Fail> {
+    found_at::<Brand, R, S>(rt, alloc, Blank::new(PARTS), size, scene)
+}
+
+/// Fails where something else is written than what is due.
+fn same(written: &[u8], due: &[u8], whose: &str) -> Result<(), Fail> {
+    if written == due {
+        Ok(())
+    } else {
+        Err(Fail::new(whose))
+    }
+}
+
+/// The lines of a session whose jobs are worked on, and of those after it, and what they write.
+#[derive(Drop)]
+struct Sessions {
+    first: &'static [&'static [u8]],
+    first_due: &'static [u8],
+    others: &'static [&'static [u8]],
+    others_due: &'static [u8],
+}
+
+impl Scene for Sessions {
+    fn play<L: Hands, R: Wait>(&self, rt: &R, alloc: Global, desk: &Desk<L>) -> Result<(), Fail> {
+        let badge = desk.badge(rt).ok_or("no badge")?;
+        let first = worked(rt, alloc, desk, badge, self.first);
+        let others = alone(rt, alloc, desk, self.others);
+        same(first.as_slice(), self.first_due, "the first session")?;
+        same(others.as_slice(), self.others_due, "those after it")
+    }
 }
 
 /// The lines of a second session, whose tenant reserves all.
@@ -272,58 +323,56 @@ QUOTA 45 44 4800
     Ok((lines, due))
 }
 
-/// Whether that is what a session writes.
-fn are_all_asked<L: Hands, R: Wait>(rt: &R, alloc: Global, blank: Blank) -> Result<bool, Fail>
-    requires name { blank.name ≡ L.name }
-    requires parts { (blank.parts ≡ L.parts) × (L.all ≡ L.parts) × (L.all ≡ 13835058055282163712) }
-{
-    let config = Config::new(300, 300).ok_or("no config")?;
-    let desk: Desk<L> = Desk::new(Hall::new(alloc, config, 0)?, blank);
-    let (lines, due) = many_jobs(alloc)?;
-    let written = alone(rt, alloc, &desk, [lines.as_slice()].as_slice());
-    Ok(written.as_slice() == due.as_bytes())
+/// A session that does so writes this.
+#[derive(Drop)]
+struct ManyJobs;
+
+impl Scene for ManyJobs {
+    fn play<L: Hands, R: Wait>(&self, rt: &R, alloc: Global, desk: &Desk<L>) -> Result<(), Fail> {
+        let (lines, due) = many_jobs(alloc)?;
+        let written = alone(rt, alloc, desk, [lines.as_slice()].as_slice());
+        same(written.as_slice(), due.as_bytes(), "a session of many jobs")
+    }
 }
 
 #[test]
 fn a_session_has_256_jobs(rt: HostRuntime) -> Result<(), Fail> {
-    assert!(rt; are_all_asked::<Brand, HostRuntime>(&rt, rt.alloc(), Blank::new(PARTS))?);
-    Ok(())
+    let size = Size {
+        segments: 300,
+        nodes: 300,
+        grain: 0,
+    };
+    found(&rt, rt.alloc(), size, &ManyJobs)
 }
 
 #[test]
 fn a_job_is_done_and_its_tenant_leaves(rt: HostRuntime) -> Result<(), Fail> {
-    let (first, second) = all_written::<Brand, HostRuntime>(
-        &rt,
-        rt.alloc(),
-        Blank::new(PARTS),
-        2,
-        (8, 8),
-        ONE_JOB.as_slice(),
-        [SECOND_LINES].as_slice(),
-    )?;
-    assert_eq!(rt;
-        first.as_slice(),
-        b"ERR 14\nERR 14\nWELCOME 4 8\nJOB 1\nDONE 1 0 -\nDONE 1 0 -\nTABLE 1\nQUOTA 4 7 123\nERR 14\nERR 14\nERR 20\nERR 20\nQUOTA 4 7 123\nRESERVED 7 8\nQUOTA 7 7 123\nRESERVED 8 8\nQUOTA 8 7 123\nBYE\n".as_slice()
-    );
-    assert_eq!(rt; second.as_slice(), SECOND);
-    Ok(())
+    let size = Size {
+        segments: 8,
+        nodes: 8,
+        grain: 2,
+    };
+    let sessions = Sessions {
+        first: ONE_JOB.as_slice(),
+        first_due: b"ERR 14\nERR 14\nWELCOME 4 8\nJOB 1\nDONE 1 0 -\nDONE 1 0 -\nTABLE 1\nQUOTA 4 7 123\nERR 14\nERR 14\nERR 20\nERR 20\nQUOTA 4 7 123\nRESERVED 7 8\nQUOTA 7 7 123\nRESERVED 8 8\nQUOTA 8 7 123\nBYE\n",
+        others: &[SECOND_LINES],
+        others_due: SECOND,
+    };
+    found(&rt, rt.alloc(), size, &sessions)
 }
 
 #[test]
 fn a_job_is_spent_and_its_tenant_leaves(rt: HostRuntime) -> Result<(), Fail> {
-    let (first, second) = all_written::<Brand, HostRuntime>(
-        &rt,
-        rt.alloc(),
-        Blank::new(PARTS),
-        0,
-        (4096, 65536),
-        SPENT_JOB.as_slice(),
-        GREATEST_LINES.as_slice(),
-    )?;
-    assert_eq!(rt;
-        first.as_slice(),
-        b"WELCOME 8 1\nJOB 1\nSPENT 1\nSPENT 1\nQUOTA 8 0 14\nLIVE 0 0\nRESERVED 8 5\nQUOTA 8 4 78\nRESERVED 4096 65536\nQUOTA 4096 65535 1048574\n".as_slice()
-    );
-    assert_eq!(rt; second.as_slice(), GREATEST);
-    Ok(())
+    let size = Size {
+        segments: 4096,
+        nodes: 65536,
+        grain: 0,
+    };
+    let sessions = Sessions {
+        first: SPENT_JOB.as_slice(),
+        first_due: b"WELCOME 8 1\nJOB 1\nSPENT 1\nSPENT 1\nQUOTA 8 0 14\nLIVE 0 0\nRESERVED 8 5\nQUOTA 8 4 78\nRESERVED 4096 65536\nQUOTA 4096 65535 1048574\n",
+        others: GREATEST_LINES.as_slice(),
+        others_due: GREATEST,
+    };
+    found(&rt, rt.alloc(), size, &sessions)
 }

@@ -108,23 +108,25 @@ const NOTHING_TO_PLAY: Standing = Standing::Done(Analysis {
     bounds: Bounds::NONE,
 });
 
-/// Serves these lines, and gives the end and the answers.
-fn served<R: Wait>(
+/// Whether a session of these lines ends so and writes this, and its tenant is gone.
+fn is_served<R: Wait>(
     rt: &R,
     alloc: Global,
     office: &mut Prepared,
     lines: &[u8],
-) -> (Result<End, SessionFault>, Vec<u8>) {
+    end: End,
+    due: &[u8],
+) -> bool {
     let mut source = FromReader { reader: lines };
     let mut sink = FromWriter::new(Vec::new(alloc));
     let result = serve_lines(rt, &mut source, &mut sink, office);
-    (result, sink.writer)
+    result == Ok(end) && !office.here && sink.writer.as_slice() == due
 }
 
 #[test]
 fn a_job_is_asked_for_and_shown(rt: HostRuntime) {
     let mut office = Prepared::new(NOTHING_TO_PLAY, 4, 7, 123);
-    let (result, answers) = served(
+    let is_served = is_served(
         &rt,
         rt.alloc(),
         &mut office,
@@ -133,19 +135,16 @@ ASK 0 ---------------------------OX------XO--------------------------- X
 WAIT 1
 QUOTA
 ",
+        End::EndOfInput,
+        b"WELCOME 4 8\nJOB 1\nDONE 1 0 -\nQUOTA 4 7 123\n",
     );
-    assert_eq!(rt; result, Ok(End::EndOfInput));
-    assert_eq!(rt;
-        answers.as_slice(),
-        b"WELCOME 4 8\nJOB 1\nDONE 1 0 -\nQUOTA 4 7 123\n".as_slice()
-    );
-    assert!(rt; !office.here);
+    assert!(rt; is_served);
 }
 
 #[test]
 fn a_spent_job_is_cancelled_no_more(rt: HostRuntime) {
     let mut office = Prepared::new(Standing::Spent, 8, 0, 14);
-    let (result, answers) = served(
+    let is_served = is_served(
         &rt,
         rt.alloc(),
         &mut office,
@@ -159,19 +158,16 @@ GET 1
 BYE\r
 LIVE
 ",
+        End::Bye,
+        b"WELCOME 8 1\nJOB 1\nSPENT 1\nQUOTA 8 0 14\nLIVE 0 0\nCANCELLED 1\nCANCELLED 1\nBYE\n",
     );
-    assert_eq!(rt; result, Ok(End::Bye));
-    assert_eq!(rt;
-        answers.as_slice(),
-        b"WELCOME 8 1\nJOB 1\nSPENT 1\nQUOTA 8 0 14\nLIVE 0 0\nCANCELLED 1\nCANCELLED 1\nBYE\n".as_slice()
-    );
-    assert!(rt; !office.here);
+    assert!(rt; is_served);
 }
 
 #[test]
 fn foreign_lines_get_their_faults(rt: HostRuntime) {
     let mut office = Prepared::new(Standing::Pending, 4, 8, 128);
-    let (result, answers) = served(
+    let is_served = is_served(
         &rt,
         rt.alloc(),
         &mut office,
@@ -195,19 +191,16 @@ ASK 0  ---------------------------OX------XO--------------------------- X
 ASK 0 ---\xff-----------------------OX------XO--------------------------- X
 ASK 0 ---------------------------OX------XO--------------------------- Q
 ASK 0 ",
+        End::EndOfInput,
+        b"ERR 28\nERR 28\nERR 23\nERR 23\nWELCOME 4 8\nERR 29\nERR 21\nERR 21\nERR 21\nERR 21\nERR 21\nERR 22\nERR 23\nERR 23\nERR 17\nERR 27\nERR 24\nERR 25\nERR 26\nERR 24\n",
     );
-    assert_eq!(rt; result, Ok(End::EndOfInput));
-    assert_eq!(rt;
-        answers.as_slice(),
-        b"ERR 28\nERR 28\nERR 23\nERR 23\nWELCOME 4 8\nERR 29\nERR 21\nERR 21\nERR 21\nERR 21\nERR 21\nERR 22\nERR 23\nERR 23\nERR 17\nERR 27\nERR 24\nERR 25\nERR 26\nERR 24\n".as_slice()
-    );
-    assert!(rt; !office.here);
+    assert!(rt; is_served);
 }
 
 #[test]
 fn more_is_reserved_while_a_job_runs(rt: HostRuntime) {
     let mut office = Prepared::new(NOTHING_TO_PLAY, 8, 1, 16);
-    let (result, answers) = served(
+    let is_served = is_served(
         &rt,
         rt.alloc(),
         &mut office,
@@ -223,26 +216,40 @@ RESERVE 8 8
 WAIT 1
 RESERVE 4 8
 ",
+        End::EndOfInput,
+        b"ERR 28\nWELCOME 8 1\nJOB 1\nERR 21\nERR 23\nERR 23\nERR 23\nERR 21\nRESERVED 8 8\nDONE 1 0 -\nERR 20\n",
     );
-    assert_eq!(rt; result, Ok(End::EndOfInput));
-    assert_eq!(rt;
-        answers.as_slice(),
-        b"ERR 28\nWELCOME 8 1\nJOB 1\nERR 21\nERR 23\nERR 23\nERR 23\nERR 21\nRESERVED 8 8\nDONE 1 0 -\nERR 20\n".as_slice()
-    );
+    assert!(rt; is_served);
+}
+
+/// Whether a session of one line gets this answer.
+fn is_told<R: Wait>(rt: &R, alloc: Global, line: &[u8], answer: &[u8]) -> bool {
+    let mut office = Prepared::new(Standing::Pending, 4, 8, 128);
+    is_served(rt, alloc, &mut office, line, End::EndOfInput, answer)
 }
 
 #[test]
 fn a_line_too_long_is_answered_at_the_end_too(rt: HostRuntime) {
     let long = [b'A'; 129];
-    for (line, answer) in [
-        (long.as_slice(), b"ERR 22\n".as_slice()),
-        (&long[..128], b"ERR 21\n"),
-    ] {
-        let mut office = Prepared::new(Standing::Pending, 4, 8, 128);
-        let (result, answers) = served(&rt, rt.alloc(), &mut office, line);
-        assert_eq!(rt; result, Ok(End::EndOfInput));
-        assert_eq!(rt; answers.as_slice(), answer);
-    }
+    assert!(rt; is_told(&rt, rt.alloc(), long.as_slice(), b"ERR 22\n"));
+    assert!(rt; is_told(&rt, rt.alloc(), &long[..128], b"ERR 21\n"));
+}
+
+/// The lines of a session whose first HELLO is refused.
+const REFUSED: &[u8] = b"HELLO 4 8
+GET 1
+QUOTA
+HELLO 4 8
+ASK 0 ---------------------------OX------XO--------------------------- X
+GET 1
+QUOTA
+";
+
+/// Whether that is answered so where it is refused by this.
+fn is_refused_first<R: Wait>(rt: &R, alloc: Global, refusal: Refusal, due: &[u8]) -> bool {
+    let mut office = Prepared::new(NOTHING_TO_PLAY, 4, 7, 123);
+    office.hello = Err(refusal);
+    is_served(rt, alloc, &mut office, REFUSED, End::EndOfInput, due)
 }
 
 #[test]
@@ -257,23 +264,10 @@ fn a_refused_hello_may_come_again(rt: HostRuntime) {
             b"ERR 14\nERR 28\nERR 28\nWELCOME 4 8\nJOB 1\nDONE 1 0 -\nQUOTA 4 7 123\n",
         ),
     ] {
-        let mut office = Prepared::new(NOTHING_TO_PLAY, 4, 7, 123);
-        office.hello = Err(refusal);
-        let (result, answers) = served(
-            &rt,
-            rt.alloc(),
-            &mut office,
-            b"HELLO 4 8
-GET 1
-QUOTA
-HELLO 4 8
-ASK 0 ---------------------------OX------XO--------------------------- X
-GET 1
-QUOTA
-",
+        assert!(rt;
+            is_refused_first(&rt, rt.alloc(), refusal, due),
+            "{refusal:?}"
         );
-        assert_eq!(rt; result, Ok(End::EndOfInput));
-        assert_eq!(rt; answers.as_slice(), due);
     }
 }
 
@@ -359,57 +353,73 @@ impl Write for Narrow {
     }
 }
 
-/// How a session ended, the bytes that were taken, and whether the tenant is still there.
-type Held = (Result<End, SessionFault>, Vec<u8>, bool);
-
-/// Serves these blocks on a sink that takes so many bytes a call, for so many calls.
-fn held<R: Wait>(
+/// Whether a session of these blocks, on a sink that takes so many bytes a call for so many calls, ends so, has written
+/// this, and its tenant is gone.
+fn is_left<R: Wait>(
     rt: &R,
-    alloc: Global,
     mut source: Blocks<'_>,
-    most: usize,
-    calls: usize,
-    fails: bool,
-) -> Held {
+    narrow: Narrow,
+    end: Result<End, SessionFault>,
+    due: &[u8],
+) -> bool {
     let mut office = Prepared::new(NOTHING_TO_PLAY, 4, 7, 123);
-    let mut sink = FromWriter::new(Narrow {
-        taken: Vec::new(alloc),
-        most,
-        calls,
-        fails,
-    });
+    let mut sink = FromWriter::new(narrow);
     let result = serve_lines(rt, &mut source, &mut sink, &mut office);
-    (result, sink.writer.taken, office.here)
+    result == end && !office.here && sink.writer.taken.as_slice() == due
 }
 
-/// These texts, one after another.
-fn joined(alloc: Global, texts: &[&[u8]]) -> Result<Vec<u8>, Fail> {
-    let mut all = Vec::new(alloc);
-    for text in texts {
-        all.extend_from_slice(text)?;
+/// The same where the sink takes all.
+fn is_heard<R: Wait>(
+    rt: &R,
+    alloc: Global,
+    source: Blocks<'_>,
+    end: Result<End, SessionFault>,
+    due: &[u8],
+) -> bool {
+    let wide = Narrow {
+        taken: Vec::new(alloc),
+        most: 200,
+        calls: usize::MAX,
+        fails: true,
+    };
+    is_left(rt, source, wide, end, due)
+}
+
+/// The same where a write fails.
+fn is_broken<R: Wait>(rt: &R, blocks: &[&[u8]], narrow: Narrow, due: &[u8]) -> bool {
+    let source = Blocks {
+        blocks,
+        given: 0,
+        fails: false,
+    };
+    is_left(rt, source, narrow, Err(SessionFault::Write), due)
+}
+
+/// The end of a session whose source fails at its end, or doesn't.
+fn end_of(fails: bool, end: End) -> Result<End, SessionFault> {
+    if fails {
+        Err(SessionFault::Read)
+    } else {
+        Ok(end)
     }
-    Ok(all)
 }
 
 #[test]
 fn a_read_that_fails_leaves_the_answers_before_it(rt: HostRuntime) -> Result<(), Fail> {
     let alloc = rt.alloc();
     for count in 0..11 {
+        let due = ANSWERS[..count].concat(alloc)?;
         for fails in [true, false] {
             let source = Blocks {
                 blocks: &LINES[..count],
                 given: 0,
                 fails,
             };
-            let (result, taken, here) = held(&rt, alloc, source, 200, usize::MAX, true);
-            let end = if fails {
-                Err(SessionFault::Read)
-            } else {
-                Ok(End::EndOfInput)
-            };
-            assert_eq!(rt; (result, here), (end, false), "after {count} lines");
-            let due = joined(alloc, &ANSWERS[..count])?;
-            assert_eq!(rt; taken.as_slice(), due.as_slice(), "after {count} lines");
+            let end = end_of(fails, End::EndOfInput);
+            assert!(rt;
+                is_heard(&rt, alloc, source, end, due.as_slice()),
+                "after {count} lines"
+            );
         }
     }
     assert_eq!(rt; SessionFault::Read.number(), 1);
@@ -419,81 +429,84 @@ fn a_read_that_fails_leaves_the_answers_before_it(rt: HostRuntime) -> Result<(),
 #[test]
 fn a_write_that_fails_leaves_a_beginning(rt: HostRuntime) -> Result<(), Fail> {
     let alloc = rt.alloc();
-    let all = joined(alloc, ANSWERS.as_slice())?;
-    let lines = joined(alloc, LINES.as_slice())?;
-    let due = all.as_slice();
-    for calls in 0..due.len() {
+    let all = ANSWERS.concat(alloc)?;
+    for calls in 0..all.len() {
         for fails in [true, false] {
-            let source = Blocks {
-                blocks: LINES.as_slice(),
-                given: 0,
-                fails: false,
+            let narrow = Narrow {
+                taken: Vec::new(alloc),
+                most: 1,
+                calls,
+                fails,
             };
-            let (result, taken, here) = held(&rt, alloc, source, 1, calls, fails);
-            assert_eq!(rt;
-                (result, here),
-                (Err(SessionFault::Write), false),
+            let due = &all.as_slice()[..calls];
+            assert!(rt;
+                is_broken(&rt, LINES.as_slice(), narrow, due),
                 "{calls} bytes"
             );
-            assert_eq!(rt; taken.as_slice(), &due[..calls], "{calls} bytes");
         }
-    }
-    for calls in 0..ANSWERS.len() {
-        let at_once = [lines.as_slice()];
-        let source = Blocks {
-            blocks: at_once.as_slice(),
-            given: 0,
-            fails: false,
-        };
-        let (result, taken, here) = held(&rt, alloc, source, 200, calls, true);
-        assert_eq!(rt;
-            (result, here),
-            (Err(SessionFault::Write), false),
-            "{calls} answers"
-        );
-        let first = joined(alloc, &ANSWERS[..calls])?;
-        assert_eq!(rt; taken.as_slice(), first.as_slice(), "{calls} answers");
     }
     assert_eq!(rt; SessionFault::Write.number(), 2);
     Ok(())
 }
 
-/// Blocks whose last line no LF ends, the answers to the lines before it, and those to all.
-type Cut = (&'static [&'static [u8]], &'static [u8], &'static [u8]);
+/// Where all lines come at once.
+#[test]
+fn a_write_that_fails_leaves_whole_answers(rt: HostRuntime) -> Result<(), Fail> {
+    let alloc = rt.alloc();
+    let lines = LINES.concat(alloc)?;
+    for calls in 0..ANSWERS.len() {
+        let narrow = Narrow {
+            taken: Vec::new(alloc),
+            most: 200,
+            calls,
+            fails: true,
+        };
+        let due = ANSWERS[..calls].concat(alloc)?;
+        let at_once = [lines.as_slice()];
+        assert!(rt;
+            is_broken(&rt, at_once.as_slice(), narrow, due.as_slice()),
+            "{calls} answers"
+        );
+    }
+    Ok(())
+}
+
+/// Blocks whose last line no LF ends, the answers to the lines before it, those to all, and how the session ends.
+type Cut = (&'static [&'static [u8]], &'static [u8], &'static [u8], End);
 
 const CUT: [Cut; 4] = [
     (
         &[b"GET 1\nHELLO 4 8\nQUO"],
         b"ERR 28\nWELCOME 4 8\n",
         b"ERR 28\nWELCOME 4 8\nERR 21\n",
+        End::EndOfInput,
     ),
     (
         &[b"HELLO 4 8\nQUOTA\nLIVE"],
         b"WELCOME 4 8\nQUOTA 4 7 123\n",
         b"WELCOME 4 8\nQUOTA 4 7 123\nLIVE 0 0\n",
+        End::EndOfInput,
     ),
     (
         &[b"HELLO", b" 4 8\nBY", b"E"],
         b"WELCOME 4 8\n",
         b"WELCOME 4 8\nBYE\n",
+        End::Bye,
     ),
-    (&[b"BYE\r"], b"", b"ERR 21\n"),
+    (&[b"BYE\r"], b"", b"ERR 21\n", End::EndOfInput),
 ];
 
 #[test]
 fn a_cut_line_is_answered_at_the_end_alone(rt: HostRuntime) {
-    let alloc = rt.alloc();
-    for (blocks, before, all) in &CUT {
+    for (blocks, before, all, end) in &CUT {
         for fails in [true, false] {
             let source = Blocks {
                 blocks,
                 given: 0,
                 fails,
             };
-            let (result, taken, here) = held(&rt, alloc, source, 200, usize::MAX, true);
-            assert_eq!(rt; taken.as_slice(), if fails { *before } else { *all });
-            assert_eq!(rt; result.is_err(), fails);
-            assert!(rt; !here);
+            let due = if fails { *before } else { *all };
+            assert!(rt; is_heard(&rt, rt.alloc(), source, end_of(fails, *end), due));
         }
     }
 }
@@ -554,7 +567,6 @@ fn each_answer_is_written_before_more_is_read(rt: HostRuntime) {
     };
     let mut office = Prepared::new(NOTHING_TO_PLAY, 4, 7, 123);
     let result = serve_lines(&rt, &mut Asking(&wire), &mut Hearing(&wire), &mut office);
-    assert_eq!(rt; (result, office.here), (Ok(End::EndOfInput), false));
-    assert_eq!(rt; wire.answered.get(), LINES.len());
-    assert!(rt; !wire.too_early.get());
+    assert!(rt; result == Ok(End::EndOfInput) && !office.here);
+    assert!(rt; wire.answered.get() == LINES.len() && !wire.too_early.get());
 }

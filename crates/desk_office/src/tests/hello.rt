@@ -159,44 +159,38 @@ fn judged(told: &[u8], plan: Plan) -> Result<Option<bool>, Fail> {
     Err(Fail::new("answered otherwise"))
 }
 
-/// In heaps with more and more room HELLO is refused for want of memory until it is taken. Where it is
-/// refused it is taken once there is room, on the same session; every other line is answered as ever, and
-/// each heap gets all back.
-#[test]
-fn a_refused_hello_is_taken_later(rt: HostRuntime) -> Result<(), Fail> {
+/// The same with a blank of its own.
+fn wants<R: Wait>(rt: &R, alloc: Global, units: usize, plan: Plan) -> Result<Option<bool>, Fail>
+    requires { units < 16384 }
+{
+    is_wanting::<Brand, R>(rt, alloc, units, Blank::new(PARTS), plan)
+}
+
+/// In how many heaps with more and more room memory is wanting for the line of the plan, until it isn't.
+fn wanting_in<R: Wait>(rt: &R, alloc: Global, plan: Plan) -> Result<u32, Fail> {
     let mut refused = 0u32;
     for units in 0..16384usize {
-        match is_wanting::<Brand, HostRuntime>(&rt, rt.alloc(), units, Blank::new(PARTS), HELLO)? {
+        match wants(rt, alloc, units, plan)? {
             None => {}
             Some(true) => refused = refused.saturating_add(1),
-            Some(false) => {
-                assert!(rt; refused > 786 * 56 / 32);
-                return Ok(());
-            }
+            Some(false) => return Ok(refused),
         }
     }
     Err(Fail::new("more is wanting"))
 }
 
+/// In heaps with more and more room HELLO is refused for want of memory until it is taken. Where it is
+/// refused it is taken once there is room, on the same session; every other line is answered as ever, and
+/// each heap gets all back.
+#[test]
+fn a_refused_hello_is_taken_later(rt: HostRuntime) -> Result<(), Fail> {
+    assert!(rt; wanting_in(&rt, rt.alloc(), HELLO)? > 786 * 56 / 32);
+    Ok(())
+}
+
 /// So it is of RESERVE, which leaves all as it was where it is refused.
 #[test]
 fn a_refused_raise_is_taken_later(rt: HostRuntime) -> Result<(), Fail> {
-    let mut refused = 0u32;
-    for units in 0..16384usize {
-        match is_wanting::<Brand, HostRuntime>(
-            &rt,
-            rt.alloc(),
-            units,
-            Blank::new(PARTS),
-            RESERVE,
-        )? {
-            None => {}
-            Some(true) => refused = refused.saturating_add(1),
-            Some(false) => {
-                assert!(rt; refused > 834 * 48 / 32);
-                return Ok(());
-            }
-        }
-    }
-    Err(Fail::new("more is wanting"))
+    assert!(rt; wanting_in(&rt, rt.alloc(), RESERVE)? > 834 * 48 / 32);
+    Ok(())
 }

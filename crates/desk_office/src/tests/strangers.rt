@@ -1,6 +1,4 @@
 //! An office that has no tenant refuses by number, and one that has a tenant takes no other. Sessions ask neither of it.
-ghost use Rattle.std.specs.Prelude.{◌≡◌};
-
 use super::*;
 use crate::DeskOffice;
 use desk::Refusal;
@@ -61,19 +59,29 @@ fn is_new_office_as_it_says<L: Hands, R: Wait>(rt: &R, desk: &Desk<L>, reserve: 
     answer
 }
 
-/// The same of a new desk.
-fn is_at_a_desk<L: Hands, R: Wait>(rt: &R, alloc: Global, blank: Blank) -> Result<bool, Fail>
-    requires name { blank.name ≡ L.name }
-    requires parts { (blank.parts ≡ L.parts) × (L.all ≡ L.parts) × (L.all ≡ 13835058055282163712) }
-{
-    let config = Config::new(8, 8).ok_or("no config")?;
-    let reserve = Reserve::new(1, 1).ok_or("no reservation")?;
-    let desk: Desk<L> = Desk::new(Hall::new(alloc, config, 0)?, blank);
-    Ok(is_new_office_as_it_says(rt, &desk, reserve))
+/// A new desk, whose new offices are so for this reservation.
+#[derive(Drop)]
+struct Strangers {
+    reserve: Reserve,
+}
+
+impl Scene for Strangers {
+    fn play<L: Hands, R: Wait>(&self, rt: &R, _alloc: Global, desk: &Desk<L>) -> Result<(), Fail> {
+        if is_new_office_as_it_says(rt, desk, self.reserve) {
+            Ok(())
+        } else {
+            Err(Fail::new("an office has answered otherwise"))
+        }
+    }
 }
 
 #[test]
 fn an_office_has_one_tenant_and_says_where_it_has_none(rt: HostRuntime) -> Result<(), Fail> {
-    assert!(rt; is_at_a_desk::<Brand, HostRuntime>(&rt, rt.alloc(), Blank::new(PARTS))?);
-    Ok(())
+    let reserve = Reserve::new(1, 1).ok_or("no reservation")?;
+    let size = Size {
+        segments: 8,
+        nodes: 8,
+        grain: 0,
+    };
+    found(&rt, rt.alloc(), size, &Strangers { reserve })
 }

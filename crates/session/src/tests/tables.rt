@@ -1,10 +1,10 @@
 //! The answers to TABLE.
-use super::{NOTHING_TO_PLAY, Prepared, served};
+use super::{NOTHING_TO_PLAY, Prepared, is_served};
 use crate::*;
 use line_io::{FromReader, Sink, WriteFailed};
 use othello_eval::{Bound, BoundKind, Valued};
 use othello_moves::Choice;
-use std::alloc::Global;
+use std::alloc::{AllocError, Global};
 use std::sync::Wait;
 use std::test::Fail;
 
@@ -50,20 +50,15 @@ fn entries_are_kept_in_their_order(rt: HostRuntime) {
     assert!(rt; one != bounds);
 }
 
-/// Serves `TABLE 1` and `GET 1` of a job that stands so, and gives the answers to both.
-fn shown<R: Wait>(rt: &R, alloc: Global, standing: Standing) -> Vec<u8> {
+/// Whether this is written of `TABLE 1` and `GET 1` where a job stands so.
+fn is_shown<R: Wait>(rt: &R, alloc: Global, standing: Standing, due: &[u8]) -> bool {
     let mut office = Prepared::new(standing, 4, 7, 123);
-    let (_, answers) = served(
-        rt,
-        alloc,
-        &mut office,
-        b"HELLO 4 8
+    let lines = b"HELLO 4 8
 ASK 1 ---------------------------OX------XO--------------------------- X
 TABLE 1
 GET 1
-",
-    );
-    answers
+";
+    is_served(rt, alloc, &mut office, lines, End::EndOfInput, due)
 }
 
 #[test]
@@ -78,16 +73,10 @@ fn tables_of_finished_jobs_are_shown(rt: HostRuntime) {
             square(44, BoundKind::Low, -3),
         ],
     );
-    let answers = shown(&rt, rt.alloc(), opening);
-    assert_eq!(rt;
-        answers.as_slice(),
-        b"WELCOME 4 8\nJOB 1\nTABLE 1 d3=-3 c4<-3 f5<-3 e6<-3\nDONE 1 -3 d3\n".as_slice()
-    );
-    let answers = shown(&rt, rt.alloc(), NOTHING_TO_PLAY);
-    assert_eq!(rt;
-        answers.as_slice(),
-        b"WELCOME 4 8\nJOB 1\nTABLE 1\nDONE 1 0 -\n".as_slice()
-    );
+    let due = b"WELCOME 4 8\nJOB 1\nTABLE 1 d3=-3 c4<-3 f5<-3 e6<-3\nDONE 1 -3 d3\n";
+    assert!(rt; is_shown(&rt, rt.alloc(), opening, due));
+    let due = b"WELCOME 4 8\nJOB 1\nTABLE 1\nDONE 1 0 -\n";
+    assert!(rt; is_shown(&rt, rt.alloc(), NOTHING_TO_PLAY, due));
 }
 
 #[test]
@@ -97,21 +86,17 @@ fn a_pass_and_each_kind_are_shown(rt: HostRuntime) {
         score: -6000,
         kind: BoundKind::Exact,
     };
-    let answers = shown(&rt, rt.alloc(), done(-6000, Choice::Pass, &[pass]));
-    assert_eq!(rt;
-        answers.as_slice(),
-        b"WELCOME 4 8\nJOB 1\nTABLE 1 pass=-6000\nDONE 1 -6000 pass\n".as_slice()
-    );
+    let passed = done(-6000, Choice::Pass, &[pass]);
+    let due = b"WELCOME 4 8\nJOB 1\nTABLE 1 pass=-6000\nDONE 1 -6000 pass\n";
+    assert!(rt; is_shown(&rt, rt.alloc(), passed, due));
     let three = [
         square(0, BoundKind::Exact, 89),
         square(4, BoundKind::Low, 40),
         square(63, BoundKind::High, 128_000),
     ];
-    let answers = shown(&rt, rt.alloc(), done(89, Choice::Square(0), &three));
-    assert_eq!(rt;
-        answers.as_slice(),
-        b"WELCOME 4 8\nJOB 1\nTABLE 1 a1=89 e1<40 h8>128000\nDONE 1 89 a1\n".as_slice()
-    );
+    let corner = done(89, Choice::Square(0), &three);
+    let due = b"WELCOME 4 8\nJOB 1\nTABLE 1 a1=89 e1<40 h8>128000\nDONE 1 89 a1\n";
+    assert!(rt; is_shown(&rt, rt.alloc(), corner, due));
 }
 
 #[test]
@@ -127,15 +112,14 @@ fn other_jobs_have_no_table(rt: HostRuntime) {
             b"WELCOME 4 8\nJOB 1\nCANCELLED 1\nCANCELLED 1\n",
         ),
     ] {
-        let answers = shown(&rt, rt.alloc(), standing);
-        assert_eq!(rt; answers.as_slice(), due);
+        assert!(rt; is_shown(&rt, rt.alloc(), standing, due));
     }
 }
 
 #[test]
 fn faults_of_table_are_those_of_get(rt: HostRuntime) {
     let mut office = Prepared::new(NOTHING_TO_PLAY, 4, 7, 123);
-    let (result, answers) = served(
+    let is_served = is_served(
         &rt,
         rt.alloc(),
         &mut office,
@@ -155,12 +139,10 @@ ASK 0 ---------------------------OX------XO--------------------------- X
 TABLE 2
 TABLE 01\r
 ",
+        End::EndOfInput,
+        b"ERR 28\nERR 28\nERR 21\nWELCOME 4 8\nERR 21\nERR 21\nERR 21\nERR 21\nERR 23\nERR 23\nERR 17\nERR 17\nJOB 1\nERR 17\nTABLE 1\n",
     );
-    assert_eq!(rt; result, Ok(End::EndOfInput));
-    assert_eq!(rt;
-        answers.as_slice(),
-        b"ERR 28\nERR 28\nERR 21\nWELCOME 4 8\nERR 21\nERR 21\nERR 21\nERR 21\nERR 23\nERR 23\nERR 17\nERR 17\nJOB 1\nERR 17\nTABLE 1\n".as_slice()
-    );
+    assert!(rt; is_served);
 }
 
 /// Takes each answer by one call, and keeps the last.
@@ -193,25 +175,35 @@ fn longest() -> Standing {
     done(0, Choice::Pass, [entry; 64].as_slice())
 }
 
-#[test]
-fn the_longest_table_is_written_by_one_call(rt: HostRuntime) -> Result<(), Fail> {
-    let mut due = Vec::new(rt.alloc());
-    due.extend_from_slice(b"TABLE 99999999")?;
-    for _ in 0..64 {
-        due.extend_from_slice(b" pass<-2147483648")?;
-    }
-    due.push(b'\n')?;
+/// What is written of it as the job of the greatest number.
+fn longest_text(alloc: Global) -> Result<Vec<u8>, AllocError> {
+    let entries = [b" pass<-2147483648".as_slice(); 64].concat(alloc)?;
+    [
+        b"TABLE 99999999".as_slice(),
+        entries.as_slice(),
+        b"\n".as_slice(),
+    ]
+    .concat(alloc)
+}
+
+/// Whether it is written so, by one call beside that of HELLO.
+fn is_written_at_once<R: Wait>(rt: &R, alloc: Global, due: &[u8]) -> bool {
     let mut office = Prepared::new(longest(), 4, 7, 123);
     office.jobs = 99_999_999;
     let mut sink = Last {
-        answer: Vec::new(rt.alloc()),
+        answer: Vec::new(alloc),
         calls: 0,
     };
     let lines = b"HELLO 4 8\nTABLE 99999999".as_slice();
     let mut source = FromReader { reader: lines };
-    let result = serve_lines(&rt, &mut source, &mut sink, &mut office);
-    assert_eq!(rt; (result, sink.calls), (Ok(End::EndOfInput), 2));
-    assert_eq!(rt; sink.answer.as_slice(), due.as_slice());
+    let result = serve_lines(rt, &mut source, &mut sink, &mut office);
+    result == Ok(End::EndOfInput) && sink.calls == 2 && sink.answer.as_slice() == due
+}
+
+#[test]
+fn the_longest_table_is_written_by_one_call(rt: HostRuntime) -> Result<(), Fail> {
+    let due = longest_text(rt.alloc())?;
+    assert!(rt; is_written_at_once(&rt, rt.alloc(), due.as_slice()));
     assert_eq!(rt; due.len(), 1103);
     Ok(())
 }

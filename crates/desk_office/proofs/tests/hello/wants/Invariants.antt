@@ -1,4 +1,4 @@
-use Rattle.desk_office.proofs.tests.hello.a_refused_hello_is_taken_later.Given as goal
+use Rattle.desk_office.proofs.tests.hello.wants.Given as goal
 
 abbrev pub ghosts-is_wanting-L-Ledger : goal.ghosts-is_wanting-L-Ledger
 ghosts-is_wanting-L-Ledger g a = record { name = a.blank.name; parts = a.blank.parts }
