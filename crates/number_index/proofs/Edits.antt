@@ -78,6 +78,13 @@ pub has-found : {X : Type 0} (number_of : X → ℕ) (n : ℕ) (xs : List X) (x 
 has-found number_of n [] x is = absurd cc
 has-found number_of n (y ∷ ys) x is = elim (cases_Bool (eqb (number_of y) n)) [ inl same ↦ rw same refl | inr other ↦ rw other (has-found number_of n ys x (rw other at is)) ]
 
+pub thing-there : {X : Type 0} (number_of : X → ℕ) (n : ℕ) (xs : List X) → has_thing number_of n xs ≡ true → (x : X) × (thing_of number_of n xs ≡ Some x)
+thing-there number_of n [] there = absurd (false≢true there)
+thing-there number_of n (x ∷ xs) there = elim (cases_Bool (eqb (number_of x) n)) [
+  | inl same ↦ (x, rw same refl)
+  | inr other ↦ (let rest = thing-there number_of n xs (rw other at there) in (rest.0, rw other rest.1))
+]
+
 pub lacks-said : {X Y : Type 0} (number_of : X → ℕ) (say : X → Y) (none : Y) (n : ℕ) (xs : List X) → ((x : X) → say x ≢ none) → said_of number_of say none n xs ≡ none → has_thing number_of n xs ≡ false
 lacks-said number_of say none n [] tells is = refl
 lacks-said number_of say none n (x ∷ xs) tells is = elim (cases_Bool (eqb (number_of x) n)) [
@@ -187,6 +194,15 @@ said-with_other number_of say none m n change (x ∷ xs) differs keeps = elim (c
   | inl same ↦ (let own = eqb-true (number_of x) n same in
       rw (same, ne_eqb (number_of (change x)) m (λ e. differs (sym (keeps x own) ∙ e)), ne_eqb (number_of x) m (λ e. differs (sym own ∙ e))) refl)
   | inr other ↦ rw other (ap (λ (rest : _). cond (eqb (number_of x) m) (say x) rest) (said-with_other number_of say none m n change xs differs keeps))
+]
+
+pub thing-with : {X : Type 0} (number_of : X → ℕ) (n : ℕ) (change : X → X) (xs : List X) (x : X) → ((x : X) → number_of x ≡ n → number_of (change x) ≡ n) → thing_of number_of n xs ≡ Some x → thing_of number_of n (with_thing number_of n change xs) ≡ Some (change x)
+thing-with number_of n change [] x keeps is = absurd cc
+thing-with number_of n change (y ∷ ys) x keeps is = elim (cases_Bool (eqb (number_of y) n)) [
+  | inl same ↦ (let here : Some y ≡ Some x = rw same at is in
+      let own : y ≡ x = cc in
+      rw (same, eq-eqb (number_of (change y)) n (keeps y (eqb-true (number_of y) n same))) (ap (λ (z : _). Some (change z)) own))
+  | inr other ↦ rw (other, other) (thing-with number_of n change ys x keeps (rw other at is))
 ]
 
 pub all-with : {X : Type 0} (P : X → Type 0) (number_of : X → ℕ) (n : ℕ) (change : X → X) (xs : List X) → AllByRecursion P xs → ((x : X) → P x → thing_of number_of n xs ≡ Some x → P (change x)) → AllByRecursion P (with_thing number_of n change xs)
