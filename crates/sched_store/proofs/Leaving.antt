@@ -12,7 +12,8 @@ use Rattle.frame_table.specs.Tables.{frames_of, places_of, tenant_count}
 use Rattle.sched_rules.specs.Trees.{Tenant, charged_for}
 use Rattle.sched_rules.specs.Cores.{Shared, without_tenant}
 use Rattle.sched_store.specs.Changes.{with_departed}
-use Rattle.sched_store.specs.Ledgers.{Ledger, jobs_of, numbers_of, without_ledger}
+use Rattle.number_index.proofs.Edits.{said-without_other}
+use Rattle.sched_store.specs.Ledgers.{Ledger, number_in, jobs_of, numbers_of, without_ledger}
 use Rattle.sched_store.specs.Parts.{Parts, worded, tenant_from, tenants_from, shared_of}
 use Rattle.sched_store.specs.Stored.{IsStored, IsAccountFor, numbers_in, AreAtMost}
 use Rattle.sched_store.proofs.Cut.{IsCut, closed, closing, cut-belongs, cut-sized, cut-places, cut-words, cut-trees}
@@ -92,15 +93,7 @@ most-without most number (entry ∷ entries) all =
     ]
 
 jobs-without : (number other : ℕ) (ledgers : List Ledger) → other ≢ number → jobs_of (without_ledger number ledgers) other ≡ jobs_of ledgers other
-jobs-without number other [] differs = refl
-jobs-without number other (ledger ∷ ledgers) differs =
-    elim (cases_Bool (eqb ledger.0 number)) [
-      | inl same ↦ (let not_it : eqb ledger.0 other ≡ false = ne_eqb ledger.0 other (λ e. differs (sym e ∙ eqb-true ledger.0 number same)) in rw (same, not_it) refl)
-      | inr not_this ↦ elim (cases_Bool (eqb ledger.0 other)) [
-        | inl here ↦ rw (not_this, here) refl
-        | inr further ↦ rw (not_this, further) (jobs-without number other ledgers differs)
-      ]
-    ]
+jobs-without number other ledgers differs = said-without_other number_in (λ (l : Ledger). l.1) [] other number ledgers (λ e. differs (sym e))
 
 -- the cut that takes all frames
 leave-cut : (parts : Parts) (nodes : Nodes) (trees : List (TenantTree ℕ)) (ledgers : List Ledger) (book : Reservations) (number : ℕ) (numbers : List ℕ) (account : Account) → IsStored parts →
