@@ -64,10 +64,8 @@ said-found number_of say none n (y ∷ ys) x is = elim (cases_Bool (eqb (number_
 
 pub said-none : {X Y : Type 0} (number_of : X → ℕ) (say : X → Y) (none : Y) (n : ℕ) (xs : List X) → thing_of number_of n xs ≡ None → said_of number_of say none n xs ≡ none
 said-none number_of say none n [] is = refl
-said-none number_of say none n (y ∷ ys) is = elim (cases_Bool (eqb (number_of y) n)) [
-  | inl same ↦ (let here : Some y ≡ None = rw same at is in absurd cc)
-  | inr other ↦ rw other (said-none number_of say none n ys (rw other at is))
-]
+said-none number_of say none n (y ∷ ys) is =
+    elim (cases_Bool (eqb (number_of y) n)) [ inl same ↦ (let here : Some y ≡ None = rw same at is in absurd cc) | inr other ↦ rw other (said-none number_of say none n ys (rw other at is)) ]
 
 pub said-lacks : {X Y : Type 0} (number_of : X → ℕ) (say : X → Y) (none : Y) (n : ℕ) (xs : List X) → has_thing number_of n xs ≡ false → said_of number_of say none n xs ≡ none
 said-lacks number_of say none n [] lacks = refl
@@ -76,21 +74,18 @@ said-lacks number_of say none n (x ∷ xs) lacks =
 
 pub has-found : {X : Type 0} (number_of : X → ℕ) (n : ℕ) (xs : List X) (x : X) → thing_of number_of n xs ≡ Some x → has_thing number_of n xs ≡ true
 has-found number_of n [] x is = absurd cc
-has-found number_of n (y ∷ ys) x is = elim (cases_Bool (eqb (number_of y) n)) [ inl same ↦ rw same refl | inr other ↦ rw other (has-found number_of n ys x (rw other at is)) ]
+has-found number_of n (y ∷ ys) x is =
+    elim (cases_Bool (eqb (number_of y) n)) [ inl same ↦ rw same refl | inr other ↦ rw other (has-found number_of n ys x (rw other at is)) ]
 
 pub thing-there : {X : Type 0} (number_of : X → ℕ) (n : ℕ) (xs : List X) → has_thing number_of n xs ≡ true → (x : X) × (thing_of number_of n xs ≡ Some x)
 thing-there number_of n [] there = absurd (false≢true there)
-thing-there number_of n (x ∷ xs) there = elim (cases_Bool (eqb (number_of x) n)) [
-  | inl same ↦ (x, rw same refl)
-  | inr other ↦ (let rest = thing-there number_of n xs (rw other at there) in (rest.0, rw other rest.1))
-]
+thing-there number_of n (x ∷ xs) there =
+    elim (cases_Bool (eqb (number_of x) n)) [ inl same ↦ (x, rw same refl) | inr other ↦ (let rest = thing-there number_of n xs (rw other at there) in (rest.0, rw other rest.1)) ]
 
 pub lacks-said : {X Y : Type 0} (number_of : X → ℕ) (say : X → Y) (none : Y) (n : ℕ) (xs : List X) → ((x : X) → say x ≢ none) → said_of number_of say none n xs ≡ none → has_thing number_of n xs ≡ false
 lacks-said number_of say none n [] tells is = refl
-lacks-said number_of say none n (x ∷ xs) tells is = elim (cases_Bool (eqb (number_of x) n)) [
-  | inl same ↦ absurd (tells x (rw same at is))
-  | inr other ↦ rw other (lacks-said number_of say none n xs tells (rw other at is))
-]
+lacks-said number_of say none n (x ∷ xs) tells is =
+    elim (cases_Bool (eqb (number_of x) n)) [ inl same ↦ absurd (tells x (rw same at is)) | inr other ↦ rw other (lacks-said number_of say none n xs tells (rw other at is)) ]
 
 -- the same of what a search has found
 pub found-said : {X Y : Type 0} (number_of : X → ℕ) (say : X → Y) (none : Y) (n : ℕ) (xs : List X) (found : Option (Bor X)) → option_copied found ≡ thing_of number_of n xs → IfSome found (λ x. said_of number_of say none n xs ≡ say x.now)
@@ -217,16 +212,15 @@ rising-with number_of n change [] keeps rising = tt
 rising-with number_of n change (x ∷ xs) keeps rising = elim (cases_Bool (eqb (number_of x) n)) [
   | inl same ↦ (let own = eqb-true (number_of x) n same in rw same (subst (λ (k : ℕ). AreAbove number_of k xs) (own ∙ sym (keeps x own)) rising.0, rising.1))
   | inr other ↦ rw other (
-      all-with (λ y. number_of x < number_of y) number_of n change xs rising.0 (λ y lt is. (let own = thing-own number_of n xs y is in subst (λ (k : ℕ). number_of x < k) (own ∙ sym (keeps y own)) lt)),
-      rising-with number_of n change xs keeps rising.1)
+    all-with (λ y. number_of x < number_of y) number_of n change xs rising.0 (λ y lt is. (let own = thing-own number_of n xs y is in subst (λ (k : ℕ). number_of x < k) (own ∙ sym (keeps y own)) lt)),
+    rising-with number_of n change xs keeps rising.1,
+  )
 ]
 
 pub length-with : {X : Type 0} (number_of : X → ℕ) (n : ℕ) (change : X → X) (xs : List X) → length (with_thing number_of n change xs) ≡ length xs
 length-with number_of n change [] = refl
-length-with number_of n change (x ∷ xs) = elim (cases_Bool (eqb (number_of x) n)) [
-  | inl same ↦ rw same refl
-  | inr other ↦ rw other (ap (λ (k : ℕ). suc k) (length-with number_of n change xs))
-]
+length-with number_of n change (x ∷ xs) =
+    elim (cases_Bool (eqb (number_of x) n)) [ inl same ↦ rw same refl | inr other ↦ rw other (ap (λ (k : ℕ). suc k) (length-with number_of n change xs)) ]
 
 pub sum_by-with : {X : Type 0} (g : X → ℕ) (number_of : X → ℕ) (n : ℕ) (change : X → X) (x : X) (xs : List X) → thing_of number_of n xs ≡ Some x → sum_by g (with_thing number_of n change xs) + g x ≡ sum_by g xs + g (change x)
 sum_by-with g number_of n change x [] is = absurd cc
@@ -266,10 +260,8 @@ said-without_other number_of say none m n (x ∷ xs) differs = elim (cases_Bool 
 
 pub all-without : {X : Type 0} (P : X → Type 0) (number_of : X → ℕ) (n : ℕ) (xs : List X) → AllByRecursion P xs → AllByRecursion P (without_thing number_of n xs)
 all-without P number_of n [] all = tt
-all-without P number_of n (x ∷ xs) all = elim (cases_Bool (eqb (number_of x) n)) [
-  | inl same ↦ rw same all.1
-  | inr other ↦ rw other (all.0, all-without P number_of n xs all.1)
-]
+all-without P number_of n (x ∷ xs) all =
+    elim (cases_Bool (eqb (number_of x) n)) [ inl same ↦ rw same all.1 | inr other ↦ rw other (all.0, all-without P number_of n xs all.1) ]
 
 pub rising-without : {X : Type 0} (number_of : X → ℕ) (n : ℕ) (xs : List X) → AreRising number_of xs → AreRising number_of (without_thing number_of n xs)
 rising-without number_of n [] rising = tt
@@ -280,10 +272,8 @@ rising-without number_of n (x ∷ xs) rising = elim (cases_Bool (eqb (number_of 
 
 pub length-without : {X : Type 0} (number_of : X → ℕ) (n : ℕ) (xs : List X) → has_thing number_of n xs ≡ true → length (without_thing number_of n xs) + 1 ≡ length xs
 length-without number_of n [] there = absurd (false≢true there)
-length-without number_of n (x ∷ xs) there = elim (cases_Bool (eqb (number_of x) n)) [
-  | inl same ↦ rw same (omega arith)
-  | inr other ↦ (let rest = length-without number_of n xs (rw other at there) in rw other (omega (arith, rest)))
-]
+length-without number_of n (x ∷ xs) there =
+    elim (cases_Bool (eqb (number_of x) n)) [ inl same ↦ rw same (omega arith) | inr other ↦ (let rest = length-without number_of n xs (rw other at there) in rw other (omega (arith, rest))) ]
 
 pub sum_by-without : {X : Type 0} (g : X → ℕ) (number_of : X → ℕ) (n : ℕ) (x : X) (xs : List X) → thing_of number_of n xs ≡ Some x → sum_by g (without_thing number_of n xs) + g x ≡ sum_by g xs
 sum_by-without g number_of n x [] is = absurd cc
