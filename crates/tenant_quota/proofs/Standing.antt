@@ -18,7 +18,7 @@ pub record StandsFor (b : Reservations) (t : ℕ) (e : ℕ × Account) : Type 0 
   pub account : account_of t b.accounts ≡ Some e.1
   pub within : IsWithinReserve e.1
 
-some_of : (o : Option Account) → IsSome o → (a : Account) × (o ≡ Some a)
+pub some_of : (o : Option Account) → IsSome o → (a : Account) × (o ≡ Some a)
 some_of None is = absurd cc
 some_of (Some a) is = (a, refl)
 
