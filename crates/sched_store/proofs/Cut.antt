@@ -12,6 +12,7 @@ use Rattle.frame_tree.proofs.TreeLaws.{there-found, tree-rising, found-each, und
 use Rattle.frame_tree.proofs.TreeChanges.{frame_at-stays, filter-found}
 use Rattle.sched_store.specs.Parts.{worded}
 use Rattle.sched_store.specs.Stored.{frame_in, node_of, node_above, IsFrameNode, HasFrame, AreFramesNodes, AreSized, ArePlaces}
+use Rattle.sched_store.proofs.Words.{worded-same}
 
 -- the nodes of the frames that go
 abbrev pub closed : (Frame ℕ → Bool) → List (Frame ℕ) → List ℕ
@@ -232,11 +233,6 @@ pub cut-places : (nodes : Nodes) (trees after : List (TenantTree ℕ)) (places :
 cut-places nodes trees after places number keep belong is held worker owner serial frame at holds =
     let stays = stays-after nodes trees after number keep belong is owner serial frame at in
     held worker owner serial frame stays.there holds
-
--- frames whose nodes keep their words
-pub worded-same : (nodes after : Nodes) (frames : List (Frame ℕ)) → Each (λ frame. node_words after frame.value ≡ node_words nodes frame.value) frames → worded after frames ≡ worded nodes frames
-worded-same nodes after [] same = refl
-worded-same nodes after (frame ∷ frames) same = rw (same.0, worded-same nodes after frames same.1) refl
 
 -- after a cut each tenant's frames have the words that they had
 pub cut-words : (nodes : Nodes) (trees after : List (TenantTree ℕ)) (number : ℕ) (keep : Frame ℕ → Bool) → AreFramesNodes nodes trees → IsCut trees after number keep → (owner : ℕ) → IsTree (frames_of after owner) →

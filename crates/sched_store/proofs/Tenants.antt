@@ -11,6 +11,7 @@ use Rattle.sched_rules.specs.Lone.{counted}
 use Rattle.sched_rules.specs.Cores.{tenant_in}
 use Rattle.sched_rules.specs.Views.{left_of}
 use Rattle.sched_rules.specs.Changes.{on_tenant}
+use Rattle.tenant_quota.proofs.Standing.{some_of}
 use Rattle.number_index.proofs.Edits.{said-with_own, said-with_other}
 use Rattle.sched_store.specs.Ledgers.{Ledger, number_in, jobs_of, numbers_of, is_there, with_jobs}
 use Rattle.sched_store.specs.Parts.{Parts, shared_of}
@@ -21,12 +22,8 @@ use Rattle.sched_store.proofs.Steps.{TenantStep, changed-same, step-stored, step
 
 -- the account of a tenant that is there
 
-account-some : (account : Option Account) → IsSome account → (a : Account) × (account ≡ Some a)
-account-some None is = absurd (cc is)
-account-some (Some a) is = (a, refl)
-
 pub there-account : (parts : Parts) (number : ℕ) → IsSome (tenant_in (shared_of parts).tenants number) → (a : Account) × (account_of number parts.book.accounts ≡ Some a)
-there-account parts number is = account-some (account_of number parts.book.accounts) (sym (tenant-there parts number) ∙ is)
+there-account parts number is = some_of (account_of number parts.book.accounts) (sym (tenant-there parts number) ∙ is)
 
 pub left-account : (parts : Parts) → IsStored parts → (number : ℕ) (P : Left → Type 0) → IsSomeAnd (left_of (shared_of parts) number) P → (a : Account) × ((account_of number parts.book.accounts ≡ Some a) × P (left_in a))
 left-account parts stored number P is =
