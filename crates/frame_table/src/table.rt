@@ -6,9 +6,9 @@
 //! room for as many as any tenant has places, and the count of ready frames is that of all trees.
 ghost use Rattle.std.specs.Prelude.{◌≡◌, ◌≢◌, ℕ, ◌+◌, ◌<◌, ◌≤◌, ◌↔◌, ◌++◌, [], ◌∷◌, true, false, length, IsTrue, IsNone, IfOk, IfSome, IfNone, OnOk, OnErr};
 ghost use Rattle.std.specs.Borrow.{sem};
-ghost use Rattle.frame_tree.specs.Frames.{frame_at, has_frame, path_in, root_of, children_of, frames_under, frames_without, values_of, with_state, ready_frames, AllBelow, entry_of, newest_ready_of, names_of, new_frame, one_if_ready, HasValue, IsTree, IsReadyAt};
+ghost use Rattle.frame_tree.specs.Frames.{owner_of, frame_at, has_frame, path_in, root_of, children_of, frames_under, frames_without, values_of, with_state, ready_frames, AllBelow, entry_of, newest_ready_of, names_of, new_frame, one_if_ready, HasValue, IsTree, IsReadyAt};
 ghost use Rattle.frame_table.specs.Tables.{frames_of, places_of, tenant_count, KeepsOthers, KeepsOtherTenants, serial_of, IsParentIn, has_tenant, IsAt, IsTreeOf, HasNoTree, AreApartTrees, first_ready_of};
-ghost use Rattle.frame_tree.specs.Places.{RisesBy};
+ghost use Rattle.number_index.specs.Places.{AreRising};
 
 use frame_tree::{Children, Entry, FrameId, Frames, State, TenantFrames};
 use number_index::TenantIndex;
@@ -432,7 +432,7 @@ fn find_tree<'a, T: Copy, A: Allocator>(
     index: &TenantIndex,
     tenant: u64,
 ) -> Option<&'a TenantFrames<T, A>>
-    requires { RisesBy (λ tree. tree.tenant) trees.now }
+    requires { AreRising owner_of trees.now }
     ensures found { IfSome result (λ tree. IsTreeOf trees.now tenant tree.now) }
     ensures none { IfNone result (HasNoTree trees.now tenant) }
 {
@@ -447,7 +447,7 @@ fn guessed_tree<'a, T: Copy, A: Allocator>(
     index: &TenantIndex,
     tenant: u64,
 ) -> Option<&'a TenantFrames<T, A>>
-    requires { RisesBy (λ tree. tree.tenant) trees.now }
+    requires { AreRising owner_of trees.now }
     ensures { IfSome result (λ tree. IsTreeOf trees.now tenant tree.now) }
 {
     match index.guessed(trees, tenant) {
@@ -465,7 +465,7 @@ fn search_frame<T: Copy, A: Allocator>(
     tenant: u64,
     serial: u64,
 ) -> Option<Entry<T>>
-    requires { RisesBy (λ tree. tree.tenant) trees.now }
+    requires { AreRising owner_of trees.now }
     ensures entry { result ≡ entry_of tenant (frame_at (frames_of trees.now tenant) serial) }
     ensures tree { IsTree (frames_of trees.now tenant) }
 {
@@ -484,7 +484,7 @@ fn search_child<T: Copy, A: Allocator>(
     tenant: u64,
     serial: u64,
 ) -> bool
-    requires { RisesBy (λ tree. tree.tenant) trees.now }
+    requires { AreRising owner_of trees.now }
     ensures child { IsTrue result ↔ (0 < length (children_of (frames_of trees.now tenant) serial)) }
     ensures leaf { result ≡ false → children_of (frames_of trees.now tenant) serial ≡ [] }
 {
@@ -501,7 +501,7 @@ fn known_tenant<T: Copy, A: Allocator>(
     index: &TenantIndex,
     tenant: u64,
 ) -> usize
-    requires rise { RisesBy (λ tree. tree.tenant) trees.now }
+    requires rise { AreRising owner_of trees.now }
     requires there { has_tenant trees.now tenant ≡ true }
     ensures within { result < length trees.now }
     ensures found { IsAt trees.now tenant result }

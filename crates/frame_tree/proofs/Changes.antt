@@ -7,6 +7,7 @@ use Rattle.frame_tree.specs.declared.slot.Slot.{Slot}
 use Rattle.frame_tree.specs.Frames.{Frame, has_frame, path_in, path_under, root_of, AllBelow, is_ready, with_state, frames_without, has_parent}
 use Rattle.frame_tree.specs.Slots.{frame_of_slot, frames_from, has_parent_slot, CountsAtParent, children_at, IsNextSlot, IsLinked, has_slot, serials_of, AllAbove, Rises, is_serial, child_slots, ready_slots, CountsAre, AreSoundSlots, with_slot, with_child, without_child, kept_slots, is_kept}
 use Rattle.frame_tree.proofs.Forest.{AllBelow-append, AllBelow-left, AllBelow-right, has_frame-append, path_in-left, path_in-right, frames_from-append, IsLinked-append, linked_rises}
+use Rattle.frame_tree.proofs.Places.{filter_not-above}
 use Rattle.frame_tree.proofs.Search.{above_at, with_slot-set}
 use Rattle.frame_tree.proofs.Cuts.{IsClosed, Keeps-none, frames_from-kept, IsLinked-kept, kept_slots-linked, kept_follows, has_slot-filter}
 use Rattle.frame_tree.proofs.Lengths.{length-filter_push}
@@ -212,11 +213,7 @@ sound_cut {T} n xs ys ready now s is count =
 pub remove-filter : {T : Type 0} (xs : List (Slot T)) (i n : ℕ) → Rises xs → i < length xs → slice_index (serials_of xs) i ≡ n → remove xs i ≡ filter (λ x. not (eqb x.serial n)) xs
 remove-filter [] i n r lt at = absurd (omega arith)
 remove-filter (x ∷ xs) zero n r lt at =
-    rw (eq-eqb x.serial n at) (sym (all_stay xs n (let P : ℕ → Type 0 = λ s. AllAbove s xs in subst P at r.0)))
-  where
-    all_stay : {T : Type 0} (xs : List (Slot T)) (n : ℕ) → AllAbove n xs → filter (λ x. not (eqb x.serial n)) xs ≡ xs
-    all_stay [] n a = refl
-    all_stay (x ∷ xs) n a = rw (ne_eqb x.serial n (λ e. omega (arith, a.0, e))) (ap (λ ys. x ∷ ys) (all_stay xs n a.1))
+    rw (eq-eqb x.serial n at) (sym (filter_not-above (λ s. s.serial) n xs (let P : ℕ → Type 0 = λ s. AllAbove s xs in subst P at r.0)))
 remove-filter (x ∷ xs) (suc i) n r lt at =
     rw (ne_eqb x.serial n (λ e. omega (arith, above_at xs x.serial i r.0 (omega arith), at, e))) (ap (λ ys. x ∷ ys) (remove-filter xs i n r.1 (omega arith) at))
 

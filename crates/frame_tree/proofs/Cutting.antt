@@ -11,10 +11,10 @@ use Rattle.frame_tree.specs.Shelves.{with_found, slots_in, AreApartKeys, HasSeri
 use Rattle.frame_tree.proofs.Cuts.{IsClosed, IsClosed-from_follows, kept_follows}
 use Rattle.frame_tree.proofs.Lengths.{length-filter-le}
 use Rattle.frame_tree.specs.Shelves.{Marks, AreKeys, IsKeyAt}
-use Rattle.frame_tree.proofs.Search.{above_at, serial_read}
+use Rattle.frame_tree.proofs.Search.{serial_read}
 use Rattle.frame_tree.proofs.Shelves.{has_number-append, has_number-at, here_read, slots_in-length, slot_read}
 use Rattle.frame_tree.proofs.Keys.{key_found, knows_key}
-use Rattle.frame_tree.proofs.Changes.{parent_below}
+use Rattle.frame_tree.proofs.Changes.{parent_below, remove-filter}
 
 -- the slot that is here
 pub here_found : {T : Type 0} (slab : Slab (KeptSlot T)) (before : List ℕ) (o : Option (KeptSlot T)) → IsHere slab before o → (kept : KeptSlot T) × (o ≡ Some kept)
@@ -321,18 +321,6 @@ taken_stays old new order at key kept t h rise =
           t.others k (λ e. false≢true (rw (eq-eqb k key e) at stays)) ∙ (is ∙ ap (λ b. Some (record x { marked = b })) (unmarked old [] order k x h has is));
     }
 
--- the slots without the one at a place, by serials
-slots_without : {T : Type 0} (xs : List (TenantSlot T)) (i n : ℕ) → Rises xs → i < length xs → slice_index (serials_of xs) i ≡ n → filter (λ s. not (eqb s.serial n)) xs ≡ remove xs i
-slots_without [] i n rise lt at = absurd (omega arith)
-slots_without (x ∷ xs) zero n rise lt at = rw (eq-eqb x.serial n at) (later xs n (rw at at rise.0))
-  where
-    later : {T : Type 0} (xs : List (TenantSlot T)) (n : ℕ) → AllAbove n xs → filter (λ s. not (eqb s.serial n)) xs ≡ xs
-    later [] n above = refl
-    later (x ∷ xs) n above = rw (ne_eqb x.serial n (λ e. omega (arith, above.0, e))) (ap (λ ys. x ∷ ys) (later xs n above.1))
-slots_without (x ∷ xs) (suc i) n rise lt at =
-    let more = above_at xs x.serial i rise.0 (omega arith) in
-    rw (ne_eqb x.serial n (λ e. omega (arith, more, at, e))) (ap (λ ys. x ∷ ys) (slots_without xs i n rise.1 (omega arith) at))
-
 pub taken_slots : {T : Type 0} (old new : Slab (KeptSlot T)) (order : List ℕ) (at key : ℕ) (kept : KeptSlot T) → HasTaken old new order at key kept → AllHere old [] order → AreApartKeys order → Rises (slots_in old order) → slots_in new (remove order at) ≡ remove (slots_in old order) at
 taken_slots old new order at key kept t h a rise =
     let s = taken_stays old new order at key kept t h rise in
@@ -340,7 +328,7 @@ taken_slots old new order at key kept t h a rise =
     let here = serial_read (slots_in old order) at kept.slot within (sym (slot_read old order at key kept kept.slot h t.within t.read t.was)) in
     ap (slots_in new) (remove_key order at key a t.within ∙ ap (λ j. filter (λ k. not (eqb k j)) order) (sym t.read))
     ∙ (slots-filter old new (λ k. not (eqb k key)) (λ serial. not (eqb serial kept.slot.serial)) order [] order s.agree (λ k x has is stays. rw (s.renew k x has is stays) refl) (λ k has. has) h
-    ∙ slots_without (slots_in old order) at kept.slot.serial rise within here)
+    ∙ sym (remove-filter (slots_in old order) at kept.slot.serial rise within here))
 
 pub taken_shelf : {T : Type 0} (old new : Slab (KeptSlot T)) (order left : List ℕ) (room places at key : ℕ) (kept : KeptSlot T) → HasTaken old new order at key kept → IsShelf old order room places → Rises (slots_in old order) → child_slots (slice_index (serials_of (slots_in old order)) at) (slots_in old order) ≡ [] → left ≡ remove order at → length left + 1 ≡ length order → slab_len new + 1 ≡ slab_len old → new.capacity ≡ old.capacity → IsShelf new left room places
 taken_shelf old new order left room places at key kept t s rise leaf is long len capacity =

@@ -59,23 +59,19 @@ pub one_more_same : (path : List ℕ) (serial : ℕ) → is_one_more path (path 
 one_more_same [] serial = refl
 one_more_same (x ∷ path) serial = rw (eq-eqb x x refl) (one_more_same path serial)
 
+one_more_none : (above : List ℕ) → is_one_more above [] ≡ false
+one_more_none [] = refl
+one_more_none (x ∷ above) = refl
+
 pub one_more_is : (above path : List ℕ) (serial : ℕ) → is_one_more above (path ++ serial ∷ []) ≡ true → above ≡ path
-one_more_is [] [] serial h = refl
-one_more_is [] (y ∷ []) serial h = absurd (false≢true h)
-one_more_is [] (y ∷ z ∷ path) serial h = absurd (false≢true h)
-one_more_is (x ∷ []) [] serial h = absurd (false≢true (sym (and_right_false (eqb x serial)) ∙ h))
-  where
-    and_right_false : (b : Bool) → (b && false) ≡ false
-    and_right_false true = refl
-    and_right_false false = refl
-one_more_is (x ∷ y ∷ above) [] serial h = absurd (false≢true (sym (and_right_false (eqb x serial)) ∙ h))
-  where
-    and_right_false : (b : Bool) → (b && false) ≡ false
-    and_right_false true = refl
-    and_right_false false = refl
-one_more_is (x ∷ above) (y ∷ path) serial h =
-    let parts = and_parts (eqb x y) (is_one_more above (path ++ serial ∷ [])) h in
-    rw (eqb-true x y parts.0, one_more_is above path serial parts.1) refl
+one_more_is [] [] serial e = refl
+one_more_is [] (y ∷ []) serial e = absurd (false≢true e)
+one_more_is [] (y ∷ z ∷ path) serial e = absurd (false≢true e)
+one_more_is (x ∷ above) [] serial e = absurd (false≢true (sym (one_more_none above) ∙ (and_parts (eqb x serial) (is_one_more above []) e).1))
+one_more_is (x ∷ above) (y ∷ path) serial e =
+    let both = and_parts (eqb x y) (is_one_more above (path ++ serial ∷ [])) e in
+    let head = eqb-true x y both.0 in
+    let tail = one_more_is above path serial both.1 in cc
 
 pub EndsIn-unique : (path : List ℕ) (a b : ℕ) → EndsIn path a → EndsIn path b → a ≡ b
 EndsIn-unique [] a b p q = absurd p

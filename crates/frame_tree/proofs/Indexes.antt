@@ -3,7 +3,8 @@ use Rattle.std.proofs.Common.{◌≡◌, ℕ, zero, suc, ◌+◌, ◌<◌, Bool,
 use Rattle.std.specs.List.{remove}
 use Rattle.frame_tree.specs.declared.slot.Slot.{Slot}
 use Rattle.frame_tree.specs.Slots.{AllAbove, Rises, serials_of, has_slot, IsLinked, with_slot, with_child, without_child}
-use Rattle.frame_tree.specs.Places.{AllAboveBy, RisesBy, has_number}
+use Rattle.number_index.specs.Places.{AreAbove, AreRising}
+use Rattle.frame_tree.specs.Places.{has_number}
 use Rattle.frame_tree.proofs.Forest.{linked_rises}
 use Rattle.frame_tree.proofs.Search.{serial_read, has_slot-found}
 
@@ -15,11 +16,11 @@ pub has_number-serials_of : {T : Type 0} (xs : List (Slot T)) (n : ℕ) → has_
 has_number-serials_of [] n = refl
 has_number-serials_of (x ∷ xs) n = ap (λ b. eqb x.serial n || b) (has_number-serials_of xs n)
 
-pub serials_of-rises : {T : Type 0} (xs : List (Slot T)) → Rises xs → RisesBy (λ n. n) (serials_of xs)
+pub serials_of-rises : {T : Type 0} (xs : List (Slot T)) → Rises xs → AreRising (λ n. n) (serials_of xs)
 serials_of-rises [] r = tt
 serials_of-rises (x ∷ xs) r = (above x.serial xs r.0, serials_of-rises xs r.1)
   where
-    above : {T : Type 0} (n : ℕ) (xs : List (Slot T)) → AllAbove n xs → AllAboveBy (λ n. n) n (serials_of xs)
+    above : {T : Type 0} (n : ℕ) (xs : List (Slot T)) → AllAbove n xs → AreAbove (λ n. n) n (serials_of xs)
     above n [] a = tt
     above n (x ∷ xs) a = (a.0, above n xs a.1)
 
@@ -37,7 +38,7 @@ none_at xs serials n is none = sym (has_number-serials_of xs n) ∙ (rw is at no
 pub there_at : {T : Type 0} (xs : List (Slot T)) (serials : List ℕ) (n : ℕ) → serials ≡ serials_of xs → has_slot xs n ≡ true → has_number serials n ≡ true
 there_at xs serials n is there = rw is (has_number-serials_of xs n ∙ there)
 
-pub index_rises : {T : Type 0} (xs : List (Slot T)) (serials : List ℕ) → serials ≡ serials_of xs → IsLinked [] xs → RisesBy (λ n. n) serials
+pub index_rises : {T : Type 0} (xs : List (Slot T)) (serials : List ℕ) → serials ≡ serials_of xs → IsLinked [] xs → AreRising (λ n. n) serials
 index_rises xs serials is l = rw is (serials_of-rises xs (linked_rises [] xs l))
 
 -- whether a search has found a slot

@@ -58,24 +58,25 @@ marked_in-keys under slots some more key None e = refl
 marked_in-keys under slots some more key (Some x) e = rw e refl
 
 -- one key more
+
+pub last_key : (b : Bool) (key k : ℕ) → key ≡ k → (b || (eqb key k || false)) ≡ true
+last_key true key k e = refl
+last_key false key k e = rw (eq-eqb key k e) refl
+
+pub first_keys : (b : Bool) (key k : ℕ) → key ≢ k → (b || (eqb key k || false)) ≡ b
+first_keys true key k e = refl
+first_keys false key k e = rw (ne_eqb key k e) refl
+
 pub marks_next : {T : Type 0} (under : ℕ) (slots : List (TenantSlot T)) (keys : List ℕ) (i key : ℕ) (old now new : Slab (KeptSlot T)) (x : KeptSlot T) → Marks under slots (take i keys) old now → i < length keys → key ≡ get_or keys i key → get old key ≡ Some x → get new key ≡ Some (record x { marked = not (is_kept under (frames_from [] slots) x.slot.serial) }) → ((k : ℕ) → k ≢ key → get new k ≡ get now k) → Marks under slots (take (i + 1) keys) old new
 marks_next under slots keys i key old now new x m lt is was here others k =
     let more : take (i + 1) keys ≡ take i keys ++ key ∷ [] = take_more keys i key lt ∙ ap (λ j. take i keys ++ j ∷ []) (sym is) in
     let has = ap (λ ks. has_number ks k) more ∙ has_number-append (take i keys) (key ∷ []) k in
     elim (cases_eq k key) [
-      | inl same ↦ (let there : has_number (take (i + 1) keys) k ≡ true = has ∙ last (has_number (take i keys) k) key k (sym same) in
+      | inl same ↦ (let there : has_number (take (i + 1) keys) k ≡ true = has ∙ last_key (has_number (take i keys) k) key k (sym same) in
           rw (ap (get new) same ∙ here, ap (get old) same ∙ was, there) refl)
-      | inr differs ↦ (let alike : has_number (take (i + 1) keys) k ≡ has_number (take i keys) k = has ∙ first (has_number (take i keys) k) key k (λ e. differs (sym e)) in
+      | inr differs ↦ (let alike : has_number (take (i + 1) keys) k ≡ has_number (take i keys) k = has ∙ first_keys (has_number (take i keys) k) key k (λ e. differs (sym e)) in
           others k differs ∙ (m k ∙ marked_in-keys under slots (take i keys) (take (i + 1) keys) k (get old k) alike))
     ]
-  where
-    last : (b : Bool) (key k : ℕ) → key ≡ k → (b || (eqb key k || false)) ≡ true
-    last true key k e = refl
-    last false key k e = rw (eq-eqb key k e) refl
-
-    first : (b : Bool) (key k : ℕ) → key ≢ k → (b || (eqb key k || false)) ≡ b
-    first true key k e = refl
-    first false key k e = rw (ne_eqb key k e) refl
 
 -- what is read at a key, and whether the abort takes it
 pub record IsRead {T : Type 0} (under : ℕ) (slots : List (TenantSlot T)) (keys : List ℕ) (i key : ℕ) (old now : Slab (KeptSlot T)) (x : KeptSlot T) : Type 0 where

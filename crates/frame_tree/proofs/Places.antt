@@ -1,21 +1,17 @@
 -- Places in lists that rise by a number.
-use Rattle.std.proofs.Common.{◌≡◌, ◌≢◌, ℕ, zero, suc, ◌+◌, ◌<◌, ◌≤◌, Bool, true, false, not, eqb, List, [], ◌∷◌, length, get_or, take, refl, ap, sym, subst, ◌∙◌, inl, inr, arith, nat_lt}
+use Rattle.std.proofs.Common.{◌≡◌, ◌≢◌, ℕ, zero, suc, ◌<◌, ◌≤◌, Bool, true, false, not, eqb, List, [], ◌∷◌, length, get_or, take, refl, ap, sym, subst, ◌∙◌, inl, inr, arith, nat_lt}
 use Rattle.std.specs.List.{filter, insert, remove}
 use Rattle.std.specs.List.Sorted.{IsNonDecreasingBy, IsPartitionPoint}
 use Rattle.std.proofs.lemmas.Bool.{cases_lt, cases_Bool, eq-eqb, ne_eqb, ltb-true, ltb-false, lt-ltb}
-use Rattle.frame_tree.specs.Places.{has_number, AllAboveBy, RisesBy, AllFromBy, IsPlaceFor, inserted}
-
--- a number above another, at a place
-above_by_at : {X : Type 0} (number : X → ℕ) (n k : ℕ) (xs : List X) (d : X) → AllAboveBy number n xs → k < length xs → n < number (get_or xs k d)
-above_by_at number n k [] d above lt = absurd (omega arith)
-above_by_at number n zero (x ∷ xs) d above lt = above.0
-above_by_at number n (suc k) (x ∷ xs) d above lt = above_by_at number n k xs d above.1 (omega arith)
+use Rattle.number_index.specs.Places.{AreAbove, AreRising, inserted}
+use Rattle.number_index.proofs.Edits.{all-at, all-map}
+use Rattle.frame_tree.specs.Places.{has_number, AllFromBy, IsPlaceFor}
 
 -- what rises does not fall
-pub rises_by-not_falls : {X : Type 0} (number : X → ℕ) (xs : List X) → RisesBy number xs → IsNonDecreasingBy number xs
+pub rises_by-not_falls : {X : Type 0} (number : X → ℕ) (xs : List X) → AreRising number xs → IsNonDecreasingBy number xs
 rises_by-not_falls number [] rise i j d le lt = absurd (omega arith)
 rises_by-not_falls number (x ∷ xs) rise zero zero d le lt = omega arith
-rises_by-not_falls number (x ∷ xs) rise zero (suc j) d le lt = let h = above_by_at number (number x) j xs d rise.0 (omega arith) in omega (arith, h)
+rises_by-not_falls number (x ∷ xs) rise zero (suc j) d le lt = let h : number x < number (get_or xs j d) = all-at (λ z. number x < number z) xs j d rise.0 (omega arith) in omega (arith, h)
 rises_by-not_falls number (x ∷ xs) rise (suc i) zero d le lt = absurd (omega arith)
 rises_by-not_falls number (x ∷ xs) rise (suc i) (suc j) d le lt = rises_by-not_falls number xs rise.1 i j d (omega arith) (omega arith)
 
@@ -31,18 +27,18 @@ place_from_point number (x ∷ xs) n (suc at) le p =
     (ltb-true (number x) n (p.0 0 x (omega arith) (omega arith)), place_from_point number xs n at (omega arith) (λ k d ge lt. p.0 (suc k) d (omega arith) (omega arith), λ k d ge lt. p.1 (suc k) d (omega arith) (omega arith)))
 
 -- what is above a number is not below it
-from_above : {X : Type 0} (number : X → ℕ) (n m : ℕ) (xs : List X) → n ≤ m → AllAboveBy number m xs → AllFromBy number n xs
+from_above : {X : Type 0} (number : X → ℕ) (n m : ℕ) (xs : List X) → n ≤ m → AreAbove number m xs → AllFromBy number n xs
 from_above number n m [] le above = tt
 from_above number n m (x ∷ xs) le above = (omega (arith, le, above.0), from_above number n m xs le above.1)
 
 -- an element stands at the place of its number
-pub place_of_element : {X : Type 0} (number : X → ℕ) (xs : List X) (n at : ℕ) (x : X) → RisesBy number xs → at < length xs → x ≡ get_or xs at x → number x ≡ n → IsPlaceFor number xs n at
+pub place_of_element : {X : Type 0} (number : X → ℕ) (xs : List X) (n at : ℕ) (x : X) → AreRising number xs → at < length xs → x ≡ get_or xs at x → number x ≡ n → IsPlaceFor number xs n at
 place_of_element number [] n at x rise lt is same = absurd (omega arith)
 place_of_element number (y ∷ ys) n zero x rise lt is same =
     let here : number y ≡ n = sym (ap number is) ∙ same in
     (omega (arith, here), from_above number n (number y) ys (omega (arith, here)) rise.0)
 place_of_element number (y ∷ ys) n (suc at) x rise lt is same =
-    let above = above_by_at number (number y) at ys x rise.0 (omega arith) in
+    let above : number y < number (get_or ys at x) = all-at (λ z. number y < number z) ys at x rise.0 (omega arith) in
     let here : number (get_or ys at x) ≡ n = sym (ap number is) ∙ same in
     (omega (arith, above, here), place_of_element number ys n at x rise.1 (omega arith) is same)
 
@@ -51,21 +47,21 @@ pub place_in_none : {X : Type 0} (number : X → ℕ) (xs : List X) (n : ℕ) �
 place_in_none number [] n e = tt
 place_in_none number (x ∷ xs) n e = absurd (omega arith)
 
-pub place_before : {X : Type 0} (number : X → ℕ) (xs : List X) (n : ℕ) (x : X) → RisesBy number xs → 0 < length xs → x ≡ get_or xs 0 x → n ≤ number x → IsPlaceFor number xs n 0
+pub place_before : {X : Type 0} (number : X → ℕ) (xs : List X) (n : ℕ) (x : X) → AreRising number xs → 0 < length xs → x ≡ get_or xs 0 x → n ≤ number x → IsPlaceFor number xs n 0
 place_before number [] n x rise some is le = absurd (omega arith)
 place_before number (y ∷ ys) n x rise some is le =
     let here : number x ≡ number y = ap number is in
     (omega (arith, here), from_above number n (number y) ys (omega (arith, here)) rise.0)
 
-pub place_behind : {X : Type 0} (number : X → ℕ) (xs : List X) (n at count : ℕ) (x : X) → RisesBy number xs → count ≡ length xs → suc at ≡ length xs → x ≡ get_or xs at x → number x < n → IsPlaceFor number xs n count
+pub place_behind : {X : Type 0} (number : X → ℕ) (xs : List X) (n at count : ℕ) (x : X) → AreRising number xs → count ≡ length xs → suc at ≡ length xs → x ≡ get_or xs at x → number x < n → IsPlaceFor number xs n count
 place_behind number xs n at count x rise all e is lt = let P : ℕ → Type 0 = λ k. IsPlaceFor number xs n k in subst P (e ∙ sym all) (behind number xs n at x rise e is lt)
   where
-    behind : {X : Type 0} (number : X → ℕ) (xs : List X) (n at : ℕ) (x : X) → RisesBy number xs → suc at ≡ length xs → x ≡ get_or xs at x → number x < n → IsPlaceFor number xs n (suc at)
+    behind : {X : Type 0} (number : X → ℕ) (xs : List X) (n at : ℕ) (x : X) → AreRising number xs → suc at ≡ length xs → x ≡ get_or xs at x → number x < n → IsPlaceFor number xs n (suc at)
     behind number [] n at x rise e is lt = absurd (omega arith)
     behind number (y ∷ []) n zero x rise e is lt = let here : number x ≡ number y = ap number is in (omega (arith, here), tt)
     behind number (y ∷ z ∷ zs) n zero x rise e is lt = absurd (omega arith)
     behind number (y ∷ ys) n (suc at) x rise e is lt =
-        let above = above_by_at number (number y) at ys x rise.0 (omega arith) in
+        let above : number y < number (get_or ys at x) = all-at (λ z. number y < number z) ys at x rise.0 (omega arith) in
         let here : number x ≡ number (get_or ys at x) = ap number is in
         (omega (arith, above, here), behind number ys n at x rise.1 (omega arith) is lt)
 
@@ -79,25 +75,28 @@ inserted-place number new [] (suc at) p = absurd p
 inserted-place number new (x ∷ xs) (suc at) p = rw (lt-ltb (number x) (number new) p.0) (ap (λ ys. x ∷ ys) (inserted-place number new xs at p.1))
 
 -- those below a number are those before its place
+none_below : {X : Type 0} (number : X → ℕ) (n : ℕ) (xs : List X) → AllFromBy number n xs → filter (λ x. nat_lt (number x) n) xs ≡ []
+none_below number n [] p = refl
+none_below number n (x ∷ xs) p =
+    let no' : nat_lt (number x) n ≡ false = elim (cases_Bool (nat_lt (number x) n)) [ inl yes' ↦ absurd (let lt = ltb-true (number x) n yes' in omega (arith, lt, p.0)) | inr h ↦ h ] in
+    rw no' (none_below number n xs p.1)
+
 pub filter_below-place : {X : Type 0} (number : X → ℕ) (xs : List X) (n at : ℕ) → IsPlaceFor number xs n at → take at xs ≡ filter (λ x. nat_lt (number x) n) xs
 filter_below-place number [] n zero p = refl
-filter_below-place number (x ∷ xs) n zero p = sym (none number n (x ∷ xs) p)
-  where
-    none : {X : Type 0} (number : X → ℕ) (n : ℕ) (xs : List X) → AllFromBy number n xs → filter (λ x. nat_lt (number x) n) xs ≡ []
-    none number n [] p = refl
-    none number n (x ∷ xs) p =
-        let no' : nat_lt (number x) n ≡ false = elim (cases_Bool (nat_lt (number x) n)) [ inl yes' ↦ absurd (let lt = ltb-true (number x) n yes' in omega (arith, lt, p.0)) | inr h ↦ h ] in
-        rw no' (none number n xs p.1)
+filter_below-place number (x ∷ xs) n zero p = sym (none_below number n (x ∷ xs) p)
 filter_below-place number [] n (suc at) p = absurd p
 filter_below-place number (x ∷ xs) n (suc at) p = rw (lt-ltb (number x) n p.0) (ap (λ ys. x ∷ ys) (filter_below-place number xs n at p.1))
 
+pub filter_below-above : {X : Type 0} (number : X → ℕ) (n : ℕ) (xs : List X) → AreAbove number n xs → filter (λ x. nat_lt (number x) n) xs ≡ []
+filter_below-above number n xs above = none_below number n xs (from_above number n n xs (omega arith) above)
+
 -- nothing is left out where all are above
-pub filter_not-above : {X : Type 0} (number : X → ℕ) (n : ℕ) (xs : List X) → AllAboveBy number n xs → filter (λ x. not (eqb (number x) n)) xs ≡ xs
+pub filter_not-above : {X : Type 0} (number : X → ℕ) (n : ℕ) (xs : List X) → AreAbove number n xs → filter (λ x. not (eqb (number x) n)) xs ≡ xs
 filter_not-above number n [] above = refl
 filter_not-above number n (x ∷ xs) above = rw (ne_eqb (number x) n (λ e. omega (arith, above.0, e))) (ap (λ ys. x ∷ ys) (filter_not-above number n xs above.1))
 
 -- the element that stands at the place of its number goes
-pub filter_not-remove : {X : Type 0} (number : X → ℕ) (xs : List X) (n at : ℕ) (x : X) → RisesBy number xs → IsPlaceFor number xs n at → at < length xs → x ≡ get_or xs at x → number x ≡ n → remove xs at ≡ filter (λ x. not (eqb (number x) n)) xs
+pub filter_not-remove : {X : Type 0} (number : X → ℕ) (xs : List X) (n at : ℕ) (x : X) → AreRising number xs → IsPlaceFor number xs n at → at < length xs → x ≡ get_or xs at x → number x ≡ n → remove xs at ≡ filter (λ x. not (eqb (number x) n)) xs
 filter_not-remove number [] n at x rise p lt is same = absurd (omega arith)
 filter_not-remove number (y ∷ ys) n zero x rise p lt is same =
     let here : number y ≡ n = ap number (sym is) ∙ same in
@@ -106,16 +105,12 @@ filter_not-remove number (y ∷ ys) n (suc at) x rise p lt is same =
     rw (ne_eqb (number y) n (λ e. omega (arith, p.0, e))) (ap (λ zs. y ∷ zs) (filter_not-remove number ys n at x rise.1 p.1 (omega arith) is same))
 
 -- nothing is left out where another stands at the place, or nothing
-pub filter_not-absent : {X : Type 0} (number : X → ℕ) (xs : List X) (n at : ℕ) → RisesBy number xs → IsPlaceFor number xs n at → ((x : X) → at < length xs → x ≡ get_or xs at x → number x ≢ n) → xs ≡ filter (λ x. not (eqb (number x) n)) xs
+pub filter_not-absent : {X : Type 0} (number : X → ℕ) (xs : List X) (n at : ℕ) → AreRising number xs → IsPlaceFor number xs n at → ((x : X) → at < length xs → x ≡ get_or xs at x → number x ≢ n) → xs ≡ filter (λ x. not (eqb (number x) n)) xs
 filter_not-absent number [] n zero rise p other = refl
 filter_not-absent number (y ∷ ys) n zero rise p other =
     let differs = other y (omega arith) refl in
     let above : n < number y = elim (cases_lt n (number y)) [ inl lt ↦ lt | inr le ↦ absurd (differs (omega (arith, le, p.0))) ] in
-    rw (ne_eqb (number y) n differs) (ap (λ zs. y ∷ zs) (sym (filter_not-above number n ys (further number n (number y) ys above rise.0))))
-  where
-    further : {X : Type 0} (number : X → ℕ) (n m : ℕ) (xs : List X) → n < m → AllAboveBy number m xs → AllAboveBy number n xs
-    further number n m [] lt above = tt
-    further number n m (x ∷ xs) lt above = (omega (arith, lt, above.0), further number n m xs lt above.1)
+    rw (ne_eqb (number y) n differs) (ap (λ zs. y ∷ zs) (sym (filter_not-above number n ys (all-map (λ z. number y < number z) (λ z. n < number z) (λ z lt. omega (arith, lt, above)) ys rise.0))))
 filter_not-absent number [] n (suc at) rise p other = absurd p
 filter_not-absent number (y ∷ ys) n (suc at) rise p other =
     rw (ne_eqb (number y) n (λ e. omega (arith, p.0, e))) (ap (λ zs. y ∷ zs) (filter_not-absent number ys n at rise.1 p.1 (λ x lt is. other x (omega arith) is)))
@@ -126,18 +121,13 @@ alike [] i x y lt a b = absurd (omega arith)
 alike (z ∷ zs) zero x y lt a b = a ∙ sym b
 alike (z ∷ zs) (suc i) x y lt a b = alike zs i x y (omega arith) a b
 
-pub length-inserted : {X : Type 0} (number : X → ℕ) (new : X) (xs : List X) → length (inserted number new xs) ≡ length xs + 1
-length-inserted number new [] = refl
-length-inserted number new (x ∷ xs) =
-    elim (cases_Bool (nat_lt (number x) (number new))) [ inl lt ↦ rw lt (omega (arith, length-inserted number new xs)) | inr ge ↦ rw ge (omega arith) ]
-
 -- what rises does so in part
-above_by-filter : {X : Type 0} (number : X → ℕ) (keep : X → Bool) (n : ℕ) (xs : List X) → AllAboveBy number n xs → AllAboveBy number n (filter keep xs)
+pub above_by-filter : {X : Type 0} (number : X → ℕ) (keep : X → Bool) (n : ℕ) (xs : List X) → AreAbove number n xs → AreAbove number n (filter keep xs)
 above_by-filter number keep n [] a = tt
 above_by-filter number keep n (x ∷ xs) a =
     elim (cases_Bool (keep x)) [ inl stays ↦ rw stays (a.0, above_by-filter number keep n xs a.1) | inr goes ↦ rw goes (above_by-filter number keep n xs a.1) ]
 
-pub rises_by-filter : {X : Type 0} (number : X → ℕ) (keep : X → Bool) (xs : List X) → RisesBy number xs → RisesBy number (filter keep xs)
+pub rises_by-filter : {X : Type 0} (number : X → ℕ) (keep : X → Bool) (xs : List X) → AreRising number xs → AreRising number (filter keep xs)
 rises_by-filter number keep [] r = tt
 rises_by-filter number keep (x ∷ xs) r =
     elim (cases_Bool (keep x)) [ inl stays ↦ rw stays (above_by-filter number keep (number x) xs r.0, rises_by-filter number keep xs r.1) | inr goes ↦ rw goes (rises_by-filter number keep xs r.1) ]

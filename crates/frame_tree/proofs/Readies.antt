@@ -9,10 +9,10 @@ use Rattle.frame_tree.specs.declared.slot.Slot.{Slot}
 use Rattle.frame_tree.specs.declared.ready.ReadyFrame.{ReadyFrame}
 use Rattle.frame_tree.specs.Frames.{first_of_two, is_ready, ready_name}
 use Rattle.frame_tree.specs.Slots.{SerialList, serials_of, AreSoundSlots, ready_slots, AllAbove, Rises, with_slot, with_child, without_child, serials_of, newest_in}
-use Rattle.frame_tree.specs.Places.{AllAboveBy, RisesBy}
+use Rattle.number_index.specs.Places.{AreAbove, AreRising}
 use Rattle.frame_tree.specs.Readies.{ReadyList, IsTenant, with_ready, ready_in, without_ready, put_ready, last_ready}
 use Rattle.frame_tree.proofs.Search.{above_at}
-use Rattle.frame_tree.proofs.Places.{rises_by-filter, filter_not-above}
+use Rattle.frame_tree.proofs.Places.{rises_by-filter, filter_not-above, filter_below-above}
 use Rattle.frame_tree.proofs.Lengths.{length-filter-le}
 use Rattle.frame_tree.proofs.Forest.{linked_rises}
 use Rattle.frame_tree.proofs.Changes.{in_state}
@@ -42,22 +42,22 @@ ready_in-length (x ∷ xs) = one x xs (ready_in xs) x.state refl (ready_in-lengt
     one x xs frames Returned e h = rw e h
 
 -- they are above what the slots are above, and rise as those do
-pub ready_in-above : {T : Type 0} (n : ℕ) (xs : List (Slot T)) → AllAbove n xs → AllAboveBy (λ frame. frame.serial) n (ready_in xs)
+pub ready_in-above : {T : Type 0} (n : ℕ) (xs : List (Slot T)) → AllAbove n xs → AreAbove (λ frame. frame.serial) n (ready_in xs)
 ready_in-above n [] a = tt
 ready_in-above n (x ∷ xs) a = one n x.serial x.state (ready_in xs) a.0 (ready_in-above n xs a.1)
   where
-    one : (n serial : ℕ) (state : State) (frames : List ReadyFrame) → n < serial → AllAboveBy (λ frame. frame.serial) n frames → AllAboveBy (λ frame. frame.serial) n (with_ready serial state frames)
+    one : (n serial : ℕ) (state : State) (frames : List ReadyFrame) → n < serial → AreAbove (λ frame. frame.serial) n frames → AreAbove (λ frame. frame.serial) n (with_ready serial state frames)
     one n serial (Ready home) frames lt a = (lt, a)
     one n serial (Running worker) frames lt a = a
     one n serial (Computing worker) frames lt a = a
     one n serial Waiting frames lt a = a
     one n serial Returned frames lt a = a
 
-pub ready_in-rises : {T : Type 0} (xs : List (Slot T)) → Rises xs → RisesBy (λ frame. frame.serial) (ready_in xs)
+pub ready_in-rises : {T : Type 0} (xs : List (Slot T)) → Rises xs → AreRising (λ frame. frame.serial) (ready_in xs)
 ready_in-rises [] r = tt
 ready_in-rises (x ∷ xs) r = one x.serial x.state (ready_in xs) (ready_in-above x.serial xs r.0) (ready_in-rises xs r.1)
   where
-    one : (serial : ℕ) (state : State) (frames : List ReadyFrame) → AllAboveBy (λ frame. frame.serial) serial frames → RisesBy (λ frame. frame.serial) frames → RisesBy (λ frame. frame.serial) (with_ready serial state frames)
+    one : (serial : ℕ) (state : State) (frames : List ReadyFrame) → AreAbove (λ frame. frame.serial) serial frames → AreRising (λ frame. frame.serial) frames → AreRising (λ frame. frame.serial) (with_ready serial state frames)
     one serial (Ready home) frames a r = (a, r)
     one serial (Running worker) frames a r = r
     one serial (Computing worker) frames a r = r
@@ -119,11 +119,11 @@ ready_in-without_child None xs = refl
 ready_in-without_child (Some p) xs = ready_in-with_slot p (λ s. record s { children = s.children - 1 }) xs (λ x. refl) (λ x. refl)
 
 -- ready frames rise without one of them too
-pub without_ready-rises : (serial : ℕ) (was : State) (frames : List ReadyFrame) → RisesBy (λ frame. frame.serial) frames → RisesBy (λ frame. frame.serial) (without_ready serial was frames)
+pub without_ready-rises : (serial : ℕ) (was : State) (frames : List ReadyFrame) → AreRising (λ frame. frame.serial) frames → AreRising (λ frame. frame.serial) (without_ready serial was frames)
 without_ready-rises serial was frames r = elim (cases_Bool (is_ready was)) [ inl ready ↦ rw ready (rises_by-filter (λ frame. frame.serial) (λ frame. not (eqb frame.serial serial)) frames r) | inr other ↦ rw other r ]
 
 -- a frame that leaves its state goes, and comes back where its new state is to be ready
-leave_here : (serial : ℕ) (was : State) (frames : List ReadyFrame) → AllAboveBy (λ frame. frame.serial) serial frames → without_ready serial was (with_ready serial was frames) ≡ frames
+leave_here : (serial : ℕ) (was : State) (frames : List ReadyFrame) → AreAbove (λ frame. frame.serial) serial frames → without_ready serial was (with_ready serial was frames) ≡ frames
 leave_here serial (Ready home) frames a = rw (eq-eqb serial serial refl) (filter_not-above (λ frame. frame.serial) serial frames a)
 leave_here serial (Running worker) frames a = refl
 leave_here serial (Computing worker) frames a = refl
@@ -140,7 +140,7 @@ leave_other serial n state was frames lt = elim (cases_Bool (is_ready was)) [ in
     one serial n Waiting frames e = refl
     one serial n Returned frames e = refl
 
-put_here : (serial : ℕ) (now : State) (frames : List ReadyFrame) → AllAboveBy (λ frame. frame.serial) serial frames → put_ready serial now frames ≡ with_ready serial now frames
+put_here : (serial : ℕ) (now : State) (frames : List ReadyFrame) → AreAbove (λ frame. frame.serial) serial frames → put_ready serial now frames ≡ with_ready serial now frames
 put_here serial (Ready home) [] a = refl
 put_here serial (Ready home) (f ∷ frames) a =
     let later : nat_lt f.serial serial ≡ false = elim (cases_Bool (nat_lt f.serial serial)) [ inl lt ↦ absurd (let h = ltb-true f.serial serial lt in omega (arith, h, a.0)) | inr ge ↦ ge ] in
@@ -182,14 +182,8 @@ ready_in-remove (x ∷ xs) (suc i) n slot rise lt at is =
 -- the ready frames below a serial are those of the slots before it
 pub ready_in-take : {T : Type 0} (xs : List (Slot T)) (i n : ℕ) → Rises xs → i < length xs → slice_index (serials_of xs) i ≡ n → filter (λ frame. nat_lt frame.serial n) (ready_in xs) ≡ ready_in (take i xs)
 ready_in-take [] i n rise lt at = absurd (omega arith)
-ready_in-take (x ∷ xs) zero n rise lt at = here x.serial n x.state (ready_in xs) (omega (arith, at)) (none n (ready_in xs) (rw at at (ready_in-above x.serial xs rise.0)))
+ready_in-take (x ∷ xs) zero n rise lt at = here x.serial n x.state (ready_in xs) (omega (arith, at)) (filter_below-above (λ frame. frame.serial) n (ready_in xs) (rw at at (ready_in-above x.serial xs rise.0)))
   where
-    none : (n : ℕ) (frames : List ReadyFrame) → AllAboveBy (λ frame. frame.serial) n frames → filter (λ frame. nat_lt frame.serial n) frames ≡ []
-    none n [] a = refl
-    none n (f ∷ frames) a =
-        let later : nat_lt f.serial n ≡ false = elim (cases_Bool (nat_lt f.serial n)) [ inl lt ↦ absurd (let h = ltb-true f.serial n lt in omega (arith, h, a.0)) | inr ge ↦ ge ] in
-        rw later (none n frames a.1)
-
     here : (serial n : ℕ) (state : State) (frames : List ReadyFrame) → n ≤ serial → filter (λ frame. nat_lt frame.serial n) frames ≡ [] → filter (λ frame. nat_lt frame.serial n) (with_ready serial state frames) ≡ []
     here serial n (Ready home) frames le h =
         let later : nat_lt serial n ≡ false = elim (cases_Bool (nat_lt serial n)) [ inl lt ↦ absurd (let k = ltb-true serial n lt in omega (arith, k, le)) | inr ge ↦ ge ] in
@@ -230,5 +224,5 @@ is_tenant slots count places serials ready s i e within few same_serials same = 
 pub few_ready_in : {T : Type 0} (slots : List (Slot T)) → length (ready_in slots) ≤ length slots
 few_ready_in slots = omega (arith, ready_in-length slots, length-filter-le (λ x. is_ready x.state) slots)
 
-pub tenant_rises : {T : Type 0} (slots : List (Slot T)) (places : ℕ) (serials : SerialList) (ready : ReadyList) → IsTenant slots places serials ready → RisesBy (λ frame. frame.serial) ready.frames
+pub tenant_rises : {T : Type 0} (slots : List (Slot T)) (places : ℕ) (serials : SerialList) (ready : ReadyList) → IsTenant slots places serials ready → AreRising (λ frame. frame.serial) ready.frames
 tenant_rises slots places serials ready t = rw t.ready_frames (ready_in-rises slots (linked_rises [] slots t.sound.linked))

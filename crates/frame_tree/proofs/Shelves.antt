@@ -298,8 +298,5 @@ roomy_shelf {T} old new keys room room' places places' s same more wide long =
       order_room = long;
     })
 
-pub roomy_seen : {T : Type 0} (old new : Slab (KeptSlot T)) (keys : List ℕ) → new ≡ record old { capacity = new.capacity } → slots_in new keys ≡ slots_in old keys
-roomy_seen {T} old new keys same = ap (λ (k : Slab (KeptSlot T)). slots_in k keys) same ∙ roomy_slots old new.capacity keys
-
 pub roomy_len : {T : Type 0} (old new : Slab (KeptSlot T)) → new ≡ record old { capacity = new.capacity } → slab_len new ≡ slab_len old
 roomy_len {T} old new same = ap (λ (k : Slab (KeptSlot T)). slab_len k) same

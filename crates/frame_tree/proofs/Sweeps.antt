@@ -1,16 +1,16 @@
 -- The pass of an abort that removes the marked slots.
-use Rattle.std.proofs.Common.{◌≡◌, ◌≢◌, ℕ, zero, suc, ◌+◌, ◌<◌, ◌≤◌, Bool, true, false, not, ◌||◌, ◌&&◌, eqb, List, [], ◌∷◌, ◌++◌, Option, Some, None, IsSome, length, take, drop, get_or, set, map, cond, refl, ap, sym, ◌∙◌, inl, inr, arith, append-nil, append_assoc, subst}
+use Rattle.std.proofs.Common.{◌≡◌, ℕ, zero, suc, ◌+◌, ◌<◌, ◌≤◌, Bool, true, false, not, ◌||◌, ◌&&◌, eqb, List, [], ◌∷◌, ◌++◌, Option, Some, None, IsSome, length, take, drop, get_or, set, map, cond, refl, ap, sym, ◌∙◌, inl, inr, arith, append-nil, append_assoc, subst}
 use Rattle.std.specs.List.{filter}
 use Rattle.std.proofs.lemmas.List.{take_more}
 use Rattle.std.proofs.lemmas.List.Elements.{filter_more}
 use Rattle.std.proofs.lemmas.List.Filters.{FiltersInPlace, FiltersInPlace-more_set, FiltersInPlace-more_no}
-use Rattle.std.proofs.lemmas.Bool.{cases_eq, eq-eqb, ne_eqb}
+use Rattle.std.proofs.lemmas.Bool.{cases_eq, ne_eqb}
 use Rattle.slab.specs.Slab.{Slab, get, slab_len, ContainsKey, Updates}
 use Rattle.frame_tree.specs.declared.shelf.KeptSlot.{KeptSlot}
 use Rattle.frame_tree.specs.Places.{has_number}
 use Rattle.frame_tree.specs.Shelves.{slots_in, AreApartKeys, AreThere, NoneMarked, is_marked, swept_in, values_in}
 use Rattle.frame_tree.proofs.Shelves.{has_number-append, slots_in-append}
-use Rattle.frame_tree.proofs.Marks.{apart_before}
+use Rattle.frame_tree.proofs.Marks.{apart_before, last_key, first_keys}
 use Rattle.frame_tree.proofs.Lengths.{length_more}
 
 -- after the first keys: those that stay stand in front, the slots of the others are gone, and their values were written down
@@ -81,14 +81,6 @@ slot_contains old now all order had values kept at key h a t lt is =
 -- one key more
 has_number_more : (all : List ℕ) (at key k : ℕ) → at < length all → key ≡ get_or all at key → has_number (take (at + 1) all) k ≡ (has_number (take at all) k || (eqb key k || false))
 has_number_more all at key k lt is = ap (λ ks. has_number ks k) (take_more all at key lt ∙ ap (λ j. take at all ++ j ∷ []) (sym is)) ∙ has_number-append (take at all) (key ∷ []) k
-
-last_key : (b : Bool) (key k : ℕ) → key ≡ k → (b || (eqb key k || false)) ≡ true
-last_key true key k e = refl
-last_key false key k e = rw (eq-eqb key k e) refl
-
-first_keys : (b : Bool) (key k : ℕ) → key ≢ k → (b || (eqb key k || false)) ≡ b
-first_keys true key k e = refl
-first_keys false key k e = rw (ne_eqb key k e) refl
 
 -- a slot that stays
 pub swept_stays : {T : Type 0} (old now : Slab (KeptSlot T)) (all order : List ℕ) (had values : List T) (kept at key : ℕ) → HasSwept old now all order had values kept at → at < length all → key ≡ get_or order at key → is_marked (get old key) ≡ false → HasSwept old now all (set order kept key) had values (kept + 1) (at + 1)

@@ -4,6 +4,7 @@ use Rattle.std.specs.List.{filter}
 use Rattle.std.proofs.lemmas.Bool.{cases_Bool, false≢true, true≢false, eq-eqb, ne_eqb, eqb-true, or_parts, not_from_true, not_from_false, not-true}
 use Rattle.frame_tree.specs.Frames.{Frame, frame_at, has_frame, AllBelow, path_under, goes_under, children_of, aborted, frames_without, IsNextFrame, IsTree, IsTreeAfter}
 use Rattle.frame_tree.specs.TreeLaws.{is_child_of, AllAboveSerial, AreRising, Each, if_kept}
+use Rattle.frame_tree.proofs.Places.{above_by-filter, rises_by-filter}
 use Rattle.frame_tree.proofs.TreeLaws.{found-there, there-found, found-serial, found-path, missing, frame_at-left, frame_at-right, tree-rising, above-missing, each-found, found-each, IsUnder, IsPlaced, placed, under-through, not-under-itself, children-by-paths}
 
 -- frames that rise, each in its place, are a tree
@@ -54,15 +55,8 @@ pub tree-from : {T : Type 0} (frames : List (Frame T)) → AreRising frames → 
 tree-from frames rising each = tree-after [] frames rising each
 
 -- the frames that pass a test
-above-filter : {T : Type 0} (keep : Frame T → Bool) (s : ℕ) (xs : List (Frame T)) → AllAboveSerial s xs → AllAboveSerial s (filter keep xs)
-above-filter keep s [] above = tt
-above-filter keep s (x ∷ xs) above =
-    elim (cases_Bool (keep x)) [ inl is ↦ rw is (above.0, above-filter keep s xs above.1) | inr not_so ↦ rw not_so (above-filter keep s xs above.1) ]
-
 pub rising-filter : {T : Type 0} (keep : Frame T → Bool) (xs : List (Frame T)) → AreRising xs → AreRising (filter keep xs)
-rising-filter keep [] rising = tt
-rising-filter keep (x ∷ xs) rising =
-    elim (cases_Bool (keep x)) [ inl is ↦ rw is (above-filter keep x.serial xs rising.0, rising-filter keep xs rising.1) | inr not_so ↦ rw not_so (rising-filter keep xs rising.1) ]
+rising-filter keep xs rising = rises_by-filter (λ frame. frame.serial) keep xs rising
 
 pub AllBelow-filter : {T : Type 0} (keep : Frame T → Bool) (s : ℕ) (xs : List (Frame T)) → AllBelow s xs → AllBelow s (filter keep xs)
 AllBelow-filter keep s [] below = tt
@@ -76,7 +70,7 @@ frame_at-filter keep (x ∷ xs) s rising =
       | inl same ↦ elim (cases_Bool (keep x)) [
         | inl is ↦ rw (is, same, is) refl
         | inr not_so ↦ (let e = eqb-true x.serial s same in
-            let none : frame_at (filter keep xs) s ≡ None = missing (filter keep xs) s (above-missing (filter keep xs) x.serial s (omega (arith, e)) (above-filter keep x.serial xs rising.0)) in
+            let none : frame_at (filter keep xs) s ≡ None = missing (filter keep xs) s (above-missing (filter keep xs) x.serial s (omega (arith, e)) (above_by-filter (λ frame. frame.serial) keep x.serial xs rising.0)) in
             rw (not_so, same, not_so) none)
       ]
       | inr other ↦ elim (cases_Bool (keep x)) [
@@ -127,10 +121,6 @@ frame_at-aborted p xs s t = frame_at-filter (λ x. not (goes_under p x.path)) xs
 pub aborted-itself : {T : Type 0} (p : ℕ) (xs : List (Frame T)) (f : Frame T) → IsTree xs → frame_at xs p ≡ Some f → frame_at (aborted p xs) p ≡ Some f
 aborted-itself p xs f t at =
     frame_at-stays (λ x. not (goes_under p x.path)) xs p f (tree-rising xs t) at (not_from_false (goes_under p f.path) (not-under-itself xs p f t at))
-
-pub aborted-there : {T : Type 0} (p : ℕ) (xs : List (Frame T)) → IsTree xs → has_frame xs p ≡ true → has_frame (aborted p xs) p ≡ true
-aborted-there p xs t there =
-    let f = there-found xs p there in found-there (aborted p xs) p f.0 (aborted-itself p xs f.0 t f.1)
 
 -- a child of a frame is under it, and one of a frame under p is under p
 pub child-under-parent : {T : Type 0} (xs : List (Frame T)) (p s : ℕ) (x : Frame T) → IsTree xs → frame_at xs s ≡ Some x → is_child_of p x.path ≡ true → goes_under p x.path ≡ true

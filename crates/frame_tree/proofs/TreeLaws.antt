@@ -1,9 +1,10 @@
 -- A tree, frame by frame: each frame stands under its parent, and what follows for look-ups, paths and children.
 use Rattle.std.proofs.Common.{◌≡◌, ◌≢◌, ℕ, zero, suc, ◌<◌, ◌≤◌, ◌⊎◌, inl, inr, Bool, true, false, ◌||◌, eqb, List, [], ◌∷◌, ◌++◌, Option, Some, None, refl, ap, sym, ◌∙◌, subst, arith, append_assoc}
 use Rattle.std.specs.List.{filter}
-use Rattle.std.proofs.lemmas.Bool.{cases_Bool, cases_eq, false≢true, true≢false, eq-eqb, ne_eqb, eqb-true, and_parts, or_cases}
+use Rattle.std.proofs.lemmas.Bool.{cases_Bool, cases_eq, false≢true, true≢false, eq-eqb, ne_eqb, eqb-true, or_cases}
 use Rattle.frame_tree.specs.Frames.{Frame, frame_at, has_frame, has_parent, path_in, AllBelow, parent_of, path_under, goes_under, is_one_more, children_under, children_of, IsNextFrame, IsTree, IsTreeAfter}
 use Rattle.frame_tree.specs.TreeLaws.{is_that, is_child_of, AllAboveSerial, AreRising, Each}
+use Rattle.frame_tree.proofs.Finds.{one_more_same, one_more_is, EndsIn-unique}
 use Rattle.frame_tree.proofs.Forest.{AllBelow-left, AllBelow-right, has_frame-above, EndsIn, EndsIn-append, goes_under-append}
 
 -- a frame that is found
@@ -104,11 +105,6 @@ found-each P (x ∷ xs) rising all = (
 )
 
 -- the last serial of a path is one alone
-pub EndsIn-one : (path : List ℕ) (a b : ℕ) → EndsIn path a → EndsIn path b → a ≡ b
-EndsIn-one [] a b p q = absurd p
-EndsIn-one (x ∷ []) a b p q = sym p ∙ q
-EndsIn-one (x ∷ y ∷ path) a b p q = EndsIn-one (y ∷ path) a b p q
-
 -- a frame in its place among others: a root, whose path is its serial alone, or one step further than its parent, which is there and has a lower serial
 pub record IsUnder {T : Type 0} (frames : List (Frame T)) (frame : Frame T) : Type 0 where
   pub parent : ℕ
@@ -150,9 +146,6 @@ placed-after {T} before (x ∷ xs) t =
 -- in a tree each frame is in its place
 pub placed : {T : Type 0} (frames : List (Frame T)) (serial : ℕ) (frame : Frame T) → IsTree frames → frame_at frames serial ≡ Some frame → IsPlaced frames frame
 placed frames serial frame t at = each-found (IsPlaced frames) frames serial frame (placed-after [] frames t) at
-
-pub each-placed : {T : Type 0} (frames : List (Frame T)) → IsTree frames → Each (IsPlaced frames) frames
-each-placed frames t = placed-after [] frames t
 
 pub placed-ends : {T : Type 0} (frames : List (Frame T)) (frame : Frame T) → IsPlaced frames frame → EndsIn frame.path frame.serial
 placed-ends frames frame (inl top) = rw top.1 refl
@@ -213,25 +206,6 @@ not-under-itself frames serial frame t at =
       | inr stays ↦ stays
     ]
 
--- a path with one more serial than another
-one_more-itself : (path : List ℕ) (serial : ℕ) → is_one_more path (path ++ serial ∷ []) ≡ true
-one_more-itself [] serial = refl
-one_more-itself (x ∷ path) serial = rw (eq-eqb x x refl) (one_more-itself path serial)
-
-one_more-none : (above : List ℕ) → is_one_more above [] ≡ false
-one_more-none [] = refl
-one_more-none (x ∷ above) = refl
-
-one_more-same : (above path : List ℕ) (serial : ℕ) → is_one_more above (path ++ serial ∷ []) ≡ true → above ≡ path
-one_more-same [] [] serial e = refl
-one_more-same [] (y ∷ []) serial e = absurd (false≢true e)
-one_more-same [] (y ∷ z ∷ path) serial e = absurd (false≢true e)
-one_more-same (x ∷ above) [] serial e = absurd (false≢true (sym (one_more-none above) ∙ (and_parts (eqb x serial) (is_one_more above []) e).1))
-one_more-same (x ∷ above) (y ∷ path) serial e =
-    let both = and_parts (eqb x y) (is_one_more above (path ++ serial ∷ [])) e in
-    let head = eqb-true x y both.0 in
-    let tail = one_more-same above path serial both.1 in cc
-
 -- the children of a frame are those whose path has its serial as the last but one
 child-top : {T : Type 0} (above : List ℕ) (s : ℕ) (x : Frame T) → EndsIn above s → IsTop x → is_one_more above x.path ≡ is_child_of s x.path
 child-top [] s x ends top = absurd ends
@@ -246,12 +220,12 @@ child-under {T} frames s f x t at u =
     elim (cases_eq u.parent s) [
       | inl same ↦ (let both : ◌≡◌ {A = Option (Frame T)} (Some u.above) (Some f) = sym u.there ∙ (rw same at) in
           let e : u.above ≡ f = cc in
-          let one : is_one_more f.path x.path ≡ true = rw (u.path, e) (one_more-itself f.path x.serial) in
+          let one : is_one_more f.path x.path ≡ true = rw (u.path, e) (one_more_same f.path x.serial) in
           one ∙ sym (ap (is_that s) u.named ∙ eq-eqb u.parent s same))
       | inr other ↦ elim (cases_Bool (is_one_more f.path x.path)) [
-        | inl one ↦ (let e = one_more-same f.path u.above.path x.serial (rw u.path at one) in
+        | inl one ↦ (let e = one_more_is f.path u.above.path x.serial (rw u.path at one) in
             let ends : EndsIn u.above.path s = rw e at (found-ends frames s f t at) in
-            absurd (other (EndsIn-one u.above.path u.parent s (found-ends frames u.parent u.above t u.there) ends)))
+            absurd (other (EndsIn-unique u.above.path u.parent s (found-ends frames u.parent u.above t u.there) ends)))
         | inr none ↦ none ∙ sym (ap (is_that s) u.named ∙ ne_eqb u.parent s other)
       ]
     ]

@@ -72,10 +72,6 @@ under-root (x ∷ []) p e = absurd cc
 under-root (x ∷ y ∷ path) p e = rw (eq-eqb x x refl) refl
 
 -- frames of the same serials and paths
-alike-itself : {T : Type 0} (xs : List (Frame T)) → AreAlike xs xs
-alike-itself [] = tt
-alike-itself (x ∷ xs) = (refl, refl, alike-itself xs)
-
 has_frame-alike : {T U : Type 0} (xs : List (Frame T)) (ys : List (Frame U)) (s : ℕ) → AreAlike xs ys → has_frame ys s ≡ has_frame xs s
 has_frame-alike [] [] s alike = refl
 has_frame-alike [] (y ∷ ys) s alike = absurd alike

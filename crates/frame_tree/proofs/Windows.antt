@@ -3,10 +3,6 @@ use Rattle.std.proofs.Common.{◌≡◌, ℕ, suc, ◌+◌, ◌-◌, ◌<◌, �
 use Rattle.std.specs.List.{insert, remove, copy_within}
 use Rattle.std.proofs.lemmas.List.{drop-take, drop-drop, drop_all, drop_at, drop-append-le, length-take-le, length-drop}
 
--- the length of what begins at a place
-pub length_from : {X : Type 0} (items : List X) (start n : ℕ) → n ≡ length (drop start items) → start ≤ length items → n + start ≡ length items
-length_from items start n long within = omega (arith, long, length-drop start items, within)
-
 -- an element that goes with those after it moved
 pub removed_back : {X : Type 0} (items : List X) (start at : ℕ) → start + at < length items → drop start (remove items (start + at)) ≡ remove (drop start items) at
 removed_back items start at lt =

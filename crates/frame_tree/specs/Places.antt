@@ -1,21 +1,11 @@
 -- Representation: lists in the order of a number that each element has.
-use Rattle.std.specs.Prelude.{ℕ, ◌<◌, ◌≤◌, ◌==◌, ◌||◌, Bool, false, nat_lt, List, [], ◌∷◌, if◌then◌else◌}
+use Rattle.std.specs.Prelude.{ℕ, ◌<◌, ◌≤◌, ◌==◌, ◌||◌, Bool, false, List, [], ◌∷◌}
 use Prim.Native.Nat.{zero, suc}
 
 -- whether this is one of the numbers
 abbrev pub has_number : List ℕ → ℕ → Bool
 has_number [] n = false
 has_number (first ∷ numbers) n = (first == n) || has_number numbers n
-
--- each number is above this one
-abbrev pub AllAboveBy : {X : Type 0} → (X → ℕ) → ℕ → List X → Type 0
-AllAboveBy number n [] = Unit {0}
-AllAboveBy number n (x ∷ xs) = (n < number x) × AllAboveBy number n xs
-
--- each number is below the later ones
-abbrev pub RisesBy : {X : Type 0} → (X → ℕ) → List X → Type 0
-RisesBy number [] = Unit {0}
-RisesBy number (x ∷ xs) = AllAboveBy number (number x) xs × RisesBy number xs
 
 -- each number is this one or above
 abbrev pub AllFromBy : {X : Type 0} → (X → ℕ) → ℕ → List X → Type 0
@@ -27,8 +17,3 @@ abbrev pub IsPlaceFor : {X : Type 0} → (X → ℕ) → List X → ℕ → ℕ 
 IsPlaceFor number xs n zero = AllFromBy number n xs
 IsPlaceFor number [] n (suc at) = ⊥
 IsPlaceFor number (x ∷ xs) n (suc at) = (number x < n) × IsPlaceFor number xs n at
-
--- the list with one more element, after those of a lower number
-abbrev pub inserted : {X : Type 0} → (X → ℕ) → X → List X → List X
-inserted number new [] = new ∷ []
-inserted number new (x ∷ xs) = if nat_lt (number x) (number new) then x ∷ inserted number new xs else new ∷ x ∷ xs

@@ -5,7 +5,7 @@ use Rattle.frame_tree.specs.declared.names.State.TheVariants.{Ready as ReadyAt, 
 use Rattle.frame_tree.specs.declared.slot.Slot.{Slot}
 use Rattle.frame_tree.specs.declared.ready.ReadyFrame.{ReadyFrame}
 use Rattle.frame_tree.specs.Frames.{first_of_two, is_ready}
-use Rattle.frame_tree.specs.Places.{inserted}
+use Rattle.number_index.specs.Places.{inserted}
 use Rattle.frame_tree.specs.Slots.{AreSoundSlots, SerialList, serials_of}
 
 -- a number of places, and ready frames by rising serial

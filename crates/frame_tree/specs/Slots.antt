@@ -1,5 +1,6 @@
 -- Representation: how a tenant's frames are kept: as slots by rising serial, each with its parent's serial.
 use Rattle.std.specs.Prelude.{◌≡◌, ℕ, ◌<◌, ◌+◌, ◌-◌, Bool, true, false, not, ◌||◌, ◌==◌, List, [], ◌∷◌, ◌++◌, Option, Some, None, if◌then◌else◌, filter, map, length}
+use Rattle.number_index.specs.Places.{AreAbove, AreRising}
 use Rattle.frame_tree.specs.declared.names.FrameId.{FrameId}
 use Rattle.frame_tree.specs.declared.slot.Slot.{Slot}
 use Rattle.frame_tree.specs.Frames.{Frame, has_parent, path_in, path_under, goes_under, root_of, AllBelow, is_ready, ready_name, first_of_two}
@@ -68,13 +69,11 @@ has_slot (slot ∷ slots) serial = (slot.serial == serial) || has_slot slots ser
 
 -- each serial is above this one
 abbrev pub AllAbove : {T : Type 0} → ℕ → List (Slot T) → Type 0
-AllAbove serial [] = Unit {0}
-AllAbove serial (slot ∷ slots) = (serial < slot.serial) × AllAbove serial slots
+AllAbove serial slots = AreAbove (λ slot. slot.serial) serial slots
 
 -- each serial is below the later ones
 abbrev pub Rises : {T : Type 0} → List (Slot T) → Type 0
-Rises [] = Unit {0}
-Rises (slot ∷ slots) = AllAbove slot.serial slots × Rises slots
+Rises slots = AreRising (λ slot. slot.serial) slots
 
 -- the slots with one changed
 abbrev pub with_slot : {T : Type 0} → ℕ → (Slot T → Slot T) → List (Slot T) → List (Slot T)

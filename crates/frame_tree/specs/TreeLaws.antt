@@ -1,5 +1,6 @@
 -- Representation: what the laws of a tree speak of: a child by its path alone, frames that rise, frames with other values.
-use Rattle.std.specs.Prelude.{◌≡◌, ℕ, ◌<◌, Bool, false, ◌==◌, List, [], ◌∷◌, Option, Some, None, if◌then◌else◌, map}
+use Rattle.std.specs.Prelude.{◌≡◌, ℕ, Bool, false, ◌==◌, List, [], ◌∷◌, Option, Some, None, if◌then◌else◌, map}
+use Rattle.number_index.specs.Places.{AreAbove, AreRising as AreRisingBy}
 use Rattle.frame_tree.specs.Frames.{Frame, parent_of}
 
 -- whether a parent, if there is one, is this serial
@@ -13,13 +14,11 @@ is_child_of serial path = is_that serial (parent_of path)
 
 -- each frame's serial is above this one
 abbrev pub AllAboveSerial : {T : Type 0} → ℕ → List (Frame T) → Type 0
-AllAboveSerial serial [] = Unit {0}
-AllAboveSerial serial (frame ∷ frames) = (serial < frame.serial) × AllAboveSerial serial frames
+AllAboveSerial serial frames = AreAbove (λ frame. frame.serial) serial frames
 
 -- frames by rising serial, so that no serial stands twice
 abbrev pub AreRising : {T : Type 0} → List (Frame T) → Type 0
-AreRising [] = Unit {0}
-AreRising (frame ∷ frames) = AllAboveSerial frame.serial frames × AreRising frames
+AreRising frames = AreRisingBy (λ frame. frame.serial) frames
 
 -- each of these frames has this
 abbrev pub Each : {T : Type 0} → (Frame T → Type 0) → List (Frame T) → Type 0

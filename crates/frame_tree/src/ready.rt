@@ -4,7 +4,8 @@
 //! place of a frame that becomes ready, or no longer is, is mostly at one of the ends: those are looked
 //! at before a binary search.
 ghost use Rattle.std.specs.Prelude.{◌≡◌, ◌+◌, ◌<◌, ◌≤◌, ◌++◌, [], ◌∷◌, length, filter, not, ◌==◌, nat_lt, IfOk, OnOk};
-ghost use Rattle.frame_tree.specs.Places.{RisesBy, IsPlaceFor, inserted};
+ghost use Rattle.number_index.specs.Places.{AreRising, inserted};
+ghost use Rattle.frame_tree.specs.Places.{IsPlaceFor};
 ghost use Rattle.frame_tree.specs.Readies.{last_ready, without_ready, put_ready};
 
 use crate::names::State;
@@ -69,7 +70,7 @@ impl<A: Allocator> ReadyFrames<A> {
 
     /// Where the frame with this serial stands, or would stand.
     fn place_for(&self, serial: u64) -> usize
-        requires { RisesBy (λ frame. frame.serial) self.now.frames }
+        requires { AreRising (λ frame. frame.serial) self.now.frames }
         ensures within { result ≤ length self.now.frames }
         ensures place { IsPlaceFor (λ frame. frame.serial) self.now.frames serial result }
     {
@@ -87,7 +88,7 @@ impl<A: Allocator> ReadyFrames<A> {
 
     /// Adds a frame that is not there.
     fn put(&mut self, serial: u64, home: u8)
-        requires rise { RisesBy (λ frame. frame.serial) self.old.frames }
+        requires rise { AreRising (λ frame. frame.serial) self.old.frames }
         requires room { length self.old.frames < self.old.places }
         ensures { self.new ≡ record self.old { frames = inserted (λ frame. frame.serial) (record { serial = serial; home = home }) self.old.frames } }
     {
@@ -98,7 +99,7 @@ impl<A: Allocator> ReadyFrames<A> {
     /// Removes the frame with this serial, where it is there.
     #[inline(always)]
     fn forget(&mut self, serial: u64)
-        requires { RisesBy (λ frame. frame.serial) self.old.frames }
+        requires { AreRising (λ frame. frame.serial) self.old.frames }
         ensures { self.new ≡ record self.old { frames = filter (λ frame. not (frame.serial == serial)) self.old.frames } }
     {
         let at = self.place_for(serial);
@@ -110,7 +111,7 @@ impl<A: Allocator> ReadyFrames<A> {
     /// Removes a frame that is no longer in a state, where that was to be ready.
     #[inline(always)]
     pub(crate) fn leave(&mut self, serial: u64, was: State)
-        requires { RisesBy (λ frame. frame.serial) self.old.frames }
+        requires { AreRising (λ frame. frame.serial) self.old.frames }
         ensures { self.new ≡ record self.old { frames = without_ready serial was self.old.frames } }
     {
         if was.is_ready() {
@@ -121,7 +122,7 @@ impl<A: Allocator> ReadyFrames<A> {
     /// Follows the frame with this serial from one state to another.
     #[inline(always)]
     pub(crate) fn follow(&mut self, serial: u64, was: State, now: State)
-        requires rise { RisesBy (λ frame. frame.serial) self.old.frames }
+        requires rise { AreRising (λ frame. frame.serial) self.old.frames }
         requires room { length (put_ready serial now (without_ready serial was self.old.frames)) ≤ self.old.places }
         ensures { self.new ≡ record self.old { frames = put_ready serial now (without_ready serial was self.old.frames) } }
     {
@@ -133,7 +134,7 @@ impl<A: Allocator> ReadyFrames<A> {
 
     /// Removes the frames from this serial on.
     pub(crate) fn forget_from(&mut self, serial: u64)
-        requires { RisesBy (λ frame. frame.serial) self.old.frames }
+        requires { AreRising (λ frame. frame.serial) self.old.frames }
         ensures { self.new ≡ record self.old { frames = filter (λ frame. nat_lt frame.serial serial) self.old.frames } }
     {
         let at = self.place_for(serial);
@@ -151,7 +152,7 @@ impl<A: Allocator> ReadyFrames<A> {
 /// Where the frame with this serial stands among these, or would stand.
 #[inline(always)]
 fn place_in(frames: &[ReadyFrame], serial: u64) -> usize
-    requires { RisesBy (λ frame. frame.serial) frames.now }
+    requires { AreRising (λ frame. frame.serial) frames.now }
     ensures within { result ≤ length frames.now }
     ensures place { IsPlaceFor (λ frame. frame.serial) frames.now serial result }
 {

@@ -5,7 +5,8 @@
 //! nothing but serials.
 ghost use Rattle.std.specs.Prelude.{◌≡◌, ◌<◌, ◌≤◌, ◌++◌, [], ◌∷◌, true, false, length, take, slice_index, IfOk, OnOk, IfSome, IfNone};
 ghost use Rattle.std.specs.List.{remove};
-ghost use Rattle.frame_tree.specs.Places.{RisesBy, has_number};
+ghost use Rattle.number_index.specs.Places.{AreRising};
+ghost use Rattle.frame_tree.specs.Places.{has_number};
 
 use crate::window::ListWindow;
 use std::alloc::{AllocError, Allocator, Global};
@@ -48,7 +49,7 @@ impl<A: Allocator> Serials<A> {
     /// Where a serial stands.
     #[inline(always)]
     pub(crate) fn place_of(&self, serial: u64) -> Option<usize>
-        requires { RisesBy (λ n. n) self.now.serials }
+        requires { AreRising (λ n. n) self.now.serials }
         ensures found { IfSome result (λ at. (at < length self.now.serials) × (slice_index self.now.serials at ≡ serial)) }
         ensures none { IfNone result (has_number self.now.serials serial ≡ false) }
     {
@@ -67,7 +68,7 @@ impl<A: Allocator> Serials<A> {
     #[cold]
     #[inline(never)]
     pub(crate) fn search(&self, serial: u64) -> Option<usize>
-        requires { RisesBy (λ n. n) self.now.serials }
+        requires { AreRising (λ n. n) self.now.serials }
         ensures found { IfSome result (λ at. (at < length self.now.serials) × (slice_index self.now.serials at ≡ serial)) }
         ensures none { IfNone result (has_number self.now.serials serial ≡ false) }
     {
@@ -80,7 +81,7 @@ impl<A: Allocator> Serials<A> {
     /// Where a serial stands that is there.
     #[inline(always)]
     pub(crate) fn known_place(&self, serial: u64) -> usize
-        requires rise { RisesBy (λ n. n) self.now.serials }
+        requires rise { AreRising (λ n. n) self.now.serials }
         requires there { has_number self.now.serials serial ≡ true }
         ensures within { result < length self.now.serials }
         ensures found { slice_index self.now.serials result ≡ serial }

@@ -13,7 +13,8 @@ ghost use Rattle.frame_tree.specs.declared.slot.Slot.{Slot};
 ghost use Rattle.std.specs.List.{remove};
 ghost use Rattle.frame_tree.specs.Slots.{serials_of, IsLinked, kept_slots, gone_values, slot_values, child_slots, Rises, has_slot, has_parent_slot, AllCountsBelow, with_child, root_at, root_under, without_child, CountsAtParent};
 ghost use Rattle.frame_tree.specs.Readies.{ready_in};
-ghost use Rattle.frame_tree.specs.Places.{RisesBy, has_number};
+ghost use Rattle.number_index.specs.Places.{AreRising};
+ghost use Rattle.frame_tree.specs.Places.{has_number};
 ghost use Rattle.frame_tree.specs.Shelves.{slots_in, AllHere, AreApartKeys, AreKeys, IsKeyAt, IsSeenAt, ChangesSlot, KnowsParent, new_slot, HasLink, is_taken_in, Marks, AreThere, NoneMarked, is_marked, swept_in, values_in};
 
 use crate::names::State;
@@ -343,7 +344,7 @@ fn search_key<A: Allocator>(
     serials: &Serials<A>,
     serial: u64,
 ) -> usize
-    requires rise { RisesBy (λ n. n) serials.now.serials }
+    requires rise { AreRising (λ n. n) serials.now.serials }
     requires there { has_number serials.now.serials serial ≡ true }
     requires long { length serials.now.serials ≡ length order.now.list }
     ensures { (at : ℕ) × (at < length order.now.list) × (result ≡ get_or order.now.list at result) × (slice_index serials.now.serials at ≡ serial) }

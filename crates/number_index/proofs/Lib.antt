@@ -1,2 +1,3 @@
 mod Masks
 pub mod Places
+pub mod Edits

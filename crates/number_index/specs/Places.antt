@@ -1,5 +1,7 @@
 -- Meaning: where a number stands in a list of things that each have a number.
-use Rattle.std.specs.Prelude.{ℕ, suc, ◌<◌, ◌==◌, nat_lt, if◌then◌else◌, List, [], ◌∷◌, Option, Some, None}
+use Rattle.std.specs.Prelude.{◌≡◌, ◌≢◌, ℕ, ◌<◌, ◌==◌, ◌||◌, Bool, false, nat_lt, if◌then◌else◌, List, [], ◌∷◌, Option, Some, None}
+use Rattle.std.specs.List.{AllByRecursion}
+use Prim.Native.Nat.{zero, suc}
 
 -- how many things at the front have a number below this one: in a list that rises, how many have. That is
 -- the place of the thing of this number, or the one where it would stand
@@ -12,10 +14,40 @@ abbrev pub thing_of : {X : Type 0} → (X → ℕ) → ℕ → List X → Option
 thing_of number_of n [] = None
 thing_of number_of n (x ∷ xs) = if number_of x == n then Some x else thing_of number_of n xs
 
+-- whether there is a thing of this number
+abbrev pub has_thing : {X : Type 0} → (X → ℕ) → ℕ → List X → Bool
+has_thing number_of n [] = false
+has_thing number_of n (x ∷ xs) = (number_of x == n) || has_thing number_of n xs
+
+-- what is said of the first thing of this number; where there is none, of none
+abbrev pub said_of : {X Y : Type 0} → (X → ℕ) → (X → Y) → Y → ℕ → List X → Y
+said_of number_of say none n [] = none
+said_of number_of say none n (x ∷ xs) = if number_of x == n then say x else said_of number_of say none n xs
+
+-- the things, the first one of this number changed so
+abbrev pub with_thing : {X : Type 0} → (X → ℕ) → ℕ → (X → X) → List X → List X
+with_thing number_of n change [] = []
+with_thing number_of n change (x ∷ xs) = if number_of x == n then change x ∷ xs else x ∷ with_thing number_of n change xs
+
+-- the things without the first one of this number
+abbrev pub without_thing : {X : Type 0} → (X → ℕ) → ℕ → List X → List X
+without_thing number_of n [] = []
+without_thing number_of n (x ∷ xs) = if number_of x == n then xs else x ∷ without_thing number_of n xs
+
+-- the things with one more, in front of the first whose number isn't below its own
+abbrev pub inserted : {X : Type 0} → (X → ℕ) → X → List X → List X
+inserted number_of new [] = new ∷ []
+inserted number_of new (x ∷ xs) = if nat_lt (number_of x) (number_of new) then x ∷ inserted number_of new xs else new ∷ x ∷ xs
+
+-- the first thing of this number stands at this place
+abbrev pub IsAt : {X : Type 0} → (X → ℕ) → ℕ → List X → ℕ → Type 0
+IsAt number_of n [] at = ⊥
+IsAt number_of n (x ∷ xs) zero = number_of x ≡ n
+IsAt number_of n (x ∷ xs) (suc at) = (number_of x ≢ n) × IsAt number_of n xs at
+
 -- each thing's number is above this one
 abbrev pub AreAbove : {X : Type 0} → (X → ℕ) → ℕ → List X → Type 0
-AreAbove number_of n [] = Unit {0}
-AreAbove number_of n (x ∷ xs) = (n < number_of x) × AreAbove number_of n xs
+AreAbove number_of n xs = AllByRecursion (λ x. n < number_of x) xs
 
 -- each thing's number is below those of all later things
 abbrev pub AreRising : {X : Type 0} → (X → ℕ) → List X → Type 0

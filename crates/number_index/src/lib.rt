@@ -9,6 +9,11 @@
 //! of the guesses, and who changes the list puts them down anew ([`TenantIndex::guess_anew`]), or
 //! leaves it: then more is searched for.
 //!
+//! What is said of such lists, here and in all crates above, are the definitions of `specs/Places.antt`: the
+//! first thing of a number and what is said of it, the list with that thing changed or gone and with a new
+//! one at its place, tried in [`rows`]. `proofs/Edits.antt` has what follows: a write, a removal and an
+//! insertion at the place are those, nothing else changes, and the list still rises.
+//!
 //! [`Guesses`] alone is the table of guesses for who compares for himself: where the slots of frames
 //! stand, for one.
 //!
@@ -31,6 +36,7 @@
 
 mod index;
 mod numbered;
+pub mod rows;
 mod table;
 
 pub use index::TenantIndex;

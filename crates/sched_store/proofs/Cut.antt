@@ -1,10 +1,9 @@
 -- Some frames of one tenant are removed, and their nodes closed: frames and nodes still belong to one another, one to one.
 use Rattle.std.proofs.Common.{◌≡◌, ◌≢◌, ℕ, zero, suc, ◌<◌, ◌⊎◌, inl, inr, Bool, true, false, not, eqb, List, [], ◌∷◌, length, get_or, Option, Some, None, IsSome, Contains, refl, ap, sym, ◌∙◌, subst, arith}
-use Rattle.std.proofs.Math.ListN.{set}
 use Rattle.std.specs.List.{filter}
 use Rattle.std.proofs.lemmas.Bool.{cases_Bool, false≢true, true≢false, eq-eqb, eqb-true}
 use Rattle.cactus_stack.specs.Nodes.{Nodes, Node, IsOpen, node_at, node_words, words_of, parent_of as parent_at, without}
-use Rattle.cactus_stack.proofs.LawFacts.{gone, kept}
+use Rattle.cactus_stack.proofs.LawFacts.{gone, kept, still-none}
 use Rattle.frame_tree.specs.declared.names.FrameId.{FrameId}
 use Rattle.frame_tree.specs.Frames.{Frame, frame_at, has_frame, parent_of, values_of, IsTree, TenantTree}
 use Rattle.frame_table.specs.Tables.{frames_of}
@@ -13,19 +12,7 @@ use Rattle.frame_tree.proofs.TreeLaws.{there-found, tree-rising, found-each, und
 use Rattle.frame_tree.proofs.TreeChanges.{frame_at-stays, filter-found}
 use Rattle.sched_store.specs.Parts.{worded}
 use Rattle.sched_store.specs.Stored.{frame_in, node_of, node_above, IsFrameNode, HasFrame, AreFramesNodes, AreSized, ArePlaces}
-
--- what isn't there doesn't come as others go
-
-none-stays : (nodes : Nodes) (n m : ℕ) → node_at nodes m ≡ None → node_at (set nodes n None) m ≡ None
-none-stays [] n m none = none
-none-stays (e ∷ nodes) zero zero none = refl
-none-stays (e ∷ nodes) zero (suc m) none = none
-none-stays (e ∷ nodes) (suc n) zero none = none
-none-stays (e ∷ nodes) (suc n) (suc m) none = none-stays nodes n m none
-
-still-none : (nodes : Nodes) (numbers : List ℕ) (m : ℕ) → node_at nodes m ≡ None → node_at (without nodes numbers) m ≡ None
-still-none nodes [] m none = none
-still-none nodes (n ∷ numbers) m none = still-none (set nodes n None) numbers m (none-stays nodes n m none)
+use Rattle.sched_store.proofs.Words.{worded-same}
 
 -- the nodes of the frames that go
 abbrev pub closed : (Frame ℕ → Bool) → List (Frame ℕ) → List ℕ
@@ -246,11 +233,6 @@ pub cut-places : (nodes : Nodes) (trees after : List (TenantTree ℕ)) (places :
 cut-places nodes trees after places number keep belong is held worker owner serial frame at holds =
     let stays = stays-after nodes trees after number keep belong is owner serial frame at in
     held worker owner serial frame stays.there holds
-
--- frames whose nodes keep their words
-pub worded-same : (nodes after : Nodes) (frames : List (Frame ℕ)) → Each (λ frame. node_words after frame.value ≡ node_words nodes frame.value) frames → worded after frames ≡ worded nodes frames
-worded-same nodes after [] same = refl
-worded-same nodes after (frame ∷ frames) same = rw (same.0, worded-same nodes after frames same.1) refl
 
 -- after a cut each tenant's frames have the words that they had
 pub cut-words : (nodes : Nodes) (trees after : List (TenantTree ℕ)) (number : ℕ) (keep : Frame ℕ → Bool) → AreFramesNodes nodes trees → IsCut trees after number keep → (owner : ℕ) → IsTree (frames_of after owner) →

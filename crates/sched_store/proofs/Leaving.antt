@@ -1,9 +1,9 @@
 -- A tenant leaves: its frames go with their nodes, its places, its jobs and its account, and nothing of any other tenant.
-use Rattle.std.proofs.Common.{◌≡◌, ◌≢◌, ℕ, ◌+◌, ◌<◌, inl, inr, Bool, true, false, eqb, List, [], ◌∷◌, length, Some, refl, ap, sym, ◌∙◌, subst, arith}
+use Rattle.std.proofs.Common.{◌≡◌, ◌≢◌, ℕ, ◌+◌, ◌<◌, ◌≤◌, inl, inr, Bool, true, false, eqb, List, [], ◌∷◌, length, Some, refl, ap, sym, ◌∙◌, subst, arith}
 use Rattle.std.specs.List.{filter}
 use Rattle.std.proofs.lemmas.Bool.{cases_Bool, cases_eq, ne_eqb, eqb-true, eqb-false}
 use Rattle.cactus_stack.specs.Nodes.{Nodes, without, total_charge}
-use Rattle.tenant_quota.specs.Accounts.{account_of, without as without_account, AllEntries, IsRising, IsWithinReserve, charged_segments}
+use Rattle.tenant_quota.specs.Accounts.{owner_of, account_of, without as without_account, AllEntries, IsRising, IsWithinReserve, charged_segments}
 use Rattle.tenant_quota.specs.Reservations.{Reservations, IsSoundBook, Releases, KeepsOthers as KeepsOtherAccounts}
 use Rattle.tenant_quota.specs.declared.account.Account.{Account}
 use Rattle.tenant_quota.proofs.Edits.{AllEntries-of}
@@ -12,7 +12,8 @@ use Rattle.frame_table.specs.Tables.{frames_of, places_of, tenant_count}
 use Rattle.sched_rules.specs.Trees.{Tenant, charged_for}
 use Rattle.sched_rules.specs.Cores.{Shared, without_tenant}
 use Rattle.sched_store.specs.Changes.{with_departed}
-use Rattle.sched_store.specs.Ledgers.{Ledger, jobs_of, numbers_of, without_ledger}
+use Rattle.number_index.proofs.Edits.{said-without_other, all-without}
+use Rattle.sched_store.specs.Ledgers.{Ledger, number_in, jobs_of, numbers_of, without_ledger}
 use Rattle.sched_store.specs.Parts.{Parts, worded, tenant_from, tenants_from, shared_of}
 use Rattle.sched_store.specs.Stored.{IsStored, IsAccountFor, numbers_in, AreAtMost}
 use Rattle.sched_store.proofs.Cut.{IsCut, closed, closing, cut-belongs, cut-sized, cut-places, cut-words, cut-trees}
@@ -84,23 +85,10 @@ numbers-without number (ledger ∷ ledgers) (entry ∷ entries) same =
     ]
 
 most-without : (most number : ℕ) (entries : List (ℕ × Account)) → AreAtMost most entries → AreAtMost most (without_account number entries)
-most-without most number [] all = tt
-most-without most number (entry ∷ entries) all =
-    elim (cases_Bool (eqb entry.0 number)) [
-      | inl same ↦ rw same all.1
-      | inr other ↦ rw other (all.0, most-without most number entries all.1)
-    ]
+most-without most number entries all = all-without (λ (e : ℕ × Account). e.0 ≤ most) owner_of number entries all
 
 jobs-without : (number other : ℕ) (ledgers : List Ledger) → other ≢ number → jobs_of (without_ledger number ledgers) other ≡ jobs_of ledgers other
-jobs-without number other [] differs = refl
-jobs-without number other (ledger ∷ ledgers) differs =
-    elim (cases_Bool (eqb ledger.0 number)) [
-      | inl same ↦ (let not_it : eqb ledger.0 other ≡ false = ne_eqb ledger.0 other (λ e. differs (sym e ∙ eqb-true ledger.0 number same)) in rw (same, not_it) refl)
-      | inr not_this ↦ elim (cases_Bool (eqb ledger.0 other)) [
-        | inl here ↦ rw (not_this, here) refl
-        | inr further ↦ rw (not_this, further) (jobs-without number other ledgers differs)
-      ]
-    ]
+jobs-without number other ledgers differs = said-without_other number_in (λ (l : Ledger). l.1) [] other number ledgers (λ e. differs (sym e))
 
 -- the cut that takes all frames
 leave-cut : (parts : Parts) (nodes : Nodes) (trees : List (TenantTree ℕ)) (ledgers : List Ledger) (book : Reservations) (number : ℕ) (numbers : List ℕ) (account : Account) → IsStored parts →

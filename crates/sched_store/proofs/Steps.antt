@@ -1,8 +1,9 @@
 -- A change of one tenant: what a store keeps true, and the core that it stands for.
-use Rattle.std.proofs.Common.{◌≡◌, ◌≢◌, ℕ, suc, ◌<◌, false, cond, eqb, List, [], ◌∷◌, length, Option, Some, None, option_map, refl, ap, sym, ◌∙◌, arith, inl, inr}
-use Rattle.std.proofs.lemmas.Bool.{cases_Bool, cases_eq, ne_eqb, eqb-true, eqb-false}
+use Rattle.std.proofs.Common.{◌≡◌, ◌≢◌, ℕ, ◌<◌, ◌≤◌, eqb, List, [], ◌∷◌, length, Some, None, option_map, refl, ap, sym, ◌∙◌, arith, inl, inr}
+use Rattle.std.proofs.lemmas.Bool.{cases_Bool, cases_eq, eqb-true, eqb-false}
 use Rattle.cactus_stack.specs.Nodes.{total_charge}
-use Rattle.tenant_quota.specs.Accounts.{account_of, with_changed, charged_segments, AllEntries, IsRising}
+use Rattle.number_index.proofs.Edits.{said-with_own, said-with_other, length-with, all-with}
+use Rattle.tenant_quota.specs.Accounts.{owner_of, account_of, with_changed, charged_segments, AllEntries, IsRising}
 use Rattle.tenant_quota.specs.Reservations.{Reservations, changed, IsSoundBook}
 use Rattle.tenant_quota.specs.declared.account.Account.{Account}
 use Rattle.frame_tree.specs.Frames.{IsTree, TenantTree}
@@ -20,20 +21,12 @@ Entries = List (ℕ × Account)
 -- accounts after one has changed
 
 account-changed : (n : ℕ) (f : Account → Account) (entries : Entries) → account_of n (with_changed n f entries) ≡ option_map f (account_of n entries)
-account-changed n f [] = refl
-account-changed n f (entry ∷ entries) =
-    elim (cases_Bool (eqb entry.0 n)) [
-      | inl same ↦ rw same (rw same refl)
-      | inr other ↦ rw other (rw other (account-changed n f entries))
-    ]
+account-changed n f entries =
+    said-with_own owner_of (λ e. Some e.1) None (option_map f) n (λ (e : ℕ × Account). (e.0, f e.1)) entries (λ e own. own) (λ e. refl) (λ lacks. refl)
 
 account-changed_other : (m n : ℕ) (f : Account → Account) (entries : Entries) → m ≢ n → account_of m (with_changed n f entries) ≡ account_of m entries
-account-changed_other m n f [] differs = refl
-account-changed_other m n f (entry ∷ entries) differs =
-    elim (cases_Bool (eqb entry.0 n)) [
-      | inl same ↦ (let e = eqb-true entry.0 n same in let not_m : eqb entry.0 m ≡ false = ne_eqb entry.0 m (λ q. differs (sym q ∙ e)) in rw (same, not_m) refl)
-      | inr other ↦ rw other (ap (λ (rest : Option Account). cond (eqb entry.0 m) (Some entry.1) rest) (account-changed_other m n f entries differs))
-    ]
+account-changed_other m n f entries differs =
+    said-with_other owner_of (λ e. Some e.1) None m n (λ (e : ℕ × Account). (e.0, f e.1)) entries (λ e. differs (sym e)) (λ e own. own)
 
 numbers-changed : (n : ℕ) (f : Account → Account) (entries : Entries) → numbers_in (with_changed n f entries) ≡ numbers_in entries
 numbers-changed n f [] = refl
@@ -44,20 +37,10 @@ numbers-changed n f (entry ∷ entries) =
     ]
 
 length-changed : (n : ℕ) (f : Account → Account) (entries : Entries) → length (with_changed n f entries) ≡ length entries
-length-changed n f [] = refl
-length-changed n f (entry ∷ entries) =
-    elim (cases_Bool (eqb entry.0 n)) [
-      | inl same ↦ rw same refl
-      | inr other ↦ rw other (ap suc (length-changed n f entries))
-    ]
+length-changed n f entries = length-with owner_of n (λ (e : ℕ × Account). (e.0, f e.1)) entries
 
 most-changed : (most n : ℕ) (f : Account → Account) (entries : Entries) → AreAtMost most entries → AreAtMost most (with_changed n f entries)
-most-changed most n f [] all = all
-most-changed most n f (entry ∷ entries) all =
-    elim (cases_Bool (eqb entry.0 n)) [
-      | inl same ↦ rw same all
-      | inr other ↦ rw other (all.0, most-changed most n f entries all.1)
-    ]
+most-changed most n f entries all = all-with (λ (e : ℕ × Account). e.0 ≤ most) owner_of n (λ (e : ℕ × Account). (e.0, f e.1)) entries all (λ e le is. le)
 
 pub changed-same : (n : ℕ) (entries : Entries) → with_changed n (λ a. a) entries ≡ entries
 changed-same n [] = refl

@@ -1,6 +1,6 @@
 -- Steps that are counted, and jobs that begin and end: no frame changes.
-use Rattle.std.proofs.Common.{◌≡◌, ◌≢◌, ℕ, true, false, cond, eqb, List, [], ◌∷◌, Option, Some, None, IsSome, IsSomeAnd, option_map, refl, ap, sym, subst, ◌∙◌, inl, inr}
-use Rattle.std.proofs.lemmas.Bool.{cases_Bool, false≢true, ne_eqb, eqb-true}
+use Rattle.std.proofs.Common.{◌≡◌, ◌≢◌, ℕ, true, false, eqb, List, [], ◌∷◌, Option, Some, None, IsSome, IsSomeAnd, option_map, refl, ap, sym, subst, ◌∙◌, inl, inr}
+use Rattle.std.proofs.lemmas.Bool.{cases_Bool, false≢true}
 use Rattle.tenant_quota.specs.Accounts.{account_of, ticked, charged_segments, left_in}
 use Rattle.tenant_quota.specs.declared.account.Account.{Account}
 use Rattle.tenant_quota.specs.declared.account.Left.{Left}
@@ -11,7 +11,9 @@ use Rattle.sched_rules.specs.Lone.{counted}
 use Rattle.sched_rules.specs.Cores.{tenant_in}
 use Rattle.sched_rules.specs.Views.{left_of}
 use Rattle.sched_rules.specs.Changes.{on_tenant}
-use Rattle.sched_store.specs.Ledgers.{Ledger, jobs_of, numbers_of, is_there, with_jobs}
+use Rattle.tenant_quota.proofs.Standing.{some_of}
+use Rattle.number_index.proofs.Edits.{said-with_own, said-with_other}
+use Rattle.sched_store.specs.Ledgers.{Ledger, number_in, jobs_of, numbers_of, is_there, with_jobs}
 use Rattle.sched_store.specs.Parts.{Parts, shared_of}
 use Rattle.sched_store.specs.Stored.{IsStored, numbers_in}
 use Rattle.sched_store.proofs.Lookups.{tenant-there, left-found}
@@ -20,12 +22,8 @@ use Rattle.sched_store.proofs.Steps.{TenantStep, changed-same, step-stored, step
 
 -- the account of a tenant that is there
 
-account-some : (account : Option Account) → IsSome account → (a : Account) × (account ≡ Some a)
-account-some None is = absurd (cc is)
-account-some (Some a) is = (a, refl)
-
 pub there-account : (parts : Parts) (number : ℕ) → IsSome (tenant_in (shared_of parts).tenants number) → (a : Account) × (account_of number parts.book.accounts ≡ Some a)
-there-account parts number is = account-some (account_of number parts.book.accounts) (sym (tenant-there parts number) ∙ is)
+there-account parts number is = some_of (account_of number parts.book.accounts) (sym (tenant-there parts number) ∙ is)
 
 pub left-account : (parts : Parts) → IsStored parts → (number : ℕ) (P : Left → Type 0) → IsSomeAnd (left_of (shared_of parts) number) P → (a : Account) × ((account_of number parts.book.accounts ≡ Some a) × P (left_in a))
 left-account parts stored number P is =
@@ -80,20 +78,11 @@ count-step old book number account stored there sound changes sum =
 -- jobs begin and end
 
 jobs-with_jobs : (n : ℕ) (change : List Job → List Job) (ledgers : List Ledger) → is_there n ledgers ≡ true → jobs_of (with_jobs n change ledgers) n ≡ change (jobs_of ledgers n)
-jobs-with_jobs n change [] there = absurd (false≢true there)
-jobs-with_jobs n change (ledger ∷ ledgers) there =
-    elim (cases_Bool (eqb ledger.0 n)) [
-      | inl same ↦ rw same (rw same refl)
-      | inr other ↦ rw other (rw other (jobs-with_jobs n change ledgers (rw other at there)))
-    ]
+jobs-with_jobs n change ledgers there =
+    said-with_own number_in (λ (l : Ledger). l.1) [] change n (λ (l : Ledger). (l.0, change l.1)) ledgers (λ l own. own) (λ l. refl) (λ lacks. absurd (false≢true (sym lacks ∙ there)))
 
 jobs_other-with_jobs : (n m : ℕ) (change : List Job → List Job) (ledgers : List Ledger) → m ≢ n → jobs_of (with_jobs n change ledgers) m ≡ jobs_of ledgers m
-jobs_other-with_jobs n m change [] differs = refl
-jobs_other-with_jobs n m change (ledger ∷ ledgers) differs =
-    elim (cases_Bool (eqb ledger.0 n)) [
-      | inl same ↦ (let e = eqb-true ledger.0 n same in let not_m : eqb ledger.0 m ≡ false = ne_eqb ledger.0 m (λ q. differs (sym q ∙ e)) in rw (same, not_m) refl)
-      | inr other ↦ rw other (ap (λ (rest : List Job). cond (eqb ledger.0 m) ledger.1 rest) (jobs_other-with_jobs n m change ledgers differs))
-    ]
+jobs_other-with_jobs n m change ledgers differs = said-with_other number_in (λ (l : Ledger). l.1) [] m n (λ (l : Ledger). (l.0, change l.1)) ledgers (λ e. differs (sym e)) (λ l own. own)
 
 pub ledger-there : (n : ℕ) (ledgers : List Ledger) (entries : List (ℕ × Account)) (a : Account) → numbers_of ledgers ≡ numbers_in entries → account_of n entries ≡ Some a → is_there n ledgers ≡ true
 ledger-there n [] [] a same there = absurd (cc there)

@@ -1,5 +1,6 @@
 -- Representation: the jobs of each tenant: a list of tenants, each with its jobs, in the order of their numbers.
-use Rattle.std.specs.Prelude.{◌≡◌, ℕ, ◌<◌, Bool, true, false, ◌||◌, ◌==◌, List, [], ◌∷◌, if◌then◌else◌}
+use Rattle.std.specs.Prelude.{◌≡◌, ℕ, ◌<◌, Bool, true, false, ◌||◌, List, [], ◌∷◌}
+use Rattle.number_index.specs.Places.{said_of, has_thing, with_thing, without_thing}
 use Rattle.sched_rules.specs.declared.job.Job.{Job}
 use Rattle.sched_rules.specs.declared.job.Job.TheVariants.{Live, Done, Spent, Cancelled}
 use Rattle.sched_rules.specs.Trees.{is_live_at}
@@ -14,8 +15,7 @@ number_in ledger = ledger.0
 
 -- the jobs of a tenant; none where it isn't there
 abbrev pub jobs_of : List Ledger → ℕ → List Job
-jobs_of [] number = []
-jobs_of (ledger ∷ ledgers) number = if ledger.0 == number then ledger.1 else jobs_of ledgers number
+jobs_of ledgers number = said_of number_in (λ ledger. ledger.1) [] number ledgers
 
 -- the tenants' numbers
 abbrev pub numbers_of : List Ledger → List ℕ
@@ -24,8 +24,7 @@ numbers_of (ledger ∷ ledgers) = ledger.0 ∷ numbers_of ledgers
 
 -- whether the tenant of this number is there
 abbrev pub is_there : ℕ → List Ledger → Bool
-is_there number [] = false
-is_there number (ledger ∷ ledgers) = (ledger.0 == number) || is_there number ledgers
+is_there number ledgers = has_thing number_in number ledgers
 
 -- each of these numbers is below this one
 abbrev pub AreBelow : ℕ → List ℕ → Type 0
@@ -51,10 +50,8 @@ AreLiveOnce (job ∷ jobs) = ((root : ℕ) → is_live_at root job ≡ true → 
 
 -- the ledgers, one tenant's jobs changed so
 abbrev pub with_jobs : ℕ → (List Job → List Job) → List Ledger → List Ledger
-with_jobs number change [] = []
-with_jobs number change (ledger ∷ ledgers) = if ledger.0 == number then (ledger.0, change ledger.1) ∷ ledgers else ledger ∷ with_jobs number change ledgers
+with_jobs number change ledgers = with_thing number_in number (λ ledger. (ledger.0, change ledger.1)) ledgers
 
 -- the ledgers without one tenant's
 abbrev pub without_ledger : ℕ → List Ledger → List Ledger
-without_ledger number [] = []
-without_ledger number (ledger ∷ ledgers) = if ledger.0 == number then ledgers else ledger ∷ without_ledger number ledgers
+without_ledger number ledgers = without_thing number_in number ledgers

@@ -1,5 +1,6 @@
 -- Representation: what a store keeps true of its parts.
 use Rattle.std.specs.Prelude.{◌≡◌, ℕ, ◌+◌, ◌^◌, ◌≤◌, true, List, [], ◌∷◌, length, Option, Some, None, slice_index_or}
+use Rattle.std.specs.List.{AllByRecursion}
 use Rattle.cactus_stack.specs.Nodes.{Nodes, IsOpen, node_words, node_parent, total_charge}
 use Rattle.tenant_quota.specs.Accounts.{account_of, charged_segments}
 use Rattle.tenant_quota.specs.declared.account.Account.{Account}
@@ -66,8 +67,7 @@ numbers_in (entry ∷ entries) = entry.0 ∷ numbers_in entries
 
 -- each number is at most this
 abbrev pub AreAtMost : ℕ → List (ℕ × Account) → Type 0
-AreAtMost most [] = Unit {0}
-AreAtMost most (entry ∷ entries) = (entry.0 ≤ most) × AreAtMost most entries
+AreAtMost most entries = AllByRecursion (λ entry. entry.0 ≤ most) entries
 
 -- what a store keeps true
 pub record IsStored (parts : Parts) : Type 0 where

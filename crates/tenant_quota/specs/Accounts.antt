@@ -1,5 +1,7 @@
 -- Meaning: what each tenant has reserved and used: a list of tenants with their accounts, in rising order of tenants.
-use Rattle.std.specs.Prelude.{ℕ, ◌+◌, ◌-◌, ◌*◌, ◌<◌, ◌≤◌, ◌==◌, nat_lt, if◌then◌else◌, List, [], ◌∷◌, Option, Some, None, sum_by}
+use Rattle.std.specs.Prelude.{ℕ, ◌+◌, ◌-◌, ◌*◌, ◌≤◌, List, Option, Some, None, sum_by}
+use Rattle.std.specs.List.{AllByRecursion}
+use Rattle.number_index.specs.Places.{said_of, inserted, with_thing, without_thing, AreRising}
 use Rattle.tenant_quota.specs.Quota.{Quota}
 use Rattle.tenant_quota.specs.declared.account.Account.{Account}
 use Rattle.tenant_quota.specs.declared.account.Left.{Left}
@@ -39,35 +41,33 @@ pub record IsWithinReserve (a : Account) : Type 0 where
   pub opened_within : a.opened ≤ a.reserve.nodes
   pub ticks_within : a.ticks ≤ 16 * a.reserve.nodes
 
+-- whose account it is
+abbrev pub owner_of : ℕ × Account → ℕ
+owner_of entry = entry.0
+
 -- the tenant's account, if the tenant is there
 abbrev pub account_of : ℕ → List (ℕ × Account) → Option Account
-account_of tenant [] = None
-account_of tenant (e ∷ es) = if e.0 == tenant then Some e.1 else account_of tenant es
+account_of tenant es = said_of owner_of (λ e. Some e.1) None tenant es
 
 -- the accounts with that of a new tenant, in front of the first tenant that isn't below it
 abbrev pub with_new : ℕ → Account → List (ℕ × Account) → List (ℕ × Account)
-with_new tenant a [] = (tenant, a) ∷ []
-with_new tenant a (e ∷ es) = if nat_lt e.0 tenant then e ∷ with_new tenant a es else (tenant, a) ∷ e ∷ es
+with_new tenant a es = inserted owner_of (tenant, a) es
 
 -- the accounts with the tenant's own changed by f, and all others as they were
 abbrev pub with_changed : ℕ → (Account → Account) → List (ℕ × Account) → List (ℕ × Account)
-with_changed tenant f [] = []
-with_changed tenant f (e ∷ es) = if e.0 == tenant then (e.0, f e.1) ∷ es else e ∷ with_changed tenant f es
+with_changed tenant f es = with_thing owner_of tenant (λ e. (e.0, f e.1)) es
 
 -- the accounts without the tenant's
 abbrev pub without : ℕ → List (ℕ × Account) → List (ℕ × Account)
-without tenant [] = []
-without tenant (e ∷ es) = if e.0 == tenant then es else e ∷ without tenant es
+without tenant es = without_thing owner_of tenant es
 
 -- each entry has P
 abbrev pub AllEntries : (ℕ × Account → Type 0) → List (ℕ × Account) → Type 0
-AllEntries P [] = Unit {0}
-AllEntries P (e ∷ es) = P e × AllEntries P es
+AllEntries P es = AllByRecursion P es
 
 -- each tenant is below all later ones, so none stands twice
 abbrev pub IsRising : List (ℕ × Account) → Type 0
-IsRising [] = Unit {0}
-IsRising (e ∷ es) = AllEntries (λ later. e.0 < later.0) es × IsRising es
+IsRising es = AreRising owner_of es
 
 -- the segments that all tenants together have reserved
 abbrev pub reserved_segments : List (ℕ × Account) → ℕ

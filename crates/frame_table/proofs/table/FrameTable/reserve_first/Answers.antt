@@ -3,15 +3,15 @@ use Rattle.std.proofs.lemmas.Bool.{false≢true}
 use Rattle.std.proofs.lemmas.List.Edits.{length-insert}
 use Rattle.frame_tree.specs.Frames.{TenantTree}
 use Rattle.frame_table.proofs.Tenants.{reserve_sound, reserve_here, insert_keeps, more_room}
-use Rattle.frame_table.proofs.Placing.{rising-trees, place-found}
+use Rattle.frame_table.proofs.Placing.{place-found}
 use Rattle.frame_table.proofs.table.FrameTable.reserve_first.Goals as goal
 
 pub place_of-at-requires : goal.place_of-at-requires
-place_of-at-requires g c = rw c.as_slice.ensures.value (rising-trees c.self.inside.trees.items c.self.invariant.0.rise)
+place_of-at-requires g c = rw c.as_slice.ensures.value c.self.invariant.0.rise
 
 pub insert-requires : goal.insert-requires
 insert-requires g c =
-    let placed = place-found c.self.inside.trees.items _ c.args.tenant c.place_of-at.result c.self.invariant.0.rise c.as_slice.ensures.value c.place_of-at.ensures in
+    let placed = place-found c.self.inside.trees.items _ c.args.tenant c.place_of-at.result c.as_slice.ensures.value c.place_of-at.ensures in
     let within : c.place_of-at.result ≤ length c.self.inside.trees.items = placed.0 in
     omega (arith, within, c.self.inside.trees.ok.0)
 
@@ -23,7 +23,7 @@ pub invariant_of-self-2 : goal.invariant_of-self-2
 invariant_of-self-2 g c =
     let fresh = rw (← c.self.view_is) at c.requires.fresh in
     let free : length c.self.inside.trees.items < 64 = rw (← c.self.view_is) at c.requires.free in
-    let placed = place-found c.self.inside.trees.items _ c.args.tenant c.place_of-at.result c.self.invariant.0.rise c.as_slice.ensures.value c.place_of-at.ensures in
+    let placed = place-found c.self.inside.trees.items _ c.args.tenant c.place_of-at.result c.as_slice.ensures.value c.place_of-at.ensures in
     let done : IsOk c.insert.result = c.insert.ensures.succeeds (omega (arith, free, c.self.invariant.1, c.self.inside.trees.ok.0)) in (
       rw (c.insert.ensures.items, done) (reserve_sound _ _ _ _ c.args.tenant c.args.segments c.place_of-at.result c.in_ok-tree.tree c.self.invariant.0
           (omega (arith, c.clear.ensures.capacity, c.reserve.ensures.capacity)) (omega (arith, c.in_ok-reserve.ensures.ok, c.clear.ensures.len)) c.requires.some c.requires.few free fresh c.in_ok-tree.ensures placed.0 placed.1),
@@ -64,6 +64,6 @@ new-requires g c = c.requires.few
 pub returns-clause-count : goal.returns-clause-count
 returns-clause-count g c =
     let free : length c.self.inside.trees.items < 64 = rw (← c.self.view_is) at c.requires.free in
-    let placed = place-found c.self.inside.trees.items _ c.args.tenant c.place_of-at.result c.self.invariant.0.rise c.as_slice.ensures.value c.place_of-at.ensures in
+    let placed = place-found c.self.inside.trees.items _ c.args.tenant c.place_of-at.result c.as_slice.ensures.value c.place_of-at.ensures in
     let done : IsOk c.insert.result = c.insert.ensures.succeeds (omega (arith, free, c.self.invariant.1, c.self.inside.trees.ok.0)) in
     rw (← c.self.view_is, c.insert.ensures.items, done) (length-insert c.self.inside.trees.items c.place_of-at.result c.in_ok-tree.tree placed.0)

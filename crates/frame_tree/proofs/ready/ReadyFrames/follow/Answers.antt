@@ -1,6 +1,6 @@
 use Rattle.std.proofs.Common.{arith}
 use Rattle.frame_tree.specs.declared.ready.ReadyFrame.{ReadyFrame}
-use Rattle.frame_tree.proofs.Places.{length-inserted}
+use Rattle.number_index.proofs.Edits.{length-inserted}
 use Rattle.frame_tree.proofs.Readies.{without_ready-rises}
 use Rattle.frame_tree.proofs.ready.ReadyFrames.follow.Goals as goal
 

@@ -1,0 +1,18 @@
+-- Representation: the things of a worked example: a number and what stands under it, one number twice.
+use Rattle.std.specs.Prelude.{ℕ, ◌+◌, List, [], ◌∷◌}
+
+-- the number of a thing
+abbrev pub number_in : ℕ × ℕ → ℕ
+number_in pair = pair.0
+
+-- what stands under it
+abbrev pub kept_in : ℕ × ℕ → ℕ
+kept_in pair = pair.1
+
+-- four things; 5 is the number of two
+abbrev pub four_things : List (ℕ × ℕ)
+four_things = (2, 20) ∷ (5, 50) ∷ (5, 51) ∷ (9, 90) ∷ []
+
+-- a thing with 1 more under it
+abbrev pub raised : ℕ × ℕ → ℕ × ℕ
+raised pair = (pair.0, pair.1 + 1)
