@@ -51,6 +51,8 @@ enum Trial {
     Worker(Waker),
     /// So many wait at once, and this comes to them.
     Crowd(Who, u64, What),
+    /// Two frames become ready while one holds the desk.
+    Children,
 }
 
 /// The segments of each desk.
@@ -112,6 +114,7 @@ where
         Trial::Late => endings::late(rt, desk),
         Trial::Seat(depth, waker) => waiting::seat_waits(rt, desk, depth, waker),
         Trial::Worker(waker) => waiting::worker_waits(rt, desk, waker),
+        Trial::Children => wakes::open_children(rt, desk),
         Trial::Crowd(who, many, what) => wakes::come_back_there(rt, desk, who, many, what),
         _ => {}
     }

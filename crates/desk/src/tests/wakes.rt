@@ -1,6 +1,6 @@
 //! Several threads that wait at a desk at once: each is woken for what it waits for, and they sleep until then.
-use super::{Trial, asks, badge_of, cancels, compute, seat_of, try_out, worker_of};
-use crate::{Badge, Desk, Hands, Seat};
+use super::{Trial, asks, badge_of, cancels, compute, root_of, seat_of, try_out, worker_of};
+use crate::{Badge, Desk, Hands, Seat, StepOf, Worker};
 use frame_tree::FrameId;
 use std::process::Abort;
 use std::sync::Wait;
@@ -124,6 +124,51 @@ fn ask_all<L: Hands, R: Wait + Abort + Clock>(rt: &R, desk: &Desk<L>, back: &Ato
     }
 }
 
+/// The root of a new seat's search beyond the grain, taken by this worker: no frame is ready.
+fn taken_root<L: Hands, R: Wait + Abort>(
+    rt: &R,
+    desk: &Desk<L>,
+    badge: &mut Badge<L>,
+    worker: Worker,
+) -> FrameId {
+    let mut seat = seat_of(rt, desk, 4, 4);
+    asks(rt, desk, &mut seat, 7, Ok(1));
+    let root = root_of(&seat);
+    assert!(rt;
+        desk.offer(rt, badge, &StepOf::Steal(worker, 0, root))
+            .is_ok()
+    );
+    root
+}
+
+/// Two roots open a child each while one holds the desk, and two workers wait.
+pub(super) fn open_children<L, R>(rt: &R, desk: &Desk<L>)
+where
+    L: Hands + Send + Sync,
+    R: Wait + Abort + Threads + Clock + Sync,
+{
+    let count = AtomicU64::new(0);
+    let back = &count;
+    let mut badge = badge_of(rt, desk);
+    let (one, other) = (worker_of(rt, 1), worker_of(rt, 2));
+    let steps = [
+        StepOf::Advance(one, taken_root(rt, desk, &mut badge, one)),
+        StepOf::Advance(other, taken_root(rt, desk, &mut badge, other)),
+    ];
+    thread::scope(thread::scope_env(), rt, |scope| {
+        assert!(rt; start(scope, rt, desk, back, Who::Workers, 2));
+        thread::sleep(rt, Duration::from_millis(100));
+        assert!(rt; are_back(back, 0), "no frame is ready");
+        let mut held = desk.hold(rt);
+        for step in &steps {
+            assert!(rt; held.offer(rt, &mut badge, step).is_ok(), "the root opens");
+            assert!(rt; held.offer(rt, &mut badge, step).is_ok(), "it has a child");
+        }
+        held.release();
+        assert!(rt; come_back(rt, back, 2), "each child wakes a worker");
+    })
+}
+
 /// Whether those who wait use less than a twentieth of a second's processor time in a second.
 fn is_silent<R: Clock + CpuClock + Abort>(rt: &R) -> bool {
     let before = rt.process_cpu_time().expect(rt, "a clock");
@@ -183,16 +228,30 @@ fn each_of_two_asks_wakes_a_worker(rt: HostRuntime) -> Result<(), Fail> {
     try_out(&rt, rt.alloc(), Trial::Crowd(Who::Workers, 2, What::Asks))
 }
 
+/// Two workers wait: each of two frames that become ready while one holds the desk wakes one.
+#[test]
+fn each_of_two_children_wakes_a_worker(rt: HostRuntime) -> Result<(), Fail> {
+    try_out(&rt, rt.alloc(), Trial::Children)
+}
+
 /// The closing wakes two seats, and two workers.
 #[test]
 fn a_closing_wakes_all(rt: HostRuntime) -> Result<(), Fail> {
     try_out(&rt, rt.alloc(), Trial::Crowd(Who::Seats, 2, What::Closing))?;
-    try_out(&rt, rt.alloc(), Trial::Crowd(Who::Workers, 2, What::Closing))
+    try_out(
+        &rt,
+        rt.alloc(),
+        Trial::Crowd(Who::Workers, 2, What::Closing),
+    )
 }
 
 /// Four seats, and four workers, sleep while they wait.
 #[test]
 fn who_waits_sleeps(rt: HostRuntime) -> Result<(), Fail> {
     try_out(&rt, rt.alloc(), Trial::Crowd(Who::Seats, 4, What::Silence))?;
-    try_out(&rt, rt.alloc(), Trial::Crowd(Who::Workers, 4, What::Silence))
+    try_out(
+        &rt,
+        rt.alloc(),
+        Trial::Crowd(Who::Workers, 4, What::Silence),
+    )
 }
