@@ -5,7 +5,7 @@ ghost use Rattle.hall.specs.Journals.{is_worker_step};
 ghost use Rattle.hall.specs.Halls.{count_of};
 ghost use Rattle.desk.specs.Seats.{admit_refusals, reserve_refusals, ask_refusals, cancel_refusals, stepped, seat_asked_at, IsAsked, IsShown};
 
-use crate::change::Change;
+use crate::held::Held;
 use crate::kept::Kept;
 use crate::seat::Seat;
 use crate::shares::{Badge, Hands, PARTS};
@@ -174,21 +174,21 @@ impl<L: Hands, A: Allocator + Clone> Desk<L, A> {
         ensures share { MatchResult result (λ _. badge.new ≡ badge.old + 1) (λ _. badge.new ≡ badge.old) }
         ensures memory { result ≢ Err OutOfMemory }
     {
-        if badge.share() >= u64::MAX as u128 {
-            // No badge takes so many steps.
-            for _ in rt.forever() {}
-            unreachable!()
-        }
-        let mut kept = self.enter(rt);
-        let answer = kept.offer(badge, step);
-        let has_sleepers = kept.has_sleepers();
-        drop(kept);
-        match Change::of(&answer) {
-            Change::InReady if has_sleepers => self.ready.notify_one(),
-            Change::InReady | Change::Nothing => {}
-            Change::Job => self.ended.notify_all(),
-        }
+        let mut held = self.hold(rt);
+        let answer = held.offer(rt, badge, step);
+        held.release();
         answer
+    }
+
+    /// The desk, held by one worker for steps that follow each other: until it is released all others wait.
+    pub fn hold<R: Wait>(&self, rt: &R) -> Held<'_, L, A> {
+        Held {
+            kept: self.enter(rt),
+            ready: &self.ready,
+            ended: &self.ended,
+            wakes: 0,
+            has_ended: false,
+        }
     }
 
     /// Some frame that is ready, with its home (a worker's number, or 0 for the hall). Waits until

@@ -2,8 +2,8 @@
 //!
 //! A [`Desk`] is shared by all threads. A [`Seat`] is one tenant's: it asks for positions, shows what
 //! became of them, cancels, and leaves. A [`Badge`] is one worker's: it offers the steps of workers
-//! ([`Desk::offer`]). Each call locks the hall, does one step there, counts it, and lets go: nothing
-//! is computed under the lock. Who waits, waits by one of two condition variables: a worker until
+//! ([`Desk::offer`], or several by [`Desk::hold`]). Each call locks the hall, does its steps there,
+//! counts them, and lets go: nothing is computed under the lock. Who waits, waits by one of two condition variables: a worker until
 //! some frame is ready ([`Desk::next_ready`]), a seat until its job has ended ([`Desk::wait`]); a step
 //! wakes only those who wait for what it changed.
 //!
@@ -37,6 +37,7 @@ pub use hall::jamboree;
 
 mod change;
 mod desk;
+mod held;
 mod kept;
 pub mod rows;
 mod seat;
@@ -47,6 +48,7 @@ pub use hall::{
     Config, Did, DidOf, Hall, Jamboree, Leaf, LeafAnswer, Outcome, Refusal, Reply, Step, StepOf,
     Worker,
 };
+pub use held::Held;
 pub use seat::{Seat, SeatAsked};
 pub use shares::{Badge, Hands, PARTS};
 

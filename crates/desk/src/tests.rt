@@ -1,4 +1,5 @@
-ghost use Rattle.std.specs.Prelude.{◌≡◌, ◌≤◌, true};
+//! A desk in one thread and in four. Each test tries something at a desk of its own.
+ghost use Rattle.std.specs.Prelude.{◌≡◌, ◌≤◌};
 
 mod endings;
 mod reserving;
@@ -18,41 +19,123 @@ use std::sync::ledger::Blank;
 use std::test::Fail;
 use std::thread;
 use std::thread::{JoinHandle, Scope, Threads};
+use std::time::{Clock, CpuClock};
 use tenant_quota::{Left, Reserve};
+use waiting::Waker;
+use wakes::{What, Who};
+
+/// What is tried at a new desk.
+#[derive(Clone, Copy)]
+enum Trial {
+    /// One seat, and one badge for its worker.
+    One,
+    /// Four threads, each with a seat and a badge of its own.
+    Four,
+    /// Two seats ask in turn.
+    InTurn,
+    /// As many asks as there are jobs, a desk without room, and its closing.
+    Limits,
+    /// All calls after the closing.
+    Closed,
+    /// A seat is still there at the end.
+    SeatStays,
+    /// A badge was dropped before the end.
+    BadgeDropped,
+    /// Answers that come too late.
+    Late,
+    /// A seat reserves more.
+    More,
+    /// A seat that waits for a job of this depth is woken.
+    Seat(u8, Waker),
+    /// A worker that waits is woken.
+    Worker(Waker),
+    /// So many wait at once, and this comes to them.
+    Crowd(Who, u64, What),
+    /// Two frames become ready while one holds the desk.
+    Children,
+}
+
+/// The segments of each desk.
+const SEGMENTS: u32 = 32;
+
+/// The nodes of each desk.
+const NODES: u32 = 512;
+
+/// Tries something at a new desk, at which one worker searches each job.
+fn try_at<L, R>(rt: &R, alloc: Global, blank: Blank, trial: Trial) -> Result<(), Fail>
+where
+    L: Hands + Send + Sync,
+    R: Wait + Abort + Threads + Clock + CpuClock + Sync,
+    requires name { blank.name ≡ L.name }
+    requires parts { (blank.parts ≡ L.parts) × (L.all ≡ L.parts) × (L.all ≡ PARTS) }
+{
+    let config = Config::new(SEGMENTS, NODES).ok_or("within the limits")?;
+    let desk: Desk<L> = Desk::new(Hall::new(alloc, config, 6)?, blank);
+    is_tried(rt, alloc, desk, trial);
+    Ok(())
+}
+
+/// The same with a blank of its own.
+fn try_out<R>(rt: &R, alloc: Global, trial: Trial) -> Result<(), Fail>
+where
+    R: Wait + Abort + Threads + Clock + CpuClock + Sync,
+{
+    try_at::<Brand, R>(rt, alloc, Blank::new(PARTS), trial)
+}
+
+/// What is tried up to the desk's end, and what is tried at a desk that is there.
+fn is_tried<L, R>(rt: &R, alloc: Global, desk: Desk<L>, trial: Trial)
+where
+    L: Hands + Send + Sync,
+    R: Wait + Abort + Threads + Clock + CpuClock + Sync,
+    requires { L.all ≡ L.parts }
+{
+    match trial {
+        Trial::One => one_stays(rt, desk),
+        Trial::Four => four_stay(rt, alloc, desk),
+        Trial::Closed => endings::go_on(rt, desk),
+        Trial::SeatStays => endings::seat_stays(rt, desk),
+        Trial::BadgeDropped => endings::badge_is_dropped(rt, desk),
+        Trial::More => reserving::more(rt, desk),
+        _ => is_tried_at(rt, &desk, trial),
+    }
+}
+
+/// What is tried at a desk that is there.
+fn is_tried_at<L, R>(rt: &R, desk: &Desk<L>, trial: Trial)
+where
+    L: Hands + Send + Sync,
+    R: Wait + Abort + Threads + Clock + CpuClock + Sync,
+    requires { L.all ≡ L.parts }
+{
+    match trial {
+        Trial::InTurn => two_seats_ask(rt, desk),
+        Trial::Limits => limits(rt, desk),
+        Trial::Late => endings::late(rt, desk),
+        Trial::Seat(depth, waker) => waiting::seat_waits(rt, desk, depth, waker),
+        Trial::Worker(waker) => waiting::worker_waits(rt, desk, waker),
+        Trial::Children => wakes::open_children(rt, desk),
+        Trial::Crowd(who, many, what) => wakes::come_back_there(rt, desk, who, many, what),
+        _ => {}
+    }
+}
 
 /// A position of these discs, seen by the side to move.
-fn position(own: u64, opp: u64) -> Result<Position, Fail> {
-    Ok(Position {
-        board: Board::new(own, opp).ok_or("no board")?,
-        side: Side::Black,
-    })
-}
-
-/// The opening, Black to move.
-fn opening() -> Result<Position, Fail> {
-    position(1 << 28 | 1 << 35, 1 << 27 | 1 << 36)
-}
-
-/// The same, in a thread.
-fn start(rt: &impl Abort) -> Position {
+fn position(rt: &impl Abort, own: u64, opp: u64) -> Position {
     Position {
-        board: Board::new(1 << 28 | 1 << 35, 1 << 27 | 1 << 36).expect(rt, "a board"),
+        board: Board::new(own, opp).expect(rt, "a board"),
         side: Side::Black,
     }
 }
 
-/// A desk over a core of so many segments and nodes; each job is searched by one worker.
-fn desk_of<L: Hands>(
-    alloc: Global,
-    blank: Blank,
-    segments: u32,
-    nodes: u32,
-) -> Result<Desk<L>, Fail>
-    requires name { blank.name ≡ L.name }
-    requires parts { (blank.parts ≡ L.parts) × (L.all ≡ L.parts) × (L.all ≡ 13835058055282163712) }
-{
-    let config = Config::new(segments, nodes).ok_or("within the limits")?;
-    Ok(Desk::new(Hall::new(alloc, config, 6)?, blank))
+/// The opening, Black to move.
+fn opening(rt: &impl Abort) -> Position {
+    position(rt, 1 << 28 | 1 << 35, 1 << 27 | 1 << 36)
+}
+
+/// The worker of this number.
+fn worker_of(rt: &impl Abort, number: u8) -> Worker {
+    Worker::new(number).expect(rt, "a worker's number")
 }
 
 /// The five steps of a worker that compute and finish the job under this root.
@@ -126,7 +209,7 @@ fn asks<L: Hands, R: Wait + Abort>(
 )
     requires { depth ≤ 12 }
 {
-    assert_eq!(rt; desk.ask(rt, seat, &start(rt), depth), answer);
+    assert_eq!(rt; desk.ask(rt, seat, &opening(rt), depth), answer);
 }
 
 /// A seat cancels a job, and is answered so.
@@ -181,23 +264,23 @@ fn do_first<L: Hands, R: Wait + Abort>(
     assert_eq!(rt; reply_of(desk.wait(rt, seat, 1)), Some((0, None)));
 }
 
-/// The end of a desk: its hall has taken and kept so many steps, and all shares are there.
+/// The end of a desk: so many steps its hall has taken, keeps, and let go with journals; and whether all
+/// shares are there.
 fn has_ended<L: Hands, R: Wait + Abort>(
     rt: &R,
     desk: Desk<L>,
     badge: Badge<L>,
-    count: u128,
-    kept: u128,
+    end: (u128, u128, u128, bool),
 )
     requires { L.all ≡ L.parts }
 {
     let (hall, is_whole) = desk.into_hall(badge);
-    assert_eq!(rt; (hall.count(), hall.kept(), is_whole), (count, kept, true));
+    assert_eq!(rt; (hall.count(), hall.kept(), hall.gone(), is_whole), end);
 }
 
 /// A tenant's first job, which is done: its seat, and the badge of the worker of this number.
 fn work<L: Hands, R: Wait + Abort>(rt: &R, desk: &Desk<L>, number: u8) -> (Seat<L>, Badge<L>) {
-    let worker = Worker::new(number).expect(rt, "a worker's number");
+    let worker = worker_of(rt, number);
     let mut seat = seat_of(rt, desk, 4, 8);
     let mut badge = badge_of(rt, desk);
     asks(rt, desk, &mut seat, 0, Ok(1));
@@ -230,18 +313,11 @@ fn work_twice<L: Hands, R: Wait + Abort>(
 }
 
 /// One seat, and one badge for its worker.
-fn one_stays<L: Hands, R: Wait + Abort>(rt: &R, alloc: Global, blank: Blank) -> Result<(), Fail>
-    requires name { blank.name ≡ L.name }
-    requires parts { (blank.parts ≡ L.parts) × (L.all ≡ L.parts) × (L.all ≡ 13835058055282163712) }
+fn one_stays<L: Hands, R: Wait + Abort>(rt: &R, desk: Desk<L>)
+    requires { L.all ≡ L.parts }
 {
-    let desk: Desk<L> = desk_of(alloc, blank, 32, 64)?;
     let badge = stay(rt, &desk);
-    let (hall, is_whole) = desk.into_hall(badge);
-    assert_eq!(rt;
-        (hall.count(), hall.kept(), hall.gone(), is_whole),
-        (10, 5, 10, true)
-    );
-    Ok(())
+    has_ended(rt, desk, badge, (10, 5, 10, true));
 }
 
 /// All that the seat does, until it leaves: its worker's badge.
@@ -259,7 +335,7 @@ fn stay<L: Hands, R: Wait + Abort>(rt: &R, desk: &Desk<L>) -> Badge<L>
 
 #[test]
 fn a_seat_and_a_badge(rt: HostRuntime) -> Result<(), Fail> {
-    one_stays::<Brand, HostRuntime>(&rt, rt.alloc(), Blank::new(PARTS))
+    try_out(&rt, rt.alloc(), Trial::One)
 }
 
 /// Starts a stay for each worker of 1 to 4.
@@ -325,26 +401,23 @@ fn four_work<L: Hands + Send + Sync, R: Wait + Abort + Threads + Sync>(
     )
 }
 
-/// A desk for four threads.
+/// The four up to the desk's end.
 fn four_stay<L: Hands + Send + Sync, R: Wait + Abort + Threads + Sync>(
     rt: &R,
     alloc: Global,
-    blank: Blank,
-) -> Result<(), Fail>
-    requires name { blank.name ≡ L.name }
-    requires parts { (blank.parts ≡ L.parts) × (L.all ≡ L.parts) × (L.all ≡ 13835058055282163712) }
+    desk: Desk<L>,
+)
+    requires { L.all ≡ L.parts }
 {
-    let desk: Desk<L> = desk_of(alloc, blank, 32, 64)?;
     let first = badge_of(rt, &desk);
     let badge = four_work(rt, alloc, &desk, first).expect(rt, "there are threads");
     assert_eq!(rt; badge.share(), 20);
-    has_ended(rt, desk, badge, 40, 20);
-    Ok(())
+    has_ended(rt, desk, badge, (40, 20, 40, true));
 }
 
 #[test]
 fn four_seats_in_four_threads(rt: HostRuntime) -> Result<(), Fail> {
-    four_stay::<Brand, HostRuntime>(&rt, rt.alloc(), Blank::new(PARTS))
+    try_out(&rt, rt.alloc(), Trial::Four)
 }
 
 /// A frame is ready, the root of this seat's job.
@@ -405,25 +478,19 @@ fn ask_in_turn<L: Hands, R: Wait + Abort>(
     );
 }
 
-/// A desk for them.
-fn two_seats_ask<L: Hands, R: Wait + Abort>(rt: &R, alloc: Global, blank: Blank) -> Result<(), Fail>
-    requires name { blank.name ≡ L.name }
-    requires parts { (blank.parts ≡ L.parts) × (L.all ≡ L.parts) × (L.all ≡ 13835058055282163712) }
-{
-    let worker = Worker::new(7).ok_or("within the limits")?;
+/// What they ask, and the replies.
+fn two_seats_ask<L: Hands, R: Wait + Abort>(rt: &R, desk: &Desk<L>) {
     let asked = [
-        (opening()?, 0, (0, None)),
-        (position(1, 2)?, 0, (124, None)),
-        (position(0, u64::MAX)?, 12, (-128_000, None)),
+        (opening(rt), 0, (0, None)),
+        (position(rt, 1, 2), 0, (124, None)),
+        (position(rt, 0, u64::MAX), 12, (-128_000, None)),
     ];
-    let desk: Desk<L> = desk_of(alloc, blank, 8, 32)?;
-    ask_in_turn(rt, &desk, worker, asked);
-    Ok(())
+    ask_in_turn(rt, desk, worker_of(rt, 7), asked);
 }
 
 #[test]
 fn two_seats_ask_in_turn(rt: HostRuntime) -> Result<(), Fail> {
-    two_seats_ask::<Brand, HostRuntime>(&rt, rt.alloc(), Blank::new(PARTS))
+    try_out(&rt, rt.alloc(), Trial::InTurn)
 }
 
 /// 256 asks, each of which is cancelled, and the 257th.
@@ -453,29 +520,26 @@ fn wait_closed<L: Hands, R: Wait + Abort>(rt: &R, desk: &Desk<L>, seat: &Seat<L>
 fn fill<L: Hands, R: Wait + Abort>(rt: &R, desk: &Desk<L>)
     requires { L.all ≡ L.parts }
 {
-    let mut seat = seat_of(rt, desk, 8, 300);
+    let mut seat = seat_of(rt, desk, SEGMENTS, 300);
     ask_all(rt, desk, &mut seat);
     is_refused(rt, desk);
     desk.leave(rt, seat);
 }
 
 /// 256 asks and the 257th; a desk without room, and a desk that is closed.
-fn limits<L: Hands, R: Wait + Abort>(rt: &R, alloc: Global, blank: Blank) -> Result<(), Fail>
-    requires name { blank.name ≡ L.name }
-    requires parts { (blank.parts ≡ L.parts) × (L.all ≡ L.parts) × (L.all ≡ 13835058055282163712) }
+fn limits<L: Hands, R: Wait + Abort>(rt: &R, desk: &Desk<L>)
+    requires { L.all ≡ L.parts }
 {
-    let desk: Desk<L> = desk_of(alloc, blank, 8, 512)?;
-    fill(rt, &desk);
-    let mut seat = seat_of(rt, &desk, 1, 1);
+    fill(rt, desk);
+    let mut seat = seat_of(rt, desk, 1, 1);
     assert_eq!(rt; seat.tenant(), 2);
-    asks(rt, &desk, &mut seat, 3, Ok(1));
+    asks(rt, desk, &mut seat, 3, Ok(1));
     desk.close(rt);
-    wait_closed(rt, &desk, &seat);
-    gets(rt, &desk, &seat, 1, Ok(Outcome::Pending));
-    Ok(())
+    wait_closed(rt, desk, &seat);
+    gets(rt, desk, &seat, 1, Ok(Outcome::Pending));
 }
 
 #[test]
 fn asks_room_and_closing(rt: HostRuntime) -> Result<(), Fail> {
-    limits::<Brand, HostRuntime>(&rt, rt.alloc(), Blank::new(PARTS))
+    try_out(&rt, rt.alloc(), Trial::Limits)
 }

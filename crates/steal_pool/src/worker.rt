@@ -13,13 +13,16 @@ ghost use Rattle.steal_pool.specs.Works.{IsTurn, BringsAnswerTo};
 use crate::gate::Gate;
 use crate::tasks::Tasks;
 use desk::jamboree::{Jamboree, Leaf, LeafAnswer};
-use desk::{Badge, Desk, Hands};
+use desk::{Badge, Desk, Hands, Held};
 use frame_tree::FrameId;
 use sched_rules::{Step, Worker};
 use std::sync::Wait;
 use task_deques::pool_rules::{Deed, Holding, Task};
 
-/// Works until the desk is closed and no task is found. Every step goes through [`Desk::offer`], so its
+/// The most steps that a worker takes under one lock.
+const HELD_STEPS: u32 = 32;
+
+/// Works until the desk is closed and no task is found. Every step goes through [`Held::offer`], so its
 /// badge's share is the number of steps that it took. Its tasks come back with ends of the same deques.
 pub fn run_worker<'s, L: Hands, G: Gate, R: Wait>(
     rt: &R,
@@ -73,16 +76,38 @@ fn work_off<L: Hands, G: Gate, R: Wait>(
 {
     let mut holding = Holding::Next(Deed::Get(task));
     for _ in rt.forever() {
-        holding = match holding.step(worker) {
-            Some(step) => offered(rt, desk, worker, badge, tasks, holding, &step),
-            None => match holding {
-                Holding::Computing(frame, leaf) => {
-                    computed(worker, tasks.begin(rt), gate, frame, leaf)
-                }
-                _ => break,
-            },
+        holding = match holding {
+            Holding::Nothing => break,
+            Holding::Computing(frame, leaf) => {
+                computed(worker, tasks.begin(rt), gate, frame, leaf)
+            }
+            held => steps(rt, desk, worker, badge, tasks, held),
         };
     }
+}
+
+/// Takes the steps that follow each other, at most so many under one lock: until there is a leaf to
+/// compute, or the worker is without a frame.
+fn steps<L: Hands, R: Wait>(
+    rt: &R,
+    desk: &Desk<L>,
+    worker: Worker,
+    badge: &mut Badge<L>,
+    tasks: &mut Tasks<'_>,
+    holding: Holding,
+) -> Holding
+    ensures { posts tasks.new.ends ≡ posts tasks.old.ends }
+{
+    let mut held = desk.hold(rt);
+    let mut holding = holding;
+    for _ in 0..HELD_STEPS {
+        let Some(step) = holding.step(worker) else {
+            break;
+        };
+        holding = offered(rt, &mut held, worker, badge, tasks, holding, &step);
+    }
+    held.release();
+    holding
 }
 
 /// Computes a leaf, as the computation of this number: the answer is to be brought. It is handed neither
@@ -100,7 +125,7 @@ fn computed<G: Gate>(worker: Worker, number: u64, gate: &G, frame: FrameId, leaf
 #[tactic(auto, using(crate::proofs::Steps::offers_a_worker_step))]
 fn offered<L: Hands, R: Wait>(
     rt: &R,
-    desk: &Desk<L>,
+    desk: &mut Held<'_, L>,
     worker: Worker,
     badge: &mut Badge<L>,
     tasks: &mut Tasks<'_>,

@@ -3,18 +3,12 @@ ghost use Rattle.std.specs.Prelude.{◌≡◌, true};
 ghost use Rattle.hall.specs.Journals.{is_worker_step};
 
 use super::{
-    asks, badge_of, cancel_second, cancels, desk_of, do_first, has_ended, root_of, seat_of,
-    wait_closed,
+    Trial, asks, badge_of, cancel_second, cancels, do_first, has_ended, root_of, seat_of, try_out,
+    wait_closed, worker_of,
 };
-use crate::{
-    Badge, Desk, DidOf, Hall, Hands, Jamboree, LeafAnswer, PARTS, Refusal, Seat, Step, StepOf,
-    Worker,
-};
-use std::alloc::Global;
-use std::marker::Brand;
+use crate::{Badge, Desk, DidOf, Hands, Jamboree, LeafAnswer, Refusal, Seat, Step, StepOf, Worker};
 use std::process::Abort;
 use std::sync::Wait;
-use std::sync::ledger::Blank;
 use std::test::Fail;
 
 /// A job at a closed desk: who waits finds it pending, and then done.
@@ -31,78 +25,57 @@ fn first_goes_on<L: Hands, R: Wait + Abort>(
 }
 
 /// All calls after the closing of a desk: each goes on, but those that wait.
-fn go_on<L: Hands, R: Wait + Abort>(rt: &R, alloc: Global, blank: Blank) -> Result<(), Fail>
-    requires name { blank.name ≡ L.name }
-    requires parts { (blank.parts ≡ L.parts) × (L.all ≡ L.parts) × (L.all ≡ 13835058055282163712) }
+pub(super) fn go_on<L: Hands, R: Wait + Abort>(rt: &R, desk: Desk<L>)
+    requires { L.all ≡ L.parts }
 {
-    let worker = Worker::new(1).ok_or("a worker")?;
-    let desk: Desk<L> = desk_of(alloc, blank, 8, 32)?;
     desk.close(rt);
     let mut seat = seat_of(rt, &desk, 4, 8);
     let mut badge = badge_of(rt, &desk);
-    first_goes_on(rt, &desk, &mut seat, &mut badge, worker);
+    first_goes_on(rt, &desk, &mut seat, &mut badge, worker_of(rt, 1));
     cancel_second(rt, &desk, &mut seat);
     assert_eq!(rt; (badge.share(), desk.count(rt)), (5, 9));
     desk.leave(rt, seat);
-    has_ended(rt, desk, badge, 10, 5);
-    Ok(())
+    has_ended(rt, desk, badge, (10, 5, 10, true));
 }
 
 /// A closed desk takes asks, and all else that doesn't wait.
 #[test]
 fn a_closed_desk_goes_on(rt: HostRuntime) -> Result<(), Fail> {
-    go_on::<Brand, HostRuntime>(&rt, rt.alloc(), Blank::new(PARTS))
+    try_out(&rt, rt.alloc(), Trial::Closed)
 }
 
-/// The hall of a desk whose seat is still there, or of one whose second badge was dropped, and whether
-/// all shares are there.
-fn with_a_share_missing<L: Hands, R: Wait + Abort>(
-    rt: &R,
-    alloc: Global,
-    blank: Blank,
-    leaves: bool,
-) -> Result<(Hall, bool), Fail>
-    requires name { blank.name ≡ L.name }
-    requires parts { (blank.parts ≡ L.parts) × (L.all ≡ L.parts) × (L.all ≡ 13835058055282163712) }
+/// The end of a desk whose seat is still there.
+pub(super) fn seat_stays<L: Hands, R: Wait + Abort>(rt: &R, desk: Desk<L>)
+    requires { L.all ≡ L.parts }
 {
-    let desk: Desk<L> = desk_of(alloc, blank, 8, 32)?;
     let seat = seat_of(rt, &desk, 4, 8);
     let badge = badge_of(rt, &desk);
-    if leaves {
-        drop(badge_of(rt, &desk));
-        desk.leave(rt, seat);
-        return Ok(desk.into_hall(badge));
-    }
-    let hall = desk.into_hall(badge);
+    has_ended(rt, desk, badge, (1, 0, 0, false));
     drop(seat);
-    Ok(hall)
 }
 
 /// Where a seat is still there, the end doesn't say that all shares are, and what the hall keeps is as
 /// it was.
 #[test]
 fn a_seat_is_still_there(rt: HostRuntime) -> Result<(), Fail> {
-    let (hall, is_whole) = with_a_share_missing::<Brand, HostRuntime>(
-        &rt,
-        rt.alloc(),
-        Blank::new(PARTS),
-        false,
-    )?;
-    assert_eq!(rt; (hall.count(), hall.kept(), is_whole), (1, 0, false));
-    Ok(())
+    try_out(&rt, rt.alloc(), Trial::SeatStays)
+}
+
+/// The end of a desk whose second badge was dropped.
+pub(super) fn badge_is_dropped<L: Hands, R: Wait + Abort>(rt: &R, desk: Desk<L>)
+    requires { L.all ≡ L.parts }
+{
+    let seat = seat_of(rt, &desk, 4, 8);
+    let badge = badge_of(rt, &desk);
+    drop(badge_of(rt, &desk));
+    desk.leave(rt, seat);
+    has_ended(rt, desk, badge, (2, 2, 2, false));
 }
 
 /// Nor does it where a badge was dropped, even one that took no step.
 #[test]
 fn a_badge_is_dropped(rt: HostRuntime) -> Result<(), Fail> {
-    let (hall, is_whole) = with_a_share_missing::<Brand, HostRuntime>(
-        &rt,
-        rt.alloc(),
-        Blank::new(PARTS),
-        true,
-    )?;
-    assert_eq!(rt; (hall.count(), hall.kept(), is_whole), (2, 2, false));
-    Ok(())
+    try_out(&rt, rt.alloc(), Trial::BadgeDropped)
 }
 
 /// The answer of a seat's first job, which is being computed.
@@ -172,20 +145,17 @@ fn after_a_cancel<L: Hands, R: Wait + Abort>(
 }
 
 /// Both, at one desk.
-fn late<L: Hands, R: Wait + Abort>(rt: &R, alloc: Global, blank: Blank) -> Result<(), Fail>
-    requires name { blank.name ≡ L.name }
-    requires parts { (blank.parts ≡ L.parts) × (L.all ≡ L.parts) × (L.all ≡ 13835058055282163712) }
+pub(super) fn late<L: Hands, R: Wait + Abort>(rt: &R, desk: &Desk<L>)
+    requires { L.all ≡ L.parts }
 {
-    let worker = Worker::new(1).ok_or("a worker")?;
-    let desk: Desk<L> = desk_of(alloc, blank, 8, 32)?;
-    let mut badge = badge_of(rt, &desk);
-    after_a_leave(rt, &desk, &mut badge, worker);
-    after_a_cancel(rt, &desk, &mut badge, worker);
-    Ok(())
+    let worker = worker_of(rt, 1);
+    let mut badge = badge_of(rt, desk);
+    after_a_leave(rt, desk, &mut badge, worker);
+    after_a_cancel(rt, desk, &mut badge, worker);
 }
 
 /// Late answers are refused, and the badge's share counts them not.
 #[test]
 fn late_answers_are_refused(rt: HostRuntime) -> Result<(), Fail> {
-    late::<Brand, HostRuntime>(&rt, rt.alloc(), Blank::new(PARTS))
+    try_out(&rt, rt.alloc(), Trial::Late)
 }

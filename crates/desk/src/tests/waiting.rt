@@ -1,15 +1,10 @@
 //! Threads that wait at a desk, and what wakes them.
-ghost use Rattle.std.specs.Prelude.{◌≡◌};
-
-use super::{badge_of, compute, desk_of, seat_of, start};
-use crate::{Badge, Desk, Hands, Outcome, PARTS, Seat, StepOf, Worker};
+use super::{Trial, badge_of, compute, opening, seat_of, try_out, worker_of};
+use crate::{Badge, Desk, Hands, Outcome, Seat, StepOf, Worker};
 use frame_tree::FrameId;
-use std::alloc::Global;
-use std::marker::Brand;
 use std::process::Abort;
 use std::sync::Wait;
 use std::sync::atomic::{AtomicBool, Ordering};
-use std::sync::ledger::Blank;
 use std::test::Fail;
 use std::thread;
 use std::thread::Threads;
@@ -22,8 +17,8 @@ const IDLE_TURNS: u32 = 10_000;
 const MOST_TURNS: u32 = 10_000_000;
 
 /// What wakes a thread.
-#[derive(Clone, Copy, Debug, PartialEq, Eq)]
-enum Waker {
+#[derive(Clone, Copy, Debug)]
+pub(super) enum Waker {
     /// The desk is closed.
     Close,
     /// The job is finished.
@@ -61,7 +56,7 @@ fn wait_there<L: Hands, R: Wait + Abort>(
     woken: &AtomicBool,
 ) -> Option<Outcome> {
     let mut seat = desk.admit(rt, Reserve::new(1, 1)?).ok()?;
-    desk.ask(rt, &mut seat, &start(rt), depth.min(12)).ok()?;
+    desk.ask(rt, &mut seat, &opening(rt), depth.min(12)).ok()?;
     let outcome = desk.wait(rt, &seat, 1);
     woken.store(true, Ordering::SeqCst);
     outcome.ok()
@@ -97,7 +92,7 @@ fn wake<L: Hands, R: Wait + Abort>(
     root: FrameId,
     waker: Waker,
 ) {
-    let worker = Worker::new(1).expect(rt, "a worker's number");
+    let worker = worker_of(rt, 1);
     match waker {
         Waker::Close => desk.close(rt),
         Waker::Finish => {
@@ -158,62 +153,44 @@ fn woken_seat<L: Hands + Send + Sync, R: Wait + Abort + Threads + Sync>(
     })
 }
 
-/// A seat waits for its job.
-fn seats_wait<L: Hands + Send + Sync, R: Wait + Abort + Threads + Sync>(
+/// Whether a seat that was woken so finds this of its job.
+fn is_found(waker: Waker, found: Option<Outcome>) -> bool {
+    match (waker, found) {
+        (Waker::Close, Some(Outcome::Pending))
+        | (Waker::Finish, Some(Outcome::Done(_)))
+        | (Waker::Spend, Some(Outcome::Spent)) => true,
+        _ => false,
+    }
+}
+
+/// A seat waits for a job of this depth, and finds it as it is once it was woken so.
+pub(super) fn seat_waits<L: Hands + Send + Sync, R: Wait + Abort + Threads + Sync>(
     rt: &R,
-    alloc: Global,
-    blank: Blank,
+    desk: &Desk<L>,
     depth: u8,
     waker: Waker,
-) -> Result<Option<Outcome>, Fail>
-    requires name { blank.name ≡ L.name }
-    requires parts { (blank.parts ≡ L.parts) × (L.all ≡ L.parts) × (L.all ≡ 13835058055282163712) }
-{
-    let desk: Desk<L> = desk_of(alloc, blank, 8, 32)?;
-    let mut badge = badge_of(rt, &desk);
-    Ok(woken_seat(rt, &desk, depth, &mut badge, waker))
+) {
+    let mut badge = badge_of(rt, desk);
+    let found = woken_seat(rt, desk, depth, &mut badge, waker);
+    assert!(rt; is_found(waker, found), "{waker:?}");
 }
 
 /// A seat that waits is woken where the desk is closed, and finds its job pending.
 #[test]
 fn a_closing_wakes_a_seat(rt: HostRuntime) -> Result<(), Fail> {
-    let found = seats_wait::<Brand, HostRuntime>(
-        &rt,
-        rt.alloc(),
-        Blank::new(PARTS),
-        0,
-        Waker::Close,
-    )?;
-    assert_eq!(rt; found, Some(Outcome::Pending));
-    Ok(())
+    try_out(&rt, rt.alloc(), Trial::Seat(0, Waker::Close))
 }
 
 /// It is woken where its job is finished.
 #[test]
 fn a_finish_wakes_a_seat(rt: HostRuntime) -> Result<(), Fail> {
-    let found = seats_wait::<Brand, HostRuntime>(
-        &rt,
-        rt.alloc(),
-        Blank::new(PARTS),
-        0,
-        Waker::Finish,
-    )?;
-    assert!(rt; matches!(found, Some(Outcome::Done(_))));
-    Ok(())
+    try_out(&rt, rt.alloc(), Trial::Seat(0, Waker::Finish))
 }
 
 /// It is woken where its job is spent.
 #[test]
 fn a_spend_wakes_a_seat(rt: HostRuntime) -> Result<(), Fail> {
-    let found = seats_wait::<Brand, HostRuntime>(
-        &rt,
-        rt.alloc(),
-        Blank::new(PARTS),
-        7,
-        Waker::Spend,
-    )?;
-    assert_eq!(rt; found, Some(Outcome::Spent));
-    Ok(())
+    try_out(&rt, rt.alloc(), Trial::Seat(7, Waker::Spend))
 }
 
 /// What a worker's thread that waits for a frame finds once it was woken so.
@@ -232,7 +209,7 @@ fn woken_worker<L: Hands + Send + Sync, R: Wait + Abort + Threads + Sync>(
         idle();
         assert!(rt; !flag.load(Ordering::SeqCst), "{waker:?} hasn't come");
         match waker {
-            Waker::Ask => assert_eq!(rt; desk.ask(rt, seat, &start(rt), 0), Ok(1)),
+            Waker::Ask => assert_eq!(rt; desk.ask(rt, seat, &opening(rt), 0), Ok(1)),
             _ => desk.close(rt),
         }
         assert!(rt; is_set(flag), "{waker:?} wakes the worker");
@@ -240,42 +217,35 @@ fn woken_worker<L: Hands + Send + Sync, R: Wait + Abort + Threads + Sync>(
     })
 }
 
-/// A worker waits for a frame.
-fn workers_wait<L: Hands + Send + Sync, R: Wait + Abort + Threads + Sync>(
+/// Whether a worker that was woken so finds this: the root of the first job of all where a seat asks, and
+/// nothing else.
+fn is_shown(waker: Waker, found: Option<Option<(FrameId, u8)>>) -> bool {
+    match (waker, found) {
+        (Waker::Ask, Some(Some((root, home)))) => (root.tenant, root.serial, home) == (1, 1, 0),
+        (Waker::Close, Some(None)) => true,
+        _ => false,
+    }
+}
+
+/// A worker waits for a frame, and finds what is there once it was woken so.
+pub(super) fn worker_waits<L: Hands + Send + Sync, R: Wait + Abort + Threads + Sync>(
     rt: &R,
-    alloc: Global,
-    blank: Blank,
+    desk: &Desk<L>,
     waker: Waker,
-) -> Result<Option<Option<(FrameId, u8)>>, Fail>
-    requires name { blank.name ≡ L.name }
-    requires parts { (blank.parts ≡ L.parts) × (L.all ≡ L.parts) × (L.all ≡ 13835058055282163712) }
-{
-    let desk: Desk<L> = desk_of(alloc, blank, 8, 32)?;
-    let mut seat = seat_of(rt, &desk, 1, 1);
-    Ok(woken_worker(rt, &desk, &mut seat, waker))
+) {
+    let mut seat = seat_of(rt, desk, 1, 1);
+    let found = woken_worker(rt, desk, &mut seat, waker);
+    assert!(rt; is_shown(waker, found), "{waker:?}");
 }
 
 /// A worker that waits is woken where a seat asks, and finds the root of what it asked.
 #[test]
 fn an_ask_wakes_a_worker(rt: HostRuntime) -> Result<(), Fail> {
-    let found = workers_wait::<Brand, HostRuntime>(&rt, rt.alloc(), Blank::new(PARTS), Waker::Ask)?;
-    let root = FrameId {
-        tenant: 1,
-        serial: 1,
-    };
-    assert_eq!(rt; found, Some(Some((root, 0))));
-    Ok(())
+    try_out(&rt, rt.alloc(), Trial::Worker(Waker::Ask))
 }
 
 /// It is woken where the desk is closed, and finds none.
 #[test]
 fn a_closing_wakes_a_worker(rt: HostRuntime) -> Result<(), Fail> {
-    let found = workers_wait::<Brand, HostRuntime>(
-        &rt,
-        rt.alloc(),
-        Blank::new(PARTS),
-        Waker::Close,
-    )?;
-    assert_eq!(rt; found, Some(None));
-    Ok(())
+    try_out(&rt, rt.alloc(), Trial::Worker(Waker::Close))
 }

@@ -1,22 +1,17 @@
 //! Several threads that wait at a desk at once: each is woken for what it waits for, and they sleep until then.
-ghost use Rattle.std.specs.Prelude.{◌≡◌};
-
-use super::{asks, badge_of, cancels, compute, desk_of, seat_of};
-use crate::{Badge, Desk, Hands, PARTS, Seat, Worker};
+use super::{Trial, asks, badge_of, cancels, compute, root_of, seat_of, try_out, worker_of};
+use crate::{Badge, Desk, Hands, Seat, StepOf, Worker};
 use frame_tree::FrameId;
-use std::alloc::Global;
-use std::marker::Brand;
 use std::process::Abort;
 use std::sync::Wait;
 use std::sync::atomic::{AtomicU64, Ordering};
-use std::sync::ledger::Blank;
 use std::test::Fail;
 use std::thread::{self, Scope, Threads};
 use std::time::{Clock, CpuClock, Duration};
 
 /// Who waits.
 #[derive(Clone, Copy)]
-enum Who {
+pub(super) enum Who {
     /// Seats, each for its own second job; its first was cancelled.
     Seats,
     /// Workers, for a frame.
@@ -25,7 +20,7 @@ enum Who {
 
 /// What comes to those who wait.
 #[derive(Clone, Copy)]
-enum What {
+pub(super) enum What {
     /// The jobs are finished one by one, the last that was asked first.
     Finishes,
     /// Seats ask one by one.
@@ -107,7 +102,7 @@ fn finish_all<L: Hands, R: Wait + Abort + Clock>(
     badge: &mut Badge<L>,
     back: &AtomicU64,
 ) {
-    let worker = Worker::new(1).expect(rt, "a worker's number");
+    let worker = worker_of(rt, 1);
     for done in 0..8u64 {
         let root = FrameId {
             tenant: 8 - done,
@@ -127,6 +122,51 @@ fn ask_all<L: Hands, R: Wait + Abort + Clock>(rt: &R, desk: &Desk<L>, back: &Ato
         drop(seat);
         assert!(rt; come_back(rt, back, done + 1), "ask {done}");
     }
+}
+
+/// The root of a new seat's search beyond the grain, taken by this worker: no frame is ready.
+fn taken_root<L: Hands, R: Wait + Abort>(
+    rt: &R,
+    desk: &Desk<L>,
+    badge: &mut Badge<L>,
+    worker: Worker,
+) -> FrameId {
+    let mut seat = seat_of(rt, desk, 4, 4);
+    asks(rt, desk, &mut seat, 7, Ok(1));
+    let root = root_of(&seat);
+    assert!(rt;
+        desk.offer(rt, badge, &StepOf::Steal(worker, 0, root))
+            .is_ok()
+    );
+    root
+}
+
+/// Two roots open a child each while one holds the desk, and two workers wait.
+pub(super) fn open_children<L, R>(rt: &R, desk: &Desk<L>)
+where
+    L: Hands + Send + Sync,
+    R: Wait + Abort + Threads + Clock + Sync,
+{
+    let count = AtomicU64::new(0);
+    let back = &count;
+    let mut badge = badge_of(rt, desk);
+    let (one, other) = (worker_of(rt, 1), worker_of(rt, 2));
+    let steps = [
+        StepOf::Advance(one, taken_root(rt, desk, &mut badge, one)),
+        StepOf::Advance(other, taken_root(rt, desk, &mut badge, other)),
+    ];
+    thread::scope(thread::scope_env(), rt, |scope| {
+        assert!(rt; start(scope, rt, desk, back, Who::Workers, 2));
+        thread::sleep(rt, Duration::from_millis(100));
+        assert!(rt; are_back(back, 0), "no frame is ready");
+        let mut held = desk.hold(rt);
+        for step in &steps {
+            assert!(rt; held.offer(rt, &mut badge, step).is_ok(), "the root opens");
+            assert!(rt; held.offer(rt, &mut badge, step).is_ok(), "it has a child");
+        }
+        held.release();
+        assert!(rt; come_back(rt, back, 2), "each child wakes a worker");
+    })
 }
 
 /// Whether those who wait use less than a twentieth of a second's processor time in a second.
@@ -161,7 +201,7 @@ fn come<L: Hands, R: Wait + Abort + Clock + CpuClock>(
 }
 
 /// So many wait at a desk, and this comes to them.
-fn come_back_there<L, R>(rt: &R, desk: &Desk<L>, who: Who, many: u64, what: What)
+pub(super) fn come_back_there<L, R>(rt: &R, desk: &Desk<L>, who: Who, many: u64, what: What)
 where
     L: Hands + Send + Sync,
     R: Wait + Abort + Threads + Clock + CpuClock + Sync,
@@ -176,80 +216,42 @@ where
     })
 }
 
-/// The same at a new desk.
-fn all_come_back<L, R>(
-    rt: &R,
-    alloc: Global,
-    blank: Blank,
-    who: Who,
-    many: u64,
-    what: What,
-) -> Result<(), Fail>
-where
-    L: Hands + Send + Sync,
-    R: Wait + Abort + Threads + Clock + CpuClock + Sync,
-    requires name { blank.name ≡ L.name }
-    requires parts { (blank.parts ≡ L.parts) × (L.all ≡ L.parts) × (L.all ≡ 13835058055282163712) }
-{
-    let desk: Desk<L> = desk_of(alloc, blank, 8, 32)?;
-    come_back_there(rt, &desk, who, many, what);
-    Ok(())
-}
-
 /// Eight seats wait at once, each for its own job: each is back once its own has ended.
 #[test]
 fn each_of_eight_seats_is_woken(rt: HostRuntime) -> Result<(), Fail> {
-    all_come_back::<Brand, HostRuntime>(
-        &rt,
-        rt.alloc(),
-        Blank::new(PARTS),
-        Who::Seats,
-        8,
-        What::Finishes,
-    )
+    try_out(&rt, rt.alloc(), Trial::Crowd(Who::Seats, 8, What::Finishes))
 }
 
 /// Two workers wait: each of two asks wakes one.
 #[test]
 fn each_of_two_asks_wakes_a_worker(rt: HostRuntime) -> Result<(), Fail> {
-    all_come_back::<Brand, HostRuntime>(
-        &rt,
-        rt.alloc(),
-        Blank::new(PARTS),
-        Who::Workers,
-        2,
-        What::Asks,
-    )
+    try_out(&rt, rt.alloc(), Trial::Crowd(Who::Workers, 2, What::Asks))
+}
+
+/// Two workers wait: each of two frames that become ready while one holds the desk wakes one.
+#[test]
+fn each_of_two_children_wakes_a_worker(rt: HostRuntime) -> Result<(), Fail> {
+    try_out(&rt, rt.alloc(), Trial::Children)
 }
 
 /// The closing wakes two seats, and two workers.
 #[test]
 fn a_closing_wakes_all(rt: HostRuntime) -> Result<(), Fail> {
-    for who in [Who::Seats, Who::Workers] {
-        all_come_back::<Brand, HostRuntime>(
-            &rt,
-            rt.alloc(),
-            Blank::new(PARTS),
-            who,
-            2,
-            What::Closing,
-        )?;
-    }
-    Ok(())
+    try_out(&rt, rt.alloc(), Trial::Crowd(Who::Seats, 2, What::Closing))?;
+    try_out(
+        &rt,
+        rt.alloc(),
+        Trial::Crowd(Who::Workers, 2, What::Closing),
+    )
 }
 
 /// Four seats, and four workers, sleep while they wait.
 #[test]
 fn who_waits_sleeps(rt: HostRuntime) -> Result<(), Fail> {
-    for who in [Who::Seats, Who::Workers] {
-        all_come_back::<Brand, HostRuntime>(
-            &rt,
-            rt.alloc(),
-            Blank::new(PARTS),
-            who,
-            4,
-            What::Silence,
-        )?;
-    }
-    Ok(())
+    try_out(&rt, rt.alloc(), Trial::Crowd(Who::Seats, 4, What::Silence))?;
+    try_out(
+        &rt,
+        rt.alloc(),
+        Trial::Crowd(Who::Workers, 4, What::Silence),
+    )
 }

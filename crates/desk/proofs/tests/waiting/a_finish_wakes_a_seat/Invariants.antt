@@ -1,7 +1,0 @@
-use Rattle.desk.proofs.tests.waiting.a_finish_wakes_a_seat.Given as goal
-
-abbrev pub ghosts-seats_wait-L-Ledger : goal.ghosts-seats_wait-L-Ledger
-ghosts-seats_wait-L-Ledger g a = record { name = a.blank.name; parts = a.blank.parts }
-
-abbrev pub ghosts-seats_wait-L-Hands : goal.ghosts-seats_wait-L-Hands
-ghosts-seats_wait-L-Hands g a = record { all = a.blank.parts }

@@ -1,0 +1,75 @@
+//! The desk, held by a worker for several steps.
+//!
+//! A step under the lock takes less time than what it touches takes to come from another processor. So a worker
+//! keeps the lock over the steps that follow each other, and those who wait are woken once it lets go.
+ghost use Rattle.std.specs.Prelude.{◌≡◌, ◌≢◌, ◌+◌, true, Err, MatchResult};
+ghost use Rattle.sched_rules.specs.declared.refusal.Refusal.TheVariants.{OutOfMemory};
+ghost use Rattle.hall.specs.Journals.{is_worker_step};
+
+use crate::change::Change;
+use crate::kept::Kept;
+use crate::shares::{Badge, Hands};
+use hall::{Did, Jamboree, Refusal, Step};
+use std::alloc::{Allocator, Global};
+use std::sync::{Condvar, MutexGuard, Wait};
+
+/// A desk whose lock one worker has. It can't be dropped, so that nobody forgets to wake who waits:
+/// [`Held::release`] lets go.
+pub struct Held<'d, L: Hands, A: Allocator = Global> {
+    pub(crate) kept: MutexGuard<'d, Kept<L, A>>,
+    pub(crate) ready: &'d Condvar,
+    pub(crate) ended: &'d Condvar,
+    /// How many frames became ready while some worker slept.
+    pub(crate) wakes: u32,
+    /// Whether a job ended.
+    pub(crate) has_ended: bool,
+}
+
+impl<'d, L: Hands, A: Allocator + Clone> Held<'d, L, A> {
+    /// Offers a worker's step: what it did, or why it is refused. The badge's share is raised by 1
+    /// exactly where the step was taken.
+    pub fn offer<R: Wait>(
+        &mut self,
+        rt: &R,
+        badge: &mut Badge<L>,
+        step: &Step<Jamboree>,
+    ) -> Result<Did<Jamboree>, Refusal>
+        requires { is_worker_step step.now ≡ true }
+        ensures share { MatchResult result (λ _. badge.new ≡ badge.old + 1) (λ _. badge.new ≡ badge.old) }
+        ensures memory { result ≢ Err OutOfMemory }
+    {
+        if badge.share() >= u64::MAX as u128 {
+            // No badge takes so many steps.
+            for _ in rt.forever() {}
+            unreachable!()
+        }
+        let answer = self.kept.offer(badge, step);
+        match Change::of(&answer) {
+            Change::InReady if self.kept.has_sleepers() => {
+                self.wakes = self.wakes.saturating_add(1);
+            }
+            Change::InReady | Change::Nothing => {}
+            Change::Job => self.has_ended = true,
+        }
+        answer
+    }
+
+    /// Lets go of the lock, and wakes a worker for each frame that became ready while one slept, and all seats
+    /// where a job ended.
+    pub fn release(self) {
+        let Held {
+            kept,
+            ready,
+            ended,
+            wakes,
+            has_ended,
+        } = self;
+        drop(kept);
+        for _ in 0..wakes {
+            ready.notify_one();
+        }
+        if has_ended {
+            ended.notify_all();
+        }
+    }
+}
