@@ -6,9 +6,7 @@ use super::{
     Trial, asks, badge_of, cancel_second, cancels, do_first, has_ended, root_of, seat_of, try_out,
     wait_closed, worker_of,
 };
-use crate::{
-    Badge, Desk, DidOf, Hands, Jamboree, LeafAnswer, Refusal, Seat, Step, StepOf, Worker,
-};
+use crate::{Badge, Desk, DidOf, Hands, Jamboree, LeafAnswer, Refusal, Seat, Step, StepOf, Worker};
 use std::process::Abort;
 use std::sync::Wait;
 use std::test::Fail;

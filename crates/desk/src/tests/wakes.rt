@@ -187,12 +187,20 @@ fn each_of_two_asks_wakes_a_worker(rt: HostRuntime) -> Result<(), Fail> {
 #[test]
 fn a_closing_wakes_all(rt: HostRuntime) -> Result<(), Fail> {
     try_out(&rt, rt.alloc(), Trial::Crowd(Who::Seats, 2, What::Closing))?;
-    try_out(&rt, rt.alloc(), Trial::Crowd(Who::Workers, 2, What::Closing))
+    try_out(
+        &rt,
+        rt.alloc(),
+        Trial::Crowd(Who::Workers, 2, What::Closing),
+    )
 }
 
 /// Four seats, and four workers, sleep while they wait.
 #[test]
 fn who_waits_sleeps(rt: HostRuntime) -> Result<(), Fail> {
     try_out(&rt, rt.alloc(), Trial::Crowd(Who::Seats, 4, What::Silence))?;
-    try_out(&rt, rt.alloc(), Trial::Crowd(Who::Workers, 4, What::Silence))
+    try_out(
+        &rt,
+        rt.alloc(),
+        Trial::Crowd(Who::Workers, 4, What::Silence),
+    )
 }
