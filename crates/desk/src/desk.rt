@@ -27,11 +27,21 @@ const LOOKS: u32 = 12;
 const PAUSES: u32 = 256;
 
 /// The lock with the hall in it, which may have an allocator of its own.
-#[derive(Drop)]
 pub struct Desk<L: Hands, A: Allocator = Global> {
     lock: Mutex<Kept<L, A>>,
     ready: Condvar,
     ended: Condvar,
+}
+
+// A desk goes with all its parts. A crate that holds one proves no more of that, as it would were this derived.
+impl<L: Hands, A: Allocator> Drop for Desk<L, A> {
+    fn drop(self) {
+        let Desk {
+            lock: _lock,
+            ready: _ready,
+            ended: _ended,
+        } = self;
+    }
 }
 
 impl<L: Hands, A: Allocator + Clone> Desk<L, A> {
@@ -222,7 +232,11 @@ impl<L: Hands, A: Allocator + Clone> Desk<L, A> {
         requires { L.all ≡ L.parts }
         ensures { result.1 ≡ true → count_of result.0 ≡ result.0.kept + badge }
     {
-        let Desk { lock, .. } = self;
+        let Desk {
+            lock,
+            ready: _ready,
+            ended: _ended,
+        } = self;
         lock.into_inner().closed(badge)
     }
 }

@@ -102,6 +102,24 @@ impl<L: Hands, A: Allocator + Clone> Kept<L, A> {
         answer
     }
 
+    /// Takes a step for a seat, whose share counts it where it was taken.
+    fn take_for(
+        &mut self,
+        seat: &mut Seat<L>,
+        step: &Step<Jamboree>,
+    ) -> Result<Did<Jamboree>, Refusal>
+        requires { IsSearch step.now }
+        ensures share { MatchResult result (λ _. seat.new ≡ stepped seat.old) (λ _. seat.new ≡ seat.old) }
+        ensures step { IsOffered self.old.hall step.now result self.new.hall }
+        ensures others { IsAsOpen self.old self.new }
+    {
+        let answer = self.take(&mut seat.mine, step);
+        if answer.is_ok() {
+            seat.steps += 1;
+        }
+        answer
+    }
+
     /// Admits a tenant under the number after the greatest so far.
     pub(crate) fn admit(&mut self, reserve: Reserve) -> Result<Seat<L>, Refusal>
         ensures seat { IfOk result (λ seat. seat ≡ record { tenant = self.old.hall.shared.newest + 1; share = 1; asked = [] }) }
@@ -145,8 +163,7 @@ impl<L: Hands, A: Allocator + Clone> Kept<L, A> {
         ensures others { IsAsOpen self.old self.new }
     {
         let step = StepOf::AdmitMore(seat.tenant, reserve);
-        self.take(&mut seat.mine, &step)?;
-        seat.steps += 1;
+        self.take_for(seat, &step)?;
         Ok(())
     }
 
@@ -170,8 +187,7 @@ impl<L: Hands, A: Allocator + Clone> Kept<L, A> {
             return Err(Refusal::NoJobsLeft);
         }
         let search = submit(seat.tenant, position, depth);
-        self.take(&mut seat.mine, &search)?;
-        seat.steps += 1;
+        self.take_for(seat, &search)?;
         seat.asked.push(SeatAsked {
             board: position.board,
             depth,
@@ -193,8 +209,7 @@ impl<L: Hands, A: Allocator + Clone> Kept<L, A> {
             return Err(Refusal::NoJob);
         }
         let step = StepOf::Cancel(seat.tenant, job);
-        self.take(&mut seat.mine, &step)?;
-        seat.steps += 1;
+        self.take_for(seat, &step)?;
         Ok(())
     }
 

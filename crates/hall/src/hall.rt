@@ -21,7 +21,6 @@ use std::marker::Model;
 use tenant_quota::Reserve;
 
 /// A core that searches, and the journals of the tenants that are there.
-#[derive(Drop)]
 pub struct Hall<A: Allocator = Global> {
     alloc: A,
     pub(crate) core: Core<Jamboree, A>,
@@ -42,6 +41,22 @@ impl<A: Allocator> Model for Hall<A> {
     ghost view = { λ h. record { grain = h.core.procedure.grain; shared = h.core.shared; journals = h.journals.items; gone = h.gone; kept = h.kept } };
 
     ghost invariant = { λ h. IsHall (record { grain = h.core.procedure.grain; shared = h.core.shared; journals = h.journals.items; gone = h.gone; kept = h.kept }) h.newest h.count };
+}
+
+// A hall goes with all its parts. A crate that holds one proves no more of that, as it would were this derived.
+impl<A: Allocator> Drop for Hall<A> {
+    fn drop(self) {
+        let Hall {
+            alloc: _alloc,
+            core: _core,
+            journals: _journals,
+            index: _index,
+            newest: _,
+            count: _,
+            gone: _,
+            kept: _,
+        } = self;
+    }
 }
 
 impl<A: Allocator> Hall<A> {

@@ -19,11 +19,36 @@ mod reservations;
 mod turns;
 
 /// The opening, Black to move.
-fn opening() -> Result<Position, Fail> {
-    Ok(Position {
-        board: Board::new(1 << 28 | 1 << 35, 1 << 27 | 1 << 36).ok_or("no board")?,
+fn opening(rt: &impl Abort) -> Position {
+    Position {
+        board: Board::new(1 << 28 | 1 << 35, 1 << 27 | 1 << 36).expect(rt, "a board"),
         side: Side::Black,
-    })
+    }
+}
+
+/// So much of each total.
+fn config_of(rt: &impl Abort, segments: u32, nodes: u32) -> Config {
+    Config::new(segments, nodes).expect(rt, "within the limits")
+}
+
+/// So much for a tenant.
+fn reserve_of(rt: &impl Abort, segments: u32, nodes: u32) -> Reserve {
+    Reserve::new(segments, nodes).expect(rt, "within the limits")
+}
+
+/// The worker of this number.
+fn worker_of(rt: &impl Abort, number: u8) -> Worker {
+    Worker::new(number).expect(rt, "a worker's number")
+}
+
+/// A hall of 8 segments and 32 nodes, whose searches have grain 2.
+fn small_hall(rt: &impl Abort, alloc: Global) -> Hall {
+    Hall::new(alloc, config_of(rt, 8, 32), 2).expect(rt, "there is memory")
+}
+
+/// The first root of a tenant.
+fn first_root(tenant: u64) -> FrameId {
+    FrameId { tenant, serial: 1 }
 }
 
 /// An entry of a journal takes 8 bytes, and a long one at most 48.
@@ -40,10 +65,7 @@ fn begin<A: Allocator + Clone>(
     worker: Worker,
     root: FrameId,
 ) -> LeafAnswer {
-    assert_eq!(rt;
-        hall.offer(&StepOf::Steal(worker, 0, root)),
-        Ok(DidOf::Took)
-    );
+    does(rt, hall, &StepOf::Steal(worker, 0, root), DidOf::Took);
     let Ok(DidOf::Computing(leaf)) = hall.offer(&StepOf::Advance(worker, root)) else {
         panic!(rt; "not computing")
     };
@@ -89,14 +111,9 @@ fn admit_and_ask(
     root: FrameId,
 ) {
     let tenant = root.tenant;
-    assert_eq!(rt;
-        hall.offer(&StepOf::Admit(tenant, reserve)),
-        Ok(DidOf::Admitted)
-    );
-    assert_eq!(rt;
-        hall.offer(&submit(tenant, opening, 0)),
-        Ok(DidOf::Submitted(1, root))
-    );
+    does(rt, hall, &StepOf::Admit(tenant, reserve), DidOf::Admitted);
+    let search = submit(tenant, opening, 0);
+    does(rt, hall, &search, DidOf::Submitted(1, root));
     assert_eq!(rt; hall.outcome(tenant, 1), Some(Outcome::Pending));
 }
 
@@ -109,29 +126,34 @@ fn is_done(rt: &impl Abort, hall: &Hall, tenant: u64) {
 }
 
 /// A tenant leaves, and then no journal is kept.
-fn leave(rt: &impl Abort, hall: &mut Hall, tenant: u64, count: u128) {
-    assert_eq!(rt; hall.offer(&StepOf::Leave(tenant)), Ok(DidOf::Left));
+fn leave<A: Allocator + Clone>(rt: &impl Abort, hall: &mut Hall<A>, tenant: u64, count: u128) {
+    does(rt, hall, &StepOf::Leave(tenant), DidOf::Left);
     assert_eq!(rt; (hall.count(), hall.gone()), (count, count));
+}
+
+/// A hall's first tenant asks, and a worker computes what it asked.
+fn has_a_job_done(rt: &impl Abort, hall: &mut Hall, tenant: u64) {
+    let root = first_root(tenant);
+    admit_and_ask(rt, hall, reserve_of(rt, 4, 8), &opening(rt), root);
+    compute(rt, hall, worker_of(rt, 1), root);
+    is_done(rt, hall, tenant);
+    assert_eq!(rt; (hall.count(), hall.gone(), hall.kept()), (7, 0, 0));
+}
+
+/// It leaves, and nothing is left of it but its number.
+fn is_gone(rt: &impl Abort, hall: &mut Hall, tenant: u64) {
+    leave(rt, hall, tenant, 8);
+    assert_eq!(rt; hall.next_tenant(), 2);
+    assert_eq!(rt; hall.outcome(tenant, 1), None);
 }
 
 /// The opening at depth 0, from the admission to the Leave.
 #[test]
-fn a_job_is_done(rt: HostRuntime) -> Result<(), Fail> {
-    let config = Config::new(8, 32).ok_or("within the limits")?;
-    let worker = Worker::new(1).ok_or("within the limits")?;
-    let reserve = Reserve::new(4, 8).ok_or("within the limits")?;
-    let opening = opening()?;
-    let mut hall = Hall::new(rt.alloc(), config, 2)?;
+fn a_job_is_done(rt: HostRuntime) {
+    let mut hall = small_hall(&rt, rt.alloc());
     let tenant = hall.next_tenant();
-    let root = FrameId { tenant, serial: 1 };
-    admit_and_ask(&rt, &mut hall, reserve, &opening, root);
-    compute(&rt, &mut hall, worker, root);
-    is_done(&rt, &hall, tenant);
-    assert_eq!(rt; (hall.count(), hall.gone(), hall.kept()), (7, 0, 0));
-    leave(&rt, &mut hall, tenant, 8);
-    assert_eq!(rt; hall.next_tenant(), 2);
-    assert_eq!(rt; hall.outcome(tenant, 1), None);
-    Ok(())
+    has_a_job_done(&rt, &mut hall, tenant);
+    is_gone(&rt, &mut hall, tenant);
 }
 
 /// The answer to a new tenant's first job, which is being computed.
@@ -144,9 +166,7 @@ fn begun(
 ) -> Step<Jamboree>
     ensures { IsSearch result }
 {
-    let reserve = Reserve::new(4, 8).expect(rt, "within the limits");
-    assert!(rt; hall.offer(&StepOf::Admit(root.tenant, reserve)).is_ok());
-    assert!(rt; hall.offer(&submit(root.tenant, position, 0)).is_ok());
+    admit_and_ask(rt, hall, reserve_of(rt, 4, 8), position, root);
     StepOf::Answer(worker, root, begin(rt, hall, worker, root))
 }
 
@@ -168,36 +188,26 @@ fn is_late(rt: &impl Abort, hall: &mut Hall, answer: &Step<Jamboree>, number: u8
 
 /// An answer that comes after its tenant has left is refused by 1.
 fn after_a_leave(rt: &impl Abort, hall: &mut Hall, worker: Worker, position: &Position) {
-    let root = FrameId {
-        tenant: 1,
-        serial: 1,
-    };
-    let answer = begun(rt, hall, worker, root, position);
+    let answer = begun(rt, hall, worker, first_root(1), position);
     does(rt, hall, &StepOf::Leave(1), DidOf::Left);
     is_late(rt, hall, &answer, 1, 5);
 }
 
 /// One that comes after its job was cancelled is refused by 2.
 fn after_a_cancel(rt: &impl Abort, hall: &mut Hall, worker: Worker, position: &Position) {
-    let root = FrameId {
-        tenant: 2,
-        serial: 1,
-    };
-    let answer = begun(rt, hall, worker, root, position);
+    let answer = begun(rt, hall, worker, first_root(2), position);
     does(rt, hall, &StepOf::Cancel(2, 1), DidOf::Cancelled);
     is_late(rt, hall, &answer, 2, 10);
 }
 
 /// Neither is counted.
 #[test]
-fn late_answers_are_refused(rt: HostRuntime) -> Result<(), Fail> {
-    let config = Config::new(8, 32).ok_or("within the limits")?;
-    let worker = Worker::new(1).ok_or("within the limits")?;
-    let position = opening()?;
-    let mut hall = Hall::new(rt.alloc(), config, 2)?;
+fn late_answers_are_refused(rt: HostRuntime) {
+    let worker = worker_of(&rt, 1);
+    let position = opening(&rt);
+    let mut hall = small_hall(&rt, rt.alloc());
     after_a_leave(&rt, &mut hall, worker, &position);
     after_a_cancel(&rt, &mut hall, worker, &position);
-    Ok(())
 }
 
 /// How many bytes are taken before the hall is made, and given back once an admission was refused.
@@ -287,8 +297,8 @@ fn is_wanting_of(
 /// of the core.
 #[test]
 fn each_growth_of_an_admission_is_refused(rt: HostRuntime) -> Result<(), Fail> {
-    let config = Config::new(8, 32).ok_or("within the limits")?;
-    let reserve = Reserve::new(1, 1).ok_or("within the limits")?;
+    let config = config_of(&rt, 8, 32);
+    let reserve = reserve_of(&rt, 1, 1);
     let mut wanting = 0u32;
     for units in 0..16384usize {
         match is_wanting_of(&rt, rt.alloc(), units, config, reserve)? {
@@ -333,12 +343,9 @@ fn has_a_job<A: Allocator + Copy>(
 fn is_left<A: Allocator + Clone>(rt: &impl Abort, hall: &mut Hall<A>, reserve: Reserve) {
     let left = hall.core().left(1).expect(rt, "the tenant is there");
     assert_eq!(rt; (left.segments, left.nodes, left.steps), (1, 2, 48));
-    assert_eq!(rt;
-        hall.offer(&StepOf::AdmitMore(1, reserve)),
-        Err(Refusal::Lower)
-    );
-    assert_eq!(rt; hall.offer(&StepOf::Leave(1)), Ok(DidOf::Left));
-    assert_eq!(rt; (hall.count(), hall.gone()), (4, 4));
+    let again = hall.offer(&StepOf::AdmitMore(1, reserve));
+    assert_eq!(rt; again, Err(Refusal::Lower));
+    leave(rt, hall, 1, 4);
 }
 
 /// Whether a raise of what a tenant with a job reserves was refused for want of memory in this heap; then
@@ -397,11 +404,11 @@ fn is_raise_wanting_of(
 /// Each growth of a raise is refused in turn: those of the journal's two lists, and of the core's places.
 #[test]
 fn each_growth_of_a_raise_is_refused(rt: HostRuntime) -> Result<(), Fail> {
-    let config = Config::new(8, 32).ok_or("within the limits")?;
+    let config = config_of(&rt, 8, 32);
     let plan = Plan {
-        reserve: Reserve::new(1, 1).ok_or("within the limits")?,
-        more: Reserve::new(2, 3).ok_or("within the limits")?,
-        opening: opening()?,
+        reserve: reserve_of(&rt, 1, 1),
+        more: reserve_of(&rt, 2, 3),
+        opening: opening(&rt),
     };
     let mut wanting = 0u32;
     for units in 0..16384usize {
@@ -418,15 +425,15 @@ fn each_growth_of_a_raise_is_refused(rt: HostRuntime) -> Result<(), Fail> {
 }
 
 /// How many bytes of the heap a raise of one node takes beyond those that the journal gave back.
-fn bytes_of_a_node(rt: &impl Abort, heap: &LocalHeap) -> Option<usize> {
-    let mut hall = Hall::new(heap, Config::new(8, 4096)?, 0).ok()?;
-    hall.offer(&StepOf::Admit(1, Reserve::new(8, 1000)?)).ok()?;
+fn bytes_of_a_node(rt: &impl Abort, heap: &LocalHeap) -> usize {
+    let hall = Hall::new(heap, config_of(rt, 8, 4096), 0);
+    let mut hall = hall.expect(rt, "there is memory");
+    let few = StepOf::Admit(1, reserve_of(rt, 8, 1000));
+    does(rt, &mut hall, &few, DidOf::Admitted);
     let before = heap.used();
-    assert_eq!(rt;
-        hall.offer(&StepOf::AdmitMore(1, Reserve::new(8, 1001)?)),
-        Ok(DidOf::AdmittedMore)
-    );
-    Some(heap.used().saturating_sub(before))
+    let more = StepOf::AdmitMore(1, reserve_of(rt, 8, 1001));
+    does(rt, &mut hall, &more, DidOf::AdmittedMore);
+    heap.used().saturating_sub(before)
 }
 
 /// A journal grows by just the places of the nodes that came, and isn't doubled: 16 places of 8 and of 48
@@ -434,7 +441,7 @@ fn bytes_of_a_node(rt: &impl Abort, heap: &LocalHeap) -> Option<usize> {
 #[test]
 fn one_node_more_takes_one_node(rt: HostRuntime) -> Result<(), Fail> {
     let heap = LocalHeap::new(rt.alloc(), 1 << 23)?;
-    let bytes = bytes_of_a_node(&rt, &heap).ok_or("no memory")?;
+    let bytes = bytes_of_a_node(&rt, &heap);
     assert!(rt; bytes >= 17 * 56);
     assert!(rt; bytes < 4096);
     Ok(())
@@ -461,10 +468,10 @@ fn asks(
 }
 
 /// Tenant 1 reserves more than it was admitted with, and neither less nor beyond the totals.
-fn reserves_more(rt: &impl Abort, hall: &mut Hall, few: Reserve, more: Reserve, beyond: Reserve) {
+fn reserves_more(rt: &impl Abort, hall: &mut Hall, more: Reserve) {
     reserves(rt, hall, more, Ok(DidOf::AdmittedMore));
-    reserves(rt, hall, few, Err(Refusal::Lower));
-    reserves(rt, hall, beyond, Err(Refusal::Full));
+    reserves(rt, hall, reserve_of(rt, 4, 1), Err(Refusal::Lower));
+    reserves(rt, hall, reserve_of(rt, 8, 33), Err(Refusal::Full));
     assert_eq!(rt; hall.count(), 3);
     is_pending(rt, hall);
 }
@@ -479,29 +486,22 @@ fn job_is_done(rt: &impl Abort, hall: &mut Hall, worker: Worker, root: FrameId) 
 }
 
 /// A tenant of one node asks for two jobs.
-fn asks_twice(rt: &impl Abort, hall: &mut Hall, few: Reserve, opening: &Position, root: FrameId) {
-    assert_eq!(rt; hall.offer(&StepOf::Admit(1, few)), Ok(DidOf::Admitted));
-    asks(rt, hall, opening, Ok(DidOf::Submitted(1, root)));
-    asks(rt, hall, opening, Err(Refusal::NoNodes));
+fn asks_twice(rt: &impl Abort, hall: &mut Hall, root: FrameId) {
+    let opening = opening(rt);
+    let few = StepOf::Admit(1, reserve_of(rt, 4, 1));
+    does(rt, hall, &few, DidOf::Admitted);
+    asks(rt, hall, &opening, Ok(DidOf::Submitted(1, root)));
+    asks(rt, hall, &opening, Err(Refusal::NoNodes));
 }
 
 /// A tenant whose job has no node left for its frames reserves more, and the job is done.
 #[test]
-fn more_is_reserved_while_a_job_runs(rt: HostRuntime) -> Result<(), Fail> {
-    let config = Config::new(8, 32).ok_or("within the limits")?;
-    let worker = Worker::new(1).ok_or("within the limits")?;
-    let few = Reserve::new(4, 1).ok_or("within the limits")?;
-    let more = Reserve::new(4, 8).ok_or("within the limits")?;
-    let beyond = Reserve::new(8, 33).ok_or("within the limits")?;
-    let opening = opening()?;
-    let root = FrameId {
-        tenant: 1,
-        serial: 1,
-    };
-    let mut hall = Hall::new(rt.alloc(), config, 2)?;
+fn more_is_reserved_while_a_job_runs(rt: HostRuntime) {
+    let more = reserve_of(&rt, 4, 8);
+    let root = first_root(1);
+    let mut hall = small_hall(&rt, rt.alloc());
     reserves(&rt, &mut hall, more, Err(Refusal::NoTenant));
-    asks_twice(&rt, &mut hall, few, &opening, root);
-    reserves_more(&rt, &mut hall, few, more, beyond);
-    job_is_done(&rt, &mut hall, worker, root);
-    Ok(())
+    asks_twice(&rt, &mut hall, root);
+    reserves_more(&rt, &mut hall, more);
+    job_is_done(&rt, &mut hall, worker_of(&rt, 1), root);
 }

@@ -6,6 +6,15 @@ use counted_alloc::Counted;
 use linked_list_allocator::LocalHeap;
 use std::process::Abort;
 
+/// What is refused memory.
+#[derive(Clone, Copy)]
+enum Growing {
+    /// A deal to three workers.
+    Deal,
+    /// The room for their ends.
+    Return,
+}
+
 /// How many bytes are more than a deal to three workers takes.
 const AMPLE: usize = 65_536;
 
@@ -44,25 +53,6 @@ fn refused_in_deal(
     Ok(number)
 }
 
-/// Each growth of a deal to three workers is refused in turn: that of the list of owners, the three of
-/// each deque, those of the list of rows and of each row, and that of the list of ends.
-#[test]
-fn each_growth_of_a_deal_is_refused(rt: HostRuntime) -> Result<(), Fail> {
-    let one = Worker::new(1).ok_or("a worker")?;
-    let three = Worker::new(3).ok_or("a worker")?;
-    let mut last = 0u64;
-    for units in 0..4096usize {
-        let number = refused_in_deal(&rt, rt.alloc(), one, three, units)?;
-        if number == 0 {
-            assert_eq!(rt; last, 1 + 3 * 3 + 1 + 3 + 1);
-            return Ok(());
-        }
-        assert!(rt; number == last || number == last.saturating_add(1));
-        last = number;
-    }
-    Err(Fail::new("more is wanting"))
-}
-
 /// Which growth of the room for three workers' ends is refused in such a heap; 0 where none is, and then
 /// the ends, which are another heap's, come back with a task that is left.
 fn refused_in_return(
@@ -91,20 +81,35 @@ fn refused_in_return(
     Ok(number)
 }
 
-/// Each growth of the room for ends that come back is refused in turn: that for owners, and that for rows.
-#[test]
-fn each_growth_of_a_return_is_refused(rt: HostRuntime) -> Result<(), Fail> {
+/// Each growth is refused in turn, so many of them.
+fn are_refused(rt: &impl Abort, alloc: Global, growing: Growing, many: u64) -> Result<(), Fail> {
     let one = Worker::new(1).ok_or("a worker")?;
     let three = Worker::new(3).ok_or("a worker")?;
     let mut last = 0u64;
     for units in 0..4096usize {
-        let number = refused_in_return(&rt, rt.alloc(), one, three, units)?;
+        let number = match growing {
+            Growing::Deal => refused_in_deal(rt, alloc, one, three, units)?,
+            Growing::Return => refused_in_return(rt, alloc, one, three, units)?,
+        };
         if number == 0 {
-            assert_eq!(rt; last, 2);
+            assert_eq!(rt; last, many);
             return Ok(());
         }
         assert!(rt; number == last || number == last.saturating_add(1));
         last = number;
     }
     Err(Fail::new("more is wanting"))
+}
+
+/// Each growth of a deal to three workers is refused in turn: that of the list of owners, the three of
+/// each deque, those of the list of rows and of each row, and that of the list of ends.
+#[test]
+fn each_growth_of_a_deal_is_refused(rt: HostRuntime) -> Result<(), Fail> {
+    are_refused(&rt, rt.alloc(), Growing::Deal, 1 + 3 * 3 + 1 + 3 + 1)
+}
+
+/// Each growth of the room for ends that come back is refused in turn: that for owners, and that for rows.
+#[test]
+fn each_growth_of_a_return_is_refused(rt: HostRuntime) -> Result<(), Fail> {
+    are_refused(&rt, rt.alloc(), Growing::Return, 2)
 }

@@ -10,6 +10,7 @@ use Rattle.hall.specs.declared.entry.LongEntry.TheVariants.{Raised}
 use Rattle.hall.specs.Entries.{long_count}
 use Rattle.hall.specs.Journals.{JournalOf, places_for, raise_count}
 use Rattle.hall.proofs.Lists.{raise-more}
+use Rattle.hall.proofs.Halls.{wanting}
 use Rattle.hall.proofs.Entries.{steps_in-length, long_count-few, long_count-more, written-raise}
 use Rattle.hall.proofs.journal.Journal.raise.Goals as goal
 
@@ -88,3 +89,9 @@ returns-clause-written g c =
     written-raise c.self.inside.tenant c.self.inside.places (16 * c.nodes.result + 770 + (c.self.inside.raises + 1)) c.self.inside.entries.items c.push_reserved.new.self.items (Raised c.args.reserve) c.self.inside.longs.items c.push_reserved-2.new.self.items c.args.self.now (AdmitMore c.args.self.now.tenant c.args.reserve) c.self.view_is c.self.invariant.2 pushed added
     refl places in
     done
+
+pub returns-then-is_err-clause-one : goal.returns-then-is_err-clause-one
+returns-then-is_err-clause-one g c = wanting _ _ _ refl c.requires.taken
+
+pub returns-then-is_err-2-clause-one : goal.returns-then-is_err-2-clause-one
+returns-then-is_err-2-clause-one g c = wanting _ _ _ refl c.requires.taken
