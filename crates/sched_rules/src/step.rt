@@ -3,6 +3,7 @@ use crate::act::GivenWords;
 use crate::procedure::Procedure;
 use crate::worker::Worker;
 use frame_tree::FrameId;
+use std::alloc::AllocError;
 use tenant_quota::Reserve;
 
 /// A step, for a procedure whose answers are of type A.
@@ -35,7 +36,7 @@ pub enum StepOf<A> {
 }
 
 /// What a taken step did, for a procedure whose inputs are of type I.
-#[derive(Clone, Copy, Debug, PartialEq, Eq)]
+#[derive(Copy, Debug, PartialEq, Eq)]
 pub enum DidOf<I> {
     /// The tenant is there.
     Admitted,
@@ -69,6 +70,18 @@ pub enum DidOf<I> {
     Cancelled,
     /// The tenant is gone.
     Left,
+}
+
+impl<I: Copy> Clone for DidOf<I> {
+    ghost use Rattle.std.specs.Prelude.{◌≡◌, ⊤};
+
+    ghost is_clone = { λ did copy. copy ≡ did };
+
+    ghost is_infallible = { λ did. ⊤ };
+
+    fn clone(&self) -> Result<DidOf<I>, AllocError> {
+        Ok(*self)
+    }
 }
 
 /// A step of a core that runs the procedure P.
