@@ -3,7 +3,7 @@ ghost use Rattle.std.specs.Prelude.{◌≡◌, ◌≤◌};
 ghost use Rattle.jamboree.specs.Numbers.{phase_number, role_number, status_number};
 
 /// How far a frame has come.
-#[derive(Clone, Copy, Debug, PartialEq, Eq)]
+#[derive(Clone, Copy)]
 pub(crate) enum Phase {
     /// It was opened, and a child doesn't know its board yet.
     New,
@@ -47,7 +47,7 @@ impl Phase {
 }
 
 /// What a frame is to its parent.
-#[derive(Clone, Copy, Debug, PartialEq, Eq)]
+#[derive(Clone, Copy)]
 pub(crate) enum Role {
     /// It has none: it is the root of a job.
     Root,
@@ -87,10 +87,9 @@ impl Role {
 }
 
 /// How a choice of a frame stands.
-#[derive(Clone, Copy, Debug, Default, PartialEq, Eq)]
+#[derive(Clone, Copy)]
 pub(crate) enum Status {
     /// No child was opened for it.
-    #[default]
     NotSpawned,
     /// Its first search, or its test, runs.
     Runs,
