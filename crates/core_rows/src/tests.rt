@@ -7,6 +7,7 @@ mod growths;
 mod limits;
 mod lists;
 mod memory;
+mod plain_core;
 mod plain_step;
 mod reader;
 mod spin;

@@ -143,12 +143,16 @@ fn ask_two_more(rt: &impl Abort, searched: &mut SearchCore) -> Result<(), Fail> 
 fn three_outcomes(rt: &impl Abort, searched: &SearchCore) -> Result<(), Fail> {
     let reply = (opening()?.board, 1, -3, Some(Choice::Square(19)));
     assert_eq!(rt; told(searched.outcome(1, 1)), Some(reply));
-    assert_eq!(rt; searched.outcome(1, 2), Some(Outcome::Cancelled));
-    assert_eq!(rt; searched.outcome(1, 3), Some(Outcome::Pending));
-    for (tenant, job) in [(1, 0), (1, 4), (2, 1)] {
+    for (tenant, job, outcome) in [
+        (1, 2, Some(Outcome::Cancelled)),
+        (1, 3, Some(Outcome::Pending)),
+        (1, 0, None),
+        (1, 4, None),
+        (2, 1, None),
+    ] {
         assert_eq!(rt;
             searched.outcome(tenant, job),
-            None,
+            outcome,
             "job {job} of {tenant}"
         );
     }
@@ -165,8 +169,22 @@ fn outcomes(rt: HostRuntime) -> Result<(), Fail> {
     three_outcomes(&rt, &searched)
 }
 
-/// Runs the opening's search to depth 2 with this reservation, and answers whether it was done, with
-/// -4 by d3, or spent. All segments are back.
+/// Whether a tenant has no frame, and all segments are back.
+fn is_all_back(searched: &SearchCore, tenant: u64) -> bool {
+    searched.core.live(tenant) == Some((0, 0)) && searched.core.free_segments() == 4096
+}
+
+/// Whether a search of the opening to depth 2 was done, with -4 by d3, or spent.
+fn is_done(rt: &impl Abort, outcome: Option<Outcome>) -> Result<bool, Fail> {
+    if matches!(outcome, Some(Outcome::Spent)) {
+        return Ok(false);
+    }
+    let reply = (opening()?.board, 2, -4, Some(Choice::Square(19)));
+    assert_eq!(rt; told(outcome), Some(reply));
+    Ok(true)
+}
+
+/// Runs the opening's search to depth 2 with this reservation, and answers whether it was done or spent.
 fn is_done_with(
     rt: &impl Abort,
     alloc: Global,
@@ -175,16 +193,10 @@ fn is_done_with(
     reserve: Reserve,
 ) -> Result<bool, Fail> {
     search_out(rt, alloc, searched, tenant, reserve, 2)?;
-    assert_eq!(rt; searched.core.live(tenant), Some((0, 0)));
-    assert_eq!(rt; searched.core.free_segments(), 4096);
+    assert!(rt; is_all_back(searched, tenant));
     let outcome = searched.outcome(tenant, 1);
     assert!(rt; searched.step(&StepOf::Leave(tenant)).is_ok());
-    if outcome == Some(Outcome::Spent) {
-        return Ok(false);
-    }
-    let reply = (opening()?.board, 2, -4, Some(Choice::Square(19)));
-    assert_eq!(rt; told(outcome), Some(reply));
-    Ok(true)
+    is_done(rt, outcome)
 }
 
 /// How many of the reservations of so many segments and 1 to 32 nodes are enough.
@@ -219,7 +231,17 @@ fn every_reservation(rt: HostRuntime) -> Result<(), Fail> {
     Ok(())
 }
 
-/// The seven steps of a search of the opening to depth 0, which worker 3 computes.
+/// Totals of 64 segments and nodes, and the procedure with grain 2.
+fn totals() -> Option<(Config, Jamboree)> {
+    Some((Config::new(64, 64)?, Jamboree::new(2)?))
+}
+
+/// A reservation of 4 segments and 8 nodes, and worker 3.
+fn reserved() -> Option<(Reserve, Worker)> {
+    Some((Reserve::new(4, 8)?, Worker::new(3)?))
+}
+
+/// The seven steps of a search of the opening to depth 0, which a worker computes.
 fn seven_steps(reserve: Reserve, worker: Worker, position: &Position) -> [Step<Jamboree>; 7]
     ensures { AreSearches result }
 {
@@ -272,8 +294,7 @@ fn many_steps(
 /// A list of 662 steps as one call: one answer each. The seven are taken, and then four Submits, for which the tenant
 /// has segments.
 fn run_list(alloc: Global, core: &mut Core<Jamboree>) -> Result<(usize, u32), Fail> {
-    let reserve = Reserve::new(4, 8).ok_or("a reservation")?;
-    let worker = Worker::new(3).ok_or("a worker")?;
+    let (reserve, worker) = reserved().ok_or("within the limits")?;
     let steps = many_steps(alloc, reserve, worker, &opening()?)?;
     let mut answers = Vec::new(alloc);
     run_searches(core, &steps, &mut answers)?;
@@ -283,8 +304,7 @@ fn run_list(alloc: Global, core: &mut Core<Jamboree>) -> Result<(usize, u32), Fa
 /// The example at the head of the crate, and more.
 #[test]
 fn a_list_of_steps(rt: HostRuntime) -> Result<(), Fail> {
-    let config = Config::new(64, 64).ok_or("the totals")?;
-    let jamboree = Jamboree::new(2).ok_or("the grain")?;
+    let (config, jamboree) = totals().ok_or("within the limits")?;
     let mut core = Core::new(rt.alloc(), config, jamboree)?;
     assert_eq!(rt; run_list(rt.alloc(), &mut core)?, (662, 11));
     assert_eq!(rt; value_and_choice(core.job(7, 1)), Some((1_000_000, 65)));
@@ -301,10 +321,8 @@ fn told_first(core: &Core<Jamboree>) -> Option<(Board, u8, i32, Option<Choice>)>
 /// The same from nothing: the core is made by the call.
 #[test]
 fn a_list_of_steps_from_a_new_core(rt: HostRuntime) -> Result<(), Fail> {
-    let config = Config::new(64, 64).ok_or("the totals")?;
-    let jamboree = Jamboree::new(2).ok_or("the grain")?;
-    let reserve = Reserve::new(4, 8).ok_or("a reservation")?;
-    let worker = Worker::new(3).ok_or("a worker")?;
+    let (config, jamboree) = totals().ok_or("within the limits")?;
+    let (reserve, worker) = reserved().ok_or("within the limits")?;
     let position = opening()?;
     let steps = seven_steps(reserve, worker, &position);
     let mut answers = Vec::new(rt.alloc());
@@ -346,8 +364,7 @@ fn taken_in(
 ) -> Result<Option<u32>, Fail>
     requires { AreSearches steps.now }
 {
-    let config = Config::new(64, 64).ok_or("the totals")?;
-    let jamboree = Jamboree::new(2).ok_or("the grain")?;
+    let (config, jamboree) = totals().ok_or("within the limits")?;
     let heap = LocalHeap::new(alloc, bytes)?;
     let answer_heap = LocalHeap::new(alloc, answer_bytes)?;
     let count = taken_from_new(rt, &heap, &answer_heap, config, jamboree, steps);
@@ -355,25 +372,34 @@ fn taken_in(
     Ok(count)
 }
 
+/// Runs the steps in heaps with more and more room: in how many no core was left, no step was taken, and some
+/// were.
+fn taken_in_each(
+    rt: &impl Abort,
+    alloc: Global,
+    steps: &[Step<Jamboree>],
+) -> Result<(u32, u32, u32), Fail>
+    requires { AreSearches steps.now }
+{
+    let (mut refused, mut none, mut some) = (0u32, 0u32, 0u32);
+    for units in 0..256usize {
+        match taken_in(rt, alloc, steps, units * 1024, 4096)? {
+            None => refused = refused.wrapping_add(1),
+            Some(0) => none = none.wrapping_add(1),
+            Some(_) => some = some.wrapping_add(1),
+        }
+    }
+    Ok((refused, none, some))
+}
+
 /// In heaps with more and more room each growth of the core is refused in turn, and with more room the
 /// admission, so that no step is taken. Where the answers find no room, no core is left.
 #[test]
 fn each_growth_of_a_run_from_new(rt: HostRuntime) -> Result<(), Fail> {
-    let reserve = Reserve::new(4, 8).ok_or("a reservation")?;
-    let worker = Worker::new(3).ok_or("a worker")?;
+    let (reserve, worker) = reserved().ok_or("within the limits")?;
     let steps = seven_steps(reserve, worker, &opening()?);
-    let (mut refused, mut none, mut all) = (0u32, 0u32, 0u32);
-    for units in 0..256usize {
-        match taken_in(&rt, rt.alloc(), &steps, units * 1024, 4096)? {
-            None => refused = refused.wrapping_add(1),
-            Some(0) => none = none.wrapping_add(1),
-            Some(_) => all = all.wrapping_add(1),
-        }
-    }
-    assert!(rt;
-        refused > 0 && none > 0 && all > 0,
-        "{refused} {none} {all}"
-    );
+    let (refused, none, some) = taken_in_each(&rt, rt.alloc(), &steps)?;
+    assert!(rt; refused > 0 && none > 0 && some > 0);
     assert!(rt; taken_in(&rt, rt.alloc(), &steps, 262_144, 0)?.is_none());
     Ok(())
 }
@@ -424,7 +450,7 @@ fn ask_all(
 /// Whether the first job of each of four tenants has ended.
 fn have_ended(searched: &SearchCore) -> bool {
     for tenant in 1..5 {
-        if searched.outcome(tenant, 1) == Some(Outcome::Pending) {
+        if matches!(searched.outcome(tenant, 1), Some(Outcome::Pending)) {
             return false;
         }
     }

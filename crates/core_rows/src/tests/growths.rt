@@ -1,10 +1,11 @@
 ghost use Rattle.std.specs.Prelude.{◌<◌};
 
+use crate::tests::plain_core::{made, run, step as do_step};
 use frame_tree::{FrameId, State};
 use linked_list_allocator::LocalHeap;
 use sched_core::{Config, Core, DidOf, GivenWords, Job, Refusal, Step, StepOf, Worker};
 use sched_toys::Fan;
-use std::alloc::{Allocator, Global};
+use std::alloc::{AllocError, Allocator, Global};
 use std::process::Abort;
 use std::test::Fail;
 use tenant_quota::{Left, Reserve};
@@ -19,7 +20,7 @@ const ROOT: FrameId = FrameId {
 };
 
 /// What the core shows of tenants 1 and 2, and of its storage.
-#[derive(Clone, Copy, Debug, PartialEq, Eq)]
+#[derive(Drop, PartialEq, Eq)]
 struct Shown {
     left_of_first: Option<Left>,
     left_of_second: Option<Left>,
@@ -68,26 +69,32 @@ fn is_taken<A: Allocator + Copy>(
     does: DidOf<u64>,
 ) -> bool {
     let before = look_at(core);
-    match core.step(step) {
-        Ok(did) => {
-            assert_eq!(rt; did, does);
-            assert_ne!(rt; look_at(core), before);
-            true
-        }
-        Err(refusal) => {
-            assert_eq!(rt; refusal, Refusal::OutOfMemory);
-            assert_eq!(rt; look_at(core), before);
-            false
-        }
-    }
+    let told = do_step(core, step);
+    let is_taken = look_at(core) != before;
+    let expected = if is_taken {
+        Ok(does)
+    } else {
+        Err(Refusal::OutOfMemory)
+    };
+    assert_eq!(rt; told, expected);
+    is_taken
+}
+
+/// Takes a step, which is answered so.
+fn does<A: Allocator + Copy>(
+    rt: &impl Abort,
+    core: &mut Core<Fan, A>,
+    step: &Step<Fan>,
+    answer: Result<DidOf<u64>, Refusal>,
+) {
+    assert_eq!(rt; do_step(core, step), answer);
 }
 
 /// A job of tenant 1, whose root a worker runs.
 fn begin<A: Allocator + Copy>(rt: &impl Abort, core: &mut Core<Fan, A>, worker: Worker) {
-    let submitted = core.step(&StepOf::Submit(1, GivenWords::two(0, 0), 4));
-    assert_eq!(rt; submitted, Ok(DidOf::Submitted(1, ROOT)));
-    let stolen = core.step(&StepOf::Steal(worker, 0, ROOT));
-    assert_eq!(rt; stolen, Ok(DidOf::Took));
+    let submit = StepOf::Submit(1, GivenWords::two(0, 0), 4);
+    does(rt, core, &submit, Ok(DidOf::Submitted(1, ROOT)));
+    does(rt, core, &StepOf::Steal(worker, 0, ROOT), Ok(DidOf::Took));
 }
 
 /// Runs the steps, or finds that memory is wanting for their answers; and then none was tried.
@@ -99,14 +106,10 @@ fn is_run<A: Allocator + Copy>(
 ) -> bool {
     let before = look_at(core);
     let mut answers = Vec::new(alloc);
-    if core.run(steps, &mut answers).is_err() {
-        assert_eq!(rt; answers.len(), 0);
-        assert_eq!(rt; look_at(core), before);
-        return false;
-    }
-    assert_eq!(rt; answers.len(), steps.len());
-    assert_ne!(rt; look_at(core), before);
-    true
+    let is_run = run(core, steps, &mut answers).is_ok();
+    assert_eq!(rt; answers.len(), if is_run { steps.len() } else { 0 });
+    assert!(rt; (look_at(core) != before) == is_run);
+    is_run
 }
 
 /// What is reserved at first and then, the worker of the job, and its steps.
@@ -197,31 +200,54 @@ fn run_and_raise<A: Allocator + Copy>(
     }
 }
 
-/// Makes a core, admits two tenants, runs a list of steps and reserves more for the first tenant, as far
-/// as memory is there. What is
-/// refused is done once more, in the same way, after the ballast was given back.
+/// Admits two tenants to a new core, runs a list of steps and reserves more for the first tenant, as far as memory is
+/// there. What is refused is done once more, in the same way, after the ballast was given back.
+fn wanting_of_core<A: Allocator + Copy>(
+    rt: &impl Abort,
+    alloc: A,
+    ballast: Vec<u8, A>,
+    core: &mut Core<Fan, A>,
+    plan: &Plan,
+) -> Wanting {
+    match admit_both(rt, ballast, core, plan) {
+        Err(wanting) => wanting,
+        Ok(kept) => run_and_raise(rt, alloc, kept, core, plan),
+    }
+}
+
+/// Makes a core, and does the rest with it.
+fn wanting_with<A: Allocator + Copy>(
+    rt: &impl Abort,
+    alloc: A,
+    ballast: Vec<u8, A>,
+    config: Config,
+    plan: &Plan,
+) -> Wanting {
+    match made(alloc, config, Fan) {
+        Ok(mut core) => wanting_of_core(rt, alloc, ballast, &mut core, plan),
+        Err(AllocError) => {
+            drop(ballast);
+            assert!(rt; made(alloc, config, Fan).is_ok());
+            Wanting::Core
+        }
+    }
+}
+
+/// Takes the ballast, and does the rest beside it.
 fn first_wanting<A: Allocator + Copy>(
     rt: &impl Abort,
     alloc: A,
     config: Config,
     plan: &Plan,
 ) -> Wanting {
-    let Ok(ballast) = Vec::<u8, A>::with_capacity(alloc, BALLAST) else {
-        return Wanting::Ballast;
-    };
-    let Ok(mut core) = Core::new(alloc, config, Fan) else {
-        drop(ballast);
-        assert!(rt; Core::new(alloc, config, Fan).is_ok());
-        return Wanting::Core;
-    };
-    match admit_both(rt, ballast, &mut core, plan) {
-        Err(wanting) => wanting,
-        Ok(kept) => run_and_raise(rt, alloc, kept, &mut core, plan),
+    match Vec::<u8, A>::with_capacity(alloc, BALLAST) {
+        Ok(ballast) => wanting_with(rt, alloc, ballast, config, plan),
+        Err(_) => Wanting::Ballast,
     }
 }
 
 /// How often each growth was refused: of the core, of both admissions, of the answers and of the raise.
-#[derive(Clone, Copy)]
+#[derive(Drop)]
 struct Refused {
     of_core: u32,
     of_first: u32,
@@ -284,14 +310,16 @@ fn refused_growths(
     Err(Fail::new("more is wanting"))
 }
 
+/// A plan for a core of 64 segments and nodes.
+fn a_plan() -> Option<Plan> {
+    Some(plan_of(Reserve::new(4, 16)?, Reserve::new(60, 48)?, Worker::new(1)?))
+}
+
 /// Each growth of `new`, of both admissions, of `run` and of the further reservation is refused in turn.
 #[test]
 fn each_growth_is_refused_in_turn(rt: HostRuntime) -> Result<(), Fail> {
-    let config = Config::new(64, 64).ok_or("within the limits")?;
-    let reserve = Reserve::new(4, 16).ok_or("within the limits")?;
-    let more = Reserve::new(60, 48).ok_or("within the limits")?;
-    let worker = Worker::new(1).ok_or("within the limits")?;
-    let plan = plan_of(reserve, more, worker);
+    let config = Config::new(64, 64).expect(&rt, "within the limits");
+    let plan = a_plan().expect(&rt, "within the limits");
     let refused = refused_growths(&rt, rt.alloc(), config, &plan)?;
 
     // A core has places for 64 tenants in three lists, a tenant those of 256 jobs and of its frames, and
@@ -342,36 +370,31 @@ fn is_used(rt: &impl Abort, core: &mut Core<Fan>, least: Reserve, reserve: Reser
     }
 }
 
-/// Makes a core, and admits tenants that reserve as much of it as a tenant may.
-fn is_made(rt: &impl Abort, alloc: Global, segments: u32, nodes: u32) -> Result<(), Fail> {
-    let config = Config::new(segments, nodes).ok_or("within the limits")?;
-    let least = Reserve::new(1, 1).ok_or("within the limits")?;
-    let reserve = most_of(segments, nodes).ok_or("within the limits")?;
-    let mut core = Core::new(alloc, config, Fan)?;
-    is_used(rt, &mut core, least, reserve, segments);
-    Ok(())
+/// The totals of a core of so many segments and nodes, and the least and the most that a tenant may reserve of it.
+fn sizes_of(segments: u32, nodes: u32) -> Option<(Config, Reserve, Reserve)> {
+    Some((
+        Config::new(segments, nodes)?,
+        Reserve::new(1, 1)?,
+        most_of(segments, nodes)?,
+    ))
 }
 
-/// Takes a step, which is answered so.
-fn does(
-    rt: &impl Abort,
-    core: &mut Core<Fan>,
-    step: &Step<Fan>,
-    answer: Result<DidOf<u64>, Refusal>,
-) {
-    assert_eq!(rt; core.step(step), answer);
+/// Makes a core, and admits tenants that reserve as much of it as a tenant may.
+fn is_made(rt: &impl Abort, alloc: Global, segments: u32, nodes: u32) {
+    let (config, least, reserve) = sizes_of(segments, nodes).expect(rt, "within the limits");
+    let mut core = made(alloc, config, Fan).expect(rt, "there is room");
+    is_used(rt, &mut core, least, reserve, segments);
 }
 
 /// Where there is room no growth is refused: cores of all sizes are made, and tenants of all sizes admitted, at once or
 /// from the least on.
 #[test]
-fn cores_and_tenants_of_all_sizes(rt: HostRuntime) -> Result<(), Fail> {
+fn cores_and_tenants_of_all_sizes(rt: HostRuntime) {
     for segments in SEGMENTS {
         for nodes in NODES {
-            is_made(&rt, rt.alloc(), segments, nodes)?;
+            is_made(&rt, rt.alloc(), segments, nodes);
         }
     }
-    Ok(())
 }
 
 /// 16 tenants that each reserve the most, and no more.
@@ -389,12 +412,11 @@ fn admit_sixteen(rt: &impl Abort, core: &mut Core<Fan>, reserve: Reserve) {
 
 /// The greatest core has room for 16 tenants that each reserve the most.
 #[test]
-fn the_greatest_core_is_full(rt: HostRuntime) -> Result<(), Fail> {
-    let config = Config::new(Config::MAX_SEGMENTS, Config::MAX_NODES).ok_or("within the limits")?;
-    let reserve = Reserve::new(Reserve::MAX_SEGMENTS, Reserve::MAX_NODES).ok_or(
+fn the_greatest_core_is_full(rt: HostRuntime) {
+    let (config, _least, reserve) = sizes_of(Config::MAX_SEGMENTS, Config::MAX_NODES).expect(
+        &rt,
         "within the limits",
-    )?;
-    let mut core = Core::new(rt.alloc(), config, Fan)?;
+    );
+    let mut core = made(rt.alloc(), config, Fan).expect(&rt, "there is room");
     admit_sixteen(&rt, &mut core, reserve);
-    Ok(())
 }

@@ -10,15 +10,14 @@ use std::alloc::Global;
 /// The greatest number of a tenant.
 const LAST_TENANT: u64 = 1 << 62;
 
+/// A job.
+const JOB: PlainStep = PlainStep::Submit(1, &[0, 0], 4);
+
 /// Submits as many jobs as a tenant may have.
 fn submit_all(core: &mut Core<Fan>) -> Result<(), Miss> {
     for serial in 1..257 {
         let root = FrameId { tenant: 1, serial };
-        walk(
-            core,
-            PlainStep::Submit(1, &[0, 0], 4),
-            Ok(DidOf::Submitted(serial, root)),
-        )?;
+        walk(core, JOB, Ok(DidOf::Submitted(serial, root)))?;
     }
     Ok(())
 }

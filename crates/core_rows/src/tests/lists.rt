@@ -2,8 +2,9 @@
 use crate::Reader;
 use crate::tests::drawing::{free, picture};
 use crate::tests::draws::{Draws, drawn};
+use crate::tests::plain_core::run;
 use crate::tests::plain_step::PlainStep;
-use crate::tests::walking::{Miss, Told, core_of, walk};
+use crate::tests::walking::{Miss, Told, core_of, tell, walk};
 use sched_core::{Core, DidOf, Refusal, Step};
 use std::alloc::{AllocError, Global};
 
@@ -26,14 +27,10 @@ pub struct Played {
     pub told: Vec<Told>,
 }
 
-/// Takes a step, and notes it with its answer. `refusal` is asked before, and must say the same.
+/// Takes a step, and notes it with its answer.
 fn play(core: &mut Core<Reader>, played: &mut Played, plain: PlainStep) -> Result<(), Miss> {
     let step = plain.step().ok_or(Miss::NoStep(plain))?;
-    let foretold = core.refusal(&step);
-    let told = core.step(&step);
-    if foretold != told.err() {
-        return Err(Miss::Foretold(plain, foretold));
-    }
+    let told = tell(core, plain, &step)?;
     note(played, plain, told)
 }
 
@@ -61,10 +58,13 @@ fn play_admissions(core: &mut Core<Reader>, played: &mut Played) -> Result<(), M
     Ok(())
 }
 
-/// The last of them has 256 jobs and is refused one more.
+/// A job of the last of them.
+const JOB: PlainStep = PlainStep::Submit(4, &[0o43, 0o5], 4);
+
+/// It has 256 jobs and is refused one more.
 fn play_submits(core: &mut Core<Reader>, played: &mut Played) -> Result<(), Miss> {
     for _ in 0..257 {
-        play(core, played, PlainStep::Submit(4, &[0o43, 0o5], 4))?;
+        play(core, played, JOB)?;
     }
     Ok(())
 }
@@ -151,21 +151,36 @@ fn deeds_met(told: &[Told]) -> u32 {
 /// The steps of a list.
 fn steps_of(alloc: Global, plains: &[PlainStep]) -> Result<Vec<Step<Reader>>, Miss> {
     let mut steps: Vec<Step<Reader>> = Vec::new(alloc);
+    push_all(&mut steps, plains)?;
+    Ok(steps)
+}
+
+/// Appends the steps of a list.
+fn push_all(steps: &mut Vec<Step<Reader>>, plains: &[PlainStep]) -> Result<(), Miss> {
     for plain in plains {
         let step = plain.step().ok_or(Miss::NoStep(*plain))?;
         steps.push(step).map_err(AllocError::from)?;
     }
-    Ok(steps)
+    Ok(())
+}
+
+/// Steps in one run; and in a second one the first four. What is told of the second is behind that of the first.
+fn run_twice(
+    core: &mut Core<Reader>,
+    steps: &[Step<Reader>],
+    told: &mut Vec<Told>,
+) -> Result<(), AllocError> {
+    run(core, steps, told)?;
+    let (first, _others) = steps.split_at(steps.len().min(4));
+    run(core, first, told)
 }
 
 /// The steps of a list once more, in one run; and in a second one those by which the tenants came, who are there by then.
-/// The answers must be the same, the second run's behind the first's.
+/// The answers must be the same.
 fn run_again(alloc: Global, core: &mut Core<Reader>, played: &Played) -> Result<(), Miss> {
     let steps = steps_of(alloc, played.plains.as_slice())?;
     let mut told = Vec::new(alloc);
-    core.run(steps.as_slice(), &mut told)?;
-    let (first, _others) = steps.as_slice().split_at(steps.len().min(4));
-    core.run(first, &mut told)?;
+    run_twice(core, steps.as_slice(), &mut told)?;
     expect_answers(played, told.as_slice())
 }
 
@@ -197,6 +212,11 @@ fn compare_cores(alloc: Global, one: &Core<Reader>, other: &Core<Reader>) -> Res
     for tenant in 1..8 {
         compare_tenant(alloc, one, other, tenant)?;
     }
+    compare_free(alloc, one, other)
+}
+
+/// As many segments must be free in both.
+fn compare_free(alloc: Global, one: &Core<Reader>, other: &Core<Reader>) -> Result<(), Miss> {
     let seen = free(alloc, one)?;
     if seen.as_str() == free(alloc, other)?.as_str() {
         return Ok(());
@@ -214,7 +234,19 @@ fn play_alone(core: &mut Core<Reader>, played: &Played, tenant: u64) -> Result<(
     Ok(())
 }
 
-/// A tenant must read as it does where it has a core to itself.
+/// A tenant must read as it does where it has this new core to itself.
+fn compare_on(
+    alloc: Global,
+    core: &mut Core<Reader>,
+    together: &Core<Reader>,
+    played: &Played,
+    tenant: u64,
+) -> Result<(), Miss> {
+    play_alone(core, played, tenant)?;
+    compare_tenant(alloc, together, core, tenant)
+}
+
+/// The same, with the core.
 fn compare_alone(
     alloc: Global,
     together: &Core<Reader>,
@@ -222,8 +254,7 @@ fn compare_alone(
     tenant: u64,
 ) -> Result<(), Miss> {
     let mut core = new_core(alloc)?;
-    play_alone(&mut core, played, tenant)?;
-    compare_tenant(alloc, together, &core, tenant)
+    compare_on(alloc, &mut core, together, played, tenant)
 }
 
 /// What was met must be all.
@@ -253,24 +284,33 @@ fn a_list_meets_all(rt: HostRuntime) -> Result<(), Miss> {
     play_and_meet(rt.alloc(), &mut core)
 }
 
-/// The list by `run` on a core of its own, which must be left as the other was.
-fn run_and_compare(alloc: Global, stepped: &Core<Reader>, played: &Played) -> Result<(), Miss> {
-    let mut ran = new_core(alloc)?;
-    run_again(alloc, &mut ran, played)?;
-    compare_cores(alloc, &ran, stepped)
+/// The list by `run` on a new core, which must be left as the other was.
+fn run_and_compare(
+    alloc: Global,
+    ran: &mut Core<Reader>,
+    stepped: &Core<Reader>,
+    played: &Played,
+) -> Result<(), Miss> {
+    run_again(alloc, ran, played)?;
+    compare_cores(alloc, ran, stepped)
 }
 
-/// The list on a new core by `step`, and then by `run`.
-fn play_and_run(alloc: Global, stepped: &mut Core<Reader>) -> Result<(), Miss> {
+/// The list on a new core by `step`, and then by `run` on another.
+fn play_and_run(
+    alloc: Global,
+    ran: &mut Core<Reader>,
+    stepped: &mut Core<Reader>,
+) -> Result<(), Miss> {
     let played = play_all(alloc, stepped)?;
-    run_and_compare(alloc, stepped, &played)
+    run_and_compare(alloc, ran, stepped, &played)
 }
 
 /// By `step` and by `run`, a list is answered the same, and leaves the same tenants.
 #[test]
 fn a_list_by_step_and_by_run(rt: HostRuntime) -> Result<(), Miss> {
     let mut stepped = new_core(rt.alloc())?;
-    play_and_run(rt.alloc(), &mut stepped)
+    let mut ran = new_core(rt.alloc())?;
+    play_and_run(rt.alloc(), &mut ran, &mut stepped)
 }
 
 /// Each tenant must read as it does where it has a core to itself.

@@ -1,18 +1,16 @@
 //! No step but an admission, a further reservation and a Leave calls the allocator, and no call that reads does.
 use crate::Reader;
 use crate::tests::lists::{NODES, Played, SEGMENTS, new_core, play_all};
+use crate::tests::plain_core::{foretell, made, step as do_step};
 use crate::tests::plain_step::PlainStep;
 use crate::tests::walking::{Miss, Told};
 use counted_alloc::Counted;
 use frame_tree::FrameId;
 use sched_core::{Config, Core, Step};
-use std::alloc::Global;
-
-/// A core whose allocator counts its calls.
-type CountedCore<'a> = Core<Reader, &'a Counted<Global>>;
+use std::alloc::{Allocator, Global};
 
 /// Asks for what can be read of a frame.
-fn read_frame(core: &CountedCore<'_>, name: FrameId) {
+fn read_frame<A: Allocator>(core: &Core<Reader, A>, name: FrameId) {
     let _ = core.frame(name);
     if let Some(words) = core.words(name) {
         let _ = words.get(20);
@@ -20,7 +18,7 @@ fn read_frame(core: &CountedCore<'_>, name: FrameId) {
 }
 
 /// Asks for what can be read of a tenant, and of its first frames.
-fn read(core: &CountedCore<'_>, tenant: u64) {
+fn read<A: Allocator>(core: &Core<Reader, A>, tenant: u64) {
     let _ = core.left(tenant);
     let _ = core.live(tenant);
     let _ = core.newest_ready(tenant);
@@ -31,16 +29,16 @@ fn read(core: &CountedCore<'_>, tenant: u64) {
 }
 
 /// Takes a step, which must be answered so. What it foretells, does and shows calls no allocator, but for the admissions and a Leave.
-fn take(
+fn take<A: Allocator + Clone>(
     counted: &Counted<Global>,
-    core: &mut CountedCore<'_>,
+    core: &mut Core<Reader, A>,
     plain: PlainStep,
     step: &Step<Reader>,
     told: Told,
 ) -> Result<(), Miss> {
     let before = counted.calls();
-    let _ = core.refusal(step);
-    let answer = core.step(step);
+    let _ = foretell(core, step);
+    let answer = do_step(core, step);
     if answer != told {
         return Err(Miss::Answered(plain, answer));
     }
@@ -53,9 +51,9 @@ fn take(
 }
 
 /// Takes the steps of a list, which must be answered as they were.
-fn take_all(
+fn take_all<A: Allocator + Clone>(
     counted: &Counted<Global>,
-    core: &mut CountedCore<'_>,
+    core: &mut Core<Reader, A>,
     played: &Played,
 ) -> Result<(), Miss> {
     for (plain, told) in played.plains.iter().zip(played.told.iter()) {
@@ -69,7 +67,7 @@ fn take_all(
 fn take_counted(alloc: Global, played: &Played) -> Result<(), Miss> {
     let counted = Counted::new(alloc);
     let config = Config::new(SEGMENTS, NODES).ok_or(Miss::Totals)?;
-    let mut core = Core::new(&counted, config, Reader)?;
+    let mut core = made(&counted, config, Reader)?;
     take_all(&counted, &mut core, played)
 }
 

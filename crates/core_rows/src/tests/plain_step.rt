@@ -73,27 +73,40 @@ impl PlainStep {
     /// The step; `None` where a number isn't one of a worker or of a reservation, or there are more
     /// than 8 words.
     pub fn step<A: HasNumbers>(&self) -> Option<StepOf<A>> {
-        Some(match *self {
+        match *self {
             PlainStep::Admit(tenant, segments, nodes) => {
-                StepOf::Admit(tenant, Reserve::new(segments, nodes)?)
+                return Some(StepOf::Admit(tenant, Reserve::new(segments, nodes)?));
             }
             PlainStep::AdmitMore(tenant, segments, nodes) => {
-                StepOf::AdmitMore(tenant, Reserve::new(segments, nodes)?)
+                return Some(StepOf::AdmitMore(tenant, Reserve::new(segments, nodes)?));
             }
             PlainStep::Submit(tenant, words, size) => {
-                StepOf::Submit(tenant, GivenWords::new(words)?, size)
+                return Some(StepOf::Submit(tenant, GivenWords::new(words)?, size));
             }
-            PlainStep::Take(worker, name) => StepOf::Take(Worker::new(worker)?, name),
-            PlainStep::Steal(worker, from, name) => StepOf::Steal(Worker::new(worker)?, from, name),
-            PlainStep::Advance(worker, name) => StepOf::Advance(Worker::new(worker)?, name),
-            PlainStep::Answer(worker, name, asked, value) => {
-                StepOf::Answer(Worker::new(worker)?, name, A::of_numbers(asked, value))
+            PlainStep::Spend(name) => return Some(StepOf::Spend(name)),
+            PlainStep::Cancel(tenant, job) => return Some(StepOf::Cancel(tenant, job)),
+            PlainStep::Leave(tenant) => return Some(StepOf::Leave(tenant)),
+            PlainStep::Take(worker, _)
+            | PlainStep::Steal(worker, _, _)
+            | PlainStep::Advance(worker, _)
+            | PlainStep::Answer(worker, _, _, _)
+            | PlainStep::Inlet(worker, _)
+            | PlainStep::Finish(worker, _) => self.step_by(Worker::new(worker)?),
+        }
+    }
+
+    /// The step by a worker; `None` where it is by none.
+    fn step_by<A: HasNumbers>(&self, worker: Worker) -> Option<StepOf<A>> {
+        match *self {
+            PlainStep::Take(_, name) => return Some(StepOf::Take(worker, name)),
+            PlainStep::Steal(_, from, name) => return Some(StepOf::Steal(worker, from, name)),
+            PlainStep::Advance(_, name) => return Some(StepOf::Advance(worker, name)),
+            PlainStep::Answer(_, name, asked, value) => {
+                return Some(StepOf::Answer(worker, name, A::of_numbers(asked, value)));
             }
-            PlainStep::Inlet(worker, name) => StepOf::Inlet(Worker::new(worker)?, name),
-            PlainStep::Finish(worker, name) => StepOf::Finish(Worker::new(worker)?, name),
-            PlainStep::Spend(name) => StepOf::Spend(name),
-            PlainStep::Cancel(tenant, job) => StepOf::Cancel(tenant, job),
-            PlainStep::Leave(tenant) => StepOf::Leave(tenant),
-        })
+            PlainStep::Inlet(_, name) => return Some(StepOf::Inlet(worker, name)),
+            PlainStep::Finish(_, name) => return Some(StepOf::Finish(worker, name)),
+            _ => None,
+        }
     }
 }

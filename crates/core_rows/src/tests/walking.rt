@@ -1,5 +1,6 @@
 //! Tables of steps and of what is read in between, followed on a core.
 use crate::tests::drawing::{free, picture};
+use crate::tests::plain_core::{foretell, made, step as do_step};
 use crate::tests::plain_step::{HasNumbers, PlainStep};
 use sched_core::{Config, Core, DidOf, Procedure, Refusal, StepOf};
 use std::alloc::{AllocError, Global};
@@ -8,7 +9,7 @@ use std::alloc::{AllocError, Global};
 pub type Told = Result<DidOf<u64>, Refusal>;
 
 /// A row of a table.
-#[derive(Clone, Copy, Debug)]
+#[derive(Clone, Copy)]
 pub enum Row {
     /// A step that is taken, and what it does.
     Taken(PlainStep, DidOf<u64>),
@@ -57,21 +58,31 @@ pub fn core_of<P: Procedure + Drop>(
     procedure: P,
 ) -> Result<Core<P>, Miss> {
     let config = Config::new(segments, nodes).ok_or(Miss::Totals)?;
-    Ok(Core::new(alloc, config, procedure)?)
+    Ok(made(alloc, config, procedure)?)
 }
 
-/// Takes a step, which must be answered so; `refusal`, asked before, must say the same.
+/// Takes a step: what it is answered. `refusal`, asked before, must say the same.
+pub fn tell<P: Procedure<Input = u64>>(
+    core: &mut Core<P>,
+    plain: PlainStep,
+    step: &StepOf<P::Answer>,
+) -> Result<Told, Miss> {
+    let foretold = foretell(core, step);
+    let told = do_step(core, step);
+    if foretold != told.err() {
+        return Err(Miss::Foretold(plain, foretold));
+    }
+    Ok(told)
+}
+
+/// Takes a step, which must be answered so.
 fn take<P: Procedure<Input = u64>>(
     core: &mut Core<P>,
     plain: PlainStep,
     step: &StepOf<P::Answer>,
     told: Told,
 ) -> Result<(), Miss> {
-    let foretold = core.refusal(step);
-    if foretold != told.err() {
-        return Err(Miss::Foretold(plain, foretold));
-    }
-    let answer = core.step(step);
+    let answer = tell(core, plain, step)?;
     if answer != told {
         return Err(Miss::Answered(plain, answer));
     }

@@ -54,7 +54,7 @@ impl SearchCore {
 }
 
 /// What a worker is at.
-#[derive(Clone, Copy, Debug, PartialEq, Eq)]
+#[derive(Clone, Copy)]
 pub enum At {
     /// Nothing.
     Free,
@@ -175,7 +175,7 @@ pub fn drive(
     let mut ready = Vec::new(alloc);
     let mut at = At::Free;
     for _ in 0..100_000 {
-        if at == At::Free {
+        if matches!(at, At::Free) {
             match searched.core.newest_ready(tenant) {
                 Some((name, _)) => at = take(searched, worker, name),
                 None => return Ok(true),

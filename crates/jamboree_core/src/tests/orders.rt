@@ -58,7 +58,7 @@ impl Crew {
         let who = draw.below(8);
         let worker = Worker::new(who as u8 + 1).unwrap_or(self.first);
         let at = self.at[who];
-        if at == At::Free {
+        if matches!(at, At::Free) {
             let count = self.ready.len();
             if count > 0 {
                 let name = self.ready.swap_remove(draw.below(count));
@@ -67,7 +67,7 @@ impl Crew {
             return Ok(());
         }
         let next = turn(searched, &mut self.ready, worker, at)?;
-        if next == At::Late {
+        if matches!(next, At::Late) {
             self.late = self.late.wrapping_add(1);
         }
         self.at[who] = next;
