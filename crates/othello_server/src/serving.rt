@@ -1,6 +1,6 @@
 //! The command `serve`: a listener on 127.0.0.1, a hall under a desk, and what is said once the workers were started and
 //! at the end.
-ghost use Rattle.std.specs.Prelude.{◌≡◌, ◌≤◌, true, Ok};
+ghost use Rattle.std.specs.Prelude.{◌≡◌, ◌≤◌, true, IfOk, Ok};
 ghost use Rattle.line_io.specs.Writes.{IsWritten};
 ghost use Rattle.othello_server.specs.Running.{IsServed, ended_text, listening_text};
 
@@ -89,43 +89,81 @@ where
     ensures status { result ≤ 1 }
     ensures told { result ≡ 0 → IsServed K.takes sink.old asked.sessions sink.new }
 {
-    let listener = match TcpListener::bind(rt, (Ipv4Addr::LOCALHOST, asked.port)) {
-        Ok(listener) => listener,
-        Err(error) => return no_port(alloc, errors, asked.port, error),
+    match TcpListener::bind(rt, (Ipv4Addr::LOCALHOST, asked.port)) {
+        Ok(listener) => { serve_at::<L, R, K, E>(rt, alloc, blank, asked, listener, sink, errors) }
+        Err(error) => no_port(alloc, errors, asked.port, error),
+    }
+}
+
+/// The same with a listener: makes the hall and its desk.
+fn serve_at<L, R, K: Sink, E: Sink>(
+    rt: &R,
+    alloc: Global,
+    blank: Blank,
+    asked: Service,
+    listener: TcpListener,
+    sink: &mut K,
+    errors: &mut E,
+) -> u8
+where
+    L: Hands + Send + Sync,
+    R: Net<Listener = TcpListener, Stream = TcpStream> + Threads + Wait + Sync,
+    requires name { blank.name ≡ L.name }
+    requires parts { (blank.parts ≡ L.parts) × (L.all ≡ L.parts) × (L.all ≡ PARTS) }
+    ensures status { result ≤ 1 }
+    ensures told { result ≡ 0 → IsServed K.takes sink.old asked.sessions sink.new }
+{
+    let address = match listener.local_addr() {
+        Ok(address) => address,
+        Err(error) => return failed(errors, error),
     };
     let Ok(hall) = Hall::new(alloc, asked.config, asked.grain) else {
         return failed(errors, "no memory for the segments");
     };
     let desk: Desk<L> = Desk::new(hall, blank);
-    let address = match listener.local_addr() {
-        Ok(address) => address,
-        Err(error) => return failed(errors, error),
-    };
+    match serve_from(rt, alloc, &desk, listener, address, asked, sink) {
+        Ok(()) => DONE,
+        Err(ServeFault::Unsaid) => failed(errors, UNWRITTEN),
+        Err(fault) => failed(errors, fault),
+    }
+}
+
+/// The same at a desk: `Ok` where both lines were written, `Unsaid` where one could not be.
+fn serve_from<L, R, K: Sink>(
+    rt: &R,
+    alloc: Global,
+    desk: &Desk<L>,
+    listener: TcpListener,
+    address: SocketAddr,
+    asked: Service,
+    sink: &mut K,
+) -> Result<(), ServeFault>
+where
+    L: Hands + Send + Sync,
+    R: Net<Listener = TcpListener, Stream = TcpStream> + Threads + Wait + Sync,
+    requires { L.all ≡ L.parts }
+    ensures { IfOk result (λ _. IsServed K.takes sink.old asked.sessions sink.new) }
+{
     let call = Listening {
         alloc,
         sink,
         address,
     };
-    let served = serve_announced(
+    let (told, _end) = serve_announced(
         rt,
         alloc,
-        &desk,
+        desk,
         listener,
         asked.sessions,
         asked.workers,
         &Open,
         call,
-    );
-    let told = match served {
-        Ok((told, _end)) => told,
-        Err(ServeFault::Unsaid) => return failed(errors, UNWRITTEN),
-        Err(fault) => return failed(errors, fault),
-    };
+    )?;
     let Listening { sink: told, .. } = told;
     if is_ended(alloc, told, asked.sessions) {
-        DONE
+        Ok(())
     } else {
-        failed(errors, UNWRITTEN)
+        Err(ServeFault::Unsaid)
     }
 }
 

@@ -66,7 +66,22 @@ pub(crate) fn play<S: Scenario, G: Gate + Sync, R: Threads + Wait + Sync>(
     play_on::<Brand, S, G, R>(rt, alloc, Blank::new(PARTS), table)
 }
 
-/// The same over the ledger of the desk.
+/// The same, where the scenario was content, and all shares and all segments are back at the end.
+pub(crate) fn well<S: Scenario, G: Gate + Sync, R: Threads + Wait + Sync>(
+    rt: &R,
+    alloc: Global,
+    table: &Table<'_, S, G>,
+) -> Option<Played> {
+    let played = play(rt, alloc, table)?;
+    let are_back = played.whole && played.free == table.segments as usize;
+    if played.content && are_back {
+        Some(played)
+    } else {
+        None
+    }
+}
+
+/// The same as `play` over the ledger of the desk.
 fn play_on<L: Hands + Send + Sync, S: Scenario, G: Gate + Sync, R: Threads + Wait + Sync>(
     rt: &R,
     alloc: Global,

@@ -37,11 +37,9 @@ impl<N: OpenListener + Drop> Door<N> {
                 Ok((stream, _)) => return Ok(Some(stream)),
                 Err(error) if is_passing(error.kind()) => {}
                 Err(error) if is_full(&error) && self.spare.is_some() => {
-                    self.spare = None;
-                    if let Ok((stream, _)) = self.listener.accept() {
-                        return Ok(self.with_spare(stream));
+                    if let Some(taken) = self.take_with_spare() {
+                        return Ok(taken);
                     }
-                    self.spare = self.listener.try_clone().ok();
                 }
                 Err(error) => return Err(error),
             }
@@ -49,14 +47,29 @@ impl<N: OpenListener + Drop> Door<N> {
         unreachable!()
     }
 
+    /// The spare descriptor is made, if one is free.
+    fn renew(&mut self) {
+        self.spare = self.listener.try_clone().ok();
+    }
+
+    /// What comes of a connection that is taken with the spare descriptor; None where none can be taken.
+    fn take_with_spare(&mut self) -> Option<Option<N::Stream>> {
+        self.spare = None;
+        if let Ok((stream, _)) = self.listener.accept() {
+            return Some(self.with_spare(stream));
+        }
+        self.renew();
+        None
+    }
+
     /// A connection that was taken with the spare descriptor: None, and it is closed, where there is no other spare.
     fn with_spare(&mut self, stream: N::Stream) -> Option<N::Stream> {
-        self.spare = self.listener.try_clone().ok();
+        self.renew();
         if self.spare.is_some() {
             return Some(stream);
         }
         drop(stream);
-        self.spare = self.listener.try_clone().ok();
+        self.renew();
         None
     }
 }

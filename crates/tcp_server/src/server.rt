@@ -8,7 +8,7 @@ use line_io::{FromReader, FromWriter};
 use sched_rules::Worker;
 use std::alloc::Global;
 use std::io;
-use std::net::{Net, TcpListener, TcpStream};
+use std::net::{Net, SocketAddr, TcpListener, TcpStream};
 use std::sync::Wait;
 use std::sync::atomic::{AtomicBool, Ordering};
 use std::thread::{self, Builder, Scope, Threads};
@@ -183,16 +183,27 @@ pub(crate) fn serve_beside<
             };
             let ended = pool();
             if ended.is_err() {
-                // No connection is taken any more: one of its own wakes the listener.
-                stop.store(true, Ordering::SeqCst);
-                let _ = rt.connect(address);
+                wake(rt, address, stop);
             }
-            match taking.join(rt) {
-                Ok(()) => ended,
-                Err(error) => Err(ServeFault::Listener(error)),
-            }
+            ended_with(taking.join(rt), ended)
         },
     )
+}
+
+/// No connection is taken any more: one of the server's own wakes the listener.
+fn wake<R: Net>(rt: &R, address: SocketAddr, stop: &AtomicBool) {
+    stop.store(true, Ordering::SeqCst);
+    let _ = rt.connect(address);
+}
+
+/// What a server ends with, by how the taking of connections ended and what the pool came to.
+fn ended_with<T: Drop>(taken: io::Result<()>, ended: Result<T, ServeFault>) -> Result<T, ServeFault>
+    ensures { IfOk result (λ served. ended ≡ Ok served) }
+{
+    match taken {
+        Ok(()) => ended,
+        Err(error) => Err(ServeFault::Listener(error)),
+    }
 }
 
 /// Serves so many connections, and closes the desk when all of them have ended.
@@ -234,21 +245,33 @@ fn take_all<'s, E, L: Hands + Send + Sync, R: Wait + Sync>(
         if stop.load(Ordering::SeqCst) {
             break;
         }
-        let Some(stream) = taken else {
-            continue;
-        };
-        let thread = match sessions.stack {
-            Some(size) => Builder::new().stack_size(size),
-            None => Builder::new(),
-        };
-        let _ = thread.spawn_scoped(
-            scope,
-            move ||
-                requires { L.all ≡ L.parts }
-            { converse(rt, desk, &stream) },
-        );
+        if let Some(stream) = taken {
+            start(scope, rt, desk, sessions.stack, stream);
+        }
     }
     Ok(())
+}
+
+/// Starts a session in a thread of its own with a stack of this size, or else the usual one.
+fn start<'s, E, L: Hands + Send + Sync, R: Wait + Sync>(
+    scope: &'s Scope<'s, E>,
+    rt: &'s R,
+    desk: &'s Desk<L>,
+    stack: Option<usize>,
+    stream: TcpStream,
+)
+    requires { L.all ≡ L.parts }
+{
+    let thread = match stack {
+        Some(size) => Builder::new().stack_size(size),
+        None => Builder::new(),
+    };
+    let _ = thread.spawn_scoped(
+        scope,
+        move ||
+            requires { L.all ≡ L.parts }
+        { converse(rt, desk, &stream) },
+    );
 }
 
 /// One session. Each line is answered at once. However it ends, its tenant has left.

@@ -3,7 +3,7 @@ ghost use Rattle.std.specs.Prelude.{◌≡◌};
 
 use super::overlaps::is_set;
 use super::seats::{is_found, opening, seat};
-use super::{Scenario, Table, play};
+use super::{Scenario, Table, well};
 use crate::{Gate, Task};
 use desk::{Desk, Hands, Outcome};
 use sched_rules::Worker;
@@ -75,8 +75,7 @@ fn each_task_is_announced(rt: HostRuntime) -> Result<(), Fail> {
         room: None,
         segments: 8,
     };
-    let played = play(&rt, rt.alloc(), &table).ok_or("no pool")?;
-    assert!(rt; played.content && played.whole);
+    let played = well(&rt, rt.alloc(), &table).ok_or("no pool, or not as it should be")?;
     assert_eq!(rt; (played.taken, gate.count.load(Ordering::SeqCst)), (8, 9));
     Ok(())
 }

@@ -4,13 +4,12 @@ ghost use Rattle.std.specs.Prelude.{◌≡◌};
 use super::seats::{opening, seat};
 use crate::pool::{BeginFault, NotRun, Sizes, USUAL, run_pool_of};
 use crate::{Announce, Open, PoolFault};
-use desk::{Desk, Hall, Hands, PARTS};
+use desk::{Badge, Desk, Hall, Hands, PARTS, Seat};
 use sched_rules::{Config, Worker};
 use std::alloc::Global;
 use std::marker::Brand;
 use std::sync::Wait;
 use std::sync::ledger::Blank;
-use std::test::Fail;
 use std::thread::Threads;
 
 /// Counts how often it is said that a pool has begun.
@@ -43,8 +42,46 @@ struct Found {
     said: u32,
 }
 
+/// A hall of 64 segments.
+fn hall_of(alloc: Global) -> Option<Hall> {
+    Hall::new(alloc, Config::new(64, 1_024)?, 0).ok()
+}
+
+/// A seat with a job.
+fn asked<L: Hands, R: Wait>(rt: &R, desk: &Desk<L>) -> Option<Seat<L>> {
+    let mut seat = seat(rt, desk, 64, 1_024)?;
+    let is_asked = desk.ask(rt, &mut seat, &opening(), 3).is_ok();
+    if is_asked { Some(seat) } else { None }
+}
+
+/// Why a pool of four of these sizes doesn't run, whether the desk is closed then, and how often something was said.
+fn not_run<L: Hands + Send + Sync, R: Threads + Wait + Sync>(
+    rt: &R,
+    alloc: Global,
+    desk: &Desk<L>,
+    sizes: Sizes,
+    works: bool,
+) -> Option<(NotRun, bool, u32)>
+    requires { L.all ≡ L.parts }
+{
+    let seat = asked(rt, desk)?;
+    let call = Counted { count: 0, works };
+    let (call, ended) = run_pool_of(rt, alloc, desk, Worker::new(4).unwrap(), &Open, sizes, call);
+    let is_closed = desk.next_ready(rt).is_none();
+    desk.leave(rt, seat);
+    Some((ended.err()?, is_closed, call.count))
+}
+
+/// How many segments are free at the end.
+fn free_at<L: Hands>(desk: Desk<L>, badge: Badge<L>) -> usize
+    requires { L.all ≡ L.parts }
+{
+    let (hall, _is_whole) = desk.into_hall(badge);
+    hall.core().free_segments()
+}
+
 /// Why a pool of four of these sizes doesn't run at a desk where a job was asked, and what there is then.
-fn fault_of<L: Hands + Send + Sync, R: Threads + Wait + Sync>(
+fn found_at<L: Hands + Send + Sync, R: Threads + Wait + Sync>(
     rt: &R,
     alloc: Global,
     blank: Blank,
@@ -54,30 +91,42 @@ fn fault_of<L: Hands + Send + Sync, R: Threads + Wait + Sync>(
     requires name { blank.name ≡ L.name }
     requires parts { (blank.parts ≡ L.parts) × (L.all ≡ L.parts) × (L.all ≡ 13835058055282163712) }
 {
-    let workers = Worker::new(4)?;
-    let hall = Hall::new(alloc, Config::new(64, 1_024)?, 0).ok()?;
-    let desk: Desk<L> = Desk::new(hall, blank);
-    let mut seat = seat(rt, &desk, 64, 1_024)?;
-    desk.ask(rt, &mut seat, &opening(), 3).ok()?;
-    let call = Counted { count: 0, works };
-    let (call, ended) = run_pool_of(rt, alloc, &desk, workers, &Open, sizes, call);
-    let not_run = ended.err()?;
-    let is_closed = desk.next_ready(rt).is_none();
-    desk.leave(rt, seat);
+    let desk: Desk<L> = Desk::new(hall_of(alloc)?, blank);
+    let (not_run, is_closed, said) = not_run(rt, alloc, &desk, sizes, works)?;
     let badge = desk.badge(rt)?;
-    let (hall, _is_whole) = desk.into_hall(badge);
     Some(Found {
         not_run,
         is_closed,
-        free: hall.core().free_segments(),
-        said: call.count,
+        free: free_at(desk, badge),
+        said,
+    })
+}
+
+/// The same with a blank of its own.
+fn tried<R: Threads + Wait + Sync>(
+    rt: &R,
+    alloc: Global,
+    sizes: Sizes,
+    works: bool,
+) -> Option<Found> {
+    found_at::<Brand, R>(rt, alloc, Blank::new(PARTS), sizes, works)
+}
+
+/// That it was for this, after so many threads had ended, and was tried to be said so often: the desk is closed, and all
+/// is back.
+fn because(fault: BeginFault, ended: usize, said: u32) -> Option<Found> {
+    Some(Found {
+        not_run: NotRun { fault, ended },
+        is_closed: true,
+        free: 64,
+        said,
     })
 }
 
 /// Each growth of a pool's start that can't be had: that of the deques, of the room for ends that come
 /// back, and of the room for threads. The desk is closed, the fault is 1, no thread was started, and nothing is said.
 #[test]
-fn no_memory(rt: HostRuntime) -> Result<(), Fail> {
+fn no_memory(rt: HostRuntime) {
     let wanting = [
         Sizes {
             room: usize::MAX,
@@ -92,61 +141,35 @@ fn no_memory(rt: HostRuntime) -> Result<(), Fail> {
             ..USUAL
         },
     ];
-    let wanted = Found {
-        not_run: NotRun {
-            fault: BeginFault::Pool(PoolFault::OutOfMemory),
-            ended: 0,
-        },
-        is_closed: true,
-        free: 64,
-        said: 0,
-    };
+    let wanted = because(BeginFault::Pool(PoolFault::OutOfMemory), 0, 0);
     for sizes in wanting {
-        let found = fault_of::<Brand, HostRuntime>(&rt, rt.alloc(), Blank::new(PARTS), sizes, true);
-        assert_eq!(rt; found, Some(wanted), "{sizes:?}");
+        assert_eq!(rt; tried(&rt, rt.alloc(), sizes, true), wanted, "{sizes:?}");
     }
     assert_eq!(rt; PoolFault::OutOfMemory.number(), 1);
-    Ok(())
 }
 
 /// The first, the second or the last of four threads has the greatest stack, which can't be had: the
 /// desk is closed, the fault is 2, those that were started have ended, nothing is left, and nothing is said.
 #[test]
-fn no_thread(rt: HostRuntime) -> Result<(), Fail> {
+fn no_thread(rt: HostRuntime) {
     for (from, ended) in [(1u8, 0usize), (2, 1), (4, 3)] {
         let sizes = Sizes {
             stack: Some((from, usize::MAX)),
             ..USUAL
         };
-        let wanted = Found {
-            not_run: NotRun {
-                fault: BeginFault::Pool(PoolFault::NoThread),
-                ended,
-            },
-            is_closed: true,
-            free: 64,
-            said: 0,
-        };
-        let found = fault_of::<Brand, HostRuntime>(&rt, rt.alloc(), Blank::new(PARTS), sizes, true);
-        assert_eq!(rt; found, Some(wanted), "worker {from}");
+        let wanted = because(BeginFault::Pool(PoolFault::NoThread), ended, 0);
+        assert_eq!(rt;
+            tried(&rt, rt.alloc(), sizes, true),
+            wanted,
+            "worker {from}"
+        );
     }
     assert_eq!(rt; PoolFault::NoThread.number(), 2);
-    Ok(())
 }
 
 /// All four were started and it can't be said that they were: it was tried once, the desk is closed, and the four end.
 #[test]
-fn a_beginning_that_cannot_be_said(rt: HostRuntime) -> Result<(), Fail> {
-    let wanted = Found {
-        not_run: NotRun {
-            fault: BeginFault::Unsaid,
-            ended: 4,
-        },
-        is_closed: true,
-        free: 64,
-        said: 1,
-    };
-    let found = fault_of::<Brand, HostRuntime>(&rt, rt.alloc(), Blank::new(PARTS), USUAL, false);
-    assert_eq!(rt; found, Some(wanted));
-    Ok(())
+fn a_beginning_that_cannot_be_said(rt: HostRuntime) {
+    let wanted = because(BeginFault::Unsaid, 4, 1);
+    assert_eq!(rt; tried(&rt, rt.alloc(), USUAL, false), wanted);
 }

@@ -1,15 +1,14 @@
 //! Jobs of several seats.
-ghost use Rattle.std.specs.Prelude.{◌≡◌};
+ghost use Rattle.std.specs.Prelude.{◌≡◌, ◌≤◌};
 
 use super::overlaps::is_set;
 use super::seats::{all_white, corner, end_of, is_found, opening, seat};
-use super::{Scenario, Table, play};
+use super::{Played, Scenario, Table, well};
 use crate::{Gate, Open, Task};
 use desk::{Desk, Hands, Outcome, Seat};
 use sched_rules::Worker;
 use std::sync::Wait;
 use std::sync::atomic::{AtomicBool, Ordering};
-use std::test::Fail;
 
 /// Two seats ask three positions in turn, and read each reply twice.
 #[derive(Drop)]
@@ -22,12 +21,26 @@ impl Scenario for Foreign {
             return false;
         };
         let asked = ask_three(rt, desk, &mut one) && ask_three(rt, desk, &mut two);
-        let first = are_three_found(rt, desk, &one) && are_three_found(rt, desk, &two);
-        let again = are_three_found(rt, desk, &one) && are_three_found(rt, desk, &two);
+        let found = are_found_twice(rt, desk, &one, &two);
         desk.leave(rt, one);
         desk.leave(rt, two);
-        asked && first && again
+        asked && found
     }
+}
+
+/// Whether two seats have their replies, and have them again.
+fn are_found_twice<L: Hands, R: Wait>(
+    rt: &R,
+    desk: &Desk<L>,
+    one: &Seat<L>,
+    two: &Seat<L>,
+) -> bool {
+    for seat in [one, two, one, two] {
+        if !are_three_found(rt, desk, seat) {
+            return false;
+        }
+    }
+    true
 }
 
 /// Asks the opening to depth 1, the corner to depth 1, and the full board to depth 12.
@@ -46,7 +59,7 @@ fn are_three_found<L: Hands, R: Wait>(rt: &R, desk: &Desk<L>, seat: &Seat<L>) ->
 
 /// Each job is answered for its own position, whichever seat asked it.
 #[test]
-fn replies_are_to_their_positions(rt: HostRuntime) -> Result<(), Fail> {
+fn replies_are_to_their_positions(rt: HostRuntime) {
     for workers in [1, 2, 8] {
         let table = Table {
             scenario: &Foreign,
@@ -56,12 +69,60 @@ fn replies_are_to_their_positions(rt: HostRuntime) -> Result<(), Fail> {
             room: None,
             segments: 128,
         };
-        let played = play(&rt, rt.alloc(), &table).ok_or("no pool")?;
-        assert!(rt; played.content && played.whole, "{workers} workers");
-        assert_eq!(rt; played.free, 128);
+        assert!(rt;
+            well(&rt, rt.alloc(), &table).is_some(),
+            "{workers} workers"
+        );
     }
-    Ok(())
 }
+
+/// Two seats.
+#[derive(Drop)]
+struct Pair<L: Hands> {
+    one: Seat<L>,
+    two: Seat<L>,
+}
+
+/// Two seats with these reservations.
+fn two_seats<L: Hands, R: Wait>(
+    rt: &R,
+    desk: &Desk<L>,
+    one: (u32, u32),
+    two: (u32, u32),
+) -> Option<Pair<L>> {
+    let one = seat(rt, desk, one.0, one.1)?;
+    let two = seat(rt, desk, two.0, two.1)?;
+    Some(Pair { one, two })
+}
+
+/// Asks the opening at both seats, to these depths.
+fn ask_both<L: Hands, R: Wait>(rt: &R, desk: &Desk<L>, pair: &mut Pair<L>, one: u8, two: u8) -> bool
+    requires one { one ≤ 12 }
+    requires two { two ≤ 12 }
+{
+    let asked = desk.ask(rt, &mut pair.one, &opening(), one).is_ok();
+    asked && desk.ask(rt, &mut pair.two, &opening(), two).is_ok()
+}
+
+/// Whether both have the reply to the opening and this depth.
+fn are_both_found<L: Hands, R: Wait>(rt: &R, desk: &Desk<L>, pair: &Pair<L>, depth: u8) -> bool
+    requires { depth ≤ 12 }
+{
+    is_found(rt, desk, &pair.one, 1, &opening(), depth)
+        && is_found(rt, desk, &pair.two, 1, &opening(), depth)
+}
+
+/// Both leave.
+fn leave_both<L: Hands, R: Wait>(rt: &R, desk: &Desk<L>, pair: Pair<L>)
+    requires { L.all ≡ L.parts }
+{
+    let Pair { one, two } = pair;
+    desk.leave(rt, one);
+    desk.leave(rt, two);
+}
+
+/// What each of four seats reserves.
+const QUARTER: (u32, u32) = (256, 4_096);
 
 /// Four seats ask the opening to one depth.
 #[derive(Drop)]
@@ -72,31 +133,31 @@ struct Four {
 impl Scenario for Four {
     fn play<L: Hands, R: Wait>(&self, rt: &R, desk: &Desk<L>) -> bool {
         let depth = self.depth.min(12);
-        let two = seat(rt, desk, 256, 4_096).zip(seat(rt, desk, 256, 4_096));
-        let more = seat(rt, desk, 256, 4_096).zip(seat(rt, desk, 256, 4_096));
-        let (Some((mut one, mut two)), Some((mut three, mut four))) = (two, more) else {
+        let first = two_seats(rt, desk, QUARTER, QUARTER);
+        let Some((mut one, mut two)) = first.zip(two_seats(rt, desk, QUARTER, QUARTER)) else {
             return false;
         };
-        let asked = desk.ask(rt, &mut one, &opening(), depth).is_ok()
-            && desk.ask(rt, &mut two, &opening(), depth).is_ok()
-            && desk.ask(rt, &mut three, &opening(), depth).is_ok()
-            && desk.ask(rt, &mut four, &opening(), depth).is_ok();
-        let found = is_found(rt, desk, &one, 1, &opening(), depth)
-            && is_found(rt, desk, &two, 1, &opening(), depth)
-            && is_found(rt, desk, &three, 1, &opening(), depth)
-            && is_found(rt, desk, &four, 1, &opening(), depth);
-        desk.leave(rt, one);
-        desk.leave(rt, two);
-        desk.leave(rt, three);
-        desk.leave(rt, four);
+        let asked = ask_both(rt, desk, &mut one, depth, depth)
+            && ask_both(rt, desk, &mut two, depth, depth);
+        let found = are_both_found(rt, desk, &one, depth) && are_both_found(rt, desk, &two, depth);
+        leave_both(rt, desk, one);
+        leave_both(rt, desk, two);
         asked && found
+    }
+}
+
+/// Whether a pool has ended well, and what was pushed on its deques is what was taken and left.
+fn adds_up(played: Option<Played>) -> bool {
+    match played {
+        Some(played) => Some(played.pushed) == played.taken.checked_add(played.left),
+        None => false,
     }
 }
 
 /// Four seats' jobs end with one same reply, the serial search's, whatever the number of workers; what
 /// was pushed is what was taken and left, and the joined badge has all steps.
 #[test]
-fn any_number_of_workers(rt: HostRuntime) -> Result<(), Fail> {
+fn any_number_of_workers(rt: HostRuntime) {
     for workers in [1, 2, 8, 32] {
         let table = Table {
             scenario: &Four { depth: 4 },
@@ -106,17 +167,13 @@ fn any_number_of_workers(rt: HostRuntime) -> Result<(), Fail> {
             room: None,
             segments: 1_024,
         };
-        let played = play(&rt, rt.alloc(), &table).ok_or("no pool")?;
-        assert!(rt; played.content && played.whole, "{workers} workers");
-        assert_eq!(rt; Some(played.pushed), played.taken.checked_add(played.left));
-        assert_eq!(rt; played.free, 1_024);
+        assert!(rt; adds_up(well(&rt, rt.alloc(), &table)), "{workers} workers");
     }
-    Ok(())
 }
 
 /// Where no push finds room, the frames are found in the hall.
 #[test]
-fn no_room_for_tasks(rt: HostRuntime) -> Result<(), Fail> {
+fn no_room_for_tasks(rt: HostRuntime) {
     let table = Table {
         scenario: &Four { depth: 3 },
         gate: &Open,
@@ -125,15 +182,13 @@ fn no_room_for_tasks(rt: HostRuntime) -> Result<(), Fail> {
         room: Some(0),
         segments: 1_024,
     };
-    let played = play(&rt, rt.alloc(), &table).ok_or("no pool")?;
-    assert!(rt; played.content && played.whole);
-    assert_eq!(rt; played.pushed, 0);
-    Ok(())
+    let played = well(&rt, rt.alloc(), &table);
+    assert!(rt; matches!(played, Some(played) if played.pushed == 0));
 }
 
 /// No worker is lost: 200 pools of 8 workers each end.
 #[test]
-fn two_hundred_pools_end(rt: HostRuntime) -> Result<(), Fail> {
+fn two_hundred_pools_end(rt: HostRuntime) {
     for run in 0..200 {
         let table = Table {
             scenario: &Four { depth: 2 },
@@ -143,10 +198,8 @@ fn two_hundred_pools_end(rt: HostRuntime) -> Result<(), Fail> {
             room: None,
             segments: 1_024,
         };
-        let played = play(&rt, rt.alloc(), &table).ok_or("no pool")?;
-        assert!(rt; played.content && played.whole, "run {run}");
+        assert!(rt; well(&rt, rt.alloc(), &table).is_some(), "run {run}");
     }
-    Ok(())
 }
 
 /// The first computations pass; those after them wait within a limit until they are let go on.
@@ -176,27 +229,41 @@ struct Mixed<'g> {
 
 impl Scenario for Mixed<'_> {
     fn play<L: Hands, R: Wait>(&self, rt: &R, desk: &Desk<L>) -> bool {
-        let two = seat(rt, desk, 64, 1_024).zip(seat(rt, desk, 4, 3));
-        let more = seat(rt, desk, 64, 1_024).zip(seat(rt, desk, 64, 1_024));
-        let (Some((mut cancels, mut spends)), Some((mut leaves, mut stays))) = (two, more) else {
+        let going = two_seats(rt, desk, (4, 3), (64, 1_024));
+        let Some((mut going, mut cut)) = going.zip(two_seats(rt, desk, (64, 1_024), (64, 1_024)))
+        else {
             return false;
         };
-        let asked = desk.ask(rt, &mut cancels, &opening(), 5).is_ok()
-            && desk.ask(rt, &mut spends, &opening(), 5).is_ok()
-            && desk.ask(rt, &mut leaves, &opening(), 5).is_ok()
-            && desk.ask(rt, &mut stays, &opening(), 2).is_ok();
-        let cancelled = desk.cancel(rt, &mut cancels, 1).is_ok();
-        desk.leave(rt, leaves);
+        let asked = ask_both(rt, desk, &mut going, 5, 2) && ask_both(rt, desk, &mut cut, 5, 5);
+        let (is_cancelled, cancels) = cut_short(rt, desk, cut);
         self.gate.let_go.store(true, Ordering::SeqCst);
-        let found = is_found(rt, desk, &stays, 1, &opening(), 2);
-        let spent = end_of(rt, desk, &spends, 1) == Outcome::Spent;
-        let ended = end_of(rt, desk, &cancels, 1) == Outcome::Cancelled;
-        let back = has_all_back(rt, desk, &cancels, 64) && has_all_back(rt, desk, &spends, 4);
+        let are_over = are_over(rt, desk, &going) && is_over(rt, desk, &cancels);
         desk.leave(rt, cancels);
-        desk.leave(rt, spends);
-        desk.leave(rt, stays);
-        asked && cancelled && found && spent && ended && back
+        leave_both(rt, desk, going);
+        asked && is_cancelled && are_over
     }
+}
+
+/// The first cancels its job, and the second leaves: the first is still there.
+fn cut_short<L: Hands, R: Wait>(rt: &R, desk: &Desk<L>, pair: Pair<L>) -> (bool, Seat<L>)
+    requires { L.all ≡ L.parts }
+{
+    let Pair { mut one, two } = pair;
+    let is_cancelled = desk.cancel(rt, &mut one, 1).is_ok();
+    desk.leave(rt, two);
+    (is_cancelled, one)
+}
+
+/// Whether the first one's job is spent and all is back, and the second one's is done.
+fn are_over<L: Hands, R: Wait>(rt: &R, desk: &Desk<L>, pair: &Pair<L>) -> bool {
+    is_found(rt, desk, &pair.two, 1, &opening(), 2)
+        && end_of(rt, desk, &pair.one, 1) == Outcome::Spent
+        && has_all_back(rt, desk, &pair.one, 4)
+}
+
+/// Whether a job is cancelled, and all is back.
+fn is_over<L: Hands, R: Wait>(rt: &R, desk: &Desk<L>, seat: &Seat<L>) -> bool {
+    end_of(rt, desk, seat, 1) == Outcome::Cancelled && has_all_back(rt, desk, seat, 64)
 }
 
 /// Whether a seat has no frame, and all its segments.
@@ -208,7 +275,7 @@ fn has_all_back<L: Hands, R: Wait>(rt: &R, desk: &Desk<L>, seat: &Seat<L>, segme
 /// Jobs that are cancelled, spent or left in the midst, after up to four computations: nothing is lost,
 /// and all segments are back.
 #[test]
-fn jobs_end_in_the_midst(rt: HostRuntime) -> Result<(), Fail> {
+fn jobs_end_in_the_midst(rt: HostRuntime) {
     for run in 0..20 {
         let gate = Midst {
             passing: run / 4,
@@ -223,11 +290,7 @@ fn jobs_end_in_the_midst(rt: HostRuntime) -> Result<(), Fail> {
             room: None,
             segments: 196,
         };
-        let played = play(&rt, rt.alloc(), &table).ok_or("no pool")?;
-        assert!(rt; played.content && played.whole, "run {run}");
-        assert!(rt; !gate.late.load(Ordering::SeqCst), "run {run}");
-        assert_eq!(rt; Some(played.pushed), played.taken.checked_add(played.left));
-        assert_eq!(rt; played.free, 196);
+        let adds_up = adds_up(well(&rt, rt.alloc(), &table));
+        assert!(rt; adds_up && !gate.late.load(Ordering::SeqCst), "run {run}");
     }
-    Ok(())
 }

@@ -2,11 +2,10 @@
 ghost use Rattle.std.specs.Prelude.{◌≡◌};
 
 use super::seats::{is_found, opening, seat};
-use super::{Scenario, Table, play};
+use super::{Scenario, Table, well};
 use crate::Open;
 use desk::{Desk, Hands};
 use std::sync::Wait;
-use std::test::Fail;
 use std::thread;
 use std::time::{Clock, CpuClock, Duration};
 
@@ -43,7 +42,7 @@ fn is_short(before: Option<Duration>, after: Option<Duration>) -> bool {
 /// Four workers with nothing to do use less than a twentieth of a second's processor time in a second, and then do what is
 /// asked.
 #[test]
-fn an_idle_pool_sleeps(rt: HostRuntime) -> Result<(), Fail> {
+fn an_idle_pool_sleeps(rt: HostRuntime) {
     let table = Table {
         scenario: &Silence { clock: &rt },
         gate: &Open,
@@ -52,7 +51,5 @@ fn an_idle_pool_sleeps(rt: HostRuntime) -> Result<(), Fail> {
         room: None,
         segments: 8,
     };
-    let played = play(&rt, rt.alloc(), &table).ok_or("no pool")?;
-    assert!(rt; played.content && played.whole);
-    Ok(())
+    assert!(rt; well(&rt, rt.alloc(), &table).is_some());
 }

@@ -2,13 +2,12 @@
 ghost use Rattle.std.specs.Prelude.{◌≡◌};
 
 use super::seats::{is_found, opening, seat};
-use super::{MOST_TURNS, Scenario, Table, play};
+use super::{MOST_TURNS, Scenario, Table, well};
 use crate::{Gate, Task};
 use desk::{Desk, Hands, Seat};
 use sched_rules::Worker;
 use std::sync::Wait;
 use std::sync::atomic::{AtomicBool, Ordering};
-use std::test::Fail;
 use std::thread;
 
 /// The computation of this number waits within a limit until it is let go on.
@@ -79,7 +78,7 @@ impl Scenario for TwoJobs {
 
 /// The first computation of a pool goes on only once the second was begun.
 #[test]
-fn two_computations_overlap(rt: HostRuntime) -> Result<(), Fail> {
+fn two_computations_overlap(rt: HostRuntime) {
     for workers in [2, 8] {
         let gate = is_held(1, true);
         let table = Table {
@@ -90,11 +89,9 @@ fn two_computations_overlap(rt: HostRuntime) -> Result<(), Fail> {
             room: None,
             segments: 8,
         };
-        let played = play(&rt, rt.alloc(), &table).ok_or("no pool")?;
-        assert!(rt; played.content && played.whole);
-        assert!(rt; !gate.late.load(Ordering::SeqCst));
+        let is_well = well(&rt, rt.alloc(), &table).is_some();
+        assert!(rt; is_well && !gate.late.load(Ordering::SeqCst));
     }
-    Ok(())
 }
 
 /// How often the scenario lets others run, so that workers with nothing to do fall asleep.
@@ -122,7 +119,7 @@ impl Scenario for OneJob {
 /// A worker's step that makes a frame ready wakes a worker that sleeps: while the job's second
 /// computation waits, another worker begins the third.
 #[test]
-fn a_ready_frame_wakes_a_worker(rt: HostRuntime) -> Result<(), Fail> {
+fn a_ready_frame_wakes_a_worker(rt: HostRuntime) {
     for workers in [2, 8] {
         let gate = is_held(2, true);
         let table = Table {
@@ -133,11 +130,9 @@ fn a_ready_frame_wakes_a_worker(rt: HostRuntime) -> Result<(), Fail> {
             room: None,
             segments: 16,
         };
-        let played = play(&rt, rt.alloc(), &table).ok_or("no pool")?;
-        assert!(rt; played.content && played.whole);
-        assert!(rt; !gate.late.load(Ordering::SeqCst));
+        let is_well = well(&rt, rt.alloc(), &table).is_some();
+        assert!(rt; is_well && !gate.late.load(Ordering::SeqCst));
     }
-    Ok(())
 }
 
 /// A first seat's job is computed when the seat leaves, or cancels it; a second seat's job ends all the
@@ -199,7 +194,7 @@ fn goes_on<L: Hands, R: Wait>(rt: &R, desk: &Desk<L>, gate: &Held, seat: Seat<L>
 /// An answer that comes after its tenant has left, or after its job was cancelled, is refused, and the
 /// pool goes on: the badge counts the two steps before the answer, and the five of the other job.
 #[test]
-fn late_answers(rt: HostRuntime) -> Result<(), Fail> {
+fn late_answers(rt: HostRuntime) {
     for leaves in [true, false] {
         let gate = is_held(1, false);
         let table = Table {
@@ -213,9 +208,7 @@ fn late_answers(rt: HostRuntime) -> Result<(), Fail> {
             room: None,
             segments: 8,
         };
-        let played = play(&rt, rt.alloc(), &table).ok_or("no pool")?;
-        assert!(rt; played.content && played.whole);
-        assert_eq!(rt; (played.share, played.free), (2 + 5, 8));
+        let played = well(&rt, rt.alloc(), &table);
+        assert!(rt; matches!(played, Some(played) if played.share == 2 + 5));
     }
-    Ok(())
 }

@@ -6,7 +6,6 @@ use super::{Played, Scenario, Table, play};
 use crate::Open;
 use desk::{Desk, Hands};
 use std::sync::Wait;
-use std::test::Fail;
 use tenant_quota::Left;
 
 /// The opening is asked to depth 1, and the quota read.
@@ -33,7 +32,7 @@ impl Scenario for OneJob {
 
 /// One worker, the opening to depth 1 at grain 0: 36 steps, 8 tasks pushed and taken.
 #[test]
-fn one_worker_counted(rt: HostRuntime) -> Result<(), Fail> {
+fn one_worker_counted(rt: HostRuntime) {
     let table = Table {
         scenario: &OneJob,
         gate: &Open,
@@ -52,5 +51,4 @@ fn one_worker_counted(rt: HostRuntime) -> Result<(), Fail> {
         free: 8,
     };
     assert_eq!(rt; play(&rt, rt.alloc(), &table), Some(wanted));
-    Ok(())
 }

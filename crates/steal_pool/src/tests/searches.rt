@@ -2,7 +2,7 @@
 ghost use Rattle.std.specs.Prelude.{◌≡◌};
 
 use super::seats::{is_found, opening, seat};
-use super::{Scenario, Table, play};
+use super::{Scenario, Table, well};
 use crate::{Gate, Task};
 use desk::{Desk, Hands, Seat};
 use othello_board::Board;
@@ -10,7 +10,6 @@ use position_text::{Position, Side};
 use sched_rules::Worker;
 use std::sync::Wait;
 use std::sync::atomic::{AtomicBool, AtomicU64, Ordering};
-use std::test::Fail;
 use std::time::{Clock, CpuClock, Duration};
 use std::{io, thread};
 
@@ -31,6 +30,19 @@ struct Long<'c, C> {
     over_at: AtomicU64,
     is_beside: AtomicBool,
     is_late: AtomicBool,
+}
+
+/// A gate of which nothing has begun.
+fn gate_of<C>(clock: &C) -> Long<'_, C> {
+    Long {
+        clock,
+        began: AtomicU64::new(0),
+        before: AtomicU64::new(0),
+        over: AtomicU64::new(0),
+        over_at: AtomicU64::new(0),
+        is_beside: AtomicBool::new(false),
+        is_late: AtomicBool::new(false),
+    }
 }
 
 /// Whether a count comes to so many within ten seconds.
@@ -149,17 +161,9 @@ fn ask_short<L: Hands, R: Wait>(rt: &R, desk: &Desk<L>, seat: &mut Seat<L>) -> b
 /// A worker does short searches while another is in the midst of a long one: in one try at least, as the system may let
 /// the long one end before the short ones are asked.
 #[test]
-fn a_short_search_is_over_before_a_long_one(rt: HostRuntime) -> Result<(), Fail> {
+fn a_short_search_is_over_before_a_long_one(rt: HostRuntime) {
     for _ in 0..TRIES {
-        let gate = Long {
-            clock: &rt,
-            began: AtomicU64::new(0),
-            before: AtomicU64::new(0),
-            over: AtomicU64::new(0),
-            over_at: AtomicU64::new(0),
-            is_beside: AtomicBool::new(false),
-            is_late: AtomicBool::new(false),
-        };
+        let gate = gate_of(&rt);
         let table = Table {
             scenario: &Beside { gate: &gate },
             gate: &gate,
@@ -168,11 +172,13 @@ fn a_short_search_is_over_before_a_long_one(rt: HostRuntime) -> Result<(), Fail>
             room: None,
             segments: 128,
         };
-        let played = play(&rt, rt.alloc(), &table).ok_or("no pool")?;
-        assert!(rt; played.content && played.whole);
-        assert!(rt; !gate.is_late.load(Ordering::SeqCst), "a search waits");
+        let is_well = well(&rt, rt.alloc(), &table).is_some();
+        assert!(rt;
+            is_well && !gate.is_late.load(Ordering::SeqCst),
+            "a search waits"
+        );
         if gate.is_beside.load(Ordering::SeqCst) {
-            return Ok(());
+            return;
         }
     }
     panic!(rt; "one search holds up another")
