@@ -2,6 +2,7 @@
 use Rattle.std.proofs.Common.{◌≡◌, ℕ, ◌+◌, ◌≤◌, List, length, get_or, set}
 use Rattle.frame_tree.specs.Frames.{Frame, TenantTree, ready_frames}
 use Rattle.frame_table.specs.Tables.{frames_of, KeepsOthers, IsSoundTable, IsAt, IsTreeOf}
+use Rattle.frame_table.proofs.Raises.{HasRaised}
 use Rattle.frame_table.proofs.Tenants.{ready_of, at_tree, IsWithin, is_within, HasChanged, changed_sound, changed_frames, changed_keeps}
 
 -- where it stands, whose it is, and its bounds
@@ -30,3 +31,7 @@ new_keeps tree now = changed_keeps _ _ _ _ _ _ (changed tree now)
 pub new_sound : {T : Type 0} {trees : List (TenantTree T)} {room ready tenant at : ℕ} {x y : TenantTree T} {frames : List (Frame T)} {now : ℕ} → HasTree trees room ready tenant at x → y ≡ record x { frames = frames } → length frames ≤ x.places → now + ready_of x ≡ ready + length (ready_frames frames) →
     IsSoundTable (set trees at y) room now
 new_sound tree now = changed_sound _ _ _ _ _ _ _ _ _ tree.sound (changed tree now)
+
+-- other places for it
+pub raised_tree : {T : Type 0} {trees : List (TenantTree T)} {room ready tenant at : ℕ} {x y : TenantTree T} {places : ℕ} → HasTree trees room ready tenant at x → y ≡ record x { places = places } → HasRaised trees tenant at x y places
+raised_tree tree now = record { here = tree.here; was = tree.was; now = now }
