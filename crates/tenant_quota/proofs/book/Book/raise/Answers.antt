@@ -8,7 +8,7 @@ use Rattle.tenant_quota.specs.declared.account.Account.{Account}
 use Rattle.tenant_quota.specs.declared.book.Rest.{Rest}
 use Rattle.tenant_quota.specs.Reservations.{Reservations, reserve_of, rest_of, HasRoomFor, IsBeyond, CanRaise, IsTooMuch, IsLower, IsSoundBook}
 use Rattle.tenant_quota.specs.Keeping.{held_by}
-use Rattle.tenant_quota.proofs.Standing.{and_at, and_from, if_from, place_within, stands_for, IsRaise, raise_by_write}
+use Rattle.tenant_quota.proofs.Standing.{and_at, and_from, if_from, place_within, stands_for, IsRaise, raise_by_write, one_less}
 use Rattle.tenant_quota.proofs.Places.{account_place, read-rising}
 use Rattle.tenant_quota.proofs.book.Book.raise.Given.{Over}
 use Rattle.tenant_quota.proofs.book.Book.raise.Goals.{After-index_mut}
@@ -96,10 +96,6 @@ no_less a b m n is less above = rw (is, less) above
 sum_raised : (kept old new now quota more : ℕ) → new + now ≡ old + quota → kept ≡ old → more ≡ quota - now → now ≤ quota → kept + more ≡ new
 sum_raised kept old new now quota more raises is more_is above = omega (arith, raises, is, more_is, above)
 
-one_less : (a b m n : ℕ) → (a < m) ⊎ ((m ≤ a) × (b < n)) → (a < m) ⊎ (b < n)
-one_less a b m n (inl less) = inl less
-one_less a b m n (inr less) = inr less.1
-
 -- a reservation that the rest of a total doesn't allow, and one that both allow, as the code compares them
 too_much : (b : Reservations) (t : ℕ) (quota now : Quota) (r : Rest) (s s_now n n_now : ℕ) → IsSoundBook b → reserve_of t b ≡ Some now → r ≡ rest_of b → IsAbove now quota → s ≡ quota.segments → s_now ≡ now.segments → n ≡ quota.nodes → n_now ≡ now.nodes →
     (r.segments < s - s_now) ⊎ ((s - s_now ≤ r.segments) × (r.nodes < n - n_now)) → IsRefused b t quota
@@ -129,9 +125,7 @@ pub place_of-place-requires : goal.place_of-place-requires
 place_of-place-requires g c = read-rising c.self.inside.accounts.items _ c.deref.ensures.value c.self.invariant.sound.rising
 
 pub index_mut-requires : goal.index_mut-requires
-index_mut-requires g c =
-    let within = place_within (held_by c.self.inside) c.args.tenant _ _ c.self.invariant.sound (rw (← c.self.view_is) at c.requires) c.deref.ensures.value c.place_of-place.ensures in
-    omega (arith, c.deref.ensures.len, ap length c.deref.ensures.value)
+index_mut-requires g c = let within = place_within (held_by c.self.inside) c.args.tenant _ _ c.self.invariant.sound (rw (← c.self.view_is) at c.requires) c.deref.ensures.value c.place_of-place.ensures in omega (arith, c.deref.ensures.len, ap length c.deref.ensures.value)
 
 pub returns-then-not-is_above-clause-ok : goal.returns-then-not-is_above-clause-ok
 returns-then-not-is_above-clause-ok g c =
