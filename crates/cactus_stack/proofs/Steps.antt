@@ -32,6 +32,9 @@ charges-are-taken region lens lists sound view = rw (← view) (charges-lists_fr
 pub places-are-segments : (region : Segments) (lens : List ℕ) (lists : Lists) → AreSoundLists region lens → lists_from region 0 lens ≡ lists → length lists ≡ length region
 places-are-segments region lens lists sound view = rw (← view) (length-lists_from region 0 lens ∙ sound.places)
 
+pub all-taken : (region : Segments) (lens : List ℕ) (lists : Lists) → AreSoundLists region lens → lists_from region 0 lens ≡ lists → (sum_by list_charge lists ≡ taken_count region) × (length lists ≡ length region)
+all-taken region lens lists sound view = (charges-are-taken region lens lists sound view, places-are-segments region lens lists sound view)
+
 -- what is known of a list that is there
 pub record IsListed (region : Segments) (lens : List ℕ) (lists : Lists) (n : ℕ) : Type 0 where
   pub some : 0 < get_or lens n 0
@@ -53,6 +56,17 @@ listed region lens lists n sound view is_there =
       len = ap length words ∙ length-words_in region n (get_or lens n 0) (sound.sound n);
       sound = sound.sound n;
     }
+
+-- the same where its length was read at the node's first segment
+pub record IsRead (region : Segments) (lens : List ℕ) (lists : Lists) (n at len : ℕ) : Type 0 where
+  pub it : IsListed region lens lists n
+  pub at_node : at ≡ n
+  pub kept : len ≡ get_or lens n 0
+
+pub is_read : (region : Segments) (lens : List ℕ) (lists : Lists) (n first at len : ℕ) → AreSoundLists region lens → lists_from region 0 lens ≡ lists → IsSome (list_at lists n) → at ≡ first → first ≡ n → len ≡ get_or lens at len → IsRead region lens lists n at len
+is_read region lens lists n first at len sound view is_there at_first first_is read =
+    let it = listed region lens lists n sound view is_there in
+    record { it = it; at_node = at_first ∙ first_is; kept = read_len lens at n len (at_first ∙ first_is) read it.within }
 
 -- a list that is changed to these words
 pub changed-to : (old new : Segments) (lens : List ℕ) (lists : Lists) (n len : ℕ) (words : List ℕ) → IsChange old new lens n len → 0 < len → words_in new n len ≡ words → lists_from old 0 lens ≡ lists → lists_from new 0 (set lens n len) ≡ set lists n (Some words)

@@ -12,7 +12,7 @@ use Rattle.sched_rules.specs.declared.step.StepOf.TheVariants.{Advance, Answer}
 use Rattle.sched_rules.specs.declared.step.DidOf.{DidOf}
 use Rattle.sched_rules.specs.declared.step.DidOf.TheVariants.{Went, Grew, Spawned, Waited, Computing as IsComputing, Returned as HasReturned}
 use Rattle.sched_rules.specs.Functions.{Functions}
-use Rattle.sched_rules.specs.Trees.{Tenant, has_child, is_held_by, is_root}
+use Rattle.sched_rules.specs.Trees.{Tenant, stored, has_child, is_held_by, is_root}
 use Rattle.sched_rules.specs.Lone.{unless, act_tests, is_computed_by, is_run_by, holding, opened, in_state, answer_tests, answered, advance_tests, advanced, act_of, then_done}
 use Rattle.sched_rules.specs.Changes.{on_tenant}
 use Rattle.sched_rules.specs.Views.{named}
@@ -184,3 +184,21 @@ held-by-runner shared name worker after tenant frame on =
     let owner = on.owner in
     let found = on.found in
     rw (owner, found) (run-held worker frame.state on.runs)
+
+-- an answer that the frame's tenant allows, once the procedure's stores of it are made
+pub record IsAnswered {I A : Type 0} (functions : Functions I A) (shared : Shared) (worker : ℕ) (name : FrameId) (answer : A) (now : Shared) : Type 0 where
+  pub going : IsGoing functions shared (Answer worker name answer) name (λ tenant frame. answer_tests functions tenant worker frame answer) (λ tenant frame. answered functions tenant worker frame answer)
+  pub has_words : IsWith shared name.tenant (holding name.serial (stored (functions.accept going.frame.value answer) going.frame.value) going.tenant) now
+  pub has_frame : frame_at (holding name.serial (stored (functions.accept going.frame.value answer) going.frame.value) going.tenant).frames name.serial ≡ Some (record going.frame { value = stored (functions.accept going.frame.value answer) going.frame.value })
+
+pub is-answered : {I A : Type 0} (functions : Functions I A) (shared : Shared) (worker : ℕ) (name : FrameId) (answer : A) (now : Shared) → None ≡ shared_refusal functions shared (Answer worker name answer) →
+    now ≡ on_tenant name.tenant (holding name.serial (stored (functions.accept (words_under shared name) answer) (words_under shared name))) shared → IsAnswered functions shared worker name answer now
+is-answered functions shared worker name answer now none is =
+    let t = answer-going functions shared worker name answer none in
+    let own = named-words shared name t.tenant t.frame t.owner t.found in
+    let words = stored (functions.accept t.frame.value answer) t.frame.value in
+    record {
+      going = t;
+      has_words = then-changed _ _ _ _ now (holding name.serial words) (begins shared name.tenant t.tenant t.owner) (rw own at is);
+      has_frame = held-found name words t.tenant t.frame t.found;
+    }

@@ -109,6 +109,7 @@ abort-closes parts name numbers stored is =
 
 -- what an abort was told by the table, the stack and the book
 pub record IsAborted (parts : Parts) (nodes : Nodes) (trees : List (TenantTree ℕ)) (book : Reservations) (name : FrameId) (numbers : List ℕ) (before later : ℕ) : Type 0 where
+  pub some : IsSome (named (shared_of parts) name)
   pub values : numbers ≡ values_of (frames_under name.serial (frames_of parts.trees name.tenant))
   pub closed_all : nodes ≡ without parts.nodes numbers
   pub was_free : before + total_charge parts.nodes ≡ length parts.nodes
@@ -147,11 +148,11 @@ abort-frees parts nodes name numbers before later stored some values closed_all 
       charged = can-give-back parts name.tenant (later - before) (stays name.serial) stored there.account there.there frees;
     }
 
-abort-removal : (parts : Parts) (nodes : Nodes) (trees : List (TenantTree ℕ)) (book : Reservations) (name : FrameId) (numbers : List ℕ) (before later : ℕ) → IsStored parts → IsSome (named (shared_of parts) name) →
+abort-removal : (parts : Parts) (nodes : Nodes) (trees : List (TenantTree ℕ)) (book : Reservations) (name : FrameId) (numbers : List ℕ) (before later : ℕ) → IsStored parts →
     IsAborted parts nodes trees book name numbers before later → IsRemoval parts trees book name.tenant (later - before) (stays name.serial)
-abort-removal parts nodes trees book name numbers before later stored some is =
-    let there = is-there parts stored name some in
-    let freed = abort-frees parts nodes name numbers before later stored some is.values is.closed_all is.was_free is.is_free in
+abort-removal parts nodes trees book name numbers before later stored is =
+    let there = is-there parts stored name is.some in
+    let freed = abort-frees parts nodes name numbers before later stored is.some is.values is.closed_all is.was_free is.is_free in
     record {
       account = there.account;
       there = there.there;
@@ -173,26 +174,26 @@ closed-same : (parts : Parts) (nodes : Nodes) (name : FrameId) (numbers : List �
 closed-same parts nodes name numbers values closed_all =
     ap (without parts.nodes) (closing-under name.serial (frames_of parts.trees name.tenant) ∙ sym values) ∙ sym closed_all
 
-pub abort-stored : (parts : Parts) (nodes : Nodes) (trees : List (TenantTree ℕ)) (book : Reservations) (name : FrameId) (numbers : List ℕ) (before later : ℕ) → IsStored parts → IsSome (named (shared_of parts) name) →
+pub abort-stored : (parts : Parts) (nodes : Nodes) (trees : List (TenantTree ℕ)) (book : Reservations) (name : FrameId) (numbers : List ℕ) (before later : ℕ) → IsStored parts →
     IsAborted parts nodes trees book name numbers before later → IsStored (with_parts parts nodes trees book)
-abort-stored parts nodes trees book name numbers before later stored some is =
-    let removal = abort-removal parts nodes trees book name numbers before later stored some is in
+abort-stored parts nodes trees book name numbers before later stored is =
+    let removal = abort-removal parts nodes trees book name numbers before later stored is in
     subst (λ (n : Nodes). IsStored (with_parts parts n trees book)) (closed-same parts nodes name numbers is.values is.closed_all)
     (removed-stored parts trees book name.tenant (later - before) (stays name.serial) stored removal)
 
-abort-frames : (parts : Parts) (nodes : Nodes) (trees : List (TenantTree ℕ)) (book : Reservations) (name : FrameId) (numbers : List ℕ) (before later : ℕ) → IsStored parts → IsSome (named (shared_of parts) name) →
+abort-frames : (parts : Parts) (nodes : Nodes) (trees : List (TenantTree ℕ)) (book : Reservations) (name : FrameId) (numbers : List ℕ) (before later : ℕ) → IsStored parts →
     IsAborted parts nodes trees book name numbers before later →
     worded (without parts.nodes (closing parts.trees name.tenant (stays name.serial))) (frames_of trees name.tenant) ≡ aborted name.serial (worded parts.nodes (frames_of parts.trees name.tenant))
-abort-frames parts nodes trees book name numbers before later stored some is =
-    let removal = abort-removal parts nodes trees book name numbers before later stored some is in
+abort-frames parts nodes trees book name numbers before later stored is =
+    let removal = abort-removal parts nodes trees book name numbers before later stored is in
     own-words parts trees book name.tenant (later - before) (stays name.serial) stored removal
     ∙ sym (aborted-map_values (node_words parts.nodes) name.serial (frames_of parts.trees name.tenant))
 
-pub abort-shared : (parts : Parts) (nodes : Nodes) (trees : List (TenantTree ℕ)) (book : Reservations) (name : FrameId) (numbers : List ℕ) (before later : ℕ) → IsStored parts → IsSome (named (shared_of parts) name) →
+pub abort-shared : (parts : Parts) (nodes : Nodes) (trees : List (TenantTree ℕ)) (book : Reservations) (name : FrameId) (numbers : List ℕ) (before later : ℕ) → IsStored parts →
     IsAborted parts nodes trees book name numbers before later → shared_of (with_parts parts nodes trees book) ≡ on_tenant name.tenant (without_under name.serial) (shared_of parts)
-abort-shared parts nodes trees book name numbers before later stored some is =
-    let removal = abort-removal parts nodes trees book name numbers before later stored some is in
-    let frames = abort-frames parts nodes trees book name numbers before later stored some is in
+abort-shared parts nodes trees book name numbers before later stored is =
+    let removal = abort-removal parts nodes trees book name numbers before later stored is in
+    let frames = abort-frames parts nodes trees book name numbers before later stored is in
     subst (λ (n : Nodes). shared_of (with_parts parts n trees book) ≡ on_tenant name.tenant (without_under name.serial) (shared_of parts)) (closed-same parts nodes name numbers is.values is.closed_all)
     (removed-shared parts trees book name.tenant (later - before) (stays name.serial) (without_under name.serial) stored removal (ap (with-frames removal.account) frames))
   where

@@ -60,6 +60,7 @@ room-found parts stored quota not_full =
 
 -- what can be admitted
 pub record CanBeAdmitted (parts : Parts) (number : ℕ) (quota : Quota) : Type 0 where
+  pub newer : parts.newest < number
   pub nobody : account_of number parts.book.accounts ≡ None
   pub no_places : places_of parts.trees number ≡ 0
   pub few_trees : tenant_count parts.trees < 64
@@ -67,14 +68,16 @@ pub record CanBeAdmitted (parts : Parts) (number : ℕ) (quota : Quota) : Type 0
   pub below : AreBelow number (numbers_of parts.ledgers)
   pub room : HasRoom parts.book quota
 
-pub can-be-admitted : (parts : Parts) (number : ℕ) (quota : Quota) → IsStored parts → parts.newest < number → is_full (reservations_in (shared_of parts)) quota ≡ false → CanBeAdmitted parts number quota
-can-be-admitted parts number quota stored newer not_full =
-    let room = room-found parts stored quota not_full in
+pub can-be-admitted : (parts : Parts) (number : ℕ) (quota : Quota) {core : Shared} → IsStored parts → shared_of parts ≡ core → core.newest < number → is_full (reservations_in core) quota ≡ false → CanBeAdmitted parts number quota
+can-be-admitted parts number quota stored is above not_full =
+    let newer = subst (λ (s : Shared). s.newest < number) (sym is) above in
+    let room = room-found parts stored quota (subst (λ (s : Shared). is_full (reservations_in s) quota ≡ false) (sym is) not_full) in
     let none = newer-missing parts.newest number parts.book.accounts stored.taken newer in
     let few = room.tenants in
     let trees = stored.tenants in
     let ledgers = many-ledgers parts stored in
     record {
+      newer = newer;
       nobody = none;
       no_places = stored.nobody number none;
       few_trees = omega (arith, few, trees);

@@ -92,6 +92,7 @@ has-value (Some f) node is = (f, refl, is)
 
 -- what a removal was told by the table, the stack and the book
 pub record IsRemoved (parts : Parts) (nodes : Nodes) (trees : List (TenantTree ℕ)) (book : Reservations) (name : FrameId) (node before later : ℕ) : Type 0 where
+  pub some : IsSome (named (shared_of parts) name)
   pub leaf : children_of (frames_of parts.trees name.tenant) name.serial ≡ []
   pub value : HasValue (frame_in parts.trees name.tenant name.serial) node
   pub closed_one : nodes ≡ with_node parts.nodes node None
@@ -136,11 +137,11 @@ leaf-frees parts nodes name node before later stored some value closed_one was_f
       charged = can-give-back parts name.tenant (later - before) (others_stay name.serial) stored there.account there.there freed.1;
     }
 
-leaf-removal : (parts : Parts) (nodes : Nodes) (trees : List (TenantTree ℕ)) (book : Reservations) (name : FrameId) (node before later : ℕ) → IsStored parts → IsSome (named (shared_of parts) name) →
+leaf-removal : (parts : Parts) (nodes : Nodes) (trees : List (TenantTree ℕ)) (book : Reservations) (name : FrameId) (node before later : ℕ) → IsStored parts →
     IsRemoved parts nodes trees book name node before later → IsRemoval parts trees book name.tenant (later - before) (others_stay name.serial)
-leaf-removal parts nodes trees book name node before later stored some is =
-    let there = is-there parts stored name some in
-    let freed = leaf-frees parts nodes name node before later stored some is.value is.closed_one is.was_free is.is_free in
+leaf-removal parts nodes trees book name node before later stored is =
+    let there = is-there parts stored name is.some in
+    let freed = leaf-frees parts nodes name node before later stored is.some is.value is.closed_one is.was_free is.is_free in
     let F = frames_of parts.trees name.tenant in
     record {
       account = there.account;
@@ -163,17 +164,17 @@ closed-same : (parts : Parts) (nodes : Nodes) (name : FrameId) (node : ℕ) → 
     without parts.nodes (closing parts.trees name.tenant (others_stay name.serial)) ≡ nodes
 closed-same parts nodes name node stored value closed_one = ap (without parts.nodes) (closes-one parts name node stored value) ∙ sym closed_one
 
-pub remove-stored : (parts : Parts) (nodes : Nodes) (trees : List (TenantTree ℕ)) (book : Reservations) (name : FrameId) (node before later : ℕ) → IsStored parts → IsSome (named (shared_of parts) name) →
+pub remove-stored : (parts : Parts) (nodes : Nodes) (trees : List (TenantTree ℕ)) (book : Reservations) (name : FrameId) (node before later : ℕ) → IsStored parts →
     IsRemoved parts nodes trees book name node before later → IsStored (with_parts parts nodes trees book)
-remove-stored parts nodes trees book name node before later stored some is =
-    let removal = leaf-removal parts nodes trees book name node before later stored some is in
+remove-stored parts nodes trees book name node before later stored is =
+    let removal = leaf-removal parts nodes trees book name node before later stored is in
     subst (λ (n : Nodes). IsStored (with_parts parts n trees book)) (closed-same parts nodes name node stored is.value is.closed_one)
     (removed-stored parts trees book name.tenant (later - before) (others_stay name.serial) stored removal)
 
-pub remove-shared : (parts : Parts) (nodes : Nodes) (trees : List (TenantTree ℕ)) (book : Reservations) (name : FrameId) (node before later : ℕ) → IsStored parts → IsSome (named (shared_of parts) name) →
+pub remove-shared : (parts : Parts) (nodes : Nodes) (trees : List (TenantTree ℕ)) (book : Reservations) (name : FrameId) (node before later : ℕ) → IsStored parts →
     IsRemoved parts nodes trees book name node before later → shared_of (with_parts parts nodes trees book) ≡ on_tenant name.tenant (without_frame name.serial) (shared_of parts)
-remove-shared parts nodes trees book name node before later stored some is =
-    let removal = leaf-removal parts nodes trees book name node before later stored some is in
+remove-shared parts nodes trees book name node before later stored is =
+    let removal = leaf-removal parts nodes trees book name node before later stored is in
     let frames = own-words parts trees book name.tenant (later - before) (others_stay name.serial) stored removal ∙ sym (frames_without-map_values (node_words parts.nodes) name.serial (frames_of parts.trees name.tenant)) in
     subst (λ (n : Nodes). shared_of (with_parts parts n trees book) ≡ on_tenant name.tenant (without_frame name.serial) (shared_of parts)) (closed-same parts nodes name node stored is.value is.closed_one)
     (removed-shared parts trees book name.tenant (later - before) (others_stay name.serial) (without_frame name.serial) stored removal (ap (with-frames removal.account) frames))

@@ -13,21 +13,33 @@ use Rattle.frame_tree.proofs.TreeLaws.{found-each, tree-rising, there-found}
 use Rattle.frame_tree.proofs.TreeValues.{has_frame-map_values}
 use Rattle.sched_rules.specs.Trees.{charged_for}
 use Rattle.sched_rules.specs.Lone.{is_frame_size}
+use Rattle.sched_rules.specs.Cores.{Shared}
 use Rattle.sched_store.specs.Parts.{Parts, worded, shared_of}
-use Rattle.sched_store.specs.Reads.{frames_in, serials_in}
+use Rattle.sched_store.specs.Reads.{frames_in, serials_in, HasLeft}
 use Rattle.sched_store.specs.Stored.{IsStored, node_of, node_above}
 use Rattle.sched_store.proofs.Lookups.{frames-found, tenant-found}
 use Rattle.sched_store.proofs.States.{charged-cons}
+use Rattle.sched_store.proofs.Tenants.{left-account}
 
 -- the serials that were given are the nodes that were opened
 pub serials-found : (parts : Parts) (number : ℕ) (account : Account) → account_of number parts.book.accounts ≡ Some account → serials_in (shared_of parts) number ≡ account.opened
 serials-found parts number account there = rw (tenant-found parts number, there) refl
+
+-- the account of a tenant that has left what an opening takes
+pub left-for : (parts : Parts) (number size : ℕ) {core : Shared} → IsStored parts → shared_of parts ≡ core → HasLeft core number (charge size) 1 →
+    (a : Account) × ((account_of number parts.book.accounts ≡ Some a) × ((charge size ≤ (left_in a).segments) × (1 ≤ (left_in a).nodes)))
+left-for parts number size stored is left =
+    left-account parts stored number (λ l. (charge size ≤ l.segments) × (1 ≤ l.nodes)) (subst (λ (s : Shared). HasLeft s number (charge size) 1) (sym is) left)
 
 -- a parent among frames with words is one of the table's
 pub parent-found : (parts : Parts) → IsStored parts → (number : ℕ) (parent : Option ℕ) → has_parent (frames_in (shared_of parts) number) parent ≡ true → has_parent (frames_of parts.trees number) parent ≡ true
 parent-found parts stored number None there = refl
 parent-found parts stored number (Some p) there =
     sym (has_frame-map_values (node_words parts.nodes) (frames_of parts.trees number) p) ∙ (let found = rw (frames-found parts stored number) at there in found)
+
+-- the same of a core that the parts show
+pub parent-for : (parts : Parts) (number : ℕ) (parent : Option ℕ) {core : Shared} → IsStored parts → shared_of parts ≡ core → has_parent (frames_in core number) parent ≡ true → has_parent (frames_of parts.trees number) parent ≡ true
+parent-for parts number parent stored is there = parent-found parts stored number parent (subst (λ (s : Shared). has_parent (frames_in s number) parent ≡ true) (sym is) there)
 
 pub parent-open : (parts : Parts) → IsStored parts → (number : ℕ) (parent above : Option ℕ) → has_parent (frames_of parts.trees number) parent ≡ true → above ≡ node_above (frames_of parts.trees number) parent → IfSome above (IsOpen parts.nodes)
 parent-open parts stored number None above there is = let P : Option ℕ → Type 0 = λ o. IfSome o (IsOpen parts.nodes) in subst P (sym is) tt

@@ -1,5 +1,5 @@
 -- A tenant's reservation is raised: its account and its places, and nothing else.
-use Rattle.std.proofs.Common.{◌≡◌, ◌≢◌, ℕ, ◌+◌, ◌<◌, ◌≤◌, ◌⊎◌, inl, inr, false, ◌||◌, ◌&&◌, ◌==◌, List, Option, Some, None, option_map, refl, ap, sym, ◌∙◌, subst, arith}
+use Rattle.std.proofs.Common.{◌≡◌, ℕ, ◌+◌, ◌<◌, ◌≤◌, ◌⊎◌, inl, inr, false, ◌||◌, ◌&&◌, ◌==◌, List, Option, Some, None, option_map, refl, ap, sym, ◌∙◌, subst, arith}
 use Rattle.std.specs.Prelude.{nat_lt}
 use Rattle.std.proofs.lemmas.Bool.{cases_eq}
 use Rattle.std.proofs.lemmas.Bool.Decides.{nat_tests}
@@ -12,11 +12,11 @@ use Rattle.frame_tree.specs.Frames.{Frame, frame_at, AllBelow, TenantTree}
 use Rattle.frame_table.specs.Tables.{frames_of, places_of, tenant_count, KeepsOtherTenants}
 use Rattle.sched_rules.specs.Trees.{charged_for}
 use Rattle.sched_rules.specs.Lone.{is_lower}
-use Rattle.sched_rules.specs.Cores.{tenant_in, reservations_in, reserved_by, is_beyond}
+use Rattle.sched_rules.specs.Cores.{Shared, tenant_in, reservations_in, reserved_by, is_beyond}
 use Rattle.sched_rules.specs.Changes.{on_tenant, with_reserve}
 use Rattle.sched_store.specs.Parts.{Parts, worded, tenant_from, shared_of}
 use Rattle.sched_store.specs.Reads.{IsAboveOwn}
-use Rattle.sched_store.specs.Stored.{IsStored, IsAccountFor}
+use Rattle.sched_store.specs.Stored.{IsStored}
 use Rattle.sched_store.proofs.Lookups.{tenant-found, reservations-found}
 use Rattle.sched_store.proofs.Admitting.{same-belongs}
 use Rattle.sched_store.proofs.Steps.{TenantStep, step-stored, step-shared}
@@ -49,10 +49,16 @@ pub record CanBeRaised (parts : Parts) (number : ℕ) (quota : Quota) : Type 0 w
   pub places : places_of parts.trees number ≡ account.reserve.segments
   pub some : 1 ≤ account.reserve.segments
 
-pub can-be-raised : (parts : Parts) (number : ℕ) (quota : Quota) → IsStored parts → IsAboveOwn (tenant_in (shared_of parts).tenants number) quota →
-    is_beyond (reservations_in (shared_of parts)) (reserved_by (tenant_in (shared_of parts).tenants number)) quota ≡ false → CanBeRaised parts number quota
-can-be-raised parts number quota stored above room = by (account_of number parts.book.accounts) refl
+pub can-be-raised : (parts : Parts) (number : ℕ) (quota : Quota) {core : Shared} → IsStored parts → shared_of parts ≡ core → IsAboveOwn (tenant_in core.tenants number) quota →
+    is_beyond (reservations_in core) (reserved_by (tenant_in core.tenants number)) quota ≡ false → CanBeRaised parts number quota
+can-be-raised parts number quota stored is own_above own_room = by (account_of number parts.book.accounts) refl
   where
+    above : IsAboveOwn (tenant_in (shared_of parts).tenants number) quota
+    above = subst (λ (s : Shared). IsAboveOwn (tenant_in s.tenants number) quota) (sym is) own_above
+
+    room : is_beyond (reservations_in (shared_of parts)) (reserved_by (tenant_in (shared_of parts).tenants number)) quota ≡ false
+    room = subst (λ (s : Shared). is_beyond (reservations_in s) (reserved_by (tenant_in s.tenants number)) quota ≡ false) (sym is) own_room
+
     by : (own : Option Account) → account_of number parts.book.accounts ≡ own → CanBeRaised parts number quota
     by None none = absurd (let nobody = tenant-found parts number ∙ ap (λ (o : Option Account). option_map (tenant_from parts number) o) none in rw nobody at above)
     by (Some account) there =
@@ -75,25 +81,26 @@ pub book-raises : (parts : Parts) (number : ℕ) (quota : Quota) → CanBeRaised
 book-raises parts number quota can = rw can.there (can.above, can.room)
 
 -- what was told by the table and the book
-pub record IsRaised (parts : Parts) (trees : List (TenantTree ℕ)) (book : Reservations) (number : ℕ) (quota : Quota) (account : Account) : Type 0 where
-  pub there : account_of number parts.book.accounts ≡ Some account
+pub record IsRaised (parts : Parts) (trees : List (TenantTree ℕ)) (book : Reservations) (number : ℕ) (quota : Quota) : Type 0 where
+  pub can : CanBeRaised parts number quota
   pub places : places_of trees number ≡ quota.segments
   pub frames : frames_of trees number ≡ frames_of parts.trees number
   pub kept : KeepsOtherTenants parts.trees trees number
   pub count : tenant_count trees ≡ tenant_count parts.trees
-  pub raises : Raises parts.book book number quota account.reserve
+  pub raises : Raises parts.book book number quota can.account.reserve
   pub sound : IsSoundBook book
 
 -- the parts after it
 abbrev pub with_more : Parts → List (TenantTree ℕ) → Reservations → Parts
 with_more parts trees book = record parts { trees = trees; book = book }
 
-raise-step : (parts : Parts) (trees : List (TenantTree ℕ)) (book : Reservations) (number : ℕ) (quota : Quota) (account : Account) → IsStored parts → IsRaised parts trees book number quota account →
-    TenantStep parts (with_more parts trees book) number (raised_to quota) account
-raise-step parts trees book number quota account stored is =
-    let own = stored.accounts number account is.there in
+raise-step : (parts : Parts) (trees : List (TenantTree ℕ)) (book : Reservations) (number : ℕ) (quota : Quota) → IsStored parts → (is : IsRaised parts trees book number quota) →
+    TenantStep parts (with_more parts trees book) number (raised_to quota) is.can.account
+raise-step parts trees book number quota stored is =
+    let account = is.can.account in
+    let own = stored.accounts number account is.can.there in
     record {
-      there = is.there;
+      there = is.can.there;
       sound = is.sound;
       book = is.raises.whole;
       trees = is.kept;
@@ -123,13 +130,13 @@ raise-step parts trees book number quota account stored is =
     ]
 
 -- what a store keeps true is true after it
-pub raise-stored : (parts : Parts) (trees : List (TenantTree ℕ)) (book : Reservations) (number : ℕ) (quota : Quota) (account : Account) → IsStored parts → IsRaised parts trees book number quota account →
+pub raise-stored : (parts : Parts) (trees : List (TenantTree ℕ)) (book : Reservations) (number : ℕ) (quota : Quota) → IsStored parts → IsRaised parts trees book number quota →
     IsStored (with_more parts trees book)
-raise-stored parts trees book number quota account stored is =
-    step-stored parts (with_more parts trees book) number (raised_to quota) account stored (raise-step parts trees book number quota account stored is)
+raise-stored parts trees book number quota stored is =
+    step-stored parts (with_more parts trees book) number (raised_to quota) is.can.account stored (raise-step parts trees book number quota stored is)
 
 -- and the core is the one before with more reserved by that tenant
-pub raise-shared : (parts : Parts) (trees : List (TenantTree ℕ)) (book : Reservations) (number : ℕ) (quota : Quota) (account : Account) → IsStored parts → IsRaised parts trees book number quota account →
+pub raise-shared : (parts : Parts) (trees : List (TenantTree ℕ)) (book : Reservations) (number : ℕ) (quota : Quota) → IsStored parts → IsRaised parts trees book number quota →
     shared_of (with_more parts trees book) ≡ on_tenant number (with_reserve quota) (shared_of parts)
-raise-shared parts trees book number quota account stored is =
-    step-shared parts (with_more parts trees book) number (raised_to quota) account (with_reserve quota) stored (raise-step parts trees book number quota account stored is) (rw is.frames refl)
+raise-shared parts trees book number quota stored is =
+    step-shared parts (with_more parts trees book) number (raised_to quota) is.can.account (with_reserve quota) stored (raise-step parts trees book number quota stored is) (rw is.frames refl)

@@ -1,5 +1,5 @@
 -- A frame in another state.
-use Rattle.std.proofs.Common.{◌≡◌, ℕ, ◌≤◌, ◌+◌, true, false, eqb, List, [], ◌∷◌, length, get_or, Option, Some, None, refl, ap, sym, ◌∙◌, arith, inl, inr, ◌⊎◌, get_or-set_other, get_or-set_same}
+use Rattle.std.proofs.Common.{◌≡◌, ℕ, ◌≤◌, ◌+◌, true, false, eqb, List, [], ◌∷◌, length, get_or, Option, Some, None, IsSome, refl, ap, sym, subst, ◌∙◌, arith, inl, inr, ◌⊎◌, get_or-set_other, get_or-set_same}
 use Rattle.std.proofs.Math.ListN.{set}
 use Rattle.std.proofs.lemmas.List.{length-set}
 use Rattle.std.proofs.lemmas.List.Sums.{sum_by-cons}
@@ -17,10 +17,13 @@ use Rattle.frame_table.specs.Tables.{frames_of, KeepsOthers}
 use Rattle.frame_tree.proofs.TreeValues.{tree-with_state, with_state-alike, AllBelow-alike, with_state-map_values, frame_at-with_state, frame_at_other-with_state}
 use Rattle.sched_rules.specs.Trees.{Tree, charged_for, is_held_by}
 use Rattle.sched_rules.specs.Lone.{in_state}
+use Rattle.sched_rules.specs.Cores.{Shared}
+use Rattle.sched_rules.specs.Views.{named}
 use Rattle.sched_rules.specs.Changes.{on_tenant}
 use Rattle.sched_store.specs.Parts.{Parts, worded, shared_of}
 use Rattle.sched_store.specs.Reads.{is_held, may_hold}
 use Rattle.sched_store.specs.Stored.{IsStored, AreFramesNodes, ArePlaces, frame_in, node_of, node_above}
+use Rattle.sched_store.proofs.Frames.{there-frame}
 use Rattle.sched_store.proofs.Holders.{frame-account, holds-no-other}
 use Rattle.sched_store.proofs.Steps.{TenantStep, other-tenants, changed-same, step-stored, step-shared}
 
@@ -234,3 +237,10 @@ held-set old trees worker name state frame stored sets there some most may only 
             | inr differs ↦ (at.0, at.1, get_or-set_other old.places worker other (Some name) None differs ∙ at.2)
           ])
     ])
+
+-- a worker takes a frame of the core that the parts show
+pub takes-set : (old : Parts) (trees : List (TenantTree ℕ)) (worker : ℕ) (name : FrameId) (state : State) {core : Shared} → IsStored old → shared_of old ≡ core → SetsState old.trees trees name state → IsSome (named core name) →
+    1 ≤ worker → worker ≤ 32 → may_hold core worker name ≡ true → ((other : ℕ) → is_held_by other state ≡ true → other ≡ worker) → StateSet old trees (set old.places worker (Some name)) name state
+takes-set old trees worker name state stored is sets there some most may only =
+    let own = there-frame old stored name (subst (λ (s : Shared). IsSome (named s name)) (sym is) there) in
+    held-set old trees worker name state own.0 stored sets own.1 some most (subst (λ (s : Shared). may_hold s worker name ≡ true) (sym is) may) only

@@ -8,7 +8,7 @@ use Rattle.tenant_quota.specs.Reservations.{Reservations, ChangesOnly, IsSoundBo
 use Rattle.sched_rules.specs.declared.job.Job.{Job}
 use Rattle.sched_rules.specs.Trees.{Tenant}
 use Rattle.sched_rules.specs.Lone.{counted}
-use Rattle.sched_rules.specs.Cores.{tenant_in}
+use Rattle.sched_rules.specs.Cores.{Shared, tenant_in}
 use Rattle.sched_rules.specs.Views.{left_of}
 use Rattle.sched_rules.specs.Changes.{on_tenant}
 use Rattle.tenant_quota.proofs.Standing.{some_of}
@@ -24,6 +24,10 @@ use Rattle.sched_store.proofs.Steps.{TenantStep, changed-same, step-stored, step
 
 pub there-account : (parts : Parts) (number : ℕ) → IsSome (tenant_in (shared_of parts).tenants number) → (a : Account) × (account_of number parts.book.accounts ≡ Some a)
 there-account parts number is = some_of (account_of number parts.book.accounts) (sym (tenant-there parts number) ∙ is)
+
+-- the same of a core that the parts show
+pub there-account-in : (parts : Parts) (number : ℕ) {core : Shared} → shared_of parts ≡ core → IsSome (tenant_in core.tenants number) → (a : Account) × (account_of number parts.book.accounts ≡ Some a)
+there-account-in parts number is there = there-account parts number (subst (λ (s : Shared). IsSome (tenant_in s.tenants number)) (sym is) there)
 
 pub left-account : (parts : Parts) → IsStored parts → (number : ℕ) (P : Left → Type 0) → IsSomeAnd (left_of (shared_of parts) number) P → (a : Account) × ((account_of number parts.book.accounts ≡ Some a) × P (left_in a))
 left-account parts stored number P is =

@@ -23,7 +23,6 @@ use tenant_quota::Book;
 const PLACES: usize = 33;
 
 /// The tenants of a core, with their frames, jobs and what they have left.
-#[derive(Drop)]
 pub struct Store<A: Allocator = Global> {
     alloc: A,
     stack: Stack<A>,
@@ -47,6 +46,21 @@ impl<A: Allocator> Model for Store<A> {
     ghost view = { λ s. shared_of (parts_of s) };
 
     ghost invariant = { λ s. IsStored (parts_of s) };
+}
+
+// A store goes with all its parts. A crate that holds one proves no more of that, as it would were this derived.
+impl<A: Allocator> Drop for Store<A> {
+    fn drop(self) {
+        let Store {
+            alloc: _alloc,
+            stack: _stack,
+            book: _book,
+            table: _table,
+            ledgers: _ledgers,
+            places: _,
+            newest: _,
+        } = self;
+    }
 }
 
 impl<A: Allocator> Store<A> {

@@ -1,5 +1,5 @@
 -- The account that stands at a tenant's place in a sound book, and what a write of it does.
-use Rattle.std.proofs.Common.{◌≡◌, ℕ, ◌+◌, ◌<◌, List, length, get_or, set, Option, Some, None, IsSome, IsSomeAnd, IfSome, refl, ap, sym, ◌∙◌, subst}
+use Rattle.std.proofs.Common.{◌≡◌, ℕ, ◌+◌, ◌<◌, ◌≤◌, ◌⊎◌, inl, inr, List, length, get_or, set, Option, Some, None, IsSome, IsSomeAnd, IfSome, refl, ap, sym, ◌∙◌, subst}
 use Rattle.tenant_quota.specs.declared.account.Account.{Account}
 use Rattle.std.specs.Prelude.{sum_by, option_map}
 use Rattle.std.specs.List.{remove}
@@ -119,3 +119,8 @@ release_by_remove b t i read e l sound there same is at removed =
     let facts : IsRelease b (released b t) t e.1 =
     record { releases = Releases-released b t e.1 stands.account sound; others = KeepsOthers-released b t; sound = IsSoundBook-released b t e.1 stands.account sound } in
     subst (λ k. IsRelease b (record b { accounts = k }) t e.1) (sym list) facts
+
+-- one of two comparisons made in order
+pub one_less : (a b m n : ℕ) → (a < m) ⊎ ((m ≤ a) × (b < n)) → (a < m) ⊎ (b < n)
+one_less a b m n (inl less) = inl less
+one_less a b m n (inr less) = inr less.1

@@ -4,12 +4,4 @@ use Rattle.command_line.proofs.rows.faults_are_found.Goals as goal
 
 pub returns : goal.returns
 unfolding clap_on_literals
-returns c = record {
-  none = refl;
-  help = refl;
-  version = refl;
-  twice = refl;
-  a_value = refl;
-  unknown = refl;
-  no_sessions = refl;
-}
+returns c = record { none = refl; help = refl; version = refl; twice = refl; a_value = refl; unknown = refl; no_sessions = refl }

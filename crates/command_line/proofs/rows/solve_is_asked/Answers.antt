@@ -4,11 +4,4 @@ use Rattle.command_line.proofs.rows.solve_is_asked.Goals as goal
 
 pub returns : goal.returns
 unfolding clap_on_literals
-returns c = record {
-  plain = refl;
-  both = refl;
-  ended = refl;
-  faultless = refl;
-  too_great = refl;
-  no_number = refl;
-}
+returns c = record { plain = refl; both = refl; ended = refl; faultless = refl; too_great = refl; no_number = refl }

@@ -2,10 +2,6 @@ use Rattle.std.proofs.Common.{refl}
 use Rattle.othello_board.specs.Rules.{squares}
 use Rattle.position_text.proofs.rows.opening_is_written.Goals as goal
 
-pub returns-clause-black : goal.returns-clause-black
+pub returns : goal.returns
 unfolding squares
-returns-clause-black c = refl
-
-pub returns-clause-white : goal.returns-clause-white
-unfolding squares
-returns-clause-white c = refl
+returns c = record { black = refl; white = refl }

@@ -5,8 +5,4 @@ use Rattle.session.proofs.rows.a_refused_hello.Goals as goal
 
 pub returns : goal.returns
 unfolding digits squares
-returns c = record {
-  calls = refl;
-  out = refl;
-  taken = refl;
-}
+returns c = record { calls = refl; out = refl; taken = refl }

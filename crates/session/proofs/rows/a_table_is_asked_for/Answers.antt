@@ -5,7 +5,4 @@ use Rattle.session.proofs.rows.a_table_is_asked_for.Goals as goal
 
 pub returns : goal.returns
 unfolding digits squares
-returns c = record {
-  calls = refl;
-  out = refl;
-}
+returns c = record { calls = refl; out = refl }

@@ -5,7 +5,4 @@ use Rattle.session.proofs.rows.asks_are_counted.Goals as goal
 
 pub returns : goal.returns
 unfolding digits squares
-returns c = record {
-  asked = refl;
-  left = refl;
-}
+returns c = record { asked = refl; left = refl }

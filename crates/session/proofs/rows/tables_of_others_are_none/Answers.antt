@@ -5,9 +5,4 @@ use Rattle.session.proofs.rows.tables_of_others_are_none.Goals as goal
 
 pub returns : goal.returns
 unfolding digits squares
-returns c = record {
-  pending = refl;
-  spent = refl;
-  cancelled = refl;
-  refused = refl;
-}
+returns c = record { pending = refl; spent = refl; cancelled = refl; refused = refl }

@@ -5,14 +5,10 @@ use Rattle.cactus_stack.proofs.TreeFacts.{open-is_listed, words-are_listed, pare
 use Rattle.cactus_stack.proofs.stack.Stack.grow.Goals as goal
 
 pub grow-requires-clause-is_open : goal.grow-requires-clause-is_open
-grow-requires-clause-is_open g c =
-    let there = open-is_listed c.self.inside.lists c.self.inside.above.items c.args.self.now c.args.node c.self.invariant.places c.self.view_is c.requires.is_open in
-    there
+grow-requires-clause-is_open g c = open-is_listed c.self.inside.lists c.self.inside.above.items c.args.self.now c.args.node c.self.invariant.places c.self.view_is c.requires.is_open
 
 pub grow-requires-clause-in_limits : goal.grow-requires-clause-in_limits
-grow-requires-clause-in_limits g c =
-    let words = words-are_listed c.self.inside.lists c.self.inside.above.items c.args.self.now c.args.node c.self.invariant.places c.self.view_is in
-    rw words at c.requires.in_limits
+grow-requires-clause-in_limits g c = rw (words-are_listed c.self.inside.lists c.self.inside.above.items c.args.self.now c.args.node c.self.invariant.places c.self.view_is) at c.requires.in_limits
 
 pub invariant_of-self : goal.invariant_of-self
 invariant_of-self g c =

@@ -1,11 +1,18 @@
 use Rattle.std.proofs.Common.{Result, Ok, Err, OnErr, vec_capacity, arith}
-use Rattle.frame_table.proofs.Tenants.{tree_by_places, at_tree}
-use Rattle.frame_table.proofs.Raises.{HasRaised, raised_places, raised_frames, raised_keeps, raised_count, raised_sound, unraised, unraised_sound}
+use Rattle.frame_table.proofs.Tenants.{tree_by_places}
+use Rattle.frame_table.proofs.Raises.{raised_places, raised_frames, raised_keeps, raised_count, raised_sound, unraised, unraised_sound}
+use Rattle.frame_table.proofs.FoundTree.{HasTree, has_tree, raised_tree}
+use Rattle.frame_table.proofs.table.FrameTable.reserve_more.Given.{Over}
+use Rattle.frame_table.proofs.table.FrameTable.reserve_more.Goals.{After-index_mut-tree}
 use Rattle.frame_table.proofs.table.FrameTable.reserve_more.Goals as goal
 
 on_err : {T E : Type 0} (r : Result T E) (P : Type 0) → P → OnErr r P
 on_err (Ok x) P p = tt
 on_err (Err e) P p = p
+
+-- the tenant's tree, before it
+was : (g : Over) (c : After-index_mut-tree g) → HasTree c.self.inside.trees.items (vec_capacity c.self.inside.removed) c.self.inside.ready c.args.tenant c.known_tenant-at.result c.index_mut-tree.result.now
+was g c = has_tree _ _ _ _ _ _ _ c.self.invariant.0 c.as_slice.ensures.value c.known_tenant-at.ensures.found c.index_mut-tree.ensures.value
 
 pub known_tenant-at-requires-clause-there : goal.known_tenant-at-requires-clause-there
 known_tenant-at-requires-clause-there g c =
@@ -13,10 +20,7 @@ known_tenant-at-requires-clause-there g c =
     rw c.as_slice.ensures.value (tree_by_places c.self.inside.trees.items c.args.tenant there)
 
 pub raise-requires-clause-more : goal.raise-requires-clause-more
-raise-requires-clause-more g c =
-    let here = rw c.as_slice.ensures.value at c.known_tenant-at.ensures.found in
-    let tree = at_tree _ _ _ _ here c.index_mut-tree.ensures.value in
-    rw (← c.self.view_is, tree.places) at c.requires.more
+raise-requires-clause-more g c = rw (← c.self.view_is, (was g c).own.places) at c.requires.more
 
 pub invariant_of-self-in_err-raise : goal.invariant_of-self-in_err-raise
 invariant_of-self-in_err-raise g c = (
@@ -31,29 +35,18 @@ returns-in_err-raise-clause-err g c =
 
 pub invariant_of-self-2 : goal.invariant_of-self-2
 invariant_of-self-2 g c =
-    let here = rw c.as_slice.ensures.value at c.known_tenant-at.ensures.found in
-    let tree = at_tree _ _ _ _ here c.index_mut-tree.ensures.value in
-    let more = rw (← c.self.view_is, tree.places) at c.requires.more in
-    let raised : HasRaised _ _ _ _ _ _ = record { here = here; was = c.index_mut-tree.ensures.value; now = c.in_ok-raise.ensures.ok } in
-    (raised_sound _ (vec_capacity c.self.inside.removed) _ _ _ _ _ _ _ c.self.invariant.0 raised more c.requires.few (omega (arith, c.in_ok-reserve.ensures.ok, c.clear.ensures.len)) (omega (arith, c.clear.ensures.capacity, c.reserve.ensures.capacity)), c.self.invariant.1)
+    let tree = was g (goal.at.invariant_of-self-2 g c).After-index_mut-tree in
+    let more = rw (← c.self.view_is, tree.own.places) at c.requires.more in
+    (raised_sound _ (vec_capacity c.self.inside.removed) _ _ _ _ _ _ _ c.self.invariant.0 (raised_tree tree c.in_ok-raise.ensures.ok) more c.requires.few (omega (arith, c.in_ok-reserve.ensures.ok, c.clear.ensures.len)) (omega (arith, c.clear.ensures.capacity, c.reserve.ensures.capacity)), c.self.invariant.1)
 
 pub returns-clause-places : goal.returns-clause-places
-returns-clause-places g c =
-    let here = rw c.as_slice.ensures.value at c.known_tenant-at.ensures.found in
-    let raised : HasRaised _ _ _ _ _ _ = record { here = here; was = c.index_mut-tree.ensures.value; now = c.in_ok-raise.ensures.ok } in
-    raised_places _ _ _ _ _ _ raised
+returns-clause-places g c = raised_places _ _ _ _ _ _ (raised_tree (was g (goal.at.returns-clause-places g c).After-index_mut-tree) c.in_ok-raise.ensures.ok)
 
 pub returns-clause-frames : goal.returns-clause-frames
-returns-clause-frames g c =
-    let here = rw c.as_slice.ensures.value at c.known_tenant-at.ensures.found in
-    let raised : HasRaised _ _ _ _ _ _ = record { here = here; was = c.index_mut-tree.ensures.value; now = c.in_ok-raise.ensures.ok } in
-    rw (← c.self.view_is) (raised_frames _ _ _ _ _ _ raised)
+returns-clause-frames g c = rw (← c.self.view_is) (raised_frames _ _ _ _ _ _ (raised_tree (was g (goal.at.returns-clause-frames g c).After-index_mut-tree) c.in_ok-raise.ensures.ok))
 
 pub returns-clause-kept : goal.returns-clause-kept
-returns-clause-kept g c =
-    let here = rw c.as_slice.ensures.value at c.known_tenant-at.ensures.found in
-    let raised : HasRaised _ _ _ _ _ _ = record { here = here; was = c.index_mut-tree.ensures.value; now = c.in_ok-raise.ensures.ok } in
-    rw (← c.self.view_is) (raised_keeps _ _ _ _ _ _ raised)
+returns-clause-kept g c = rw (← c.self.view_is) (raised_keeps _ _ _ _ _ _ (raised_tree (was g (goal.at.returns-clause-kept g c).After-index_mut-tree) c.in_ok-raise.ensures.ok))
 
 pub known_tenant-at-requires-clause-rise : goal.known_tenant-at-requires-clause-rise
 known_tenant-at-requires-clause-rise g c = rw c.as_slice.ensures.value c.self.invariant.0.rise

@@ -5,13 +5,36 @@ use Rattle.sched_rules.specs.Views.{named}
 use Rattle.sched_store.specs.Inside.{parts_of}
 use Rattle.sched_store.specs.Reads.{frames_in}
 use Rattle.frame_tree.specs.Frames.{frames_under}
-use Rattle.sched_store.proofs.Aborting.{has-frame, abort-closes, abort-frees, abort-stored, abort-shared, abort-count}
+use Rattle.sched_store.proofs.Aborting.{has-frame, abort-closes, AreFreed, abort-frees, IsAborted, abort-stored, abort-shared, abort-count}
+use Rattle.sched_store.proofs.store.Store.abort.Given.{Over}
+use Rattle.sched_store.proofs.store.Store.abort.Goals.{After-free_count, After-give_back}
 use Rattle.sched_store.proofs.store.Store.abort.Goals as goal
+
+-- what the nodes gave back
+freed : (g : Over) (c : After-free_count g) → AreFreed (parts_of c.self.inside) c.args.name c.remove_under-nodes.result.now c.free_count-before.result c.free_count.result
+freed g c =
+    abort-frees _ c.close_all.new.self _ _ _ _ c.self.invariant (subst (λ (s : Shared). IsSome (named s c.args.name)) (sym c.self.view_is) c.requires)
+    c.remove_under-nodes.ensures.values c.close_all.ensures c.free_count-before.ensures c.free_count.ensures
+
+-- what the table, the stack and the book told
+told : (g : Over) (c : After-give_back g) → IsAborted (parts_of c.self.inside) c.close_all.new.self c.remove_under-nodes.follows.lender-at-none c.give_back.new.self c.args.name c.remove_under-nodes.result.now c.free_count-before.result c.free_count.result
+told g c = record {
+  some = subst (λ (s : Shared). IsSome (named s c.args.name)) (sym c.self.view_is) c.requires;
+  values = c.remove_under-nodes.ensures.values;
+  closed_all = c.close_all.ensures;
+  was_free = c.free_count-before.ensures;
+  is_free = c.free_count.ensures;
+  frames = c.remove_under-nodes.follows.holds-at-none.0;
+  keeps = c.remove_under-nodes.follows.holds-at-none.1;
+  credited = c.give_back.ensures.credits;
+  sum = c.give_back.ensures.sum;
+  others = c.give_back.ensures.others;
+  sound = c.give_back.ensures.sound;
+}
 
 pub remove_under-nodes-requires : goal.remove_under-nodes-requires
 remove_under-nodes-requires g c =
-    let some = subst (λ (s : Shared). IsSome (named s c.args.name)) (sym c.self.view_is) c.requires in
-    has-frame (parts_of c.self.inside) c.self.invariant c.args.name some
+    has-frame (parts_of c.self.inside) c.self.invariant c.args.name (subst (λ (s : Shared). IsSome (named s c.args.name)) (sym c.self.view_is) c.requires)
 
 pub close_all-requires-clause-are_open : goal.close_all-requires-clause-are_open
 close_all-requires-clause-are_open g c = (abort-closes (parts_of c.self.inside) c.args.name c.remove_under-nodes.result.now c.self.invariant c.remove_under-nodes.ensures.values).are_open
@@ -23,58 +46,20 @@ pub close_all-requires-clause-with_children : goal.close_all-requires-clause-wit
 close_all-requires-clause-with_children g c = (abort-closes (parts_of c.self.inside) c.args.name c.remove_under-nodes.result.now c.self.invariant c.remove_under-nodes.ensures.values).with_children
 
 pub overflow_sub-freed : goal.overflow_sub-freed
-overflow_sub-freed g c =
-    let some = subst (λ (s : Shared). IsSome (named s c.args.name)) (sym c.self.view_is) c.requires in
-    (abort-frees (parts_of c.self.inside) c.close_all.new.self c.args.name c.remove_under-nodes.result.now c.free_count-before.result c.free_count.result c.self.invariant some
-    c.remove_under-nodes.ensures.values c.close_all.ensures c.free_count-before.ensures c.free_count.ensures).more
+overflow_sub-freed g c = (freed g (goal.at.overflow_sub-freed g c).After-free_count).more
 
 pub overflow_cast-freed : goal.overflow_cast-freed
-overflow_cast-freed g c =
-    let some = subst (λ (s : Shared). IsSome (named s c.args.name)) (sym c.self.view_is) c.requires in
-    let few = (abort-frees (parts_of c.self.inside) c.close_all.new.self c.args.name c.remove_under-nodes.result.now c.free_count-before.result c.free_count.result c.self.invariant some
-    c.remove_under-nodes.ensures.values c.close_all.ensures c.free_count-before.ensures c.free_count.ensures).few in
-    omega (arith, few)
+overflow_cast-freed g c = let few = (freed g (goal.at.overflow_cast-freed g c).After-free_count).few in omega (arith, few)
 
 pub give_back-requires : goal.give_back-requires
-give_back-requires g c =
-    let some = subst (λ (s : Shared). IsSome (named s c.args.name)) (sym c.self.view_is) c.requires in
-    (abort-frees (parts_of c.self.inside) c.close_all.new.self c.args.name c.remove_under-nodes.result.now c.free_count-before.result c.free_count.result c.self.invariant some
-    c.remove_under-nodes.ensures.values c.close_all.ensures c.free_count-before.ensures c.free_count.ensures).charged
+give_back-requires g c = (freed g (goal.at.give_back-requires g c).After-free_count).charged
 
 pub invariant_of-self : goal.invariant_of-self
-invariant_of-self g c =
-    let some = subst (λ (s : Shared). IsSome (named s c.args.name)) (sym c.self.view_is) c.requires in
-    abort-stored (parts_of c.self.inside) c.close_all.new.self c.remove_under-nodes.follows.lender-at-none c.give_back.new.self c.args.name c.remove_under-nodes.result.now c.free_count-before.result c.free_count.result c.self.invariant some
-    (record {
-      values = c.remove_under-nodes.ensures.values;
-      closed_all = c.close_all.ensures;
-      was_free = c.free_count-before.ensures;
-      is_free = c.free_count.ensures;
-      frames = c.remove_under-nodes.follows.holds-at-none.0;
-      keeps = c.remove_under-nodes.follows.holds-at-none.1;
-      credited = c.give_back.ensures.credits;
-      sum = c.give_back.ensures.sum;
-      others = c.give_back.ensures.others;
-      sound = c.give_back.ensures.sound;
-    })
+invariant_of-self g c = abort-stored _ _ _ _ _ _ _ _ c.self.invariant (told g (goal.at.invariant_of-self g c).After-give_back)
 
 pub returns-clause-aborted : goal.returns-clause-aborted
 returns-clause-aborted g c =
-    let some = subst (λ (s : Shared). IsSome (named s c.args.name)) (sym c.self.view_is) c.requires in
-    abort-shared (parts_of c.self.inside) c.close_all.new.self c.remove_under-nodes.follows.lender-at-none c.give_back.new.self c.args.name c.remove_under-nodes.result.now c.free_count-before.result c.free_count.result c.self.invariant some
-    (record {
-      values = c.remove_under-nodes.ensures.values;
-      closed_all = c.close_all.ensures;
-      was_free = c.free_count-before.ensures;
-      is_free = c.free_count.ensures;
-      frames = c.remove_under-nodes.follows.holds-at-none.0;
-      keeps = c.remove_under-nodes.follows.holds-at-none.1;
-      credited = c.give_back.ensures.credits;
-      sum = c.give_back.ensures.sum;
-      others = c.give_back.ensures.others;
-      sound = c.give_back.ensures.sound;
-    })
-    ∙ ap (on_tenant c.args.name.tenant (without_under c.args.name.serial)) c.self.view_is
+    abort-shared _ _ _ _ _ _ _ _ c.self.invariant (told g (goal.at.returns-clause-aborted g c).After-give_back) ∙ ap (on_tenant c.args.name.tenant (without_under c.args.name.serial)) c.self.view_is
 
 pub returns-clause-count : goal.returns-clause-count
 returns-clause-count g c =

@@ -2,13 +2,12 @@ use Rattle.std.proofs.Common.{◌++◌, ◌∷◌, []}
 use Rattle.sched_rules.specs.declared.job.Job.TheVariants.{Live}
 use Rattle.sched_store.specs.Inside.{parts_of}
 use Rattle.sched_store.proofs.Lookups.{jobs-found}
-use Rattle.sched_store.proofs.Tenants.{there-account, ledger-there, jobs-change}
+use Rattle.sched_store.proofs.Tenants.{there-account-in, ledger-there, jobs-change}
 use Rattle.sched_store.proofs.store.Store.begin_job.Goals as goal
 
 pub begin-requires-clause-there : goal.begin-requires-clause-there
 begin-requires-clause-there g c =
-    let is = rw (← c.self.view_is) at c.requires.there in
-    let own = there-account (parts_of c.self.inside) c.args.tenant is in
+    let own = there-account-in (parts_of c.self.inside) c.args.tenant c.self.view_is c.requires.there in
     ledger-there c.args.tenant c.self.inside.ledgers c.self.inside.book.accounts own.0 c.self.invariant.ledgers own.1
 
 pub begin-requires-clause-room : goal.begin-requires-clause-room
@@ -23,12 +22,10 @@ begin-requires-clause-fresh g c =
 
 pub invariant_of-self : goal.invariant_of-self
 invariant_of-self g c =
-    let is = rw (← c.self.view_is) at c.requires.there in
-    let own = there-account (parts_of c.self.inside) c.args.tenant is in
+    let own = there-account-in (parts_of c.self.inside) c.args.tenant c.self.view_is c.requires.there in
     (jobs-change (parts_of c.self.inside) c.args.tenant own.0 (λ jobs. jobs ++ Live c.args.root ∷ []) c.begin.new.self c.self.invariant own.1 c.begin.ensures).stored
 
 pub returns : goal.returns
 returns g c =
-    let is = rw (← c.self.view_is) at c.requires.there in
-    let own = there-account (parts_of c.self.inside) c.args.tenant is in
+    let own = there-account-in (parts_of c.self.inside) c.args.tenant c.self.view_is c.requires.there in
     rw (← c.self.view_is) (jobs-change (parts_of c.self.inside) c.args.tenant own.0 (λ jobs. jobs ++ Live c.args.root ∷ []) c.begin.new.self c.self.invariant own.1 c.begin.ensures).shared

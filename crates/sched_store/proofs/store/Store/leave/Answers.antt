@@ -1,16 +1,39 @@
-use Rattle.std.proofs.Common.{IsSome, IfSome, Option, refl, ap, sym, ◌∙◌, subst}
+use Rattle.std.proofs.Common.{IfSome, Option, refl, ap, ◌∙◌, subst}
 use Rattle.tenant_quota.specs.Reservations.{Releases}
 use Rattle.tenant_quota.specs.declared.account.Account.{Account}
-use Rattle.sched_rules.specs.Cores.{Shared, tenant_in}
 use Rattle.sched_store.specs.Changes.{with_departed}
 use Rattle.sched_store.specs.Inside.{parts_of}
-use Rattle.sched_store.proofs.Tenants.{there-account, ledger-there}
-use Rattle.sched_store.proofs.Leaving.{has-places, leave-closes, leave-stored, leave-shared}
+use Rattle.sched_store.proofs.Tenants.{there-account-in, ledger-there}
+use Rattle.sched_store.proofs.Leaving.{has-places, leave-closes, HasLeft, leave-stored, leave-shared}
+use Rattle.sched_store.proofs.store.Store.leave.Given.{Over}
+use Rattle.sched_store.proofs.store.Store.leave.Goals.{After-release-2}
 use Rattle.sched_store.proofs.store.Store.leave.Goals as goal
+
+-- what the table, the stack, the ledgers and the book told
+told : (g : Over) (c : After-release-2 g) → (a : Account) × HasLeft (parts_of c.self.inside) c.close_all.new.self c.release.new.self c.remove.new.self c.release-2.new.self c.args.tenant c.remove_all-nodes.result.now a
+told g c =
+    let a = there-account-in (parts_of c.self.inside) c.args.tenant c.self.view_is c.requires in
+    let emptied = c.remove_all-nodes.follows.holds-at-none in (
+      a.0,
+      record {
+        there = a.1;
+        values = c.remove_all-nodes.ensures.values;
+        closed_all = c.close_all.ensures;
+        frames = c.release.ensures.frames;
+        places = c.release.ensures.places;
+        other_frames = λ other differs. c.release.ensures.kept.frames other differs ∙ emptied.1.frames other differs;
+        other_places = λ other differs. c.release.ensures.kept.places other differs ∙ emptied.1.places other;
+        count = c.release.ensures.count ∙ emptied.1.count;
+        jobs = c.remove.ensures;
+        released = subst (λ (o : Option Account). IfSome o (Releases c.self.inside.book c.release-2.new.self c.args.tenant)) a.1 c.release-2.ensures.releases;
+        others = c.release-2.ensures.others;
+        sound = c.release-2.ensures.sound;
+      },
+    )
 
 pub remove_all-nodes-requires : goal.remove_all-nodes-requires
 remove_all-nodes-requires g c =
-    let a = there-account (parts_of c.self.inside) c.args.tenant (subst (λ (s : Shared). IsSome (tenant_in s.tenants c.args.tenant)) (sym c.self.view_is) c.requires) in
+    let a = there-account-in (parts_of c.self.inside) c.args.tenant c.self.view_is c.requires in
     has-places (parts_of c.self.inside) c.self.invariant c.args.tenant a.0 a.1
 
 pub close_all-requires-clause-are_open : goal.close_all-requires-clause-are_open
@@ -24,59 +47,22 @@ close_all-requires-clause-with_children g c = (leave-closes (parts_of c.self.ins
 
 pub release-requires-clause-there : goal.release-requires-clause-there
 release-requires-clause-there g c =
-    let a = there-account (parts_of c.self.inside) c.args.tenant (subst (λ (s : Shared). IsSome (tenant_in s.tenants c.args.tenant)) (sym c.self.view_is) c.requires) in
+    let a = there-account-in (parts_of c.self.inside) c.args.tenant c.self.view_is c.requires in
     let some = has-places (parts_of c.self.inside) c.self.invariant c.args.tenant a.0 a.1 in
     rw (c.remove_all-nodes.follows.holds-at-none.1.places c.args.tenant) some
 
 pub remove-requires : goal.remove-requires
 remove-requires g c =
-    let a = there-account (parts_of c.self.inside) c.args.tenant (subst (λ (s : Shared). IsSome (tenant_in s.tenants c.args.tenant)) (sym c.self.view_is) c.requires) in
+    let a = there-account-in (parts_of c.self.inside) c.args.tenant c.self.view_is c.requires in
     ledger-there c.args.tenant c.self.inside.ledgers c.self.inside.book.accounts a.0 c.self.invariant.ledgers a.1
 
 pub release-requires-2 : goal.release-requires-2
 release-requires-2 g c =
-    let a = there-account (parts_of c.self.inside) c.args.tenant (subst (λ (s : Shared). IsSome (tenant_in s.tenants c.args.tenant)) (sym c.self.view_is) c.requires) in
+    let a = there-account-in (parts_of c.self.inside) c.args.tenant c.self.view_is c.requires in
     rw a.1 refl
 
 pub invariant_of-self : goal.invariant_of-self
-invariant_of-self g c =
-    let a = there-account (parts_of c.self.inside) c.args.tenant (subst (λ (s : Shared). IsSome (tenant_in s.tenants c.args.tenant)) (sym c.self.view_is) c.requires) in
-    let emptied = c.remove_all-nodes.follows.holds-at-none in
-    let released : Releases c.self.inside.book c.release-2.new.self c.args.tenant a.0 = subst (λ (o : Option Account). IfSome o (Releases c.self.inside.book c.release-2.new.self c.args.tenant)) a.1 c.release-2.ensures.releases in
-    leave-stored (parts_of c.self.inside) c.close_all.new.self c.release.new.self c.remove.new.self c.release-2.new.self c.args.tenant c.remove_all-nodes.result.now a.0 c.self.invariant
-    (record {
-      there = a.1;
-      values = c.remove_all-nodes.ensures.values;
-      closed_all = c.close_all.ensures;
-      frames = c.release.ensures.frames;
-      places = c.release.ensures.places;
-      other_frames = λ other differs. c.release.ensures.kept.frames other differs ∙ emptied.1.frames other differs;
-      other_places = λ other differs. c.release.ensures.kept.places other differs ∙ emptied.1.places other;
-      count = c.release.ensures.count ∙ emptied.1.count;
-      jobs = c.remove.ensures;
-      released = released;
-      others = c.release-2.ensures.others;
-      sound = c.release-2.ensures.sound;
-    })
+invariant_of-self g c = leave-stored _ _ _ _ _ _ _ _ c.self.invariant (told g (goal.at.invariant_of-self g c).After-release-2).1
 
 pub returns : goal.returns
-returns g c =
-    let a = there-account (parts_of c.self.inside) c.args.tenant (subst (λ (s : Shared). IsSome (tenant_in s.tenants c.args.tenant)) (sym c.self.view_is) c.requires) in
-    let emptied = c.remove_all-nodes.follows.holds-at-none in
-    let released : Releases c.self.inside.book c.release-2.new.self c.args.tenant a.0 = subst (λ (o : Option Account). IfSome o (Releases c.self.inside.book c.release-2.new.self c.args.tenant)) a.1 c.release-2.ensures.releases in
-    leave-shared (parts_of c.self.inside) c.close_all.new.self c.release.new.self c.remove.new.self c.release-2.new.self c.args.tenant c.remove_all-nodes.result.now a.0 c.self.invariant
-    (record {
-      there = a.1;
-      values = c.remove_all-nodes.ensures.values;
-      closed_all = c.close_all.ensures;
-      frames = c.release.ensures.frames;
-      places = c.release.ensures.places;
-      other_frames = λ other differs. c.release.ensures.kept.frames other differs ∙ emptied.1.frames other differs;
-      other_places = λ other differs. c.release.ensures.kept.places other differs ∙ emptied.1.places other;
-      count = c.release.ensures.count ∙ emptied.1.count;
-      jobs = c.remove.ensures;
-      released = released;
-      others = c.release-2.ensures.others;
-      sound = c.release-2.ensures.sound;
-    })
-    ∙ ap (with_departed c.args.tenant) c.self.view_is
+returns g c = leave-shared _ _ _ _ _ _ _ _ c.self.invariant (told g (goal.at.returns g c).After-release-2).1 ∙ ap (with_departed c.args.tenant) c.self.view_is

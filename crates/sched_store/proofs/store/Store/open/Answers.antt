@@ -2,20 +2,49 @@ use Rattle.std.proofs.Common.{◌≤◌, ◌+◌, ap, ◌∙◌, refl, sym, arit
 use Rattle.cactus_stack.specs.Nodes.{charge}
 use Rattle.frame_table.specs.Tables.{frames_of}
 use Rattle.sched_store.specs.Inside.{parts_of}
-use Rattle.sched_store.proofs.Tenants.{left-account, book-left}
+use Rattle.sched_store.proofs.Tenants.{book-left}
 use Rattle.sched_store.proofs.Writing.{has-free, not-refused}
-use Rattle.sched_store.proofs.Opens.{serials-found, opened-next, parent-found, parent-open, parent-in, serial-of-name, place-left, size-some}
-use Rattle.sched_store.proofs.Opening.{open-step}
+use Rattle.sched_store.proofs.Opens.{serials-found, opened-next, left-for, parent-for, parent-open, parent-in, serial-of-name, place-left, size-some}
+use Rattle.sched_store.proofs.Opening.{Opened, open-step}
+use Rattle.sched_store.proofs.store.Store.open.Given.{Over}
+use Rattle.sched_store.proofs.store.Store.open.Goals.{After-add}
 use Rattle.sched_store.proofs.store.Store.open.Goals as goal
+
+-- the step that the stack, the table and the book made
+step : (g : Over) (c : After-add g) → Opened (parts_of c.self.inside) c.open-2.new.self c.add.new.self c.open.new.self c.args.tenant c.args.parent c.args.words.now c.args.size c.args.home
+step g c =
+    let own = left-for (parts_of c.self.inside) c.args.tenant c.args.size c.self.invariant c.self.view_is c.requires.left in
+    let parent = parent-for (parts_of c.self.inside) c.args.tenant c.args.parent c.self.invariant c.self.view_is c.requires.parent in
+    let serial = opened-next (parts_of c.self.inside) c.args.tenant c.unwrap-before.result own.0 own.1.0 (rw c.unwrap-before.ensures at c.open.ensures.opened) in
+    let size = size-some c.args.words.now c.args.size c.requires.size in
+    let frames = rw (serial, serial-of-name c.args.tenant c.args.parent c.parent_name.result c.parent_name.ensures) at c.add.ensures.frames in
+    let unused = rw c.unwrap-node.ensures at c.open-2.ensures.was_unused in
+    let nodes = rw c.unwrap-node.ensures at c.open-2.ensures.opened in
+    let changes = rw (c.unwrap-before.ensures, c.charge.ensures) at c.open.ensures.charges in
+    let sum = rw (c.unwrap-before.ensures, c.charge.ensures) at c.open.ensures.sum in
+    open-step (parts_of c.self.inside) c.open-2.new.self c.add.new.self c.open.new.self c.args.tenant c.args.parent c.parent_node-above.result c.args.words.now c.args.size c.args.home c.unwrap-node.result own.0 c.self.invariant (record {
+      there = own.1.0;
+      parent_there = parent;
+      above_is = c.parent_node-above.ensures;
+      some = size.0;
+      most = size.1.0;
+      room = size.1.1;
+      unused = unused;
+      nodes_is = nodes;
+      frames = frames;
+      kept = c.add.ensures.kept;
+      sound = c.open.ensures.sound;
+      changes = changes;
+      sum = sum;
+    })
 
 pub parent_node-above-requires : goal.parent_node-above-requires
 parent_node-above-requires g c =
-    let parent = (let there = rw (← c.self.view_is) at c.requires.parent in parent-found (parts_of c.self.inside) c.self.invariant c.args.tenant c.args.parent there) in
-    parent
+    parent-for (parts_of c.self.inside) c.args.tenant c.args.parent c.self.invariant c.self.view_is c.requires.parent
 
 pub open-requires-2-clause-parent_is_open : goal.open-requires-2-clause-parent_is_open
 open-requires-2-clause-parent_is_open g c =
-    let parent = (let there = rw (← c.self.view_is) at c.requires.parent in parent-found (parts_of c.self.inside) c.self.invariant c.args.tenant c.args.parent there) in
+    let parent = parent-for (parts_of c.self.inside) c.args.tenant c.args.parent c.self.invariant c.self.view_is c.requires.parent in
     parent-open (parts_of c.self.inside) c.self.invariant c.args.tenant c.args.parent c.parent_node-above.result parent c.parent_node-above.ensures
 
 pub unwrap-node-requires : goal.unwrap-node-requires
@@ -26,27 +55,24 @@ unwrap-node-requires g c =
 
 pub add-requires-clause-above : goal.add-requires-clause-above
 add-requires-clause-above g c =
-    let left = rw (← c.self.view_is) at c.requires.left in
-    let own = left-account (parts_of c.self.inside) c.self.invariant c.args.tenant (λ l. (charge c.args.size ≤ l.segments) × (1 ≤ l.nodes)) left in
+    let own = left-for (parts_of c.self.inside) c.args.tenant c.args.size c.self.invariant c.self.view_is c.requires.left in
     let serial = opened-next (parts_of c.self.inside) c.args.tenant c.unwrap-before.result own.0 own.1.0 (rw c.unwrap-before.ensures at c.open.ensures.opened) in
     rw serial (c.self.invariant.accounts c.args.tenant own.0 own.1.0).serials
 
 pub add-requires-clause-parent : goal.add-requires-clause-parent
 add-requires-clause-parent g c =
-    let parent = (let there = rw (← c.self.view_is) at c.requires.parent in parent-found (parts_of c.self.inside) c.self.invariant c.args.tenant c.args.parent there) in
+    let parent = parent-for (parts_of c.self.inside) c.args.tenant c.args.parent c.self.invariant c.self.view_is c.requires.parent in
     parent-in (frames_of c.self.inside.table c.args.tenant) c.args.tenant c.args.parent c.parent_name.result parent c.parent_name.ensures
 
 pub add-requires-clause-room : goal.add-requires-clause-room
 add-requires-clause-room g c =
-    let left = rw (← c.self.view_is) at c.requires.left in
-    let own = left-account (parts_of c.self.inside) c.self.invariant c.args.tenant (λ l. (charge c.args.size ≤ l.segments) × (1 ≤ l.nodes)) left in
+    let own = left-for (parts_of c.self.inside) c.args.tenant c.args.size c.self.invariant c.self.view_is c.requires.left in
     let size = size-some c.args.words.now c.args.size c.requires.size in
     place-left (parts_of c.self.inside) c.self.invariant c.args.tenant c.args.size own.0 own.1.0 size.0 own.1.1.0
 
 pub open-requires : goal.open-requires
 open-requires g c =
-    let left = rw (← c.self.view_is) at c.requires.left in
-    let own = left-account (parts_of c.self.inside) c.self.invariant c.args.tenant (λ l. (charge c.args.size ≤ l.segments) × (1 ≤ l.nodes)) left in
+    let own = left-for (parts_of c.self.inside) c.args.tenant c.args.size c.self.invariant c.self.view_is c.requires.left in
     rw own.1.0 refl
 
 pub unwrap-before-requires : goal.unwrap-before-requires
@@ -55,67 +81,14 @@ unwrap-before-requires g c =
     c.open.ensures.ok.1 (rw c.charge.ensures (book-left (parts_of c.self.inside) c.self.invariant c.args.tenant (λ l. (charge c.args.size ≤ l.segments) × (1 ≤ l.nodes)) left))
 
 pub invariant_of-self : goal.invariant_of-self
-invariant_of-self g c =
-    let left = rw (← c.self.view_is) at c.requires.left in
-    let own = left-account (parts_of c.self.inside) c.self.invariant c.args.tenant (λ l. (charge c.args.size ≤ l.segments) × (1 ≤ l.nodes)) left in
-    let parent = (let there = rw (← c.self.view_is) at c.requires.parent in parent-found (parts_of c.self.inside) c.self.invariant c.args.tenant c.args.parent there) in
-    let serial = opened-next (parts_of c.self.inside) c.args.tenant c.unwrap-before.result own.0 own.1.0 (rw c.unwrap-before.ensures at c.open.ensures.opened) in
-    let size = size-some c.args.words.now c.args.size c.requires.size in
-    let frames = rw (serial, serial-of-name c.args.tenant c.args.parent c.parent_name.result c.parent_name.ensures) at c.add.ensures.frames in
-    let unused = rw c.unwrap-node.ensures at c.open-2.ensures.was_unused in
-    let nodes = rw c.unwrap-node.ensures at c.open-2.ensures.opened in
-    let changes = rw (c.unwrap-before.ensures, c.charge.ensures) at c.open.ensures.charges in
-    let sum = rw (c.unwrap-before.ensures, c.charge.ensures) at c.open.ensures.sum in
-    let step = open-step (parts_of c.self.inside) c.open-2.new.self c.add.new.self c.open.new.self c.args.tenant c.args.parent c.parent_node-above.result c.args.words.now c.args.size c.args.home c.unwrap-node.result own.0 c.self.invariant (record {
-      there = own.1.0;
-      parent_there = parent;
-      above_is = c.parent_node-above.ensures;
-      some = size.0;
-      most = size.1.0;
-      room = size.1.1;
-      unused = unused;
-      nodes_is = nodes;
-      frames = frames;
-      kept = c.add.ensures.kept;
-      sound = c.open.ensures.sound;
-      changes = changes;
-      sum = sum;
-    }) in
-    step.stored
+invariant_of-self g c = (step g (goal.at.invariant_of-self g c).After-add).stored
 
 pub returns-clause-name : goal.returns-clause-name
 returns-clause-name g c =
-    let left = rw (← c.self.view_is) at c.requires.left in
-    let own = left-account (parts_of c.self.inside) c.self.invariant c.args.tenant (λ l. (charge c.args.size ≤ l.segments) × (1 ≤ l.nodes)) left in
+    let own = left-for (parts_of c.self.inside) c.args.tenant c.args.size c.self.invariant c.self.view_is c.requires.left in
     let serial = opened-next (parts_of c.self.inside) c.args.tenant c.unwrap-before.result own.0 own.1.0 (rw c.unwrap-before.ensures at c.open.ensures.opened) in
     let given = serials-found (parts_of c.self.inside) c.args.tenant own.0 own.1.0 in
     rw (← c.self.view_is) (ap (λ n. record { tenant = c.args.tenant; serial = n }) (serial ∙ ap (λ n. n + 1) (sym given)))
 
 pub returns-clause-opened : goal.returns-clause-opened
-returns-clause-opened g c =
-    let left = rw (← c.self.view_is) at c.requires.left in
-    let own = left-account (parts_of c.self.inside) c.self.invariant c.args.tenant (λ l. (charge c.args.size ≤ l.segments) × (1 ≤ l.nodes)) left in
-    let parent = (let there = rw (← c.self.view_is) at c.requires.parent in parent-found (parts_of c.self.inside) c.self.invariant c.args.tenant c.args.parent there) in
-    let serial = opened-next (parts_of c.self.inside) c.args.tenant c.unwrap-before.result own.0 own.1.0 (rw c.unwrap-before.ensures at c.open.ensures.opened) in
-    let size = size-some c.args.words.now c.args.size c.requires.size in
-    let frames = rw (serial, serial-of-name c.args.tenant c.args.parent c.parent_name.result c.parent_name.ensures) at c.add.ensures.frames in
-    let unused = rw c.unwrap-node.ensures at c.open-2.ensures.was_unused in
-    let nodes = rw c.unwrap-node.ensures at c.open-2.ensures.opened in
-    let changes = rw (c.unwrap-before.ensures, c.charge.ensures) at c.open.ensures.charges in
-    let sum = rw (c.unwrap-before.ensures, c.charge.ensures) at c.open.ensures.sum in
-    let step = open-step (parts_of c.self.inside) c.open-2.new.self c.add.new.self c.open.new.self c.args.tenant c.args.parent c.parent_node-above.result c.args.words.now c.args.size c.args.home c.unwrap-node.result own.0 c.self.invariant (record {
-      there = own.1.0;
-      parent_there = parent;
-      above_is = c.parent_node-above.ensures;
-      some = size.0;
-      most = size.1.0;
-      room = size.1.1;
-      unused = unused;
-      nodes_is = nodes;
-      frames = frames;
-      kept = c.add.ensures.kept;
-      sound = c.open.ensures.sound;
-      changes = changes;
-      sum = sum;
-    }) in
-    rw (← c.self.view_is) step.shared
+returns-clause-opened g c = rw (← c.self.view_is) (step g (goal.at.returns-clause-opened g c).After-add).shared

@@ -9,18 +9,41 @@ use Rattle.frame_tree.specs.Frames.{frame_at}
 use Rattle.sched_store.specs.Inside.{parts_of}
 use Rattle.sched_store.specs.Reads.{frames_in}
 use Rattle.sched_store.proofs.Aborting.{has-frame}
-use Rattle.sched_store.proofs.Leaves.{no-children, leaf-node, has-value, leaf-frees, remove-stored, remove-shared}
+use Rattle.sched_store.proofs.Leaves.{no-children, leaf-node, has-value, IsFreed, leaf-frees, IsRemoved, remove-stored, remove-shared}
+use Rattle.sched_store.proofs.store.Store.remove.Given.{Over}
+use Rattle.sched_store.proofs.store.Store.remove.Goals.{After-free_count, After-give_back}
 use Rattle.sched_store.proofs.store.Store.remove.Goals as goal
+
+-- what the node gave back
+freed : (g : Over) (c : After-free_count g) → IsFreed (parts_of c.self.inside) c.args.name c.free_count-before.result c.free_count.result
+freed g c =
+    leaf-frees _ c.close.new.self _ c.remove-node.result _ _ c.self.invariant (subst (λ (s : Shared). IsSome (named s c.args.name)) (sym c.self.view_is) c.requires.there)
+    c.remove-node.ensures.value c.close.ensures c.free_count-before.ensures c.free_count.ensures
+
+-- what the table, the stack and the book told
+told : (g : Over) (c : After-give_back g) → IsRemoved (parts_of c.self.inside) c.close.new.self c.remove-node.new.self c.give_back.new.self c.args.name c.remove-node.result c.free_count-before.result c.free_count.result
+told g c = record {
+  some = subst (λ (s : Shared). IsSome (named s c.args.name)) (sym c.self.view_is) c.requires.there;
+  leaf = no-children (parts_of c.self.inside) c.self.invariant c.args.name (subst (λ (s : Shared). has_child (frames_in s c.args.name.tenant) c.args.name.serial ≡ false) (sym c.self.view_is) c.requires.leaf);
+  value = c.remove-node.ensures.value;
+  closed_one = c.close.ensures;
+  was_free = c.free_count-before.ensures;
+  is_free = c.free_count.ensures;
+  frames = c.remove-node.ensures.frames;
+  keeps = c.remove-node.ensures.kept;
+  credited = c.give_back.ensures.credits;
+  sum = c.give_back.ensures.sum;
+  others = c.give_back.ensures.others;
+  sound = c.give_back.ensures.sound;
+}
 
 pub remove-node-requires-clause-there : goal.remove-node-requires-clause-there
 remove-node-requires-clause-there g c =
-    let some = subst (λ (s : Shared). IsSome (named s c.args.name)) (sym c.self.view_is) c.requires.there in
-    has-frame (parts_of c.self.inside) c.self.invariant c.args.name some
+    has-frame (parts_of c.self.inside) c.self.invariant c.args.name (subst (λ (s : Shared). IsSome (named s c.args.name)) (sym c.self.view_is) c.requires.there)
 
 pub remove-node-requires-clause-leaf : goal.remove-node-requires-clause-leaf
 remove-node-requires-clause-leaf g c =
-    let leaf = subst (λ (s : Shared). has_child (frames_in s c.args.name.tenant) c.args.name.serial ≡ false) (sym c.self.view_is) c.requires.leaf in
-    no-children (parts_of c.self.inside) c.self.invariant c.args.name leaf
+    no-children (parts_of c.self.inside) c.self.invariant c.args.name (subst (λ (s : Shared). has_child (frames_in s c.args.name.tenant) c.args.name.serial ≡ false) (sym c.self.view_is) c.requires.leaf)
 
 pub close-requires-clause-is_open : goal.close-requires-clause-is_open
 close-requires-clause-is_open g c =
@@ -35,52 +58,14 @@ close-requires-clause-no_child g c =
     subst (λ (n : ℕ). HasNoChild c.self.inside.stack n) f.2 none
 
 pub overflow_sub-freed : goal.overflow_sub-freed
-overflow_sub-freed g c =
-    let some = subst (λ (s : Shared). IsSome (named s c.args.name)) (sym c.self.view_is) c.requires.there in
-    (leaf-frees (parts_of c.self.inside) c.close.new.self c.args.name c.remove-node.result c.free_count-before.result c.free_count.result c.self.invariant some
-    c.remove-node.ensures.value c.close.ensures c.free_count-before.ensures c.free_count.ensures).more
+overflow_sub-freed g c = (freed g (goal.at.overflow_sub-freed g c).After-free_count).more
 
 pub give_back-requires : goal.give_back-requires
-give_back-requires g c =
-    let some = subst (λ (s : Shared). IsSome (named s c.args.name)) (sym c.self.view_is) c.requires.there in
-    (leaf-frees (parts_of c.self.inside) c.close.new.self c.args.name c.remove-node.result c.free_count-before.result c.free_count.result c.self.invariant some
-    c.remove-node.ensures.value c.close.ensures c.free_count-before.ensures c.free_count.ensures).charged
+give_back-requires g c = (freed g (goal.at.give_back-requires g c).After-free_count).charged
 
 pub invariant_of-self : goal.invariant_of-self
-invariant_of-self g c =
-    let some = subst (λ (s : Shared). IsSome (named s c.args.name)) (sym c.self.view_is) c.requires.there in
-    let leaf = subst (λ (s : Shared). has_child (frames_in s c.args.name.tenant) c.args.name.serial ≡ false) (sym c.self.view_is) c.requires.leaf in
-    remove-stored (parts_of c.self.inside) c.close.new.self c.remove-node.new.self c.give_back.new.self c.args.name c.remove-node.result c.free_count-before.result c.free_count.result c.self.invariant some
-    (record {
-      leaf = no-children (parts_of c.self.inside) c.self.invariant c.args.name leaf;
-      value = c.remove-node.ensures.value;
-      closed_one = c.close.ensures;
-      was_free = c.free_count-before.ensures;
-      is_free = c.free_count.ensures;
-      frames = c.remove-node.ensures.frames;
-      keeps = c.remove-node.ensures.kept;
-      credited = c.give_back.ensures.credits;
-      sum = c.give_back.ensures.sum;
-      others = c.give_back.ensures.others;
-      sound = c.give_back.ensures.sound;
-    })
+invariant_of-self g c = remove-stored _ _ _ _ _ _ _ _ c.self.invariant (told g (goal.at.invariant_of-self g c).After-give_back)
 
 pub returns : goal.returns
 returns g c =
-    let some = subst (λ (s : Shared). IsSome (named s c.args.name)) (sym c.self.view_is) c.requires.there in
-    let leaf = subst (λ (s : Shared). has_child (frames_in s c.args.name.tenant) c.args.name.serial ≡ false) (sym c.self.view_is) c.requires.leaf in
-    remove-shared (parts_of c.self.inside) c.close.new.self c.remove-node.new.self c.give_back.new.self c.args.name c.remove-node.result c.free_count-before.result c.free_count.result c.self.invariant some
-    (record {
-      leaf = no-children (parts_of c.self.inside) c.self.invariant c.args.name leaf;
-      value = c.remove-node.ensures.value;
-      closed_one = c.close.ensures;
-      was_free = c.free_count-before.ensures;
-      is_free = c.free_count.ensures;
-      frames = c.remove-node.ensures.frames;
-      keeps = c.remove-node.ensures.kept;
-      credited = c.give_back.ensures.credits;
-      sum = c.give_back.ensures.sum;
-      others = c.give_back.ensures.others;
-      sound = c.give_back.ensures.sound;
-    })
-    ∙ ap (on_tenant c.args.name.tenant (without_frame c.args.name.serial)) c.self.view_is
+    remove-shared _ _ _ _ _ _ _ _ c.self.invariant (told g (goal.at.returns g c).After-give_back) ∙ ap (on_tenant c.args.name.tenant (without_frame c.args.name.serial)) c.self.view_is

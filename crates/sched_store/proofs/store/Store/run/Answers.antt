@@ -1,26 +1,25 @@
-use Rattle.std.proofs.Common.{sym}
+use Rattle.std.proofs.Common.{Some, set, sym}
 use Rattle.std.proofs.lemmas.Bool.{eqb-true}
 use Rattle.frame_tree.specs.declared.names.State.TheVariants.{Running}
 use Rattle.sched_store.specs.Inside.{parts_of}
-use Rattle.sched_store.proofs.Frames.{there-frame, there-has}
-use Rattle.sched_store.proofs.States.{held-set}
+use Rattle.sched_store.proofs.Frames.{there-has}
+use Rattle.sched_store.proofs.States.{StateSet, takes-set}
+use Rattle.sched_store.proofs.store.Store.run.Given.{Over}
+use Rattle.sched_store.proofs.store.Store.run.Goals.{After-set_state}
 use Rattle.sched_store.proofs.store.Store.run.Goals as goal
 
+-- the worker has taken the frame
+taken : (g : Over) (c : After-set_state g) → StateSet (parts_of c.self.inside) c.set_state.new.self (set (parts_of c.self.inside).places c.number-number.result (Some c.args.name)) c.args.name (Running c.number-number.result)
+taken g c =
+    let limits = c.number-number.ensures.limits in
+    takes-set _ _ _ _ _ c.self.invariant c.self.view_is (record { frames = c.set_state.ensures.frames; kept = c.set_state.ensures.kept }) c.requires.there limits.0 limits.1
+    (rw (← c.number-number.ensures.value) at c.requires.free) (λ other held. sym (eqb-true c.number-number.result other held))
+
 pub set_state-requires : goal.set_state-requires
-set_state-requires g c =
-    let is = rw (← c.self.view_is) at c.requires.there in
-    there-has (parts_of c.self.inside) c.self.invariant c.args.name is
+set_state-requires g c = there-has (parts_of c.self.inside) c.self.invariant c.args.name (rw (← c.self.view_is) at c.requires.there)
 
 pub invariant_of-self : goal.invariant_of-self
-invariant_of-self g c =
-    let is = rw (← c.self.view_is) at c.requires.there in
-    let own = there-frame (parts_of c.self.inside) c.self.invariant c.args.name is in
-    let may = rw (← c.self.view_is, ← c.number-number.ensures.value) at c.requires.free in
-    (held-set (parts_of c.self.inside) c.set_state.new.self c.number-number.result c.args.name (Running c.number-number.result) own.0 c.self.invariant (record { frames = c.set_state.ensures.frames; kept = c.set_state.ensures.kept }) own.1 c.number-number.ensures.limits.0 c.number-number.ensures.limits.1 may (λ other held. sym (eqb-true c.number-number.result other held))).stored
+invariant_of-self g c = (taken g (goal.at.invariant_of-self g c).After-set_state).stored
 
 pub returns : goal.returns
-returns g c =
-    let is = rw (← c.self.view_is) at c.requires.there in
-    let own = there-frame (parts_of c.self.inside) c.self.invariant c.args.name is in
-    let may = rw (← c.self.view_is, ← c.number-number.ensures.value) at c.requires.free in
-    rw (← c.self.view_is, ← c.number-number.ensures.value) (held-set (parts_of c.self.inside) c.set_state.new.self c.number-number.result c.args.name (Running c.number-number.result) own.0 c.self.invariant (record { frames = c.set_state.ensures.frames; kept = c.set_state.ensures.kept }) own.1 c.number-number.ensures.limits.0 c.number-number.ensures.limits.1 may (λ other held. sym (eqb-true c.number-number.result other held))).shared
+returns g c = rw (← c.self.view_is, ← c.number-number.ensures.value) (taken g (goal.at.returns g c).After-set_state).shared

@@ -1,21 +1,21 @@
 use Rattle.sched_store.specs.Inside.{parts_of}
 use Rattle.sched_store.proofs.Frames.{there-frame, there-has}
-use Rattle.sched_store.proofs.States.{unheld-set}
+use Rattle.sched_store.proofs.States.{StateSet, unheld-set}
+use Rattle.sched_store.proofs.store.Store.set_state.Given.{Over}
+use Rattle.sched_store.proofs.store.Store.set_state.Goals.{After-set_state}
 use Rattle.sched_store.proofs.store.Store.set_state.Goals as goal
 
+-- the frame has the state, and no worker another place
+unheld : (g : Over) (c : After-set_state g) → StateSet (parts_of c.self.inside) c.set_state.new.self (parts_of c.self.inside).places c.args.name c.args.state
+unheld g c =
+    let own = there-frame (parts_of c.self.inside) c.self.invariant c.args.name (rw (← c.self.view_is) at c.requires.there) in
+    unheld-set _ _ _ _ own.0 c.self.invariant (record { frames = c.set_state.ensures.frames; kept = c.set_state.ensures.kept }) own.1 c.requires.nobody
+
 pub set_state-requires : goal.set_state-requires
-set_state-requires g c =
-    let is = rw (← c.self.view_is) at c.requires.there in
-    there-has (parts_of c.self.inside) c.self.invariant c.args.name is
+set_state-requires g c = there-has (parts_of c.self.inside) c.self.invariant c.args.name (rw (← c.self.view_is) at c.requires.there)
 
 pub invariant_of-self : goal.invariant_of-self
-invariant_of-self g c =
-    let is = rw (← c.self.view_is) at c.requires.there in
-    let own = there-frame (parts_of c.self.inside) c.self.invariant c.args.name is in
-    (unheld-set (parts_of c.self.inside) c.set_state.new.self c.args.name c.args.state own.0 c.self.invariant (record { frames = c.set_state.ensures.frames; kept = c.set_state.ensures.kept }) own.1 c.requires.nobody).stored
+invariant_of-self g c = (unheld g (goal.at.invariant_of-self g c).After-set_state).stored
 
 pub returns : goal.returns
-returns g c =
-    let is = rw (← c.self.view_is) at c.requires.there in
-    let own = there-frame (parts_of c.self.inside) c.self.invariant c.args.name is in
-    rw (← c.self.view_is) (unheld-set (parts_of c.self.inside) c.set_state.new.self c.args.name c.args.state own.0 c.self.invariant (record { frames = c.set_state.ensures.frames; kept = c.set_state.ensures.kept }) own.1 c.requires.nobody).shared
+returns g c = rw (← c.self.view_is) (unheld g (goal.at.returns g c).After-set_state).shared

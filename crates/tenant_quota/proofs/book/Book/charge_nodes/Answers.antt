@@ -7,7 +7,7 @@ use Rattle.tenant_quota.specs.Accounts.{account_of, charged_by, left_in, charged
 use Rattle.tenant_quota.proofs.Places.{account_place, read-rising}
 use Rattle.tenant_quota.specs.Reservations.{Reservations, HasLeft, IsShort, left_of, opened_of, IsSoundBook}
 use Rattle.tenant_quota.specs.Keeping.{held_by}
-use Rattle.tenant_quota.proofs.Standing.{and_at, and_from, left_is, place_within, stands_for, IsChange, change_by_write, sum_by_write}
+use Rattle.tenant_quota.proofs.Standing.{and_at, and_from, left_is, place_within, stands_for, IsChange, change_by_write, sum_by_write, one_less}
 use Rattle.tenant_quota.proofs.book.Book.charge_nodes.Goals as goal
 
 charged_within : (a : Account) (l : Left) (segments nodes : ℕ) → l ≡ left_in a → segments ≤ l.segments → nodes ≤ l.nodes → IsWithinReserve a → IsWithinReserve (charged_by segments nodes a)
@@ -61,17 +61,11 @@ refuses b t i segments nodes read e l sound there same is at left less =
 opened_is : (b : Reservations) (t i : ℕ) (read : List (ℕ × Account)) (e : ℕ × Account) → IsSoundBook b → IsSome (account_of t b.accounts) → read ≡ b.accounts → i ≡ account_place t read → e ≡ get_or b.accounts i e → opened_of t b ≡ Some e.1.opened
 opened_is b t i read e sound there same is at = ap (option_map (λ (a : Account). a.opened)) (stands_for b t i read e sound there same is at).account
 
-one_less : (a b m n : ℕ) → (a < m) ⊎ ((m ≤ a) × (b < n)) → (a < m) ⊎ (b < n)
-one_less a b m n (inl less) = inl less
-one_less a b m n (inr less) = inr less.1
-
 pub place_of-place-requires : goal.place_of-place-requires
 place_of-place-requires g c = read-rising c.self.inside.accounts.items _ c.deref.ensures.value c.self.invariant.sound.rising
 
 pub index_mut-requires : goal.index_mut-requires
-index_mut-requires g c =
-    let within = place_within (held_by c.self.inside) c.args.tenant _ _ c.self.invariant.sound (rw (← c.self.view_is) at c.requires) c.deref.ensures.value c.place_of-place.ensures in
-    omega (arith, c.deref.ensures.len, ap length c.deref.ensures.value)
+index_mut-requires g c = let within = place_within (held_by c.self.inside) c.args.tenant _ _ c.self.invariant.sound (rw (← c.self.view_is) at c.requires) c.deref.ensures.value c.place_of-place.ensures in omega (arith, c.deref.ensures.len, ap length c.deref.ensures.value)
 
 pub left-left-requires : goal.left-left-requires
 left-left-requires g c =

@@ -1,14 +1,17 @@
 -- A reservation above the tenant's own that the totals allow is written into its account; any other is refused.
-use Rattle.std.proofs.Common.{◌≡◌, ℕ, ◌+◌, ◌-◌, ◌<◌, ◌≤◌, ◌⊎◌, inl, inr, length, ltb, true, false, Some, ap, refl, arith}
+use Rattle.std.proofs.Common.{◌≡◌, ℕ, ◌+◌, ◌-◌, ◌<◌, ◌≤◌, ◌⊎◌, inl, inr, List, IsSome, length, ltb, get_or, set, true, false, Some, ap, refl, arith}
 use Rattle.std.specs.Prelude.{option_map}
 use Rattle.std.proofs.lemmas.Bool.{ltb-true, ltb-false}
-use Rattle.tenant_quota.specs.Quota.{Quota, IsAbove, IsNotAbove}
+use Rattle.tenant_quota.specs.Quota.{Quota, IsAbove, IsNotAbove, IsWithinLimits}
+use Rattle.tenant_quota.specs.Accounts.{account_of, raised_to}
 use Rattle.tenant_quota.specs.declared.account.Account.{Account}
 use Rattle.tenant_quota.specs.declared.book.Rest.{Rest}
 use Rattle.tenant_quota.specs.Reservations.{Reservations, reserve_of, rest_of, HasRoomFor, IsBeyond, CanRaise, IsTooMuch, IsLower, IsSoundBook}
 use Rattle.tenant_quota.specs.Keeping.{held_by}
-use Rattle.tenant_quota.proofs.Standing.{and_at, and_from, if_from, place_within, stands_for, IsRaise, raise_by_write}
-use Rattle.tenant_quota.proofs.Places.{read-rising}
+use Rattle.tenant_quota.proofs.Standing.{and_at, and_from, if_from, place_within, stands_for, IsRaise, raise_by_write, one_less}
+use Rattle.tenant_quota.proofs.Places.{account_place, read-rising}
+use Rattle.tenant_quota.proofs.book.Book.raise.Given.{Over}
+use Rattle.tenant_quota.proofs.book.Book.raise.Goals.{After-index_mut}
 use Rattle.tenant_quota.proofs.book.Book.raise.Goals as goal
 
 not_above : (now quota : Quota) → (IsAbove now quota → ⊥) → IsNotAbove now quota
@@ -93,6 +96,25 @@ no_less a b m n is less above = rw (is, less) above
 sum_raised : (kept old new now quota more : ℕ) → new + now ≡ old + quota → kept ≡ old → more ≡ quota - now → now ≤ quota → kept + more ≡ new
 sum_raised kept old new now quota more raises is more_is above = omega (arith, raises, is, more_is, above)
 
+-- a reservation that the rest of a total doesn't allow, and one that both allow, as the code compares them
+too_much : (b : Reservations) (t : ℕ) (quota now : Quota) (r : Rest) (s s_now n n_now : ℕ) → IsSoundBook b → reserve_of t b ≡ Some now → r ≡ rest_of b → IsAbove now quota → s ≡ quota.segments → s_now ≡ now.segments → n ≡ quota.nodes → n_now ≡ now.nodes →
+    (r.segments < s - s_now) ⊎ ((s - s_now ≤ r.segments) × (r.nodes < n - n_now)) → IsRefused b t quota
+too_much b t quota now r s s_now n n_now sound is rest above s_is s_now_is n_is n_now_is less =
+    refused b t quota now is above (beyond_rest b quota now r (s - s_now) (n - n_now) sound rest above (difference _ _ _ _ s_is s_now_is) (difference _ _ _ _ n_is n_now_is) (one_less _ _ _ _ less))
+
+allowed : (b : Reservations) (t i : ℕ) (read : List (ℕ × Account)) (e : ℕ × Account) (quota : Quota) (r : Rest) (s s_now n n_now : ℕ) → IsSoundBook b → IsSome (account_of t b.accounts) → read ≡ b.accounts → i ≡ account_place t read → e ≡ get_or b.accounts i e → IsWithinLimits quota →
+    r ≡ rest_of b → IsAbove e.1.reserve quota → s ≡ quota.segments → s_now ≡ e.1.reserve.segments → n ≡ quota.nodes → n_now ≡ e.1.reserve.nodes → s - s_now ≤ r.segments → n - n_now ≤ r.nodes →
+    IsRaised b (record b { accounts = set b.accounts i (e.0, raised_to quota e.1) }) t quota e.1.reserve
+allowed b t i read e quota r s s_now n n_now sound there same is at limits rest above s_is s_now_is n_is n_now_is enough many =
+    let own : reserve_of t b ≡ Some e.1.reserve = ap (option_map (λ (a : Account). a.reserve)) (stands_for b t i read e sound there same is at).account in
+    let room = within_rest b quota e.1.reserve r (s - s_now) (n - n_now) sound rest above (difference _ _ _ _ s_is s_now_is) (difference _ _ _ _ n_is n_now_is) enough many in
+    raised b _ t quota e.1.reserve own above room (raise_by_write b t i read e quota sound there same is at limits above room)
+
+-- the account that was read is the tenant's
+own : (g : Over) (c : After-index_mut g) → reserve_of c.args.tenant (held_by c.self.inside) ≡ Some c.index_mut.result.now.1.reserve
+own g c =
+    ap (option_map (λ (a : Account). a.reserve)) (stands_for (held_by c.self.inside) c.args.tenant _ _ c.index_mut.result.now c.self.invariant.sound (rw (← c.self.view_is) at c.requires) c.deref.ensures.value c.place_of-place.ensures c.index_mut.ensures.value).account
+
 pub overflow_sub-segments : goal.overflow_sub-segments
 overflow_sub-segments g c = no_less _ _ _ _ c.segments.ensures.value c.segments-2.ensures.value (c.is_above.ensures.0 c.if-not-is_above.false).segments
 
@@ -103,104 +125,58 @@ pub place_of-place-requires : goal.place_of-place-requires
 place_of-place-requires g c = read-rising c.self.inside.accounts.items _ c.deref.ensures.value c.self.invariant.sound.rising
 
 pub index_mut-requires : goal.index_mut-requires
-index_mut-requires g c =
-    let within = place_within (held_by c.self.inside) c.args.tenant _ _ c.self.invariant.sound (rw (← c.self.view_is) at c.requires) c.deref.ensures.value c.place_of-place.ensures in
-    omega (arith, c.deref.ensures.len, ap length c.deref.ensures.value)
-
-one_less : (a b m n : ℕ) → (a < m) ⊎ ((m ≤ a) × (b < n)) → (a < m) ⊎ (b < n)
-one_less a b m n (inl less) = inl less
-one_less a b m n (inr less) = inr less.1
+index_mut-requires g c = let within = place_within (held_by c.self.inside) c.args.tenant _ _ c.self.invariant.sound (rw (← c.self.view_is) at c.requires) c.deref.ensures.value c.place_of-place.ensures in omega (arith, c.deref.ensures.len, ap length c.deref.ensures.value)
 
 pub returns-then-not-is_above-clause-ok : goal.returns-then-not-is_above-clause-ok
 returns-then-not-is_above-clause-ok g c =
-    let stands = stands_for (held_by c.self.inside) c.args.tenant _ _ c.index_mut.result.now c.self.invariant.sound (rw (← c.self.view_is) at c.requires) c.deref.ensures.value c.place_of-place.ensures c.index_mut.ensures.value in
-    let is : reserve_of c.args.tenant (held_by c.self.inside) ≡ Some c.index_mut.result.now.1.reserve = ap (option_map (λ (a : Account). a.reserve)) stands.account in
-    let few = too_little (held_by c.self.inside) c.args.tenant c.args.reserve _ is (λ above. let yes = c.is_above.ensures.1 above in absurd cc) in
+    let few = too_little (held_by c.self.inside) c.args.tenant c.args.reserve _ (own g (goal.at.returns-then-not-is_above-clause-ok g c).After-index_mut) (λ above. let yes = c.is_above.ensures.1 above in absurd cc) in
     rw (← c.self.view_is) (λ never. absurd cc, λ can. absurd (few.taken can))
 
 pub returns-then-not-is_above-clause-lower : goal.returns-then-not-is_above-clause-lower
 returns-then-not-is_above-clause-lower g c =
-    let stands = stands_for (held_by c.self.inside) c.args.tenant _ _ c.index_mut.result.now c.self.invariant.sound (rw (← c.self.view_is) at c.requires) c.deref.ensures.value c.place_of-place.ensures c.index_mut.ensures.value in
-    let is : reserve_of c.args.tenant (held_by c.self.inside) ≡ Some c.index_mut.result.now.1.reserve = ap (option_map (λ (a : Account). a.reserve)) stands.account in
-    let few = too_little (held_by c.self.inside) c.args.tenant c.args.reserve _ is (λ above. let yes = c.is_above.ensures.1 above in absurd cc) in
+    let few = too_little (held_by c.self.inside) c.args.tenant c.args.reserve _ (own g (goal.at.returns-then-not-is_above-clause-lower g c).After-index_mut) (λ above. let yes = c.is_above.ensures.1 above in absurd cc) in
     rw (← c.self.view_is) (λ _. few.lower, λ _. refl)
 
 pub returns-then-not-is_above-clause-full : goal.returns-then-not-is_above-clause-full
 returns-then-not-is_above-clause-full g c =
-    let stands = stands_for (held_by c.self.inside) c.args.tenant _ _ c.index_mut.result.now c.self.invariant.sound (rw (← c.self.view_is) at c.requires) c.deref.ensures.value c.place_of-place.ensures c.index_mut.ensures.value in
-    let is : reserve_of c.args.tenant (held_by c.self.inside) ≡ Some c.index_mut.result.now.1.reserve = ap (option_map (λ (a : Account). a.reserve)) stands.account in
-    let few = too_little (held_by c.self.inside) c.args.tenant c.args.reserve _ is (λ above. let yes = c.is_above.ensures.1 above in absurd cc) in
+    let few = too_little (held_by c.self.inside) c.args.tenant c.args.reserve _ (own g (goal.at.returns-then-not-is_above-clause-full g c).After-index_mut) (λ above. let yes = c.is_above.ensures.1 above in absurd cc) in
     rw (← c.self.view_is) (λ never. absurd cc, λ much. absurd (few.much much))
 
 pub returns-then-rest-segments-clause-ok : goal.returns-then-rest-segments-clause-ok
 returns-then-rest-segments-clause-ok g c =
-    let stands = stands_for (held_by c.self.inside) c.args.tenant _ _ c.index_mut.result.now c.self.invariant.sound (rw (← c.self.view_is) at c.requires) c.deref.ensures.value c.place_of-place.ensures c.index_mut.ensures.value in
-    let is : reserve_of c.args.tenant (held_by c.self.inside) ≡ Some c.index_mut.result.now.1.reserve = ap (option_map (λ (a : Account). a.reserve)) stands.account in
-    let above : IsAbove c.index_mut.result.now.1.reserve c.args.reserve = c.is_above.ensures.0 c.if-not-is_above.false in
-    let less = one_less _ _ _ _ c.then-rest-segments.either in
-    let segments_are : c.segments.result - c.segments-2.result ≡ c.args.reserve.segments - c.index_mut.result.now.1.reserve.segments = difference _ _ _ _ c.segments.ensures.value c.segments-2.ensures.value in
-    let nodes_are : c.nodes.result - c.nodes-2.result ≡ c.args.reserve.nodes - c.index_mut.result.now.1.reserve.nodes = difference _ _ _ _ c.nodes.ensures.value c.nodes-2.ensures.value in
-    let beyond = beyond_rest (held_by c.self.inside) c.args.reserve _ c.rest-rest.result _ _ c.self.invariant.sound (rw (← c.self.view_is) at c.rest-rest.ensures.rest) above segments_are nodes_are less in
-    let many = refused (held_by c.self.inside) c.args.tenant c.args.reserve _ is above beyond in
+    let many = too_much (held_by c.self.inside) c.args.tenant c.args.reserve _ c.rest-rest.result _ _ _ _ c.self.invariant.sound (own g (goal.at.returns-then-rest-segments-clause-ok g c).After-index_mut) (rw (← c.self.view_is) at c.rest-rest.ensures.rest) (c.is_above.ensures.0 c.if-not-is_above.false) c.segments.ensures.value c.segments-2.ensures.value c.nodes.ensures.value c.nodes-2.ensures.value c.then-rest-segments.either in
     rw (← c.self.view_is) (λ never. absurd cc, λ can. absurd (many.taken can))
 
 pub returns-then-rest-segments-clause-lower : goal.returns-then-rest-segments-clause-lower
 returns-then-rest-segments-clause-lower g c =
-    let stands = stands_for (held_by c.self.inside) c.args.tenant _ _ c.index_mut.result.now c.self.invariant.sound (rw (← c.self.view_is) at c.requires) c.deref.ensures.value c.place_of-place.ensures c.index_mut.ensures.value in
-    let is : reserve_of c.args.tenant (held_by c.self.inside) ≡ Some c.index_mut.result.now.1.reserve = ap (option_map (λ (a : Account). a.reserve)) stands.account in
-    let above : IsAbove c.index_mut.result.now.1.reserve c.args.reserve = c.is_above.ensures.0 c.if-not-is_above.false in
-    let less = one_less _ _ _ _ c.then-rest-segments.either in
-    let segments_are : c.segments.result - c.segments-2.result ≡ c.args.reserve.segments - c.index_mut.result.now.1.reserve.segments = difference _ _ _ _ c.segments.ensures.value c.segments-2.ensures.value in
-    let nodes_are : c.nodes.result - c.nodes-2.result ≡ c.args.reserve.nodes - c.index_mut.result.now.1.reserve.nodes = difference _ _ _ _ c.nodes.ensures.value c.nodes-2.ensures.value in
-    let beyond = beyond_rest (held_by c.self.inside) c.args.reserve _ c.rest-rest.result _ _ c.self.invariant.sound (rw (← c.self.view_is) at c.rest-rest.ensures.rest) above segments_are nodes_are less in
-    let many = refused (held_by c.self.inside) c.args.tenant c.args.reserve _ is above beyond in
+    let many = too_much (held_by c.self.inside) c.args.tenant c.args.reserve _ c.rest-rest.result _ _ _ _ c.self.invariant.sound (own g (goal.at.returns-then-rest-segments-clause-lower g c).After-index_mut) (rw (← c.self.view_is) at c.rest-rest.ensures.rest) (c.is_above.ensures.0 c.if-not-is_above.false) c.segments.ensures.value c.segments-2.ensures.value c.nodes.ensures.value c.nodes-2.ensures.value c.then-rest-segments.either in
     rw (← c.self.view_is) (λ never. absurd cc, λ lower. absurd (many.little lower))
 
 pub returns-then-rest-segments-clause-full : goal.returns-then-rest-segments-clause-full
 returns-then-rest-segments-clause-full g c =
-    let stands = stands_for (held_by c.self.inside) c.args.tenant _ _ c.index_mut.result.now c.self.invariant.sound (rw (← c.self.view_is) at c.requires) c.deref.ensures.value c.place_of-place.ensures c.index_mut.ensures.value in
-    let is : reserve_of c.args.tenant (held_by c.self.inside) ≡ Some c.index_mut.result.now.1.reserve = ap (option_map (λ (a : Account). a.reserve)) stands.account in
-    let above : IsAbove c.index_mut.result.now.1.reserve c.args.reserve = c.is_above.ensures.0 c.if-not-is_above.false in
-    let less = one_less _ _ _ _ c.then-rest-segments.either in
-    let segments_are : c.segments.result - c.segments-2.result ≡ c.args.reserve.segments - c.index_mut.result.now.1.reserve.segments = difference _ _ _ _ c.segments.ensures.value c.segments-2.ensures.value in
-    let nodes_are : c.nodes.result - c.nodes-2.result ≡ c.args.reserve.nodes - c.index_mut.result.now.1.reserve.nodes = difference _ _ _ _ c.nodes.ensures.value c.nodes-2.ensures.value in
-    let beyond = beyond_rest (held_by c.self.inside) c.args.reserve _ c.rest-rest.result _ _ c.self.invariant.sound (rw (← c.self.view_is) at c.rest-rest.ensures.rest) above segments_are nodes_are less in
-    let many = refused (held_by c.self.inside) c.args.tenant c.args.reserve _ is above beyond in
+    let many = too_much (held_by c.self.inside) c.args.tenant c.args.reserve _ c.rest-rest.result _ _ _ _ c.self.invariant.sound (own g (goal.at.returns-then-rest-segments-clause-full g c).After-index_mut) (rw (← c.self.view_is) at c.rest-rest.ensures.rest) (c.is_above.ensures.0 c.if-not-is_above.false) c.segments.ensures.value c.segments-2.ensures.value c.nodes.ensures.value c.nodes-2.ensures.value c.then-rest-segments.either in
     rw (← c.self.view_is) (λ _. many.much, λ _. refl)
 
 pub invariant_of-self-2 : goal.invariant_of-self-2
 invariant_of-self-2 g c =
-    let stands = stands_for (held_by c.self.inside) c.args.tenant _ _ c.index_mut.result.now c.self.invariant.sound (rw (← c.self.view_is) at c.requires) c.deref.ensures.value c.place_of-place.ensures c.index_mut.ensures.value in
-    let is : reserve_of c.args.tenant (held_by c.self.inside) ≡ Some c.index_mut.result.now.1.reserve = ap (option_map (λ (a : Account). a.reserve)) stands.account in
-    let above : IsAbove c.index_mut.result.now.1.reserve c.args.reserve = c.is_above.ensures.0 c.if-not-is_above.false in
-    let segments_are : c.segments.result - c.segments-2.result ≡ c.args.reserve.segments - c.index_mut.result.now.1.reserve.segments = difference _ _ _ _ c.segments.ensures.value c.segments-2.ensures.value in
-    let nodes_are : c.nodes.result - c.nodes-2.result ≡ c.args.reserve.nodes - c.index_mut.result.now.1.reserve.nodes = difference _ _ _ _ c.nodes.ensures.value c.nodes-2.ensures.value in
-    let room = within_rest (held_by c.self.inside) c.args.reserve _ c.rest-rest.result _ _ c.self.invariant.sound (rw (← c.self.view_is) at c.rest-rest.ensures.rest) above segments_are nodes_are c.if-rest-segments.false c.if-rest-nodes.false in
-    let raise = raise_by_write (held_by c.self.inside) c.args.tenant _ _ c.index_mut.result.now c.args.reserve c.self.invariant.sound (rw (← c.self.view_is) at c.requires) c.deref.ensures.value c.place_of-place.ensures c.index_mut.ensures.value c.segments.ensures.limits above room in
-    let does = raised (held_by c.self.inside) _ c.args.tenant c.args.reserve _ is above room raise in
+    let does = allowed (held_by c.self.inside) c.args.tenant _ _ c.index_mut.result.now c.args.reserve c.rest-rest.result _ _ _ _ c.self.invariant.sound (rw (← c.self.view_is) at c.requires) c.deref.ensures.value c.place_of-place.ensures c.index_mut.ensures.value c.segments.ensures.limits (rw (← c.self.view_is) at c.rest-rest.ensures.rest) (c.is_above.ensures.0 c.if-not-is_above.false) c.segments.ensures.value c.segments-2.ensures.value c.nodes.ensures.value c.nodes-2.ensures.value c.if-rest-segments.false c.if-rest-nodes.false in
+    let above = c.is_above.ensures.0 c.if-not-is_above.false in
     let now = c.self.invariant in
     record {
       sound = does.raise.sound;
-      segments = sum_raised _ _ _ _ _ _ does.raise.raises.segments now.segments segments_are above.segments;
-      nodes = sum_raised _ _ _ _ _ _ does.raise.raises.nodes now.nodes nodes_are above.nodes;
+      segments = sum_raised _ _ _ _ _ _ does.raise.raises.segments now.segments (difference _ _ _ _ c.segments.ensures.value c.segments-2.ensures.value) above.segments;
+      nodes = sum_raised _ _ _ _ _ _ does.raise.raises.nodes now.nodes (difference _ _ _ _ c.nodes.ensures.value c.nodes-2.ensures.value) above.nodes;
       places = now.places;
     }
 
 pub returns : goal.returns
 returns g c =
-    let stands = stands_for (held_by c.self.inside) c.args.tenant _ _ c.index_mut.result.now c.self.invariant.sound (rw (← c.self.view_is) at c.requires) c.deref.ensures.value c.place_of-place.ensures c.index_mut.ensures.value in
-    let is : reserve_of c.args.tenant (held_by c.self.inside) ≡ Some c.index_mut.result.now.1.reserve = ap (option_map (λ (a : Account). a.reserve)) stands.account in
-    let above : IsAbove c.index_mut.result.now.1.reserve c.args.reserve = c.is_above.ensures.0 c.if-not-is_above.false in
-    let segments_are : c.segments.result - c.segments-2.result ≡ c.args.reserve.segments - c.index_mut.result.now.1.reserve.segments = difference _ _ _ _ c.segments.ensures.value c.segments-2.ensures.value in
-    let nodes_are : c.nodes.result - c.nodes-2.result ≡ c.args.reserve.nodes - c.index_mut.result.now.1.reserve.nodes = difference _ _ _ _ c.nodes.ensures.value c.nodes-2.ensures.value in
-    let room = within_rest (held_by c.self.inside) c.args.reserve _ c.rest-rest.result _ _ c.self.invariant.sound (rw (← c.self.view_is) at c.rest-rest.ensures.rest) above segments_are nodes_are c.if-rest-segments.false c.if-rest-nodes.false in
-    let raise = raise_by_write (held_by c.self.inside) c.args.tenant _ _ c.index_mut.result.now c.args.reserve c.self.invariant.sound (rw (← c.self.view_is) at c.requires) c.deref.ensures.value c.place_of-place.ensures c.index_mut.ensures.value c.segments.ensures.limits above room in
-    let does = raised (held_by c.self.inside) _ c.args.tenant c.args.reserve _ is above room raise in
+    let does = allowed (held_by c.self.inside) c.args.tenant _ _ c.index_mut.result.now c.args.reserve c.rest-rest.result _ _ _ _ c.self.invariant.sound (rw (← c.self.view_is) at c.requires) c.deref.ensures.value c.place_of-place.ensures c.index_mut.ensures.value c.segments.ensures.limits (rw (← c.self.view_is) at c.rest-rest.ensures.rest) (c.is_above.ensures.0 c.if-not-is_above.false) c.segments.ensures.value c.segments-2.ensures.value c.nodes.ensures.value c.nodes-2.ensures.value c.if-rest-segments.false c.if-rest-nodes.false in
     record {
       ok = rw (← c.self.view_is) (λ _. does.can, λ _. refl);
       lower = rw (← c.self.view_is) (λ never. absurd cc, λ lower. absurd (does.little lower));
       full = rw (← c.self.view_is) (λ never. absurd cc, λ much. absurd (does.much much));
-      raises = rw (← c.self.view_is) (if_from (reserve_of c.args.tenant (held_by c.self.inside)) _ _ is does.raise.raises);
+      raises = rw (← c.self.view_is) (if_from (reserve_of c.args.tenant (held_by c.self.inside)) _ _ (own g (goal.at.returns g c).After-index_mut) does.raise.raises);
       others = rw (← c.self.view_is) does.raise.others;
       err = tt;
       sound = does.raise.sound;

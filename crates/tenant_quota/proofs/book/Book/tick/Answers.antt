@@ -60,9 +60,7 @@ pub place_of-place-requires : goal.place_of-place-requires
 place_of-place-requires g c = read-rising c.self.inside.accounts.items _ c.deref.ensures.value c.self.invariant.sound.rising
 
 pub index_mut-requires : goal.index_mut-requires
-index_mut-requires g c =
-    let within = place_within (held_by c.self.inside) c.args.tenant _ _ c.self.invariant.sound (rw (← c.self.view_is) at c.requires) c.deref.ensures.value c.place_of-place.ensures in
-    omega (arith, c.deref.ensures.len, ap length c.deref.ensures.value)
+index_mut-requires g c = let within = place_within (held_by c.self.inside) c.args.tenant _ _ c.self.invariant.sound (rw (← c.self.view_is) at c.requires) c.deref.ensures.value c.place_of-place.ensures in omega (arith, c.deref.ensures.len, ap length c.deref.ensures.value)
 
 pub left-requires : goal.left-requires
 left-requires g c =
