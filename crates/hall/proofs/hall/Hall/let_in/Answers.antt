@@ -1,6 +1,5 @@
--- A tenant that was admitted has a journal of its own; where memory is wanting, or the core refuses, nothing has changed.
-use Rattle.std.proofs.Common.{ℕ, ◌+◌, sym, ◌∙◌, ap, refl}
-use Rattle.hall.proofs.Halls.{admitted, wanting}
+use Rattle.std.proofs.Common.{ℕ, ◌+◌, sym, ◌∙◌, ap}
+use Rattle.hall.proofs.Halls.{admitted}
 use Rattle.hall.proofs.hall.Hall.let_in.Goals as goal
 
 pub invariant_of-self : goal.invariant_of-self
@@ -9,17 +8,5 @@ invariant_of-self g c =
     rw (c.step.ensures.procedure, c.push_reserved.ensures.items, c.room_for.ensures.same, c.in-Ok.ensures.journal)
     (admitted _ _ _ c.args.number c.args.reserve c.in-Ok-step.did c.step.new.self.shared c.self.invariant (rw c.in-Ok-step.is at c.step.ensures.one) none c.in-Ok.ensures.limits c.step.ensures.known)
 
-pub returns-in-Ok-step-clause-one : goal.returns-in-Ok-step-clause-one
-returns-in-Ok-step-clause-one g c = rw (← c.self.view_is) (rw c.in-Ok-step.is at c.step.ensures.one)
-
-pub returns-in-Ok-step-clause-taken : goal.returns-in-Ok-step-clause-taken
-returns-in-Ok-step-clause-taken g c = rw (← c.self.view_is, c.step.ensures.procedure, c.push_reserved.ensures.items, c.room_for.ensures.same, c.in-Ok.ensures.journal) refl
-
 pub returns-in-Ok-step-clause-count : goal.returns-in-Ok-step-clause-count
 returns-in-Ok-step-clause-count g c = rw (← c.self.view_is) (sym (invariant_of-self g c).counted ∙ ap (λ (n : ℕ). n + 1) c.self.invariant.counted)
-
-pub returns-in-Err-step-clause-one : goal.returns-in-Err-step-clause-one
-returns-in-Err-step-clause-one g c = rw (← c.self.view_is) (rw c.in-Err-step.is at c.step.ensures.one)
-
-pub returns-in-Err-clause-one : goal.returns-in-Err-clause-one
-returns-in-Err-clause-one g c = rw (← c.self.view_is) (wanting _ _ _ refl (rw (← c.self.view_is) at c.requires))
