@@ -1,6 +1,6 @@
 //! Several threads that wait at a desk at once: each is woken for what it waits for, and they sleep until then.
 use super::{Trial, asks, badge_of, cancels, compute, root_of, seat_of, try_out, worker_of};
-use crate::{Badge, Desk, Hands, Seat, StepOf, Worker};
+use crate::{Badge, Desk, Hands, Held, Seat, StepOf, Worker};
 use frame_tree::FrameId;
 use std::process::Abort;
 use std::sync::Wait;
@@ -141,6 +141,24 @@ fn taken_root<L: Hands, R: Wait + Abort>(
     root
 }
 
+/// A root opens and has a child, by two steps of its worker.
+fn opens<L: Hands, R: Wait + Abort>(
+    rt: &R,
+    held: &mut Held<'_, L>,
+    badge: &mut Badge<L>,
+    worker: Worker,
+    root: FrameId,
+) {
+    assert!(rt;
+        held.offer(rt, badge, &StepOf::Advance(worker, root))
+            .is_ok()
+    );
+    assert!(rt;
+        held.offer(rt, badge, &StepOf::Advance(worker, root))
+            .is_ok()
+    );
+}
+
 /// Two roots open a child each while one holds the desk, and two workers wait.
 pub(super) fn open_children<L, R>(rt: &R, desk: &Desk<L>)
 where
@@ -151,19 +169,15 @@ where
     let back = &count;
     let mut badge = badge_of(rt, desk);
     let (one, other) = (worker_of(rt, 1), worker_of(rt, 2));
-    let steps = [
-        StepOf::Advance(one, taken_root(rt, desk, &mut badge, one)),
-        StepOf::Advance(other, taken_root(rt, desk, &mut badge, other)),
-    ];
+    let first = taken_root(rt, desk, &mut badge, one);
+    let second = taken_root(rt, desk, &mut badge, other);
     thread::scope(thread::scope_env(), rt, |scope| {
         assert!(rt; start(scope, rt, desk, back, Who::Workers, 2));
         thread::sleep(rt, Duration::from_millis(100));
         assert!(rt; are_back(back, 0), "no frame is ready");
         let mut held = desk.hold(rt);
-        for step in &steps {
-            assert!(rt; held.offer(rt, &mut badge, step).is_ok(), "the root opens");
-            assert!(rt; held.offer(rt, &mut badge, step).is_ok(), "it has a child");
-        }
+        opens(rt, &mut held, &mut badge, one, first);
+        opens(rt, &mut held, &mut badge, other, second);
         held.release();
         assert!(rt; come_back(rt, back, 2), "each child wakes a worker");
     })
