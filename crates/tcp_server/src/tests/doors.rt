@@ -1,60 +1,65 @@
 //! What lies between a server and those who come: its listener, its descriptors, its threads.
 ghost use Rattle.std.specs.Prelude.{◌≡◌};
 
-use super::ANSWERED;
-use super::lines::{LAST, Row, are_answered, are_told, is_answered, is_closed};
-use super::places::{Scene, Size, beside, due, found};
+use super::{ANSWERED, Row, are_answered, are_told, is_answered, is_closed, serve_through};
+use crate::ServeFault;
 use crate::door::Door;
-use sched_rules::Worker;
+use crate::server::{Sessions, serve_beside};
+use sched_rules::{Config, Worker};
 use std::alloc::Global;
-use std::io::{self, Error, ErrorKind, Write};
+use std::io::{self, Error, ErrorKind, Read, Write};
+use std::marker::Brand;
 use std::net::{Net, OpenListener, SocketAddr, TcpListener, TcpStream};
 use std::sync::Wait;
 use std::sync::atomic::{AtomicBool, AtomicU32, Ordering};
+use std::sync::ledger::Blank;
 use std::test::Fail;
 use std::thread::{self, Threads};
 use std::time::{Clock, CpuClock, Duration};
-use steal_pool::desk::{Badge, Desk, Hands};
+use steal_pool::desk::{Desk, Hall, Hands, PARTS};
 use steal_pool::{Gate, Task};
 
 /// A job with a long table: one of Black's fourteen moves takes all of White's discs.
 const TABLED: [Row; 3] = [
-    (b"HELLO 200 48\n", "WELCOME 200 48\n"),
+    ("HELLO 200 48\n", "WELCOME 200 48\n"),
     (
-        b"ASK 1 XXX---X-XO-XXO----OOOX---XO-OOX---OOO----OXO-O--X-XX--X--X--XXXX X\n",
+        "ASK 1 XXX---X-XO-XXO----OOOX---XO-OOX---OOO----OXO-O--X-XX--X--X--XXXX X\n",
         "JOB 1\n",
     ),
-    (b"WAIT 1\n", "DONE 1 70000 d4\n"),
+    ("WAIT 1\n", "DONE 1 70000 d4\n"),
 ];
 
 /// Sixteen lines that ask for the table.
 const TABLES: &str =
     "TABLE 1\nTABLE 1\nTABLE 1\nTABLE 1\nTABLE 1\nTABLE 1\nTABLE 1\nTABLE 1\nTABLE 1\nTABLE 1\nTABLE 1\nTABLE 1\nTABLE 1\nTABLE 1\nTABLE 1\nTABLE 1\n";
 
+/// The last line of a session.
+const LAST: Row = ("BYE\n", "BYE\n");
+
 /// Four jobs that are asked at once, and then awaited.
 const FOUR: [Row; 10] = [
-    (b"HELLO 4 8\n", "WELCOME 4 8\n"),
+    ("HELLO 4 8\n", "WELCOME 4 8\n"),
     (
-        b"ASK 0 ---------------------------OX------XO--------------------------- X\n",
+        "ASK 0 ---------------------------OX------XO--------------------------- X\n",
         "JOB 1\n",
     ),
     (
-        b"ASK 0 ---------------------------OX------XO--------------------------- X\n",
+        "ASK 0 ---------------------------OX------XO--------------------------- X\n",
         "JOB 2\n",
     ),
     (
-        b"ASK 0 ---------------------------OX------XO--------------------------- X\n",
+        "ASK 0 ---------------------------OX------XO--------------------------- X\n",
         "JOB 3\n",
     ),
     (
-        b"ASK 0 ---------------------------OX------XO--------------------------- X\n",
+        "ASK 0 ---------------------------OX------XO--------------------------- X\n",
         "JOB 4\n",
     ),
-    (b"WAIT 1\n", "DONE 1 0 -\n"),
-    (b"WAIT 2\n", "DONE 2 0 -\n"),
-    (b"WAIT 3\n", "DONE 3 0 -\n"),
-    (b"WAIT 4\n", "DONE 4 0 -\n"),
-    (b"BYE\n", "BYE\n"),
+    ("WAIT 1\n", "DONE 1 0 -\n"),
+    ("WAIT 2\n", "DONE 2 0 -\n"),
+    ("WAIT 3\n", "DONE 3 0 -\n"),
+    ("WAIT 4\n", "DONE 4 0 -\n"),
+    ("BYE\n", "BYE\n"),
 ];
 
 /// How often somebody tries again, with a twentieth of a second in between.
@@ -253,6 +258,15 @@ fn come_before<R: Net<Stream = TcpStream>>(
     Ok(Before { streams, taken })
 }
 
+/// Fails where a guest isn't content, or workers waited for each other until the limit.
+fn met(content: bool, is_late: bool) -> Result<(), Fail> {
+    match (content, is_late) {
+        (true, false) => Ok(()),
+        (false, _) => Err(Fail::from("the guest isn't content")),
+        (true, true) => Err(Fail::from("so many workers were never at work at once")),
+    }
+}
+
 /// How many workers this guest wants to see in the midst of a computation at once.
 fn at_once(guest: Guest) -> u32 {
     match guest {
@@ -261,59 +275,46 @@ fn at_once(guest: Guest) -> u32 {
     }
 }
 
-/// A gate at which so many workers wait for each other.
-fn gate_of(many: u32) -> Together {
-    Together {
-        many,
-        there: AtomicU32::new(0),
-        late: AtomicBool::new(false),
-    }
-}
-
-/// A server with so many sessions and workers, and its guest: the guest is content, and so many workers as it asks for
-/// were in the midst of a computation at once.
-#[derive(Drop)]
-struct Attended {
+/// A server of this grain with so many sessions and workers, and its guest: the guest is content, and so many workers as
+/// it asks for were in the midst of a computation at once.
+fn attended<L, R>(
+    rt: &R,
+    alloc: Global,
+    blank: Blank,
+    grain: u8,
     guest: Guest,
     sessions: u16,
     workers: u8,
-}
-
-impl<R> Scene<R> for Attended
+) -> Result<(), Fail>
 where
+    L: Hands + Send + Sync,
     R: Net<Listener = TcpListener, Stream = TcpStream> + Threads + Wait + Clock + CpuClock + Sync,
+    requires name { blank.name ≡ L.name }
+    requires parts { (blank.parts ≡ L.parts) × (L.all ≡ L.parts) × (L.all ≡ PARTS) }
 {
-    fn play<L: Hands + Send + Sync>(
-        &self,
-        rt: &R,
-        alloc: Global,
-        desk: &Desk<L>,
-        listener: TcpListener,
-    ) -> Result<Option<Badge<L>>, Fail> {
-        let workers = Worker::new(self.workers).ok_or("the limits")?;
-        let address = listener.local_addr()?;
-        let guest = self.guest;
-        let before = come_before(rt, alloc, &listener, guest)?;
-        let gate = gate_of(at_once(guest));
-        let badge = beside(
-            rt,
-            alloc,
-            desk,
-            listener,
-            self.sessions,
-            workers,
-            &gate,
-            move || is_content(rt, address, guest, before),
-        )?;
-        due(
-            !gate.late.load(Ordering::SeqCst),
-            "so many workers were never at work at once",
-        )?;
-        Ok(badge)
-    }
+    let config = Config::new(256, 64).ok_or("the limits")?;
+    let workers = Worker::new(workers).ok_or("the limits")?;
+    let desk: Desk<L> = Desk::new(Hall::new(alloc, config, grain.min(6))?, blank);
+    let listener = TcpListener::bind(rt, "127.0.0.1:0")?;
+    let address = listener.local_addr()?;
+    let before = come_before(rt, alloc, &listener, guest)?;
+    let gate = Together {
+        many: at_once(guest),
+        there: AtomicU32::new(0),
+        late: AtomicBool::new(false),
+    };
+    let (content, served) = thread::join(
+        rt,
+        move || is_content(rt, address, guest, before),
+        ||
+            requires { L.all ≡ L.parts }
+        { serve_through(rt, alloc, &desk, listener, sessions, workers, &gate) },
+    );
+    served?;
+    met(content?, gate.late.load(Ordering::SeqCst))
 }
 
-/// A guest at a server of this grain with so many sessions and workers.
+/// The same with a blank of its own.
 pub(super) fn attend<R>(
     rt: &R,
     alloc: Global,
@@ -325,17 +326,15 @@ pub(super) fn attend<R>(
 where
     R: Net<Listener = TcpListener, Stream = TcpStream> + Threads + Wait + Clock + CpuClock + Sync,
 {
-    let size = Size {
-        segments: 256,
-        nodes: 64,
+    attended::<Brand, R>(
+        rt,
+        alloc,
+        Blank::new(PARTS),
         grain,
-    };
-    let attended = Attended {
         guest,
         sessions,
         workers,
-    };
-    found(rt, alloc, size, &attended)
+    )
 }
 
 /// The listener is closed with the last connection, while its session lives.
@@ -396,5 +395,70 @@ fn lost_connections_are_passed_over(rt: HostRuntime) -> Result<(), Fail> {
     };
     taken.write_all(b"?")?;
     assert!(rt; !is_closed(&stream)?);
+    Ok(())
+}
+
+/// A runtime whose connections wait until the server has closed them, and note it.
+#[derive(Drop)]
+struct Waiting<'r, R> {
+    rt: &'r R,
+    is_closed: AtomicBool,
+}
+
+impl<R: Threads> Threads for Waiting<'_, R> {}
+
+impl<R: Wait> Wait for Waiting<'_, R> {}
+
+impl<R: Net<Listener = TcpListener, Stream = TcpStream>> Net for Waiting<'_, R> {
+    type Stream = TcpStream;
+
+    type Listener = TcpListener;
+
+    fn bind(&self, address: SocketAddr) -> io::Result<TcpListener> {
+        self.rt.bind(address)
+    }
+
+    fn connect(&self, address: SocketAddr) -> io::Result<TcpStream> {
+        let mut stream = self.rt.connect(address)?;
+        stream.set_read_timeout(Some(Duration::from_secs(5)))?;
+        if matches!(stream.read(&mut [0; 1]), Ok(0)) {
+            self.is_closed.store(true, Ordering::SeqCst);
+        }
+        Ok(stream)
+    }
+}
+
+/// Whether the connection that wakes the listener of a server whose pool can't begin is closed at once: who takes it
+/// knows already that nobody is served any more.
+fn closes_its_own<L, R>(rt: &R, alloc: Global, blank: Blank) -> Result<bool, Fail>
+where
+    L: Hands + Send + Sync,
+    R: Net<Listener = TcpListener, Stream = TcpStream> + Threads + Wait + Sync,
+    requires name { blank.name ≡ L.name }
+    requires parts { (blank.parts ≡ L.parts) × (L.all ≡ L.parts) × (L.all ≡ PARTS) }
+{
+    let config = Config::new(8, 8).ok_or("the limits")?;
+    let desk: Desk<L> = Desk::new(Hall::new(alloc, config, 0)?, blank);
+    let waiting = Waiting {
+        rt,
+        is_closed: AtomicBool::new(false),
+    };
+    let listener = TcpListener::bind(&waiting, "127.0.0.1:0")?;
+    let one = Sessions {
+        count: 1,
+        stack: None,
+    };
+    let served: Result<(), ServeFault> = serve_beside(&waiting, &desk, listener, one, || {
+        desk.close(rt);
+        Err(ServeFault::NoThread)
+    });
+    Ok(served.is_err() && waiting.is_closed.load(Ordering::SeqCst))
+}
+
+/// A server is stopped before its listener is woken.
+#[test]
+fn a_stop_comes_before_its_connection(rt: HostRuntime) -> Result<(), Fail> {
+    let closes = closes_its_own::<Brand, HostRuntime>(&rt, rt.alloc(), Blank::new(PARTS))?;
+    assert!(rt; closes);
     Ok(())
 }

@@ -1,88 +1,68 @@
 //! A tenant reserves more while its jobs run.
 ghost use Rattle.std.specs.Prelude.{◌≡◌};
 
-use super::lines::{LAST, Row, are_told, is_answered};
-use super::places::{Scene, Size, beside, due, found};
-use super::{TURNS, Visit, try_visit};
+use super::{Row, TURNS, Visit, is_answered, serve_through, try_visit};
 use desk_office::serve_desk;
 use line_io::{FromReader, FromWriter};
-use sched_rules::Worker;
+use sched_rules::{Config, Worker};
 use std::alloc::Global;
 use std::io;
+use std::marker::Brand;
 use std::net::{Net, TcpListener, TcpStream};
 use std::sync::Wait;
 use std::sync::atomic::{AtomicBool, Ordering};
+use std::sync::ledger::Blank;
 use std::test::Fail;
 use std::thread::{self, Threads};
-use steal_pool::desk::{Badge, Desk, Hands};
-use steal_pool::{Gate, Open, PoolEnd, Task, run_pool};
-
-/// A hall of 16 segments and 16 nodes, at grain 0.
-const SIXTEEN: Size = Size {
-    segments: 16,
-    nodes: 16,
-    grain: 0,
-};
+use steal_pool::desk::{Desk, Hall, Hands, PARTS};
+use steal_pool::{Gate, Open, Task, run_pool};
 
 /// A tenant of one node has eight, and a job that takes five.
-const MORE: [Row; 7] = [
-    (b"HELLO 8 1\n", "WELCOME 8 1\n"),
-    (b"RESERVE 8 8\n", "RESERVED 8 8\n"),
+pub(super) const MORE: [Row; 6] = [
+    ("HELLO 8 1\n", "WELCOME 8 1\n"),
+    ("RESERVE 8 8\n", "RESERVED 8 8\n"),
     (
-        b"ASK 1 ---------------------------OX------XO--------------------------- X\n",
+        "ASK 1 ---------------------------OX------XO--------------------------- X\n",
         "JOB 1\n",
     ),
-    (b"WAIT 1\n", "DONE 1 -3 d3\n"),
-    (b"LIVE\n", "LIVE 0 0\n"),
-    (b"RESERVE 4 8\n", "ERR 20\n"),
-    LAST,
+    ("WAIT 1\n", "DONE 1 -3 d3\n"),
+    ("LIVE\n", "LIVE 0 0\n"),
+    ("RESERVE 4 8\n", "ERR 20\n"),
 ];
 
 #[test]
 fn more_is_reserved_over_tcp(rt: HostRuntime) -> Result<(), Fail> {
-    try_visit(&rt, rt.alloc(), 1, Visit::Rows(MORE.as_slice()))
+    try_visit(&rt, rt.alloc(), 1, Visit::More)
 }
 
-/// A session over memory writes what is due for these lines, with two workers.
-#[derive(Drop)]
-struct Written<'a> {
-    lines: &'a [u8],
-    due: &'a [u8],
-}
-
-/// What a session over memory writes. The desk is closed then.
-fn all_written<L: Hands, R: Wait>(rt: &R, alloc: Global, desk: &Desk<L>, lines: &[u8]) -> Vec<u8>
-    requires { L.all ≡ L.parts }
+/// What a session over memory writes, at a desk of 16 segments and 16 nodes, at grain 0, with two workers.
+fn written<L, R>(rt: &R, alloc: Global, blank: Blank, lines: &[u8]) -> Result<Vec<u8>, Fail>
+where
+    L: Hands + Send + Sync,
+    R: Threads + Wait + Sync,
+    requires name { blank.name ≡ L.name }
+    requires parts { (blank.parts ≡ L.parts) × (L.all ≡ L.parts) × (L.all ≡ PARTS) }
 {
-    let mut source = FromReader { reader: lines };
-    let mut sink = FromWriter::new(Vec::new(alloc));
-    let _ = serve_desk(rt, &mut source, &mut sink, desk);
-    desk.close(rt);
-    sink.writer
-}
-
-impl<R: Threads + Wait + Sync> Scene<R> for Written<'_> {
-    fn play<L: Hands + Send + Sync>(
-        &self,
-        rt: &R,
-        alloc: Global,
-        desk: &Desk<L>,
-        _listener: TcpListener,
-    ) -> Result<Option<Badge<L>>, Fail> {
-        let lines = self.lines;
-        let (bytes, end) = thread::join(
-            rt,
-            move ||
-                requires { L.all ≡ L.parts }
-            { all_written(rt, alloc, desk, lines) },
-            ||
-                requires { L.all ≡ L.parts }
-            { run_pool(rt, alloc, desk, Worker::new(2).unwrap(), &Open) },
-        );
-        due(bytes.as_slice() == self.due, "something else is written")?;
-        let PoolEnd { badge, .. } = end?;
-        Ok(Some(badge))
-    }
+    let config = Config::new(16, 16).ok_or("the limits")?;
+    let desk: Desk<L> = Desk::new(Hall::new(alloc, config, 0)?, blank);
+    let workers = Worker::new(2).ok_or("two workers")?;
+    let (bytes, end) = thread::join(
+        rt,
+        ||
+            requires { L.all ≡ L.parts }
+        {
+            let mut source = FromReader { reader: lines };
+            let mut sink = FromWriter::new(Vec::new(alloc));
+            let _ = serve_desk(rt, &mut source, &mut sink, &desk);
+            desk.close(rt);
+            sink.writer
+        },
+        ||
+            requires { L.all ≡ L.parts }
+        { run_pool(rt, alloc, &desk, workers, &Open) },
+    );
+    end?;
+    Ok(bytes)
 }
 
 #[test]
@@ -91,14 +71,12 @@ fn more_is_reserved_over_memory(rt: HostRuntime) -> Result<(), Fail> {
     let mut lines = Vec::new(alloc);
     let mut due = Vec::new(alloc);
     for (line, answer) in &MORE {
-        lines.extend_from_slice(line)?;
+        lines.extend_from_slice(line.as_bytes())?;
         due.extend_from_slice(answer.as_bytes())?;
     }
-    let all = Written {
-        lines: lines.as_slice(),
-        due: due.as_slice(),
-    };
-    found(&rt, alloc, SIXTEEN, &all)
+    let bytes = written::<Brand, HostRuntime>(&rt, alloc, Blank::new(PARTS), lines.as_slice())?;
+    assert_eq!(rt; bytes.as_slice(), due.as_slice());
+    Ok(())
 }
 
 /// Holds the first computation of a pool.
@@ -128,70 +106,64 @@ fn is_set(flag: &AtomicBool) -> bool {
     false
 }
 
-/// Whether a job of a tenant of two nodes is asked, and its first computation is held.
-fn is_held(stream: &TcpStream, gate: &Held) -> io::Result<bool> {
-    let rows: [Row; 2] = [(b"HELLO 8 2\n", "WELCOME 8 2\n"), MORE[2]];
-    Ok(are_told(stream, rows.as_slice())? && is_set(&gate.is_there))
-}
-
-/// Whether it ends so where more is asked for, or not, while its first computation is held.
+/// Whether a job of a tenant of two nodes ends so where more is asked for, or not, while its first computation is held.
 fn is_ended(stream: &TcpStream, gate: &Held, more: Option<Row>, end: Row) -> io::Result<bool> {
-    let held = is_held(stream, gate)?;
+    let told = is_answered(stream, ("HELLO 8 2\n", "WELCOME 8 2\n"))?
+        && is_answered(stream, (MORE[2].0, "JOB 1\n"))?
+        && is_set(&gate.is_there);
     let told = match more {
-        Some(row) => is_answered(stream, row)?,
-        None => true,
+        Some(row) => told && is_answered(stream, row)?,
+        None => told,
     };
     gate.is_open.store(true, Ordering::SeqCst);
-    Ok(held && told && are_told(stream, [end, LAST].as_slice())?)
+    Ok(told && is_answered(stream, end)? && is_answered(stream, ("BYE\n", "BYE\n"))?)
 }
 
-/// Such a job at a server of one worker.
-#[derive(Drop)]
-struct Ends {
+/// The same at a server of one worker.
+fn ends<L, R>(
+    rt: &R,
+    alloc: Global,
+    blank: Blank,
     more: Option<Row>,
     end: Row,
-}
-
-impl<R> Scene<R> for Ends
+) -> Result<bool, Fail>
 where
+    L: Hands + Send + Sync,
     R: Net<Listener = TcpListener, Stream = TcpStream> + Threads + Wait + Sync,
+    requires name { blank.name ≡ L.name }
+    requires parts { (blank.parts ≡ L.parts) × (L.all ≡ L.parts) × (L.all ≡ PARTS) }
 {
-    fn play<L: Hands + Send + Sync>(
-        &self,
-        rt: &R,
-        alloc: Global,
-        desk: &Desk<L>,
-        listener: TcpListener,
-    ) -> Result<Option<Badge<L>>, Fail> {
-        let stream = TcpStream::connect(rt, listener.local_addr()?)?;
-        let gate = Held {
-            is_there: AtomicBool::new(false),
-            is_open: AtomicBool::new(false),
-        };
-        let (more, end) = (self.more, self.end);
-        beside(
-            rt,
-            alloc,
-            desk,
-            listener,
-            1,
-            Worker::new(1).unwrap(),
-            &gate,
-            || is_ended(&stream, &gate, more, end),
-        )
-    }
+    let config = Config::new(16, 16).ok_or("the limits")?;
+    let desk: Desk<L> = Desk::new(Hall::new(alloc, config, 0)?, blank);
+    let listener = TcpListener::bind(rt, "127.0.0.1:0")?;
+    let stream = TcpStream::connect(rt, listener.local_addr()?)?;
+    let one = Worker::new(1).ok_or("one worker")?;
+    let gate = Held {
+        is_there: AtomicBool::new(false),
+        is_open: AtomicBool::new(false),
+    };
+    let (told, served) = thread::join(
+        rt,
+        || is_ended(&stream, &gate, more, end),
+        ||
+            requires { L.all ≡ L.parts }
+        { serve_through(rt, alloc, &desk, listener, 1, one, &gate) },
+    );
+    served?;
+    Ok(told?)
 }
 
 #[test]
 fn more_in_time_saves_a_job(rt: HostRuntime) -> Result<(), Fail> {
-    let spent = Ends {
-        more: None,
-        end: (b"WAIT 1\n", "SPENT 1\n"),
-    };
-    let saved = Ends {
-        more: Some(MORE[1]),
-        end: MORE[3],
-    };
-    found(&rt, rt.alloc(), SIXTEEN, &spent)?;
-    found(&rt, rt.alloc(), SIXTEEN, &saved)
+    for (more, end) in [
+        (None, ("WAIT 1\n", "SPENT 1\n")),
+        (
+            Some(("RESERVE 8 8\n", "RESERVED 8 8\n")),
+            ("WAIT 1\n", "DONE 1 -3 d3\n"),
+        ),
+    ] {
+        let told = ends::<Brand, HostRuntime>(&rt, rt.alloc(), Blank::new(PARTS), more, end)?;
+        assert!(rt; told, "{end:?}");
+    }
+    Ok(())
 }
