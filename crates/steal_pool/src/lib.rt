@@ -6,9 +6,9 @@
 //! ([`Announce`]). A worker looks for a frame that is ready: the newest task of its own deque, else the
 //! oldest of another's (`task_deques`), else any that the hall knows of, for which it sleeps at the
 //! desk. With a frame it does turn after turn (`pool_rules`): each turn is one step, offered to the
-//! hall under its lock by [`desk::Desk::offer`] and by nothing else, or one computation outside all
-//! locks. A frame that becomes ready by its step is pushed on the worker's deque; where there is no
-//! room it stays ready in the hall, where it is found again.
+//! hall under its lock by [`desk::Held::offer`] and by nothing else (steps that follow each other under
+//! one lock), or one computation outside all locks. A frame that becomes ready by its step is pushed on
+//! the worker's deque; where there is no room it stays ready in the hall, where it is found again.
 //!
 //! What is proved of a worker is that each of its turns is the table's, that no task but that of its
 //! turn is pushed (`specs/Works.antt`), that it offers workers' steps alone, that it brings an answer that
