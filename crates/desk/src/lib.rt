@@ -51,6 +51,3 @@ pub use hall::{
 pub use held::Held;
 pub use seat::{Seat, SeatAsked};
 pub use shares::{Badge, Hands, PARTS};
-
-#[cfg(test)]
-mod tests;

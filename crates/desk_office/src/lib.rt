@@ -24,6 +24,3 @@ mod serving;
 
 pub use office::DeskOffice;
 pub use serving::serve_desk;
-
-#[cfg(test)]
-mod tests;

@@ -13,6 +13,7 @@ ghost use Rattle.hall.specs.Journals.{goes_on};
 
 use jamboree_core::jamboree::{Jamboree, LeafAnswer};
 use sched_rules::{Step, StepOf, Worker};
+use std::mem::size_of;
 use tenant_quota::Reserve;
 
 /// What is kept of a tenant's step: of a frame's name its serial.
@@ -37,6 +38,9 @@ pub(crate) enum LongEntry {
     Answered(Worker, u32, LeafAnswer),
     Cancelled(u64),
 }
+
+const _: () = prove!(size_of::<JournalEntry>() == 8);
+const _: () = prove!(size_of::<LongEntry>() <= 48);
 
 impl JournalEntry {
     /// The entry of a step of a tenant that is there.

@@ -45,6 +45,3 @@ pub use hall::Hall;
 pub use jamboree_core::jamboree::{Jamboree, Leaf, LeafAnswer, Reply};
 pub use jamboree_core::sched_core::{Config, Core, Did, DidOf, Refusal, Step, StepOf, Worker};
 pub use jamboree_core::{Outcome, submit};
-
-#[cfg(test)]
-mod tests;

@@ -55,6 +55,3 @@ mod running;
 pub use asking::submit;
 pub use outcomes::{Outcome, outcome_of};
 pub use running::{run_from_new, run_searches, step_search};
-
-#[cfg(test)]
-mod tests;

@@ -29,7 +29,4 @@ mod searching;
 mod worker;
 
 pub use found::{Searched, Way};
-pub use searching::solve_by_core;
-
-#[cfg(test)]
-mod tests;
+pub use searching::{search_within, solve_by_core};

@@ -45,7 +45,7 @@ pub fn solve_by_core<A: Allocator + Clone>(
 }
 
 /// The same in a core that has just what is reserved.
-pub(crate) fn search_within<A: Allocator + Clone>(
+pub fn search_within<A: Allocator + Clone>(
     alloc: A,
     reserve: Reserve,
     position: &Position,

@@ -1,6 +1,9 @@
 mod acts;
+mod alone;
+mod cores;
 mod leaves;
 mod lines;
+mod solving;
 mod texts;
 mod words;
 

@@ -44,6 +44,3 @@ pub use office::Office;
 pub use protocol::Question;
 pub use serving::serve_lines;
 pub use standings::{Analysis, Live, Standing};
-
-#[cfg(test)]
-mod tests;

@@ -21,6 +21,3 @@ pub mod rows;
 mod solving;
 
 pub use solving::{solve, solve_bytes, solve_visited};
-
-#[cfg(test)]
-mod tests;

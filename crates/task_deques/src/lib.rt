@@ -49,6 +49,3 @@ pub use returned::Returned;
 pub use rule::{EachOnce, Tally};
 pub use sums::Sums;
 pub use thief::Thief;
-
-#[cfg(test)]
-mod tests;

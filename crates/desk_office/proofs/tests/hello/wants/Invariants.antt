@@ -1,7 +1,0 @@
-use Rattle.desk_office.proofs.tests.hello.wants.Given as goal
-
-abbrev pub ghosts-is_wanting-L-Ledger : goal.ghosts-is_wanting-L-Ledger
-ghosts-is_wanting-L-Ledger g a = record { name = a.blank.name; parts = a.blank.parts }
-
-abbrev pub ghosts-is_wanting-L-Hands : goal.ghosts-is_wanting-L-Hands
-ghosts-is_wanting-L-Hands g a = record { all = a.blank.parts }

@@ -1,0 +1,17 @@
+//! A desk and deques at work: tests alone, of `desk` and `task_deques`.
+//!
+//! What each call does to what lies under the lock is proved in `desk`, and that no task is lost or doubled in
+//! `task_deques`. No contract can say that a thread which waits is woken, that a closed desk lets everyone go, or
+//! that an ask succeeds where there is room. Here threads wait, are woken and are let go, in one thread and in
+//! four, and each growth is refused in turn by heaps of one unit more each time. The tests stand in a crate of their
+//! own, so that the crates below are not proved once more with them.
+//!
+//! ```text
+//! let seat = seat_of(rt, desk, 1)?;
+//! asks(rt, desk, &mut seat, 0)?; // a job of one leaf
+//! thread::scope(rt, |scope| ..)  // one waits for the job, one does its steps: the first is woken
+//! ```
+#![tactic(auto)]
+
+#[cfg(test)]
+mod tests;

@@ -1,0 +1,3 @@
+mod deques;
+mod desks;
+mod halls;

@@ -1,0 +1,2 @@
+mod offices;
+mod sessions;

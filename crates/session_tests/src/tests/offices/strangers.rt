@@ -1,0 +1,87 @@
+//! An office that has no tenant refuses by number, and one that has a tenant takes no other. Sessions ask neither of it.
+use super::*;
+use desk_office::DeskOffice;
+use desk::Refusal;
+use session::Office;
+use tenant_quota::Reserve;
+
+/// Whether there is no job 1 to be shown.
+fn shows_no_job<O: Office>(office: &mut O) -> bool {
+    matches!(office.get(1), Err(Refusal::NoJob))
+}
+
+/// Whether there is none to wait for.
+fn awaits_no_job<O: Office>(office: &mut O) -> bool {
+    matches!(office.wait(1), Err(Refusal::NoJob))
+}
+
+/// Whether there is none to cancel.
+fn cancels_no_job<O: Office>(office: &mut O) -> bool {
+    matches!(office.cancel(1), Err(Refusal::NoJob))
+}
+
+/// Whether there is no tenant to reserve more for.
+fn reserves_for_nobody<O: Office>(office: &mut O, reserve: Reserve) -> bool {
+    matches!(office.reserve(reserve), Err(Refusal::NoTenant))
+}
+
+/// Whether there is none that has anything left.
+fn has_no_quota<O: Office>(office: &mut O) -> bool {
+    matches!(office.quota(), Err(Refusal::NoTenant))
+}
+
+/// Whether there is none that has anything alive.
+fn has_none_alive<O: Office>(office: &mut O) -> bool {
+    matches!(office.live(), Err(Refusal::NoTenant))
+}
+
+/// Whether it takes a tenant, and no other after it.
+fn takes_one<O: Office>(office: &mut O, reserve: Reserve) -> bool {
+    office.hello(reserve).is_ok() && matches!(office.hello(reserve), Err(Refusal::OldTenant))
+}
+
+/// Whether an office refuses all that has to do with a tenant, and then takes just one.
+fn is_as_it_says<O: Office>(office: &mut O, reserve: Reserve) -> bool {
+    shows_no_job(office)
+        && awaits_no_job(office)
+        && cancels_no_job(office)
+        && reserves_for_nobody(office, reserve)
+        && has_no_quota(office)
+        && has_none_alive(office)
+        && takes_one(office, reserve)
+}
+
+/// Whether a new office of a desk is so.
+fn is_new_office_as_it_says<L: Hands, R: Wait>(rt: &R, desk: &Desk<L>, reserve: Reserve) -> bool {
+    let mut office = DeskOffice::new(rt, desk);
+    let answer = is_as_it_says(&mut office, reserve);
+    office.close();
+    answer
+}
+
+/// A new desk, whose new offices are so for this reservation.
+#[derive(Drop)]
+struct Strangers {
+    reserve: Reserve,
+}
+
+impl Scene for Strangers {
+    fn play<L: Hands, R: Wait>(&self, rt: &R, _alloc: Global, desk: &Desk<L>) -> Result<(), Fail> {
+        if is_new_office_as_it_says(rt, desk, self.reserve) {
+            Ok(())
+        } else {
+            Err(Fail::new("an office has answered otherwise"))
+        }
+    }
+}
+
+#[test]
+fn an_office_has_one_tenant_and_says_where_it_has_none(rt: HostRuntime) -> Result<(), Fail> {
+    let reserve = Reserve::new(1, 1).ok_or("no reservation")?;
+    let size = Size {
+        segments: 8,
+        nodes: 8,
+        grain: 0,
+    };
+    found(&rt, rt.alloc(), size, &Strangers { reserve })
+}

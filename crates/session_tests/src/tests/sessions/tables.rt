@@ -1,0 +1,209 @@
+//! The answers to TABLE.
+use super::{NOTHING_TO_PLAY, Prepared, is_served};
+use session::{Analysis, Bounds, End, Standing, serve_lines};
+use line_io::{FromReader, Sink, WriteFailed};
+use othello_eval::{Bound, BoundKind, Valued};
+use othello_moves::Choice;
+use std::alloc::{AllocError, Global};
+use std::sync::Wait;
+use std::test::Fail;
+
+/// An entry for a square.
+fn square(number: u8, kind: BoundKind, score: i32) -> Bound {
+    Bound {
+        choice: Choice::Square(number),
+        score,
+        kind,
+    }
+}
+
+/// A job that is done, with these entries, of at most 64.
+fn done(value: i32, choice: Choice, entries: &[Bound]) -> Standing {
+    let mut bounds = Bounds::NONE;
+    for entry in entries.iter().take(64) {
+        if bounds.as_slice().len() < 64 {
+            bounds.push(*entry);
+        }
+    }
+    Standing::Done(Analysis {
+        best: Valued {
+            value,
+            choice: Some(choice),
+        },
+        bounds,
+    })
+}
+
+#[test]
+fn entries_are_kept_in_their_order(rt: HostRuntime) {
+    let entries = [
+        square(19, BoundKind::Exact, -3),
+        square(26, BoundKind::Low, -3),
+    ];
+    let mut bounds = Bounds::NONE;
+    assert_eq!(rt; bounds.as_slice(), [].as_slice());
+    bounds.push(entries[0]);
+    let one = bounds;
+    bounds.push(entries[1]);
+    assert_eq!(rt; bounds.as_slice(), entries.as_slice());
+    assert_eq!(rt; one.as_slice(), &entries[..1]);
+    assert!(rt; one != bounds);
+}
+
+/// Whether this is written of `TABLE 1` and `GET 1` where a job stands so.
+fn is_shown<R: Wait>(rt: &R, alloc: Global, standing: Standing, due: &[u8]) -> bool {
+    let mut office = Prepared::new(standing, 4, 7, 123);
+    let lines = b"HELLO 4 8
+ASK 1 ---------------------------OX------XO--------------------------- X
+TABLE 1
+GET 1
+";
+    is_served(rt, alloc, &mut office, lines, End::EndOfInput, due)
+}
+
+#[test]
+fn tables_of_finished_jobs_are_shown(rt: HostRuntime) {
+    let opening = done(
+        -3,
+        Choice::Square(19),
+        &[
+            square(19, BoundKind::Exact, -3),
+            square(26, BoundKind::Low, -3),
+            square(37, BoundKind::Low, -3),
+            square(44, BoundKind::Low, -3),
+        ],
+    );
+    let due = b"WELCOME 4 8\nJOB 1\nTABLE 1 d3=-3 c4<-3 f5<-3 e6<-3\nDONE 1 -3 d3\n";
+    assert!(rt; is_shown(&rt, rt.alloc(), opening, due));
+    let due = b"WELCOME 4 8\nJOB 1\nTABLE 1\nDONE 1 0 -\n";
+    assert!(rt; is_shown(&rt, rt.alloc(), NOTHING_TO_PLAY, due));
+}
+
+#[test]
+fn a_pass_and_each_kind_are_shown(rt: HostRuntime) {
+    let pass = Bound {
+        choice: Choice::Pass,
+        score: -6000,
+        kind: BoundKind::Exact,
+    };
+    let passed = done(-6000, Choice::Pass, &[pass]);
+    let due = b"WELCOME 4 8\nJOB 1\nTABLE 1 pass=-6000\nDONE 1 -6000 pass\n";
+    assert!(rt; is_shown(&rt, rt.alloc(), passed, due));
+    let three = [
+        square(0, BoundKind::Exact, 89),
+        square(4, BoundKind::Low, 40),
+        square(63, BoundKind::High, 128_000),
+    ];
+    let corner = done(89, Choice::Square(0), &three);
+    let due = b"WELCOME 4 8\nJOB 1\nTABLE 1 a1=89 e1<40 h8>128000\nDONE 1 89 a1\n";
+    assert!(rt; is_shown(&rt, rt.alloc(), corner, due));
+}
+
+#[test]
+fn other_jobs_have_no_table(rt: HostRuntime) {
+    for (standing, due) in [
+        (
+            Standing::Pending,
+            b"WELCOME 4 8\nJOB 1\nPENDING 1\nPENDING 1\n".as_slice(),
+        ),
+        (Standing::Spent, b"WELCOME 4 8\nJOB 1\nSPENT 1\nSPENT 1\n"),
+        (
+            Standing::Cancelled,
+            b"WELCOME 4 8\nJOB 1\nCANCELLED 1\nCANCELLED 1\n",
+        ),
+    ] {
+        assert!(rt; is_shown(&rt, rt.alloc(), standing, due));
+    }
+}
+
+#[test]
+fn faults_of_table_are_those_of_get(rt: HostRuntime) {
+    let mut office = Prepared::new(NOTHING_TO_PLAY, 4, 7, 123);
+    let is_served = is_served(
+        &rt,
+        rt.alloc(),
+        &mut office,
+        b"TABLE 1
+TABLE x
+TABLE
+HELLO 4 8
+TABLE
+TABLE 1 1
+TABLE 1\x20
+table 1
+TABLE x
+TABLE 123456789
+TABLE 1
+TABLE 0
+ASK 0 ---------------------------OX------XO--------------------------- X
+TABLE 2
+TABLE 01\r
+",
+        End::EndOfInput,
+        b"ERR 28\nERR 28\nERR 21\nWELCOME 4 8\nERR 21\nERR 21\nERR 21\nERR 21\nERR 23\nERR 23\nERR 17\nERR 17\nJOB 1\nERR 17\nTABLE 1\n",
+    );
+    assert!(rt; is_served);
+}
+
+/// Takes each answer by one call, and keeps the last.
+#[derive(Drop)]
+struct Last {
+    answer: Vec<u8>,
+    calls: usize,
+}
+
+impl Sink for Last {
+    ghost takes = { λ _ _ _. Unit {0} };
+
+    fn put(&mut self, bytes: &[u8]) -> Result<usize, WriteFailed> {
+        self.calls = self.calls.saturating_add(1);
+        self.answer.clear();
+        match self.answer.extend_from_slice(bytes) {
+            Ok(()) => Ok(bytes.len()),
+            Err(_) => Err(WriteFailed),
+        }
+    }
+}
+
+/// A table of 64 entries that are as long as an entry can be.
+fn longest() -> Standing {
+    let entry = Bound {
+        choice: Choice::Pass,
+        score: i32::MIN,
+        kind: BoundKind::Low,
+    };
+    done(0, Choice::Pass, [entry; 64].as_slice())
+}
+
+/// What is written of it as the job of the greatest number.
+fn longest_text(alloc: Global) -> Result<Vec<u8>, AllocError> {
+    let entries = [b" pass<-2147483648".as_slice(); 64].concat(alloc)?;
+    [
+        b"TABLE 99999999".as_slice(),
+        entries.as_slice(),
+        b"\n".as_slice(),
+    ]
+    .concat(alloc)
+}
+
+/// Whether it is written so, by one call beside that of HELLO.
+fn is_written_at_once<R: Wait>(rt: &R, alloc: Global, due: &[u8]) -> bool {
+    let mut office = Prepared::new(longest(), 4, 7, 123);
+    office.jobs = 99_999_999;
+    let mut sink = Last {
+        answer: Vec::new(alloc),
+        calls: 0,
+    };
+    let lines = b"HELLO 4 8\nTABLE 99999999".as_slice();
+    let mut source = FromReader { reader: lines };
+    let result = serve_lines(rt, &mut source, &mut sink, &mut office);
+    result == Ok(End::EndOfInput) && sink.calls == 2 && sink.answer.as_slice() == due
+}
+
+#[test]
+fn the_longest_table_is_written_by_one_call(rt: HostRuntime) -> Result<(), Fail> {
+    let due = longest_text(rt.alloc())?;
+    assert!(rt; is_written_at_once(&rt, rt.alloc(), due.as_slice()));
+    assert_eq!(rt; due.len(), 1103);
+    Ok(())
+}
