@@ -5,7 +5,7 @@ use Rattle.jamboree_rules.specs.Acts.{inlet_of, wakes as to_wake}
 use Rattle.jamboree.specs.Views.{frame_with, entries_of}
 use Rattle.jamboree.proofs.InletLemmas.{else-first}
 use Rattle.jamboree.proofs.SightLemmas.{by-form}
-use Rattle.jamboree.proofs.procedure.intake_at.Goals as goal
+use Rattle.jamboree.proofs.procedure.intake_unchecked.Goals as goal
 
 pub returns-then-not-is_formed : goal.returns-then-not-is_formed
 returns-then-not-is_formed c entries =
