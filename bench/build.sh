@@ -1,7 +1,5 @@
 # What the benchmarks' scripts share, to be read by them; $top is the top of the repository.
 
-. "$top/bench/room.sh"
-
 heap=$(dirname "$(rt doc)")/c/liblibc_c.a # how a static library of the kit asks the program for memory
 
 # The crates of a list that some of them stand on, and they themselves.
@@ -20,13 +18,16 @@ below() { # LIST CRATES
         }' "$1"
 }
 
-# Lays a room out: these crates of this repository and all that they stand on, and a line for another crate.
-lay() { # ROOM CRATES LINE
-    open_room "$1"
+# Lays a repository out in a folder: these crates of this one and all that they stand on, with what is proved of them, and
+# a line for another crate with its libraries.
+lay() { # FOLDER CRATES LINE
+    mkdir -p "$1/crates"
     for crate in $(below "$top/crates.txt" "$2"); do
-        furnish "$1" "$crate" "$top/crates/$crate" "$top/crates.txt"
+        cp -a "$top/crates/$crate" "$1/crates/"
+        grep "^$crate:" "$top/crates.txt" >> "$1/crates.txt"
     done
     echo "$3" >> "$1/crates.txt"
+    cp "$top/HANDLES" "$1/"
 }
 
 # Lays out the files of a text, each under a line '=== PATH', in a folder.
