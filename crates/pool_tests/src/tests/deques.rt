@@ -2,11 +2,11 @@
 ghost use Rattle.std.specs.Prelude.{◌≡◌, ◌<◌, map, vec_len};
 ghost use Rattle.task_deques.specs.Deals.{posts, IsWhole};
 
-use task_deques::{DequeEnds, Returned, Sums, Task, deal};
 use frame_tree::FrameId;
 use sched_rules::Worker;
 use std::alloc::{AllocError, Allocator, Global};
 use std::test::Fail;
+use task_deques::{DequeEnds, Returned, Sums, Task, deal};
 
 mod growths;
 

@@ -7,7 +7,8 @@ mod waiting;
 mod wakes;
 
 use desk::{
-    Badge, Config, Desk, DidOf, Hall, Hands, LeafAnswer, Outcome, PARTS, Refusal, Seat, StepOf, Worker,
+    Badge, Config, Desk, DidOf, Hall, Hands, LeafAnswer, Outcome, PARTS, Refusal, Seat, StepOf,
+    Worker,
 };
 use frame_tree::FrameId;
 use othello_board::Board;

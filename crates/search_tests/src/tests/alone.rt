@@ -1,10 +1,10 @@
 ghost use Rattle.std.specs.Prelude.{◌≤◌};
 
-use lone_search::{Searched, Way, search_within, solve_by_core};
 use counted_alloc::Counted;
 use frame_tree::FrameId;
 use jamboree_core::leaf_search::search_full;
 use linked_list_allocator::LocalHeap;
+use lone_search::{Searched, Way, search_within, solve_by_core};
 use othello_eval::Valued;
 use othello_moves::Choice;
 use pool_rules::{Deed, Holding, Task, Turn};

@@ -2,8 +2,8 @@
 //! desk after its session.
 ghost use Rattle.std.specs.Prelude.{◌≡◌};
 
-use desk_office::serve_desk;
 use desk::{Badge, Config, Desk, DidOf, Hall, Hands, LeafAnswer, PARTS, StepOf, Worker};
+use desk_office::serve_desk;
 use frame_tree::FrameId;
 use line_io::{FromReader, FromWriter, ReadFailed, Source};
 use std::alloc::{AllocError, Global};

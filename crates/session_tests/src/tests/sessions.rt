@@ -1,10 +1,10 @@
 //! Sessions over memory, with an office of prepared replies.
 mod tables;
 
-use session::{Analysis, Bounds, End, Live, Office, Question, SessionFault, Standing, serve_lines};
 use line_io::{FromReader, FromWriter, ReadFailed, Sink, Source, WriteFailed};
 use othello_eval::Valued;
 use sched_rules::Refusal;
+use session::{Analysis, Bounds, End, Live, Office, Question, SessionFault, Standing, serve_lines};
 use std::alloc::Global;
 use std::cell::Cell;
 use std::io::{self, ErrorKind, Write};

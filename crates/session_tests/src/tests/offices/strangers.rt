@@ -1,7 +1,7 @@
 //! An office that has no tenant refuses by number, and one that has a tenant takes no other. Sessions ask neither of it.
 use super::*;
-use desk_office::DeskOffice;
 use desk::Refusal;
+use desk_office::DeskOffice;
 use session::Office;
 use tenant_quota::Reserve;
 

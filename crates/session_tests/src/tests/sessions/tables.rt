@@ -1,9 +1,9 @@
 //! The answers to TABLE.
 use super::{NOTHING_TO_PLAY, Prepared, is_served};
-use session::{Analysis, Bounds, End, Standing, serve_lines};
 use line_io::{FromReader, Sink, WriteFailed};
 use othello_eval::{Bound, BoundKind, Valued};
 use othello_moves::Choice;
+use session::{Analysis, Bounds, End, Standing, serve_lines};
 use std::alloc::{AllocError, Global};
 use std::sync::Wait;
 use std::test::Fail;
