@@ -40,6 +40,7 @@ pub(crate) enum LongEntry {
 }
 
 const _: () = prove!(size_of::<JournalEntry>() == 8);
+
 const _: () = prove!(size_of::<LongEntry>() <= 48);
 
 impl JournalEntry {
