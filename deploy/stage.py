@@ -186,10 +186,10 @@ class Proxy:
     """HAProxy with deploy/haproxy.cfg and deploy/budgets with deploy/budgets.toml, at the ports of a trial.
 
     `certificate` is that of TLS, `authority` signs the certificates of customers; `terms` are changes of budgets.toml, and
-    `more` stands behind it."""
+    `more` stands behind it. At `beside` are servers of the quick class besides its two."""
 
-    def __init__(self, ports, certificate=None, authority=None, terms=(), more=""):
-        self.port, self.metrics, self.ports = free_port(), free_port(), ports
+    def __init__(self, ports, certificate=None, authority=None, terms=(), more="", beside=()):
+        self.port, self.metrics, self.ports, self.beside = free_port(), free_port(), ports, beside
         self.inner, self.classes = free_port(), [free_port() for _ in CLASSES]
         self.tls = f" ssl crt {certificate}" if certificate else ""
         self.tls += f" ca-file {authority} verify optional" if authority else ""
@@ -208,7 +208,10 @@ class Proxy:
         if os.geteuid() != 0:  # only root may take another user and another root
             moved += [(f"  {line}\n", "") for line in ("user haproxy", "group haproxy", "chroot /var/lib/haproxy")]
         path, self.file = (pathlib.Path(self.folder.name, name) for name in ("haproxy.cfg", "budgets.toml"))
-        path.write_text(replaced((HERE / "haproxy.cfg").read_text(), moved + self.moved()))
+        text = replaced((HERE / "haproxy.cfg").read_text(), moved + self.moved())
+        last = f"  server two 127.0.0.1:{self.ports[1]}\n"
+        more = "".join(f"  server beside{number} 127.0.0.1:{port}\n" for number, port in enumerate(self.beside))
+        path.write_text(replaced(text, [(last, last + more)]))
         self.file.write_text(replaced((HERE / "budgets.toml").read_text(), [*self.moved(), *self.terms]) + self.more)
         with self.log.open("w") as log:
             self.budgets = subprocess.Popen([HERE / "budgets", self.file], stdout=log, stderr=log)

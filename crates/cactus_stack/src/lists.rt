@@ -113,7 +113,7 @@ impl<A: Allocator> Lists<A> {
         self.lens[at] = 0;
     }
 
-    /// The lists as their readers see them.
+    /// Borrows the lists for reading only.
     pub fn view(&self) -> ListsView<'_>
         ensures { result ≡ self.now }
     {

@@ -35,7 +35,7 @@ fn with_solve<'a>(alloc: Global) -> Result<Command<'a>, AllocError>
     bare_othello(alloc).subcommand(solve)
 }
 
-/// The program before it has commands.
+/// The command `othello`, with its version and description but no subcommand yet.
 fn bare_othello<'a>(alloc: Global) -> Command<'a>
     ensures { app_of result ≡ bare_program }
 {

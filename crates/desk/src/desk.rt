@@ -127,7 +127,7 @@ impl<L: Hands, A: Allocator + Clone> Desk<L, A> {
         let tenant = seat.tenant();
         let kept = self
             .ended
-            .wait_while(rt, self.enter(rt), |kept| kept.is_pending(tenant, job));
+            .wait_while(rt, self.enter(rt), |kept| kept.keeps_waiting(tenant, job));
         kept.get(seat, job)
     }
 
@@ -143,7 +143,8 @@ impl<L: Hands, A: Allocator + Clone> Desk<L, A> {
         Ok(())
     }
 
-    /// What the seat's tenant has left. Refused at most as `NoTenant`.
+    /// The segments, nodes and steps that the seat's tenant has left when the lock is taken. The only refusal is
+    /// `NoTenant`. The contract says nothing of the numbers.
     pub fn quota<R: Wait>(&self, rt: &R, seat: &Seat<L>) -> Result<Left, Refusal>
         ensures { IfErr result (λ refusal. refusal ≡ NoTenant) }
     {

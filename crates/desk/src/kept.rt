@@ -245,8 +245,8 @@ impl<L: Hands, A: Allocator + Clone> Kept<L, A> {
         }
     }
 
-    /// Whether a seat that asked for a job goes on waiting.
-    pub(crate) fn is_pending(&self, tenant: u64, job: u64) -> bool
+    /// Whether a seat goes on waiting for this job: it is there and hasn't ended, and the desk isn't closed.
+    pub(crate) fn keeps_waiting(&self, tenant: u64, job: u64) -> bool
         ensures { result ≡ waits_on self.now tenant job }
     {
         match self.hall.outcome(tenant, job) {

@@ -159,7 +159,7 @@ impl<T: Copy, A: Allocator> TenantFrames<T, A> {
         self.serials.place_of(serial).is_some()
     }
 
-    /// Whether a serial is above those of all frames.
+    /// Whether this serial is greater than every frame's, so that a new frame may have it.
     pub fn is_above(&self, serial: u64) -> bool
         ensures above { IsTrue result → AllBelow serial self.now.frames }
         ensures otherwise { AllBelow serial self.now.frames → IsTrue result }

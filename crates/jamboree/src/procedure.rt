@@ -176,8 +176,9 @@ fn plan_of(grain: u8, fitting: bool, sight: &Sight) -> Plan
     plan_fitting(grain, sight)
 }
 
-/// What a frame takes in of a child of these words.
-fn intake_at(frame: &View, words: &Words) -> Intake
+/// The inlet of `frame` for a returned child whose words are unchecked: words that are no frame's, or no child's of
+/// `frame`, only wake it. `entries` are what a `View` leaves out, and don't matter.
+fn intake_unchecked(frame: &View, words: &Words) -> Intake
     ensures { (entries : List ℕ) → inlet_for result ≡ (if is_formed words.now && may_be_child (frame_with frame.now entries) (frame_of words.now) then inlet_of (frame_with frame.now entries) (frame_of words.now) else wakes) }
 {
     if !is_formed(words) {
@@ -204,7 +205,7 @@ fn intake_seen(own: &Words, child: &Words) -> Intake
     if !is_formed(own) {
         return wakes();
     }
-    intake_at(&view(own), child)
+    intake_unchecked(&view(own), child)
 }
 
 /// The same, where words that are known to fit need not be tested.

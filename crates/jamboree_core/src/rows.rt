@@ -6,6 +6,7 @@ ghost use Rattle.sched_rules.specs.declared.job.Job.TheVariants.{Live, Done, Spe
 ghost use Rattle.sched_rules.specs.declared.step.StepOf.TheVariants.{Admit, Leave, Submit};
 ghost use Rattle.sched_rules.specs.Trees.{Tenant, admitted_with};
 ghost use Rattle.jamboree_rules.specs.Procedure.{jamboree};
+ghost use Rattle.jamboree_rules.specs.Rows.{entry};
 ghost use Rattle.jamboree_core.specs.Rows.{asked, few, admitted_then, submit_of, asked_once, kept_with, kept};
 ghost use Rattle.jamboree_core.specs.declared.outcomes.Outcome.TheVariants.{Pending, Spent};
 ghost use Rattle.jamboree_core.specs.Searching.{TenantSearches, origin_at};
@@ -31,8 +32,8 @@ pub fn what_a_search_answers()
     ensures better { IsReplyTo asked (kept 1 999998 19) → ⊥ }
     ensures later_equal_move { IsReplyTo asked (kept 1 999997 26) → ⊥ }
     ensures depth { IsReplyTo asked (kept 0 999997 19) → ⊥ }
-    ensures vague { IsReplyTo asked (kept_with 31999922 1 999997 19) → ⊥ }
-    ensures untrue { IsReplyTo asked (kept_with 31999882 1 999997 19) → ⊥ }
+    ensures vague { IsReplyTo asked (kept_with (entry 2 2 999997) 1 999997 19) → ⊥ }
+    ensures untrue { IsReplyTo asked (kept_with (entry 2 1 999996) 1 999997 19) → ⊥ }
 {}
 
 /// As many jobs as Submits, each that is done with the reply to its own.

@@ -105,7 +105,8 @@ kind_by false false = Exact
 abbrev pub kind_of : (lower upper score : ℤ) → BoundKind
 kind_of lower upper score = kind_by (int_le score lower) (int_le upper score)
 
--- what a child's score says of its choice: the ends of its window are seen from the parent, too
+-- the bound that a child's score gives for its choice, packed in one number (`rest_with`): the score as the parent sees it, and
+-- whether it is an upper bound, a lower bound or exact. The child's window (alpha, beta) is (-beta, -alpha) to the parent
 abbrev pub found_of : Frame → ℕ
 found_of c = rest_with (kind_of (neg_ℤ c.beta) (neg_ℤ c.alpha) (seen c)) (seen c)
 

@@ -1,9 +1,13 @@
 -- Representation: words on which the acts are tried: the opening, Black to move, searched to depth 1 with grain 0.
-use Rattle.std.specs.Prelude.{ℕ, List, [], ◌∷◌}
+use Rattle.std.specs.Prelude.{ℕ, ◌+◌, ◌*◌, List, [], ◌∷◌}
+
+-- the entry of a choice with this status, and a score (1,000,000 more than its value) that bounds it so: 1 from above, 2 from below, 3 both
+abbrev pub entry : ℕ → ℕ → ℕ → ℕ
+entry status kind score = status + 8 * kind + 32 * score
 
 -- the root once its four choices (d3, c4, f5, e6) are counted, where d3 has this entry
 abbrev pub opened_with : ℕ → List ℕ
-opened_with entry = 34628173824 ∷ 68853694464 ∷ 1 ∷ 800000 ∷ 1200000 ∷ 0 ∷ 0 ∷ 2 ∷ 800000 ∷ 65 ∷ 4 ∷ 0 ∷ entry ∷ 0 ∷ 0 ∷ 0 ∷ []
+opened_with d3 = 34628173824 ∷ 68853694464 ∷ 1 ∷ 800000 ∷ 1200000 ∷ 0 ∷ 0 ∷ 2 ∷ 800000 ∷ 65 ∷ 4 ∷ 0 ∷ d3 ∷ 0 ∷ 0 ∷ 0 ∷ []
 
 abbrev pub opened : List ℕ
 opened = opened_with 0
@@ -19,9 +23,9 @@ first_runs = first_runs_to 1
 abbrev pub d3_to : ℕ → List ℕ
 d3_to depth = 0 ∷ 0 ∷ depth ∷ 800000 ∷ 1200000 ∷ 1 ∷ 0 ∷ 0 ∷ 0 ∷ 0 ∷ 0 ∷ 0 ∷ []
 
--- the root once d3 is settled (2), exact (8 * 3) with -3 (32 * 999997), and c4 has this entry
+-- the root once d3 is settled, and worth exactly -3, and c4 has this entry
 abbrev pub tests_with : ℕ → ℕ → List ℕ
-tests_with spawned entry = 34628173824 ∷ 68853694464 ∷ 1 ∷ 800000 ∷ 1200000 ∷ 0 ∷ 0 ∷ 3 ∷ 999997 ∷ 19 ∷ 4 ∷ spawned ∷ 31999930 ∷ entry ∷ 0 ∷ 0 ∷ []
+tests_with spawned c4 = 34628173824 ∷ 68853694464 ∷ 1 ∷ 800000 ∷ 1200000 ∷ 0 ∷ 0 ∷ 3 ∷ 999997 ∷ 19 ∷ 4 ∷ spawned ∷ entry 2 3 999997 ∷ c4 ∷ 0 ∷ 0 ∷ []
 
 -- a child of depth 0, done, with this window, in this role, for this choice, and with this score
 abbrev pub returned : ℕ → ℕ → ℕ → ℕ → ℕ → List ℕ

@@ -6,7 +6,7 @@ use Rattle.line_io.specs.Lines.{LineText}
 use Rattle.line_io.specs.Leads.{Leads, Answers, IsPrefixOf}
 use Rattle.line_io.specs.Streams.{WriteAnswer, Took, Refused}
 
--- a text and its LF
+-- a text followed by LF (byte 10)
 abbrev pub with_end : List ℕ → List ℕ
 with_end text = text ++ 10 ∷ []
 

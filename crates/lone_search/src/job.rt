@@ -40,7 +40,8 @@ pub(crate) fn admit<A: Allocator + Clone>(
     }
 }
 
-/// The job comes.
+/// Submits the core's one job, to a depth in plies. Right after `admit` the step can't be refused (`submits-on`), so
+/// its answer is dropped.
 pub(crate) fn ask<A: Allocator + Clone>(
     core: &mut Core<Jamboree, A>,
     position: &Position,

@@ -17,7 +17,7 @@
 //! opening.flips(19) == 1 << 27
 //! ```
 //!
-//! The example stands as a test in `search_rows`.
+//! The example stands as a test in `search_tests`.
 #![tactic(auto)]
 
 mod boards;

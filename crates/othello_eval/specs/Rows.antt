@@ -25,7 +25,8 @@ corner_or_edge = first_row (Empty ∷ Opp ∷ Own ∷ Opp ∷ Empty ∷ Empty �
 abbrev pub entry : Choice → BoundKind → ℤ → Bound
 entry choice kind score = record { choice = choice; score = score; kind = kind }
 
--- the opening, one ply deep: d3 is worth -3, and c4, f5, e6 at most that
+-- the root table of the start position at depth 1: d3 is exactly -3 (negsuc 2). By symmetry c4, f5 and e6 are worth as much, but
+-- their entries say only "at most -3", as alpha-beta leaves them
 abbrev pub equal_moves : List Bound
 equal_moves = entry (Square 19) Exact (negsuc 2) ∷ entry (Square 26) Low (negsuc 2) ∷ entry (Square 37) Low (negsuc 2) ∷ entry (Square 44) Low (negsuc 2) ∷ []
 

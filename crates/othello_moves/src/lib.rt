@@ -19,7 +19,7 @@
 //! choice(opening, 0) == Choice::Square(19)
 //! ```
 //!
-//! The example stands as a test in `search_rows`.
+//! The example stands as a test in `search_tests`.
 #![tactic(auto)]
 
 mod choices;

@@ -23,14 +23,13 @@ use std::thread::Threads;
 use tcp_server::desk::PARTS;
 
 /// The exit status where all went well.
-pub(crate) const DONE: u8 = 0;
+pub(crate) const EXIT_OK: u8 = 0;
 
 /// The exit status where the input or the output failed.
-pub(crate) const FAILED: u8 = 1;
+pub(crate) const EXIT_FAILED: u8 = 1;
 
-/// The bytes of a block that is made and given back before the first line of `solve`. The C library maps a great block
-/// from the system and gives it back when it is freed, until a greater one was: from then on it keeps what lies below
-/// that size. So the next line's core gets the memory of the last one's, whose pages are there.
+/// Bytes of the block that is allocated and freed before the first line of `solve`. Freeing it raises glibc's mmap
+/// threshold to this size, so that smaller blocks stay with the process when freed, their pages mapped. Speed only.
 const KEPT: usize = 16 << 20;
 
 /// What somebody is told who types the lines.
@@ -111,16 +110,17 @@ fn answer<S: Input, K: Output, E: Sink>(
         solve(alloc, source, sink, grain)
     };
     match result {
-        Ok(()) => DONE,
-        Err(LineFault::Write) if sink.is_closed() => FAILED,
+        Ok(()) => EXIT_OK,
+        Err(LineFault::Write) if sink.is_closed() => EXIT_FAILED,
         Err(fault) => {
             say(errors, fault);
-            FAILED
+            EXIT_FAILED
         }
     }
 }
 
-/// Has the C library keep the memory of a line's core for the next line's. Where there is no such block nothing changes.
+/// Allocates and frees one block of `KEPT` bytes, so that the C library reuses a core's memory for the next line's core.
+/// If the block can't be had nothing changes.
 fn keep_memory(alloc: Global) {
     let _: Result<Vec<u8>, AllocError> = Vec::with_capacity(alloc, KEPT);
 }

@@ -4,7 +4,7 @@ ghost use Rattle.std.specs.Prelude.{◌≡◌, ◌≤◌, true, IfOk, Ok};
 ghost use Rattle.line_io.specs.Writes.{IsWritten};
 ghost use Rattle.othello_server.specs.Running.{IsServed, ended_text, listening_text};
 
-use crate::running::{DONE, FAILED, say};
+use crate::running::{EXIT_FAILED, EXIT_OK, say};
 use crate::service::Service;
 use command_line::Options;
 use line_io::{Sink, write_text};
@@ -122,7 +122,7 @@ where
     };
     let desk: Desk<L> = Desk::new(hall, blank);
     match serve_from(rt, alloc, &desk, listener, address, asked, sink) {
-        Ok(()) => DONE,
+        Ok(()) => EXIT_OK,
         Err(ServeFault::Unsaid) => failed(errors, UNWRITTEN),
         Err(fault) => failed(errors, fault),
     }
@@ -182,7 +182,7 @@ fn failed<E: Sink, D: Display + Drop>(errors: &mut E, why: D) -> u8
     ensures { result ≡ 1 }
 {
     say(errors, why);
-    FAILED
+    EXIT_FAILED
 }
 
 /// Writes where the server listens, by one call, and tells whether it was written.

@@ -66,7 +66,7 @@ impl Deed {
         }
     }
 
-    /// The step that a worker offers for it.
+    /// The core's step that does it. A task whose home is `worker` is taken, any other is stolen from its home.
     #[inline(always)]
     pub fn step(&self, worker: Worker) -> StepOf<LeafAnswer>
         ensures { result ≡ step_of worker self.now }

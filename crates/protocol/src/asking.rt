@@ -11,7 +11,7 @@ use position_text::read;
 /// The greatest depth that is asked for, in plies.
 const MOST_DEPTH: u32 = 12;
 
-/// What the text of a position asks for, to a depth of at most 12 plies.
+/// The question about the position in `text`, to `depth` plies, or the first fault in it: length, cell, side (24 to 26).
 fn position_question(depth: u8, text: &[u8]) -> Result<Question, ProtocolFault>
     requires { depth ≤ 12 }
     ensures { read_as result ≡ position_question depth text.now }

@@ -25,7 +25,7 @@ mark_of (Computing worker) = Computes
 mark_of Waiting = Neither
 mark_of Returned = HasReturned
 
--- that a frame with these words fits, with the words of its children and its mark
+-- a procedure's own invariant of its frames: it relates a frame's words, its children's words and its mark. "Fits" means it holds
 abbrev pub Fitting : Type 1
 Fitting = List ℕ → List (List ℕ) → Mark → Type 0
 
@@ -107,8 +107,8 @@ NextKeeps functions fits rooted =
 abbrev pub children_left : Bool → List (List ℕ) → List (List ℕ)
 children_left abort children = if abort then [] else children
 
--- Inlet needs this: where a frame, its parent and its children fit, one of them having returned, and the inlet stores inside, the
--- frame fits without that child, or without any at an abort, and its parent fits
+-- Inlet needs this: if a frame, its parent and all its children fit, one of the children has returned, and the inlet stores only
+-- to words that the frame has, then the frame still fits without that child (at an abort, without children), and so does its parent
 abbrev pub InletKeeps : {I A : Type 0} → Functions I A → Fitting → Rooting → Type 0
 InletKeeps functions fits rooted =
     (origin own child : List ℕ) (above older younger before behind : List (List ℕ)) →
@@ -121,8 +121,8 @@ InletKeeps functions fits rooted =
     fits (stored (functions.inlet own child).stores own) (children_left (functions.inlet own child).abort (before ++ behind)) Neither
     × ParentFits fits rooted origin above older (stored (functions.inlet own child).stores own) younger
 
--- Answer needs this: where a computing frame, which has no child, and its parent fit, the answer is to its input, and what it
--- stores of it is inside, both fit after it
+-- Answer needs this: if a computing frame (which has no child) and its parent fit, the answer was computed from the frame's input,
+-- and accept stores only to words that the frame has, then frame and parent still fit after the stores
 abbrev pub AcceptKeeps : {I A : Type 0} → Functions I A → Fitting → Rooting → Type 0
 AcceptKeeps {A = A} functions fits rooted =
     (origin own : List ℕ) (above older younger : List (List ℕ)) (answer : A) →

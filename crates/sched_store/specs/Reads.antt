@@ -86,12 +86,12 @@ HasLeft shared number segments nodes = IsSomeAnd (left_of shared number) (λ lef
 abbrev pub HasStepLeft : Shared → ℕ → Type 0
 HasStepLeft shared number = IsSomeAnd (left_of shared number) (λ left. 1 ≤ left.steps)
 
--- each tenant's number is below all later ones
+-- this number is below those of all these tenants
 abbrev pub AreAfter : ℕ → List (ℕ × Tenant) → Type 0
 AreAfter number [] = Unit {0}
 AreAfter number (entry ∷ entries) = (number + 1 ≤ entry.0) × AreAfter number entries
 
--- the tenants stand by rising number
+-- the tenants are in strictly rising order of number
 abbrev pub AreRising : List (ℕ × Tenant) → Type 0
 AreRising [] = Unit {0}
 AreRising (entry ∷ entries) = AreAfter entry.0 entries × AreRising entries

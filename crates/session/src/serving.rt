@@ -8,7 +8,7 @@ ghost use Rattle.session.specs.Sessions.{Turned, Session, talk_result};
 use crate::faults::{End, SessionFault};
 use crate::office::Office;
 use crate::texts::SessionText;
-use crate::turns::{leave_if, take_turn};
+use crate::turns::{leave_if_seated, take_turn};
 use line_io::{Answer, Ends, Line, LineFault, Sink, Source, TalkEnd, talk_lines};
 use std::sync::Wait;
 
@@ -104,6 +104,6 @@ pub fn serve_lines<S: Source, K: Sink, O: Office, R: Wait>(
         seated,
         text: _text,
     } = clerk;
-    leave_if(office, seated);
+    leave_if_seated(office, seated);
     session_end(talk)
 }

@@ -15,8 +15,8 @@ use crate::texts::{
 use line_io::Line;
 use tenant_quota::Reserve;
 
-/// The tenant leaves, if one is there.
-pub(crate) fn leave_if<O: Office>(office: &mut O, seated: bool)
+/// Calls the office's `leave` if the session has a tenant (`seated`); else nothing happens.
+pub(crate) fn leave_if_seated<O: Office>(office: &mut O, seated: bool)
     requires { O.ready ≡ true }
     ensures { LeavesIf O.does seated office.old office.new }
 {
@@ -95,7 +95,7 @@ fn answer_request<O: Office>(
         Request::Quota => write_quota(text, office.quota()),
         Request::Live => write_live(text, office.live()),
         Request::Bye => {
-            leave_if(office, *seated);
+            leave_if_seated(office, *seated);
             *seated = false;
             write_bye(text);
         }

@@ -20,7 +20,8 @@ pub struct DequeEnds<A: Allocator = Global> {
 impl<A: Allocator> DequeEnds<A> {
     ghost use Rattle.task_deques.specs.Deals.{worker_seats, worker_room, posts, IsTaken};
 
-    /// Pushes a task on the worker's own deque, or hands it back as [`Owner::push`] does.
+    /// Pushes a task on the worker's own deque. Err hands it back: there is no room, 2^64 - 1 were pushed before,
+    /// or memory was refused.
     pub fn push(&mut self, task: Task) -> Result<(), Task>
         ensures pushed { OnOk result (worker_seats self.new ≡ record (worker_seats self.old) { own = with_pushed task (worker_seats self.old).own }) }
         ensures handed_back { IfErr result (λ back. back ≡ task) }

@@ -24,7 +24,8 @@ impl<A: Allocator> Store<A> {
         self.book.give_back(name.tenant, freed as u32);
     }
 
-    /// Removes all frames under one, which stays, and answers how many they were.
+    /// Removes all frames below this one, which itself stays, and gives their segments back to the tenant.
+    /// Returns how many frames were removed.
     pub fn abort(&mut self, name: FrameId) -> usize
         requires { IsSome (named self.old name) }
         ensures aborted { self.new ≡ on_tenant name.tenant (without_under name.serial) self.old }

@@ -15,4 +15,4 @@ returns-then-not-is_formed c =
 
 pub returns : goal.returns
 returns c =
-    inlet-under c.args.own.now c.args.child.now (frame_with c.view.result (entries_of c.args.own.now)) (inlet_for c.intake_at.result) (sym c.is_formed.ensures ∙ c.if-not-is_formed.false) c.view.ensures.frame (c.intake_at.ensures (entries_of c.args.own.now))
+    inlet-under c.args.own.now c.args.child.now (frame_with c.view.result (entries_of c.args.own.now)) (inlet_for c.intake_unchecked.result) (sym c.is_formed.ensures ∙ c.if-not-is_formed.false) c.view.ensures.frame (c.intake_unchecked.ensures (entries_of c.args.own.now))

@@ -22,5 +22,5 @@ returns g c =
     let y = talk.ensures.lines in
     let name = chain-keeps does (Answers-line g.O.Office) (λ a. a.office.ghost_name) (λ a line text b h. h.0) clerk.result y.answered y.texts talk.new.answerer y.answers_lead in
     let ended = subst (λ r. Talk g.S.Source.gives g.K.Sink.takes (Answers-line g.O.Office) is_bye c.args.source.now c.args.sink.now clerk.result talk.new.source talk.new.sink talk.new.answerer r) (sym c.session_end.ensures) talk.ensures in
-    let session = talk-session does g.S.Source.gives g.K.Sink.takes (λ a. a.office.now) (λ a. a.seated) (Answers-line g.O.Office) (λ a line text b h. h.1) c.args.source.now c.args.sink.now clerk.result talk.new.source talk.new.sink talk.new.answerer c.args.office.now c.leave_if.new.office c.session_end.result clerk.ensures.office clerk.ensures.seated ended c.leave_if.ensures in
+    let session = talk-session does g.S.Source.gives g.K.Sink.takes (λ a. a.office.now) (λ a. a.seated) (Answers-line g.O.Office) (λ a line text b h. h.1) c.args.source.now c.args.sink.now clerk.result talk.new.source talk.new.sink talk.new.answerer c.args.office.now c.leave_if_seated.new.office c.session_end.result clerk.ensures.office clerk.ensures.seated ended c.leave_if_seated.ensures in
     Session-office does g.S.Source.gives g.K.Sink.takes _ _ _ _ _ _ _ _ (search (rules, sym (name ∙ clerk.ensures.same_office))) session

@@ -1,0 +1,53 @@
+use Rattle.std.proofs.Common.{◌≡◌, ℕ, List, [], ◌∷◌, ◌++◌, codes, true, false, refl, ap, sym, ◌∙◌, subst}
+use Rattle.std.specs.Fmt.{digits}
+use Rattle.std.specs.List.{concat}
+use Rattle.othello_board.specs.Rules.{squares}
+use Rattle.line_io.specs.Leads.{Leads}
+use Rattle.line_io.specs.Lines.{LineText, Whole, lines_of}
+use Rattle.line_io.specs.Talks.{none_ends}
+use Rattle.line_io.specs.Writes.{written_texts}
+use Rattle.session.specs.declared.standings.Standing.TheVariants.{Pending}
+use Rattle.session.specs.Asks.{Asked, asked_at, IsToldOf, KeepsAsks}
+use Rattle.session.specs.Calls.{OfficeReply, Welcome, Told}
+use Rattle.session.specs.Forms.{is_bye}
+use Rattle.session.specs.Sessions.{Called, calls_for, session_lines, texts_for}
+use Rattle.definition_tests.specs.SmallSessions.{few}
+use Rattle.definition_tests.proofs.CountedLeads.{something_is_read, nothing_is_written}
+use Rattle.definition_tests.proofs.done_lines.true_sessions.Goals as goal
+
+-- a GET of a job that nobody asked for is answered by 17
+not_told : (asks : List Asked) → Leads (Called KeepsAsks) [] (calls_for (Whole (codes "HELLO 4 8") ∷ Whole (codes "GET 1") ∷ []) (Welcome few ∷ Told 1 Pending ∷ [])) asks → ⊥
+unfolding digits squares
+not_told asks h = cc (subst (λ (now : List Asked). IsToldOf 1 (asked_at now 1) (Told 1 Pending)) h.1.0 h.2.1.2)
+
+-- what is written for a line BYE
+bye_text : written_texts (texts_for (Whole (codes "BYE") ∷ []) []) ≡ codes "BYE" ++ 10 ∷ []
+unfolding digits squares
+bye_text = refl
+
+-- the lines up to BYE, and lines without one
+upto_bye : session_lines (concat ((codes "BYE" ++ 10 ∷ codes "LIVE" ++ 10 ∷ []) ∷ [])) ≡ Whole (codes "BYE") ∷ []
+unfolding digits squares
+upto_bye = refl
+
+no_bye : none_ends is_bye (lines_of (concat ((codes "LIVE" ++ 10 ∷ []) ∷ []))) ≡ true
+unfolding digits squares
+no_bye = refl
+
+not_both : true ≡ false → ⊥
+not_both h = cc h
+
+pub returns : goal.returns
+returns c = record {
+  dones = λ r is. is.dones;
+  numbers = λ r is lines replies.
+      not_told is.asks (subst (λ (ls : List LineText). Leads (Called KeepsAsks) [] (calls_for ls (Welcome few ∷ Told 1 Pending ∷ [])) is.asks) lines
+      (subst (λ (rs : List OfficeReply). Leads (Called KeepsAsks) [] (calls_for is.session.answered rs) is.asks) replies is.session.made));
+  unread = λ is. something_is_read is.session.blocks is.session.last is.session.ends.0 is.session.reads;
+  lines = λ is blocks. is.session.lines ∙ ap (λ (bs : List (List ℕ)). session_lines (concat bs)) blocks ∙ upto_bye;
+  early = λ is blocks. not_both (sym no_bye ∙ ap (λ (bs : List (List ℕ)). none_ends is_bye (lines_of (concat bs))) (sym blocks) ∙ is.session.ends.1);
+  unwritten = λ is. nothing_is_written is.session.pieces is.session.writes;
+  answer = λ is answered replies.
+      is.session.written ∙ ap (λ (ls : List LineText). written_texts (texts_for ls is.session.replies)) answered
+      ∙ ap (λ (rs : List OfficeReply). written_texts (texts_for (Whole (codes "BYE") ∷ []) rs)) replies ∙ bye_text;
+}

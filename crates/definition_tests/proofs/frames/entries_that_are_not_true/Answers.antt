@@ -1,0 +1,16 @@
+use Rattle.std.proofs.Common.{◌≡◌, negsuc, refl, arith}
+use Rattle.std.proofs.lemmas.Int.{ints}
+use Rattle.othello_board.specs.Rules.{squares, squares_beside}
+use Rattle.othello_moves.specs.Choices.{in_order}
+use Rattle.leaf_search.specs.othello_eval.Values.{weights}
+use Rattle.leaf_search.specs.othello_eval.Minimax.{minimax, best_choice}
+use Rattle.leaf_search.specs.othello_eval.declared.bound.BoundKind.TheVariants.{Low, High, Exact}
+use Rattle.definition_tests.proofs.frames.entries_that_are_not_true.Goals as goal
+
+pub returns : goal.returns
+unfolding squares squares_beside in_order weights minimax best_choice
+returns c = record {
+  low = λ s. (s.entries 1 Low refl).le;
+  high = λ s. (s.entries 1 High refl).le;
+  exact = λ s. let e : negsuc 2 ≡ negsuc 3 = s.entries 1 Exact refl in omega (arith, ints, e);
+}

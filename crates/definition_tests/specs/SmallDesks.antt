@@ -1,0 +1,14 @@
+-- Representation: seats, and what lies under the lock, on which the definitions are tried.
+use Rattle.std.specs.Prelude.{ℕ, Bool, []}
+use Rattle.sched_rules.specs.Cores.{Shared}
+use Rattle.desk.specs.Seats.{SeatOf}
+use Rattle.desk.specs.Counts.{KeptOf}
+use Rattle.definition_tests.specs.SmallHalls.{hall_with}
+
+-- the seat of tenant 1 with this share
+abbrev pub seat_with : ℕ → SeatOf
+seat_with share = record { tenant = 1; share = share; asked = [] }
+
+-- what lies under the lock
+abbrev pub kept_with : Shared → Bool → KeptOf
+kept_with shared closed = record { hall = hall_with shared [] 0; closed = closed; sleepers = 0 }
