@@ -2,7 +2,7 @@
 ghost use Rattle.std.specs.Prelude.{◌≡◌};
 ghost use Rattle.desk.specs.Counts.{ends_of};
 
-use hall::{Did, DidOf, Jamboree, Refusal};
+use hall::{DidOf, StepAnswer};
 
 /// What a step changed that somebody may wait for.
 #[derive(Clone, Copy, Debug, PartialEq, Eq)]
@@ -17,7 +17,7 @@ pub(crate) enum Change {
 
 impl Change {
     /// What a worker's step changed that was answered so.
-    pub(crate) fn of(answer: &Result<Did<Jamboree>, Refusal>) -> Change
+    pub(crate) fn of(answer: &StepAnswer) -> Change
         ensures { result ≡ ends_of answer.now }
     {
         match answer {

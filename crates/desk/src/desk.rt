@@ -10,7 +10,7 @@ use crate::kept::Kept;
 use crate::seat::Seat;
 use crate::shares::{Badge, Hands, PARTS};
 use frame_tree::FrameId;
-use hall::{Did, Hall, Jamboree, Outcome, Refusal, Step};
+use hall::{Hall, Jamboree, Outcome, Refusal, Step, StepAnswer};
 use position_text::Position;
 use std::alloc::{Allocator, Global};
 use std::hint::spin_loop;
@@ -175,12 +175,7 @@ impl<L: Hands, A: Allocator + Clone> Desk<L, A> {
 
     /// Offers a worker's step: what it did, or why it is refused. The badge's share is raised by 1
     /// exactly where the step was taken.
-    pub fn offer<R: Wait>(
-        &self,
-        rt: &R,
-        badge: &mut Badge<L>,
-        step: &Step<Jamboree>,
-    ) -> Result<Did<Jamboree>, Refusal>
+    pub fn offer<R: Wait>(&self, rt: &R, badge: &mut Badge<L>, step: &Step<Jamboree>) -> StepAnswer
         requires { is_worker_step step.now ≡ true }
         ensures share { MatchResult result (λ _. badge.new ≡ badge.old + 1) (λ _. badge.new ≡ badge.old) }
         ensures memory { result ≢ Err OutOfMemory }

@@ -9,7 +9,7 @@ ghost use Rattle.hall.specs.Journals.{is_worker_step};
 use crate::change::Change;
 use crate::kept::Kept;
 use crate::shares::{Badge, Hands};
-use hall::{Did, Jamboree, Refusal, Step};
+use hall::{Jamboree, Step, StepAnswer};
 use std::alloc::{Allocator, Global};
 use std::sync::{Condvar, MutexGuard, Wait};
 
@@ -33,7 +33,7 @@ impl<'d, L: Hands, A: Allocator + Clone> Held<'d, L, A> {
         rt: &R,
         badge: &mut Badge<L>,
         step: &Step<Jamboree>,
-    ) -> Result<Did<Jamboree>, Refusal>
+    ) -> StepAnswer
         requires { is_worker_step step.now ≡ true }
         ensures share { MatchResult result (λ _. badge.new ≡ badge.old + 1) (λ _. badge.new ≡ badge.old) }
         ensures memory { result ≢ Err OutOfMemory }

@@ -19,7 +19,7 @@ use crate::seat::{JOBS, Seat, SeatAsked};
 use crate::shares::{Badge, Hands, PARTS};
 use arrayvec::ArrayVec;
 use frame_tree::FrameId;
-use hall::{Did, DidOf, Hall, Jamboree, Outcome, Refusal, Step, StepOf, submit};
+use hall::{Hall, Jamboree, Outcome, Refusal, Step, StepAnswer, StepOf, submit};
 use position_text::Position;
 use std::alloc::{Allocator, Global};
 use std::marker::Model;
@@ -83,7 +83,7 @@ impl<L: Hands, A: Allocator + Clone> Kept<L, A> {
     }
 
     /// Offers a step to the hall, and counts it for this share where it was taken.
-    fn take(&mut self, mine: &mut Share<L>, step: &Step<Jamboree>) -> Result<Did<Jamboree>, Refusal>
+    fn take(&mut self, mine: &mut Share<L>, step: &Step<Jamboree>) -> StepAnswer
         requires search { IsSearch step.now }
         requires part { 0 < mine.old.parts }
         ensures step { IsOffered self.old.hall step.now result self.new.hall }
@@ -103,11 +103,7 @@ impl<L: Hands, A: Allocator + Clone> Kept<L, A> {
     }
 
     /// Takes a step for a seat, whose share counts it where it was taken.
-    fn take_for(
-        &mut self,
-        seat: &mut Seat<L>,
-        step: &Step<Jamboree>,
-    ) -> Result<Did<Jamboree>, Refusal>
+    fn take_for(&mut self, seat: &mut Seat<L>, step: &Step<Jamboree>) -> StepAnswer
         requires { IsSearch step.now }
         ensures share { MatchResult result (λ _. seat.new ≡ stepped seat.old) (λ _. seat.new ≡ seat.old) }
         ensures step { IsOffered self.old.hall step.now result self.new.hall }
@@ -175,13 +171,13 @@ impl<L: Hands, A: Allocator + Clone> Kept<L, A> {
         depth: u8,
     ) -> Result<u64, Refusal>
         requires { depth ≤ 12 }
+        ensures others { IsAsOpen self.old self.new }
         ensures asked { IsAsked (record { board = position.now.board; depth = depth }) seat.old result seat.new }
         ensures refused { IfErr result (Contains ask_refusals) }
         ensures full { length seat.old.asked ≡ 256 → self.new ≡ self.old }
         ensures step { MatchResult result
             (λ _. (did : DidOf LeafOf) × IsOffered self.old.hall (Submit seat.old.tenant (root_words position.now.board.own position.now.board.opp depth) frame_size) (Ok did) self.new.hall)
             (λ refusal. length seat.old.asked ≢ 256 → IsOffered self.old.hall (Submit seat.old.tenant (root_words position.now.board.own position.now.board.opp depth) frame_size) (Err refusal) self.new.hall) }
-        ensures others { IsAsOpen self.old self.new }
     {
         if seat.asked.len() == JOBS {
             return Err(Refusal::NoJobsLeft);
@@ -214,11 +210,7 @@ impl<L: Hands, A: Allocator + Clone> Kept<L, A> {
     }
 
     /// Takes a worker's step for its badge.
-    pub(crate) fn offer(
-        &mut self,
-        badge: &mut Badge<L>,
-        step: &Step<Jamboree>,
-    ) -> Result<Did<Jamboree>, Refusal>
+    pub(crate) fn offer(&mut self, badge: &mut Badge<L>, step: &Step<Jamboree>) -> StepAnswer
         requires worker { is_worker_step step.now ≡ true }
         requires few { badge.old + 1 < 2 ^ 64 }
         ensures share { MatchResult result (λ _. badge.new ≡ badge.old + 1) (λ _. badge.new ≡ badge.old) }
@@ -366,19 +358,12 @@ impl<L: Hands, A: Allocator + Clone> Kept<L, A> {
         requires part { mine.parts ≡ 1 }
         ensures { self.new ≡ with_kept steps self.old }
     {
-        let Kept {
-            hall,
-            book,
-            spare,
-            parts,
-            ..
-        } = self;
-        spare.merge(mine);
-        book.audit(spare);
-        *parts += 1;
-        let _count = hall.count();
-        let kept = hall.kept();
-        hall.keep(kept + steps);
+        self.spare.merge(mine);
+        self.book.audit(&mut self.spare);
+        self.parts += 1;
+        let _count = self.hall.count();
+        let kept = self.hall.kept();
+        self.hall.keep(kept + steps);
     }
 
     /// The hall, and whether this badge has all that was out.

@@ -45,8 +45,8 @@ mod shares;
 
 pub use desk::Desk;
 pub use hall::{
-    Config, Did, DidOf, Hall, Jamboree, Leaf, LeafAnswer, Outcome, Refusal, Reply, Step, StepOf,
-    Worker,
+    Config, Did, DidOf, Hall, Jamboree, Leaf, LeafAnswer, Outcome, Refusal, Reply, Step,
+    StepAnswer, StepOf, Worker,
 };
 pub use held::Held;
 pub use seat::{Seat, SeatAsked};

@@ -59,18 +59,18 @@ impl<L: Hands> Seat<L> {
         self.tenant
     }
 
-    /// Its share: its own steps that were taken, from its admission on.
-    pub fn share(&self) -> u128
-        ensures { result ≡ self.now.share }
-    {
-        self.steps
-    }
-
     /// What it asked, from job 1 on; at most 256.
     pub fn asked(&self) -> &[SeatAsked]
         ensures asked { result.now ≡ self.now.asked }
         ensures few { length result.now ≤ 256 }
     {
         self.asked.as_slice()
+    }
+
+    /// Its share: its own steps that were taken, from its admission on.
+    pub fn share(&self) -> u128
+        ensures { result ≡ self.now.share }
+    {
+        self.steps
     }
 }

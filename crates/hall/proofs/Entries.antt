@@ -8,7 +8,7 @@ use Rattle.hall.specs.declared.entry.JournalEntry.{JournalEntry}
 use Rattle.hall.specs.declared.entry.JournalEntry.TheVariants.{Taken, Stolen, Advanced, TakenIn, Finished, Spent, Long}
 use Rattle.hall.specs.declared.entry.LongEntry.{LongEntry}
 use Rattle.hall.specs.Entries.{is_long, short_steps, long_step, steps_in, long_count}
-use Rattle.hall.specs.Journals.{JournalOf, longer, places_with, raise_in}
+use Rattle.hall.specs.Journals.{JournalOf, longer, places_with, raise_count, raise_in}
 use Rattle.hall.proofs.Lists.{further}
 
 abbrev Step : Type 0
@@ -85,6 +85,18 @@ steps_in-long n l (f ∷ es) (k ∷ ls) count = elim (cases_Bool (is_long f)) [
 -- what a journal with these entries is seen as
 abbrev pub seen : ℕ → ℕ → List JournalEntry → List LongEntry → JournalOf
 seen n places es ls = record { tenant = n; places = places; steps = steps_in n es ls }
+
+-- how many entries and long entries a journal has, and how many raises
+pub record AreAsMany (many few raised : ℕ) (j : JournalOf) : Type 0 where
+  pub steps : length j.steps ≡ many
+  pub longs : few ≤ many
+  pub raises : raise_count j.steps ≡ raised
+
+pub counts : (n p raises : ℕ) (es : List JournalEntry) (ls : List LongEntry) (j : JournalOf) → seen n p es ls ≡ j → long_count es ≡ length ls → raises ≡ raise_count (steps_in n es ls) → AreAsMany (length es) (length ls) raises j
+counts n p raises es ls j is count raised =
+    let long = steps_in-length n es ls count in let few = long_count-few es in
+    let steps = ap (λ (k : JournalOf). length k.steps) is in let before = ap (λ (k : JournalOf). raise_count k.steps) is in
+    record { steps = omega (arith, long, steps); longs = omega (arith, few, count); raises = omega (arith, before, raised) }
 
 -- where a place is left for a step, there is room for an entry and a long one
 pub has-room : (n p : ℕ) (es : List JournalEntry) (ls : List LongEntry) (j : JournalOf) → seen n p es ls ≡ j → long_count es ≡ length ls → length j.steps < j.places → (length es < p) × (length ls < p)

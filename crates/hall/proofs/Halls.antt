@@ -46,15 +46,9 @@ Step = StepOf LeafAnswer
 
 -- a hall where nobody was yet
 pub empty-kept : (grain : ℕ) (totals : Quota) → IsKnown (shared_by_nobody totals) → IsHall (empty_hall grain totals) 0 0
-empty-kept grain totals known = record {
-  explained = record { tenants = λ number. refl; searches = λ number. tt; known = known; numbers = omega arith; few = omega arith };
-  rising = tt;
-  upto = tt;
-  begun = tt;
-  newest = refl;
-  counted = refl;
-  bounded = omega arith;
-}
+empty-kept grain totals known =
+    let explained : IsExplained (empty_hall grain totals) = record { tenants = λ number. refl; searches = λ number. tt; known = known; numbers = omega arith; few = omega arith } in
+    record { explained = explained; rising = tt; upto = tt; begun = tt; newest = refl; counted = refl; bounded = omega arith }
 
 -- a tenant that is there has a journal
 pub has-one : (grain : ℕ) (tenant : Tenant) (journals : List JournalOf) (number : ℕ) → IsJournalOf (jamboree grain) (journal_in journals number) tenant → has_journal number journals ≡ true

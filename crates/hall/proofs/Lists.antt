@@ -34,20 +34,24 @@ pub raise-more : {A : Type 0} (steps : List (StepOf A)) (step : StepOf A) → ra
 raise-more [] step = omega arith
 raise-more (s ∷ steps) step = (let rest = raise-more steps step in omega (arith, rest))
 
+-- by cases: an Admit, or a step that reserves what it raises
+pub by-admit : {A : Type 0} (P : StepOf A → Type 0) → ((number : ℕ) (quota : Quota) → P (Admit number quota)) → ((step : StepOf A) → reserve_in step ≡ raise_in step → P step) → (step : StepOf A) → P step
+by-admit P admit other (Admit number quota) = admit number quota
+by-admit P admit other (AdmitMore number quota) = other (AdmitMore number quota) refl
+by-admit P admit other (Submit number words size) = other (Submit number words size) refl
+by-admit P admit other (Take worker name) = other (Take worker name) refl
+by-admit P admit other (Steal worker from name) = other (Steal worker from name) refl
+by-admit P admit other (Advance worker name) = other (Advance worker name) refl
+by-admit P admit other (Answer worker name answer) = other (Answer worker name answer) refl
+by-admit P admit other (Inlet worker name) = other (Inlet worker name) refl
+by-admit P admit other (Finish worker name) = other (Finish worker name) refl
+by-admit P admit other (Spend name) = other (Spend name) refl
+by-admit P admit other (Cancel number job) = other (Cancel number job) refl
+by-admit P admit other (Leave number) = other (Leave number) refl
+
 -- a step that goes on reserves what it raises
 pub going-reserves : {A : Type 0} (step : StepOf A) → goes_on step ≡ true → reserve_in step ≡ raise_in step
-going-reserves (Admit number quota) goes = absurd (false≢true goes)
-going-reserves (AdmitMore number quota) goes = refl
-going-reserves (Submit number words size) goes = refl
-going-reserves (Take worker name) goes = refl
-going-reserves (Steal worker from name) goes = refl
-going-reserves (Advance worker name) goes = refl
-going-reserves (Answer worker name answer) goes = refl
-going-reserves (Inlet worker name) goes = refl
-going-reserves (Finish worker name) goes = refl
-going-reserves (Spend name) goes = refl
-going-reserves (Cancel number job) goes = refl
-going-reserves (Leave number) goes = refl
+going-reserves {A} step = by-admit (λ (s : StepOf A). goes_on s ≡ true → reserve_in s ≡ raise_in s) (λ number quota goes. absurd (false≢true goes)) (λ s same goes. same) step
 
 -- a raise is within the limits
 abbrev pub IsAllowed : Option Quota → Type 0

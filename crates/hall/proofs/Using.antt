@@ -29,7 +29,7 @@ use Rattle.jamboree_core.specs.Journals.{StaysTaken, AreTakenFrom, IsJournalOf}
 use Rattle.hall.specs.Entries.{serial_in}
 use Rattle.hall.specs.Journals.{goes_on, raise_in, reserve_in, newer, reserved_after, one_for, raise_count}
 use Rattle.hall.specs.Uses.{ended_count, uses}
-use Rattle.hall.proofs.Lists.{Brings}
+use Rattle.hall.proofs.Lists.{Brings, by-admit}
 
 -- one more is used by each step but a raise
 abbrev UsedBy : Option Quota → ℕ → ℕ → Type 0
@@ -239,18 +239,8 @@ step-brings functions tenant (Leave number) outcome is = tt
 
 -- a step that was taken of a tenant that is there reserves what it raises
 taken-reserves : {I A : Type 0} (functions : Functions I A) (tenant : Tenant) (step : StepOf A) (outcome : Outcome I) → lone_step functions tenant step ≡ Ok outcome → reserve_in step ≡ raise_in step
-taken-reserves functions tenant (Admit number quota) outcome is = absurd cc
-taken-reserves functions tenant (AdmitMore number quota) outcome is = refl
-taken-reserves functions tenant (Submit number words size) outcome is = refl
-taken-reserves functions tenant (Take worker name) outcome is = refl
-taken-reserves functions tenant (Steal worker from name) outcome is = refl
-taken-reserves functions tenant (Advance worker name) outcome is = refl
-taken-reserves functions tenant (Answer worker name answer) outcome is = refl
-taken-reserves functions tenant (Inlet worker name) outcome is = refl
-taken-reserves functions tenant (Finish worker name) outcome is = refl
-taken-reserves functions tenant (Spend name) outcome is = refl
-taken-reserves functions tenant (Cancel number job) outcome is = refl
-taken-reserves functions tenant (Leave number) outcome is = refl
+taken-reserves {I} {A} functions tenant step outcome =
+    by-admit (λ (s : StepOf A). lone_step functions tenant s ≡ Ok outcome → reserve_in s ≡ raise_in s) (λ number quota is. absurd cc) (λ s same is. same) step
 
 -- a tenant after so many steps, of which so many are raises
 record HasGone (before : Tenant) (steps raises : ℕ) (reserve : Quota) (after : Tenant) : Type 0 where

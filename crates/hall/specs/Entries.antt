@@ -16,13 +16,8 @@ named number serial = record { tenant = number; serial = serial }
 
 -- whether an entry's step stands in a long one
 abbrev pub is_long : JournalEntry → Bool
-is_long (Taken worker serial) = false
-is_long (Stolen worker from serial) = false
-is_long (Advanced worker serial) = false
-is_long (TakenIn worker serial) = false
-is_long (Finished worker serial) = false
-is_long (Spent serial) = false
 is_long Long = true
+is_long _ = false
 
 -- whether a step that goes on is kept in a long entry
 abbrev pub is_long_step : {A : Type 0} → StepOf A → Bool

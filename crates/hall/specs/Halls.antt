@@ -1,15 +1,18 @@
 -- Meaning: what contracts see of a hall, and what explains it.
-use Rattle.std.specs.Prelude.{◌≡◌, ℕ, ◌+◌, ◌*◌, ◌^◌, ◌≤◌, ◌==◌, Bool, false, List, [], Option, Some, None, length}
+use Rattle.std.specs.Prelude.{◌≡◌, ℕ, ◌+◌, ◌*◌, ◌^◌, ◌≤◌, ◌==◌, Bool, false, List, [], Option, Some, None, Result, OnOk, OnErr, length}
 use Rattle.tenant_quota.specs.Quota.{Quota}
 use Rattle.sched_rules.specs.declared.job.Job.{Job}
+use Rattle.sched_rules.specs.declared.refusal.Refusal.{Refusal}
+use Rattle.sched_rules.specs.declared.step.DidOf.{DidOf}
 use Rattle.sched_rules.specs.declared.step.StepOf.{StepOf}
 use Rattle.sched_rules.specs.declared.step.StepOf.TheVariants.{Admit, AdmitMore, Submit, Take, Steal, Advance, Answer, Inlet, Finish, Spend, Cancel, Leave}
 use Rattle.sched_rules.specs.Functions.{Functions}
 use Rattle.sched_rules.specs.Trees.{Tenant}
 use Rattle.sched_rules.specs.Cores.{Shared, tenant_in, shared_by_nobody}
-use Rattle.sched_rules.specs.Headline.{IsKnown}
+use Rattle.sched_rules.specs.Headline.{IsKnown, IsOneStep}
 use Rattle.sched_rules.specs.Views.{job_of}
 use Rattle.jamboree_core.specs.sched_laws.Ended.{HasEnded}
+use Rattle.jamboree_core.specs.jamboree_rules.declared.leaf.Leaf.{Leaf}
 use Rattle.jamboree_core.specs.jamboree_rules.declared.leaf.LeafAnswer.{LeafAnswer}
 use Rattle.jamboree_core.specs.jamboree_rules.Procedure.{jamboree}
 use Rattle.jamboree_core.specs.Replies.{AreSearches}
@@ -39,6 +42,13 @@ empty_hall grain totals = record { grain = grain; shared = shared_by_nobody tota
 abbrev pub hall_after : HallOf → StepOf LeafAnswer → Shared → HallOf
 hall_after hall step shared =
     record { grain = hall.grain; shared = shared; journals = journals_after step hall.journals; gone = hall.gone + gone_by step hall.journals; kept = hall.kept }
+
+-- how a hall decides a step that it is offered: it is taken, written into its tenant's journal and counted, or refused, and then nothing changes
+pub record IsDecided (before : HallOf) (step : StepOf LeafAnswer) (answer : Result (DidOf Leaf) Refusal) (after : HallOf) : Type 0 where
+  pub one : IsOneStep (jamboree before.grain) before.shared step answer after.shared
+  pub taken : OnOk answer (after ≡ hall_after before step after.shared)
+  pub refused : OnErr answer (after ≡ before)
+  pub count : OnOk answer (count_of after ≡ count_of before + 1)
 
 -- a tenant's journal explains it: alone its steps, each of which was taken, give it; where there is no tenant there is no journal
 abbrev pub Explains : {I : Type 0} → Functions I LeafAnswer → Option Tenant → List (StepOf LeafAnswer) → Type 0

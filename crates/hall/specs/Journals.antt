@@ -1,10 +1,12 @@
 -- Meaning: the journal of a tenant: its steps that were taken, in order, from its Admit on.
-use Rattle.std.specs.Prelude.{◌≡◌, ℕ, ◌+◌, ◌*◌, ◌<◌, ◌≤◌, Bool, true, false, ◌||◌, ◌==◌, List, [], ◌∷◌, ◌++◌, Option, Some, None, if◌then◌else◌, length}
+use Rattle.std.specs.Prelude.{◌≡◌, ℕ, ◌+◌, ◌*◌, ◌^◌, ◌<◌, ◌≤◌, Bool, true, false, ◌||◌, ◌==◌, List, [], ◌∷◌, ◌++◌, Option, Some, None, if◌then◌else◌, length}
 use Rattle.tenant_quota.specs.Quota.{Quota}
 use Rattle.sched_rules.specs.declared.step.StepOf.{StepOf}
 use Rattle.sched_rules.specs.declared.step.StepOf.TheVariants.{Admit, AdmitMore, Submit, Take, Steal, Advance, Answer, Inlet, Finish, Spend, Cancel, Leave}
 use Rattle.sched_rules.specs.Runs.{tenant_of}
 use Rattle.jamboree_core.specs.jamboree_rules.declared.leaf.LeafAnswer.{LeafAnswer}
+use Rattle.jamboree_core.specs.Replies.{IsSearch}
+use Rattle.hall.specs.Entries.{serial_in}
 
 -- a tenant's number, how many steps its journal has places for, and the steps
 pub record JournalOf : Type 0 where
@@ -147,3 +149,12 @@ pub record IsBegun (journal : JournalOf) : Type 0 where
 abbrev pub AreBegun : List JournalOf → Type 0
 AreBegun [] = Unit {0}
 AreBegun (journal ∷ journals) = IsBegun journal × AreBegun journals
+
+-- a step of a journal's tenant that may be written there: it raises nothing, asks for a search where it is a Submit, and has a place
+pub record IsWritable (step : StepOf LeafAnswer) (journal : JournalOf) : Type 0 where
+  pub own : tenant_of step ≡ journal.tenant
+  pub serial : serial_in step < 2 ^ 32
+  pub place : length journal.steps < journal.places
+  pub going : goes_on step ≡ true
+  pub search : IsSearch step
+  pub raises_not : raise_in step ≡ None

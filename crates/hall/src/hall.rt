@@ -9,7 +9,7 @@ ghost use Rattle.jamboree_core.specs.Replies.{IsSearch};
 ghost use Rattle.sched_rules.specs.Runs.{tenant_of};
 ghost use Rattle.tenant_quota.specs.Quota.{IsWithinLimits};
 ghost use Rattle.hall.specs.Journals.{goes_on, raise_in, admitted_journal};
-ghost use Rattle.hall.specs.Halls.{empty_hall, hall_after, count_of, IsExplained, KeepsEndedJobs};
+ghost use Rattle.hall.specs.Halls.{empty_hall, hall_after, count_of, IsExplained, IsDecided, KeepsEndedJobs};
 
 use crate::journal::{Journal, raise, write};
 use jamboree_core::jamboree::Jamboree;
@@ -19,6 +19,9 @@ use sched_rules::{Config, Did, Refusal, Step, StepOf};
 use std::alloc::{AllocError, Allocator, Global};
 use std::marker::Model;
 use tenant_quota::Reserve;
+
+/// What a step is answered: what it did, or why it is refused.
+pub type StepAnswer = Result<Did<Jamboree>, Refusal>;
 
 /// A core that searches, and the journals of the tenants that are there.
 pub struct Hall<A: Allocator = Global> {
@@ -87,7 +90,7 @@ impl<A: Allocator> Hall<A> {
     /// it, takes memory, and only a Submit is refused by BadAct.
     ///
     /// A Submit is to ask for a search, with the root words of a position.
-    pub fn offer(&mut self, step: &Step<Jamboree>) -> Result<Did<Jamboree>, Refusal>
+    pub fn offer(&mut self, step: &Step<Jamboree>) -> StepAnswer
     where
         A: Clone,
         requires { IsSearch step.now }
@@ -107,23 +110,27 @@ impl<A: Allocator> Hall<A> {
         answer
     }
 
+    /// Notes a number as that of the steps that are kept: what it counts is for the caller to say. The
+    /// desk notes the shares of seats that left, and the steps from before it.
+    pub fn keep(&mut self, kept: u128)
+        ensures { self.new ≡ record self.old { kept = kept } }
+    {
+        self.kept = kept;
+    }
+}
+
+impl<A: Allocator + Clone> Hall<A> {
     /// Takes the step by its kind, or refuses it.
-    fn decide(&mut self, step: &Step<Jamboree>) -> Result<Did<Jamboree>, Refusal>
-    where
-        A: Clone,
+    fn decide(&mut self, step: &Step<Jamboree>) -> StepAnswer
         requires { IsSearch step.now }
-        ensures one { IsOneStep (jamboree self.old.grain) self.old.shared step.now result self.new.shared }
-        ensures taken { OnOk result (self.new ≡ hall_after self.old step.now self.new.shared) }
-        ensures refused { OnErr result (self.new ≡ self.old) }
-        ensures count { OnOk result (count_of self.new ≡ count_of self.old + 1) }
+        ensures decided { IsDecided self.old step.now result self.new }
         ensures memory { is_admission step.now ≡ false → result ≢ Err OutOfMemory }
         ensures explained { IsExplained self.old }
     {
         // What a hall keeps is known from here on.
         let _ = &self.core;
         match step {
-            StepOf::Admit(number, reserve) => self.admit(*number, *reserve),
-            StepOf::AdmitMore(number, reserve) => self.admit_more(*number, *reserve),
+            StepOf::Admit(_, _) | StepOf::AdmitMore(_, _) => self.admit(step),
             StepOf::Leave(number) => self.leave(*number),
             StepOf::Submit(number, _, _) | StepOf::Cancel(number, _) => self.go_on(*number, step),
             StepOf::Take(_, name)
@@ -136,30 +143,26 @@ impl<A: Allocator> Hall<A> {
         }
     }
 
-    /// Admits a tenant, or says why not. The core is asked before anything grows.
-    fn admit(&mut self, number: u64, reserve: Reserve) -> Result<Did<Jamboree>, Refusal>
-    where
-        A: Clone,
-        ensures one { IsOneStep (jamboree self.old.grain) self.old.shared (StepOf.Admit number reserve) result self.new.shared }
-        ensures taken { OnOk result (self.new ≡ hall_after self.old (StepOf.Admit number reserve) self.new.shared) }
-        ensures refused { OnErr result (self.new ≡ self.old) }
-        ensures count { OnOk result (count_of self.new ≡ count_of self.old + 1) }
+    /// Takes an admission, of a tenant or of more for one, or says why not. The core is asked before anything
+    /// grows.
+    fn admit(&mut self, step: &Step<Jamboree>) -> StepAnswer
+        requires { is_admission step.now ≡ true }
+        ensures { IsDecided self.old step.now result self.new }
     {
-        match self.core.refusal(&StepOf::Admit(number, reserve)) {
-            Some(refusal) => Err(refusal),
-            None => self.let_in(number, reserve),
+        if let Some(why) = self.core.refusal(step) {
+            return Err(why);
+        }
+        match step {
+            StepOf::Admit(number, reserve) => self.let_in(*number, *reserve),
+            StepOf::AdmitMore(number, reserve) => self.raise(*number, *reserve),
+            _ => unreachable!(),
         }
     }
 
     /// Admits a tenant that the core would take. Its journal grows first, and then the core.
-    fn let_in(&mut self, number: u64, reserve: Reserve) -> Result<Did<Jamboree>, Refusal>
-    where
-        A: Clone,
+    fn let_in(&mut self, number: u64, reserve: Reserve) -> StepAnswer
         requires { shared_refusal (jamboree self.old.grain) self.old.shared (StepOf.Admit number reserve) ≡ None }
-        ensures one { IsOneStep (jamboree self.old.grain) self.old.shared (StepOf.Admit number reserve) result self.new.shared }
-        ensures taken { OnOk result (self.new ≡ hall_after self.old (StepOf.Admit number reserve) self.new.shared) }
-        ensures refused { OnErr result (self.new ≡ self.old) }
-        ensures count { OnOk result (count_of self.new ≡ count_of self.old + 1) }
+        ensures { IsDecided self.old (StepOf.Admit number reserve) result self.new }
     {
         match room_for(&mut self.journals, &self.alloc, number, reserve) {
             Ok(journal) => match self.core.step(&StepOf::Admit(number, reserve)) {
@@ -176,31 +179,11 @@ impl<A: Allocator> Hall<A> {
         }
     }
 
-    /// Raises what a tenant reserves, or says why not. The core is asked before anything grows.
-    fn admit_more(&mut self, number: u64, reserve: Reserve) -> Result<Did<Jamboree>, Refusal>
-    where
-        A: Clone,
-        ensures one { IsOneStep (jamboree self.old.grain) self.old.shared (StepOf.AdmitMore number reserve) result self.new.shared }
-        ensures taken { OnOk result (self.new ≡ hall_after self.old (StepOf.AdmitMore number reserve) self.new.shared) }
-        ensures refused { OnErr result (self.new ≡ self.old) }
-        ensures count { OnOk result (count_of self.new ≡ count_of self.old + 1) }
-    {
-        match self.core.refusal(&StepOf::AdmitMore(number, reserve)) {
-            Some(why) => Err(why),
-            None => self.raise(number, reserve),
-        }
-    }
-
     /// Raises what a tenant reserves, where the core would take it. Its journal grows first, and then the
     /// core.
-    fn raise(&mut self, number: u64, reserve: Reserve) -> Result<Did<Jamboree>, Refusal>
-    where
-        A: Clone,
+    fn raise(&mut self, number: u64, reserve: Reserve) -> StepAnswer
         requires { shared_refusal (jamboree self.old.grain) self.old.shared (StepOf.AdmitMore number reserve) ≡ None }
-        ensures one { IsOneStep (jamboree self.old.grain) self.old.shared (StepOf.AdmitMore number reserve) result self.new.shared }
-        ensures taken { OnOk result (self.new ≡ hall_after self.old (StepOf.AdmitMore number reserve) self.new.shared) }
-        ensures refused { OnErr result (self.new ≡ self.old) }
-        ensures count { OnOk result (count_of self.new ≡ count_of self.old + 1) }
+        ensures { IsDecided self.old (StepOf.AdmitMore number reserve) result self.new }
     {
         let answer = raise(
             &self.index,
@@ -217,17 +200,12 @@ impl<A: Allocator> Hall<A> {
 
     /// Takes a step of a tenant, neither an admission nor a Leave, and writes it into its journal.
     #[inline(always)]
-    fn go_on(&mut self, number: u64, step: &Step<Jamboree>) -> Result<Did<Jamboree>, Refusal>
-    where
-        A: Clone,
+    fn go_on(&mut self, number: u64, step: &Step<Jamboree>) -> StepAnswer
         requires search { IsSearch step.now }
         requires goes_on { goes_on step.now ≡ true }
         requires raises_not { raise_in step.now ≡ None }
         requires own { tenant_of step.now ≡ number }
-        ensures one { IsOneStep (jamboree self.old.grain) self.old.shared step.now result self.new.shared }
-        ensures taken { OnOk result (self.new ≡ hall_after self.old step.now self.new.shared) }
-        ensures refused { OnErr result (self.new ≡ self.old) }
-        ensures count { OnOk result (count_of self.new ≡ count_of self.old + 1) }
+        ensures decided { IsDecided self.old step.now result self.new }
         ensures memory { result ≢ Err OutOfMemory }
     {
         let answer = self.core.step(step);
@@ -239,13 +217,8 @@ impl<A: Allocator> Hall<A> {
     }
 
     /// Lets a tenant go, and its journal with it.
-    fn leave(&mut self, number: u64) -> Result<Did<Jamboree>, Refusal>
-    where
-        A: Clone,
-        ensures one { IsOneStep (jamboree self.old.grain) self.old.shared (StepOf.Leave number) result self.new.shared }
-        ensures taken { OnOk result (self.new ≡ hall_after self.old (StepOf.Leave number) self.new.shared) }
-        ensures refused { OnErr result (self.new ≡ self.old) }
-        ensures count { OnOk result (count_of self.new ≡ count_of self.old + 1) }
+    fn leave(&mut self, number: u64) -> StepAnswer
+        ensures decided { IsDecided self.old (StepOf.Leave number) result self.new }
         ensures memory { result ≢ Err OutOfMemory }
     {
         match self.core.step(&StepOf::Leave(number)) {
@@ -259,14 +232,6 @@ impl<A: Allocator> Hall<A> {
             }
             Err(refusal) => Err(refusal),
         }
-    }
-
-    /// Notes a number as that of the steps that are kept: what it counts is for the caller to say. The
-    /// desk notes the shares of seats that left, and the steps from before it.
-    pub fn keep(&mut self, kept: u128)
-        ensures { self.new ≡ record self.old { kept = kept } }
-    {
-        self.kept = kept;
     }
 }
 

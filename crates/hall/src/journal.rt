@@ -1,14 +1,14 @@
 //! The journal of one tenant, and where it stands among all.
 ghost use Rattle.std.specs.Prelude.{◌≡◌, ◌+◌, ◌++◌, ◌∷◌, ◌<◌, ◌≤◌, ◌^◌, [], true, None, length, IfOk, OnOk, OnErr};
 ghost use Rattle.tenant_quota.specs.Quota.{IsWithinLimits};
+ghost use Rattle.sched_rules.specs.Headline.{IsOneStep, IsKnown};
 ghost use Rattle.jamboree_core.specs.jamboree_rules.Procedure.{jamboree};
 ghost use Rattle.jamboree_core.specs.Replies.{IsSearch};
 ghost use Rattle.sched_rules.specs.Cores.{shared_refusal};
-ghost use Rattle.sched_rules.specs.Headline.{IsOneStep, IsKnown};
 ghost use Rattle.sched_rules.specs.Runs.{tenant_of};
 ghost use Rattle.number_index.specs.Places.{AreRising};
 ghost use Rattle.hall.specs.Entries.{is_long_step, serial_in};
-ghost use Rattle.hall.specs.Journals.{admitted_journal, goes_on, has_journal, journal_in, longer, owner_of, places_for, places_in, raise_count, raise_in, with_step};
+ghost use Rattle.hall.specs.Journals.{IsWritable, admitted_journal, goes_on, has_journal, journal_in, longer, owner_of, places_for, places_in, raise_count, raise_in, with_step};
 
 use crate::entry::{JournalEntry, LongEntry};
 use jamboree_core::jamboree::Jamboree;
@@ -48,18 +48,6 @@ impl<A: Allocator> Model for Journal<A> {
     ghost invariant = { λ j. (j.places ≤ vec_capacity j.entries) × (j.places ≤ vec_capacity j.longs) × (long_count j.entries.items ≡ length j.longs.items) × (j.raises ≡ raise_count (steps_in j.tenant j.entries.items j.longs.items)) };
 }
 
-// A journal stands among all by its tenant's number.
-impl<A: Allocator> Numbered for Journal<A> {
-    ghost use Rattle.hall.specs.Journals.{owner_of};
-
-    ghost number_of = { owner_of };
-
-    #[inline(always)]
-    fn number(&self) -> u64 {
-        self.tenant
-    }
-}
-
 impl<A: Allocator> Journal<A> {
     /// The journal of a tenant that is admitted with this reservation. It makes all places.
     pub(crate) fn new(alloc: A, tenant: u64, reserve: Reserve) -> Result<Journal<A>, AllocError>
@@ -91,12 +79,7 @@ impl<A: Allocator> Journal<A> {
 
     /// Adds a step of its tenant that raises nothing, in a place that is there.
     pub(crate) fn write(&mut self, step: &Step<Jamboree>)
-        requires own { tenant_of step.now ≡ self.old.tenant }
-        requires serial { serial_in step.now < 2 ^ 32 }
-        requires place { length self.old.steps < self.old.places }
-        requires goes_on { goes_on step.now ≡ true }
-        requires search { IsSearch step.now }
-        requires raises_not { raise_in step.now ≡ None }
+        requires { IsWritable step.now self.old }
         ensures { self.new ≡ record self.old { steps = self.old.steps ++ step.now ∷ [] } }
     {
         let entry = JournalEntry::of(step);
@@ -108,12 +91,7 @@ impl<A: Allocator> Journal<A> {
 
     /// The same of a step that is kept in a long entry.
     fn write_long(&mut self, step: &Step<Jamboree>)
-        requires own { tenant_of step.now ≡ self.old.tenant }
-        requires serial { serial_in step.now < 2 ^ 32 }
-        requires place { length self.old.steps < self.old.places }
-        requires goes_on { goes_on step.now ≡ true }
-        requires search { IsSearch step.now }
-        requires raises_not { raise_in step.now ≡ None }
+        requires writable { IsWritable step.now self.old }
         requires long { is_long_step step.now ≡ true }
         ensures { self.new ≡ record self.old { steps = self.old.steps ++ step.now ∷ [] } }
     {
@@ -158,6 +136,18 @@ impl<A: Allocator> Journal<A> {
         self.places = places;
         self.raises = raises;
         Ok(did)
+    }
+}
+
+// A journal stands among all by its tenant's number.
+impl<A: Allocator> Numbered for Journal<A> {
+    ghost use Rattle.hall.specs.Journals.{owner_of};
+
+    ghost number_of = { owner_of };
+
+    #[inline(always)]
+    fn number(&self) -> u64 {
+        self.tenant
     }
 }
 

@@ -41,7 +41,7 @@ mod journal;
 mod reading;
 pub mod rows;
 
-pub use hall::Hall;
+pub use hall::{Hall, StepAnswer};
 pub use jamboree_core::jamboree::{Jamboree, Leaf, LeafAnswer, Reply};
 pub use jamboree_core::sched_core::{Config, Core, Did, DidOf, Refusal, Step, StepOf, Worker};
 pub use jamboree_core::{Outcome, submit};

@@ -41,22 +41,22 @@ pub fn solve_by_core<A: Allocator + Clone>(
         IsFoundBy grain (record { segments = 4096; nodes = 65536 }) (root_words position.now.board.own position.now.board.opp depth) found) }
 {
     let reserve = Reserve::new(SEGMENTS, NODES).unwrap();
-    search_within(alloc, reserve, position, depth, grain)
+    search_within(alloc, position, depth, grain, reserve)
 }
 
 /// The same in a core that has just what is reserved.
 pub fn search_within<A: Allocator + Clone>(
     alloc: A,
-    reserve: Reserve,
     position: &Position,
     depth: u8,
     grain: u8,
+    reserve: Reserve,
 ) -> Result<Searched, AllocError>
     requires shallow { depth ≤ 12 }
     requires fine { grain ≤ 6 }
+    ensures found { IfOk result (λ found. IsFoundBy grain reserve (root_words position.now.board.own position.now.board.opp depth) found) }
     ensures value { IfOk result (λ found. found.answer.value ≡ minimax depth (cells position.now.board)) }
     ensures choice { IfOk result (λ found. found.answer.choice ≡ best_choice depth (cells position.now.board)) }
-    ensures found { IfOk result (λ found. IsFoundBy grain reserve (root_words position.now.board.own position.now.board.opp depth) found) }
 {
     let config = Config::new(reserve.segments(), reserve.nodes()).unwrap();
     let mut core = Core::new(alloc, config, Jamboree { grain })?;

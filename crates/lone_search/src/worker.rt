@@ -15,20 +15,20 @@ use pool_rules::{Deed, Holding, Task};
 use sched_rules::{Did, Refusal, Step, Worker};
 use std::alloc::Allocator;
 
-/// The worker's number.
-const WORKER: u8 = 1;
+/// The only worker.
+#[inline(always)]
+fn the_worker() -> Worker {
+    Worker::new(1).unwrap()
+}
 
 /// Works until the job has ended or can't go on, for at most so many turns. Each turn but the last three takes one of
 /// the tenant's steps.
 pub(crate) fn work<A: Allocator + Clone>(core: &mut Core<Jamboree, A>, turns: u32)
     ensures { Keeps core.old core.new }
 {
-    let Some(worker) = Worker::new(WORKER) else {
-        return;
-    };
     let mut held = Holding::Nothing;
     for _turn in 0..turns {
-        let Some(next) = turn(core, worker, held) else {
+        let Some(next) = turn(core, held) else {
             return;
         };
         held = next;
@@ -38,40 +38,30 @@ pub(crate) fn work<A: Allocator + Clone>(core: &mut Core<Jamboree, A>, turns: u3
 /// One turn, and what the worker holds after it; None where the job has ended, or can't go on. What it holds is known at
 /// each place from which it offers a step, so that no holding is put together only to be looked at.
 #[inline(always)]
-fn turn<A: Allocator + Clone>(
-    core: &mut Core<Jamboree, A>,
-    worker: Worker,
-    held: Holding,
-) -> Option<Holding>
+fn turn<A: Allocator + Clone>(core: &mut Core<Jamboree, A>, held: Holding) -> Option<Holding>
     ensures { Keeps core.old core.new }
 {
     match held {
         Holding::Nothing => {
             let task = newest_task(core)?;
-            offer(core, worker, Holding::Next(Deed::Get(task)))
+            offer(core, Holding::Next(Deed::Get(task)))
         }
-        Holding::Next(Deed::Run(frame)) => offer(core, worker, Holding::Next(Deed::Run(frame))),
-        Holding::Next(Deed::TakeIn(frame)) => {
-            offer(core, worker, Holding::Next(Deed::TakeIn(frame)))
-        }
+        Holding::Next(Deed::Run(frame)) => offer(core, Holding::Next(Deed::Run(frame))),
+        Holding::Next(Deed::TakeIn(frame)) => offer(core, Holding::Next(Deed::TakeIn(frame))),
         Holding::Computing(frame, leaf) => {
             let answer = LeafAnswer::compute(leaf);
-            offer(core, worker, Holding::Next(Deed::Bring(frame, answer)))
+            offer(core, Holding::Next(Deed::Bring(frame, answer)))
         }
-        Holding::Next(_) | Holding::Short(_) => offer_seldom(core, worker, held),
+        Holding::Next(_) | Holding::Short(_) => offer_rare(core, held),
     }
 }
 
 /// Offers what is seldom held: the end of the job, or to spend it.
 #[inline(never)]
-fn offer_seldom<A: Allocator + Clone>(
-    core: &mut Core<Jamboree, A>,
-    worker: Worker,
-    held: Holding,
-) -> Option<Holding>
+fn offer_rare<A: Allocator + Clone>(core: &mut Core<Jamboree, A>, held: Holding) -> Option<Holding>
     ensures { Keeps core.old core.new }
 {
-    offer(core, worker, held)
+    offer(core, held)
 }
 
 /// The tenant's ready frame of the greatest serial, if one is ready, as a task.
@@ -83,13 +73,10 @@ fn newest_task<A: Allocator + Clone>(core: &Core<Jamboree, A>) -> Option<Task> {
 
 /// Offers the step of what the worker holds, if it has one; what it holds after it.
 #[inline(always)]
-fn offer<A: Allocator + Clone>(
-    core: &mut Core<Jamboree, A>,
-    worker: Worker,
-    held: Holding,
-) -> Option<Holding>
+fn offer<A: Allocator + Clone>(core: &mut Core<Jamboree, A>, held: Holding) -> Option<Holding>
     ensures { Keeps core.old core.new }
 {
+    let worker = the_worker();
     let step = own_step(worker, &held)?;
     let answer = take(core, &step);
     let refused = answer.is_err();

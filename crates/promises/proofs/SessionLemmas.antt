@@ -16,7 +16,7 @@ use Rattle.session.specs.declared.standings.Standing.TheVariants.{Pending, Done,
 use Rattle.session.specs.Asks.{Asked, asked_at}
 use Rattle.session.specs.Calls.{Hello, Reserve, Ask, Get, Wait, Cancel, AskQuota, AskLive, Leave, OfficeReply, Welcome, Reserved, Job, Told, Ended, Rest, Alive, Gone, Refused}
 use Rattle.session.specs.Requests.{Request, Fault, Makes, Tabulates, Ends, request}
-use Rattle.session.specs.Turns.{LineTurn, Faulted, Made, Tabulated, Closed, turns, turn_text, reply_text, standing_text, table_standing_text, by_request, next_reply, later_replies, seated_after}
+use Rattle.session.specs.Turns.{LineTurn, Faulted, Made, Tabulated, Closed, turns, turn_text, reply_text, table_text, standing_text, table_standing_text, by_request, next_reply, later_replies, seated_after}
 use Rattle.session.specs.Sessions.{session_lines, talk_result, IsAnsweredOf, IsWrittenOf}
 use Rattle.session.specs.DoneLines.{with_request, asks_of_lines, IsTrueDone, IsTrueTable as IsTableOfAsk, TurnHolds, ReplyHolds, TableReplyHolds, EachDoneIsTrue, TrueSession}
 use Rattle.promises.specs.Asking.{AsksFor}
@@ -139,13 +139,8 @@ comes-from ((line, text) ∷ before) job asked counted at =
 
 done-text : (before : List Said) (job : ℕ) (analysis : Analysis) → AreJobsCounted before → IsTrueDone before job analysis → IsTrueDoneText before (standing_text job (Done analysis))
 done-text before job analysis counted holds =
-    let c = comes-from before job holds.asked counted holds.is in record {
-      job = job;
-      depth = holds.asked.depth;
-      position = c.position;
-      asked = c.from;
-      is = rw (holds.value, holds.choice, c.is) refl;
-    }
+    let c = comes-from before job holds.asked counted holds.is in
+    record { job = job; depth = holds.asked.depth; position = c.position; asked = c.from; is = rw (holds.value, holds.choice, c.is) refl }
 
 table-of : (before : List Said) (job : ℕ) (analysis : Analysis) → AreJobsCounted before → IsTableOfAsk before job analysis → IsTrueTableText before (table_standing_text job (Done analysis))
 table-of before job analysis counted holds =
@@ -178,27 +173,23 @@ table-true before job (Done analysis) counted holds = record { done = λ e. absu
 table-true before job Spent counted holds = plain before (standing_text job Spent) refl refl refl
 table-true before job Cancelled counted holds = plain before (standing_text job Cancelled) refl refl refl
 
+-- a reply, told without its table or with it
+reply-true : (before : List Said) (reply : OfficeReply) → AreJobsCounted before → (ReplyHolds before reply → IsTrueText before (reply_text reply)) × (TableReplyHolds before reply → IsTrueText before (table_text reply))
+reply-true before (Welcome quota) counted = let same = plain before (reply_text (Welcome quota)) refl refl refl in (λ _. same, λ _. same)
+reply-true before (Reserved quota) counted = let same = plain before (reply_text (Reserved quota)) refl refl refl in (λ _. same, λ _. same)
+reply-true before (Job number) counted = (job-text before number, job-text before number)
+reply-true before (Told job standing) counted = (standing-true before job standing counted, table-true before job standing counted)
+reply-true before (Ended job) counted = let same = plain before (reply_text (Ended job)) refl refl refl in (λ _. same, λ _. same)
+reply-true before (Rest left) counted = let same = plain before (reply_text (Rest left)) refl refl refl in (λ _. same, λ _. same)
+reply-true before (Alive live) counted = let same = plain before (reply_text (Alive live)) refl refl refl in (λ _. same, λ _. same)
+reply-true before Gone counted = let same = plain before (reply_text Gone) refl refl refl in (λ _. same, λ _. same)
+reply-true before (Refused number) counted = let same = plain before (reply_text (Refused number)) refl refl refl in (λ _. same, λ _. same)
+
 turn-true : (before : List Said) (turn : LineTurn) → AreJobsCounted before → TurnHolds before turn → IsTrueText before (turn_text turn)
 turn-true before (Faulted fault) counted holds = plain before (turn_text (Faulted fault)) refl refl refl
 turn-true before Closed counted holds = plain before (turn_text Closed) refl refl refl
-turn-true before (Made call (Welcome quota)) counted holds = plain before (reply_text (Welcome quota)) refl refl refl
-turn-true before (Made call (Reserved quota)) counted holds = plain before (reply_text (Reserved quota)) refl refl refl
-turn-true before (Made call (Job number)) counted holds = job-text before number holds
-turn-true before (Made call (Told job standing)) counted holds = standing-true before job standing counted holds
-turn-true before (Made call (Ended job)) counted holds = plain before (reply_text (Ended job)) refl refl refl
-turn-true before (Made call (Rest left)) counted holds = plain before (reply_text (Rest left)) refl refl refl
-turn-true before (Made call (Alive live)) counted holds = plain before (reply_text (Alive live)) refl refl refl
-turn-true before (Made call Gone) counted holds = plain before (reply_text Gone) refl refl refl
-turn-true before (Made call (Refused number)) counted holds = plain before (reply_text (Refused number)) refl refl refl
-turn-true before (Tabulated job (Welcome quota)) counted holds = plain before (reply_text (Welcome quota)) refl refl refl
-turn-true before (Tabulated job (Reserved quota)) counted holds = plain before (reply_text (Reserved quota)) refl refl refl
-turn-true before (Tabulated job (Job number)) counted holds = job-text before number holds
-turn-true before (Tabulated job (Told k standing)) counted holds = table-true before k standing counted holds
-turn-true before (Tabulated job (Ended k)) counted holds = plain before (reply_text (Ended k)) refl refl refl
-turn-true before (Tabulated job (Rest left)) counted holds = plain before (reply_text (Rest left)) refl refl refl
-turn-true before (Tabulated job (Alive live)) counted holds = plain before (reply_text (Alive live)) refl refl refl
-turn-true before (Tabulated job Gone) counted holds = plain before (reply_text Gone) refl refl refl
-turn-true before (Tabulated job (Refused number)) counted holds = plain before (reply_text (Refused number)) refl refl refl
+turn-true before (Made call reply) counted holds = (reply-true before reply counted).0 holds
+turn-true before (Tabulated job reply) counted holds = (reply-true before reply counted).1 holds
 
 -- ---- all texts
 

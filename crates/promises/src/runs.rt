@@ -26,12 +26,14 @@ pub struct After<A: Allocator> {
 }
 
 /// A list of searches on a new core of these totals, by any workers for any tenants.
-fn ran<A: Allocator + Clone>(
+fn ran<A>(
     alloc: A,
     procedure: Jamboree,
     config: Config,
     steps: &[Step<Jamboree>],
 ) -> Result<After<A>, AllocError>
+where
+    A: Allocator + Clone,
     requires { AreSearches steps.now }
     ensures headline { IfOk result (λ run. IsHeadlineFromNew procedure.grain config steps.now run.answers.items run.core.shared) }
     ensures searches { IfOk result (λ run. CoreSearches (submitted_by steps.now run.answers.items) run.core.shared) }

@@ -14,12 +14,18 @@ use std::sync::Wait;
 /// are the minimax value and the best choice of the position that the text spells, to that depth. Each
 /// that begins with `TABLE` is `TABLE k` and the entries of a true table of the same; each that begins
 /// with `JOB` bears the next number.
-pub fn serve<S: Source, K: Sink, L: Hands, R: Wait, A: Allocator + Clone>(
+pub fn serve<S, K, L, R, A>(
     rt: &R,
     source: &mut S,
     sink: &mut K,
     desk: &Desk<L, A>,
 ) -> Result<End, SessionFault>
+where
+    S: Source,
+    K: Sink,
+    L: Hands,
+    R: Wait,
+    A: Allocator + Clone,
     requires { L.all ≡ L.parts }
     ensures { TrueBytes S.gives K.takes source.old sink.old source.new sink.new result }
 {

@@ -9,12 +9,11 @@ use std::alloc::Allocator;
 /// `depth position`, and value and move are the minimax value and the best choice of the position that
 /// the text spells, to that depth; and each line `depth position` is answered so, or by `ERR 19` where
 /// memory was wanting.
-pub fn solve<A: Allocator + Copy, S: Source, K: Sink>(
-    alloc: A,
-    source: &mut S,
-    sink: &mut K,
-    grain: u8,
-) -> Result<(), LineFault>
+pub fn solve<A, S, K>(alloc: A, source: &mut S, sink: &mut K, grain: u8) -> Result<(), LineFault>
+where
+    A: Allocator + Copy,
+    S: Source,
+    K: Sink,
     requires { grain ≤ 6 }
     ensures { SolvedBytes S.gives K.takes source.old sink.old source.new sink.new result }
 {

@@ -78,41 +78,26 @@ still_empty false (Whole bytes) asks call h empty = sym (early_same (form_of byt
 abbrev Known : Bool → List (LineText × List ℕ) → List Asked → Type 0
 Known seated before asks = (asks ≡ asks_of_lines before) × EmptyWithout seated asks
 
-standing_holds : (before : List (LineText × List ℕ)) (asks : List Asked) (job : ℕ) (standing : Standing) → asks ≡ asks_of_lines before → ShowsFound asks job standing → StandingHolds before job standing
-standing_holds before asks job Pending known h = tt
+-- a standing that shows what was found holds, and so does its table
+standing_holds : (before : List (LineText × List ℕ)) (asks : List Asked) (job : ℕ) (standing : Standing) → asks ≡ asks_of_lines before → ShowsFound asks job standing → StandingHolds before job standing × TableHolds before job standing
+standing_holds before asks job Pending known h = (tt, tt)
 standing_holds before asks job (Done analysis) known h =
-    record { asked = h.asked; is = ap (λ a. asked_at a job) (sym known) ∙ h.is; value = h.value; choice = h.choice }
-standing_holds before asks job Spent known h = tt
-standing_holds before asks job Cancelled known h = tt
+    let is = ap (λ a. asked_at a job) (sym known) ∙ h.is in
+    (record { asked = h.asked; is = is; value = h.value; choice = h.choice }, record { asked = h.asked; is = is; table = h.table })
+standing_holds before asks job Spent known h = (tt, tt)
+standing_holds before asks job Cancelled known h = (tt, tt)
 
-reply_holds : (before : List (LineText × List ℕ)) (asks : List Asked) (reply : OfficeReply) → asks ≡ asks_of_lines before → SaysTrue asks reply → ReplyHolds before reply
-reply_holds before asks (Welcome quota) known h = tt
-reply_holds before asks (Reserved quota) known h = tt
-reply_holds before asks (Job number) known h = h ∙ ap (λ a. length a + 1) known
+-- and a reply that says what is true, told without its table or with it
+reply_holds : (before : List (LineText × List ℕ)) (asks : List Asked) (reply : OfficeReply) → asks ≡ asks_of_lines before → SaysTrue asks reply → ReplyHolds before reply × TableReplyHolds before reply
+reply_holds before asks (Welcome quota) known h = (tt, tt)
+reply_holds before asks (Reserved quota) known h = (tt, tt)
+reply_holds before asks (Job number) known h = let next = h ∙ ap (λ a. length a + 1) known in (next, next)
 reply_holds before asks (Told job standing) known h = standing_holds before asks job standing known h
-reply_holds before asks (Ended job) known h = tt
-reply_holds before asks (Rest left) known h = tt
-reply_holds before asks (Alive live) known h = tt
-reply_holds before asks Gone known h = tt
-reply_holds before asks (Refused number) known h = tt
-
-table_holds : (before : List (LineText × List ℕ)) (asks : List Asked) (job : ℕ) (standing : Standing) → asks ≡ asks_of_lines before → ShowsFound asks job standing → TableHolds before job standing
-table_holds before asks job Pending known h = tt
-table_holds before asks job (Done analysis) known h =
-    record { asked = h.asked; is = ap (λ a. asked_at a job) (sym known) ∙ h.is; table = h.table }
-table_holds before asks job Spent known h = tt
-table_holds before asks job Cancelled known h = tt
-
-table_reply_holds : (before : List (LineText × List ℕ)) (asks : List Asked) (reply : OfficeReply) → asks ≡ asks_of_lines before → SaysTrue asks reply → TableReplyHolds before reply
-table_reply_holds before asks (Welcome quota) known h = tt
-table_reply_holds before asks (Reserved quota) known h = tt
-table_reply_holds before asks (Job number) known h = h ∙ ap (λ a. length a + 1) known
-table_reply_holds before asks (Told job standing) known h = table_holds before asks job standing known h
-table_reply_holds before asks (Ended job) known h = tt
-table_reply_holds before asks (Rest left) known h = tt
-table_reply_holds before asks (Alive live) known h = tt
-table_reply_holds before asks Gone known h = tt
-table_reply_holds before asks (Refused number) known h = tt
+reply_holds before asks (Ended job) known h = (tt, tt)
+reply_holds before asks (Rest left) known h = (tt, tt)
+reply_holds before asks (Alive live) known h = (tt, tt)
+reply_holds before asks Gone known h = (tt, tt)
+reply_holds before asks (Refused number) known h = (tt, tt)
 
 -- how a job stands begins with none of the words that change the asks
 told_same : (before : List (LineText × List ℕ)) (line : LineText) (job : ℕ) (standing : Standing) → asks_of_lines ((line, reply_text (Told job standing)) ∷ before) ≡ asks_of_lines before
@@ -127,31 +112,23 @@ table_told_same before line job (Done analysis) = refl
 table_told_same before line job Spent = refl
 table_told_same before line job Cancelled = refl
 
-next_known : (before : List (LineText × List ℕ)) (asks : List Asked) (line : LineText) (call : Call) (reply : OfficeReply) (seated : Bool) → request seated line ≡ Makes call → Known seated before asks
-    → Known (seated_after seated reply) ((line, reply_text reply) ∷ before) (asks_after asks call reply)
-next_known before asks line call (Welcome quota) seated e known = (refl, tt)
-next_known before asks line call (Reserved quota) seated e known = known
-next_known before asks line call (Job number) seated e known =
-    (asks_seated seated line asks call e ∙ ap (λ a. with_request a (request true line)) known.0, still_empty seated line asks call e known.1)
-next_known before asks line call (Told k standing) seated e known = (known.0 ∙ sym (told_same before line k standing), known.1)
-next_known before asks line call (Ended k) seated e known = known
-next_known before asks line call (Rest left) seated e known = known
-next_known before asks line call (Alive live) seated e known = known
-next_known before asks line call Gone seated e known = (refl, refl)
-next_known before asks line call (Refused number) seated e known = known
+-- one more ask
+job_known : (before : List (LineText × List ℕ)) (asks : List Asked) (line : LineText) (call : Call) (number : ℕ) (seated : Bool) → with_ask asks call ≡ with_request asks (request true line) → (EmptyWithout seated asks → EmptyWithout seated (with_ask asks call)) → Known seated before asks
+    → Known seated ((line, reply_text (Job number)) ∷ before) (with_ask asks call)
+job_known before asks line call number seated same empty known = (same ∙ ap (λ a. with_request a (request true line)) known.0, empty known.1)
 
-table_known : (before : List (LineText × List ℕ)) (asks : List Asked) (line : LineText) (job : ℕ) (reply : OfficeReply) (seated : Bool) → request seated line ≡ Tabulates job → Known seated before asks
-    → Known (seated_after seated reply) ((line, table_text reply) ∷ before) (asks_after asks (Get job) reply)
-table_known before asks line job (Welcome quota) seated e known = (refl, tt)
-table_known before asks line job (Reserved quota) seated e known = known
-table_known before asks line job (Job number) seated e known =
-    (table_same seated line asks job e ∙ ap (λ a. with_request a (request true line)) known.0, known.1)
-table_known before asks line job (Told k standing) seated e known = (known.0 ∙ sym (table_told_same before line k standing), known.1)
-table_known before asks line job (Ended k) seated e known = known
-table_known before asks line job (Rest left) seated e known = known
-table_known before asks line job (Alive live) seated e known = known
-table_known before asks line job Gone seated e known = (refl, refl)
-table_known before asks line job (Refused number) seated e known = known
+-- a reply, told without its table or with it
+next_known : (before : List (LineText × List ℕ)) (asks : List Asked) (line : LineText) (call : Call) (reply : OfficeReply) (seated : Bool) → with_ask asks call ≡ with_request asks (request true line) → (EmptyWithout seated asks → EmptyWithout seated (with_ask asks call)) → Known seated before asks
+    → Known (seated_after seated reply) ((line, reply_text reply) ∷ before) (asks_after asks call reply) × Known (seated_after seated reply) ((line, table_text reply) ∷ before) (asks_after asks call reply)
+next_known before asks line call (Welcome quota) seated same empty known = ((refl, tt), (refl, tt))
+next_known before asks line call (Reserved quota) seated same empty known = (known, known)
+next_known before asks line call (Job number) seated same empty known = let next = job_known before asks line call number seated same empty known in (next, next)
+next_known before asks line call (Told k standing) seated same empty known = ((known.0 ∙ sym (told_same before line k standing), known.1), (known.0 ∙ sym (table_told_same before line k standing), known.1))
+next_known before asks line call (Ended k) seated same empty known = (known, known)
+next_known before asks line call (Rest left) seated same empty known = (known, known)
+next_known before asks line call (Alive live) seated same empty known = (known, known)
+next_known before asks line call Gone seated same empty known = ((refl, refl), (refl, refl))
+next_known before asks line call (Refused number) seated same empty known = (known, known)
 
 -- what holds of the lines after this one, whatever came before them
 abbrev LaterHold : List LineText → Type 0
@@ -167,13 +144,13 @@ line_holds : (q : Request) (before : List (LineText × List ℕ)) (asks : List A
 line_holds (Fault fault) before asks seated line lines replies e later known h = (tt, later ((line, turn_text (Faulted fault)) ∷ before) asks seated replies known h)
 line_holds (Makes call) before asks seated line lines replies e later known h =
     let reply = next_reply replies in (
-      reply_holds before asks reply known.0 h.0,
-      later ((line, reply_text reply) ∷ before) (asks_after asks call reply) (seated_after seated reply) (later_replies replies) (next_known before asks line call reply seated e known) h.1,
+      (reply_holds before asks reply known.0 h.0).0,
+      later ((line, reply_text reply) ∷ before) (asks_after asks call reply) (seated_after seated reply) (later_replies replies) (next_known before asks line call reply seated (asks_seated seated line asks call e) (still_empty seated line asks call e) known).0 h.1,
     )
 line_holds (Tabulates job) before asks seated line lines replies e later known h =
     let reply = next_reply replies in (
-      table_reply_holds before asks reply known.0 h.0,
-      later ((line, table_text reply) ∷ before) (asks_after asks (Get job) reply) (seated_after seated reply) (later_replies replies) (table_known before asks line job reply seated e known) h.1,
+      (reply_holds before asks reply known.0 h.0).1,
+      later ((line, table_text reply) ∷ before) (asks_after asks (Get job) reply) (seated_after seated reply) (later_replies replies) (next_known before asks line (Get job) reply seated (table_same seated line asks job e) (λ empty. empty) known).1 h.1,
     )
 line_holds Ends before asks seated line lines replies e later known h = (tt, after_bye before asks seated line lines replies later known h)
 

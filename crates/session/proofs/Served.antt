@@ -93,19 +93,10 @@ module _ {O : Type 0} (does : O → Call → OfficeReply → O → Type 0) where
   talk-session gives takes office seated answers turned s k a s' k' b o o' r at new talk left =
       let y = talk.lines in
       let came = subst (λ z. Came (turns z y.answered) (office a) z y.texts (office b) (seated b)) new (came-all office seated answers turned a y.answered y.texts b y.answers_lead) in
-      record {
-        blocks = talk.blocks;
-        last = talk.last;
-        answered = y.answered;
-        replies = came.replies;
-        pieces = y.pieces;
-        reads = talk.reads;
-        ends = talk.ending;
-        lines = lines-answered r (session_lines (bytes_due (talk_result r) (concat talk.blocks))) y.answered y.texts y.rest y.ends;
-        made = subst (λ z. Leads (Called does) z (calls_for y.answered came.replies) o') at (came.made o' left);
-        writes = y.writes;
-        written = answers-written (write_result (talk_result r)) _ y.answered y.texts (texts_for y.answered came.replies) y.pieces y.rest came.are y.taken y.ends;
-      }
+      let lines = lines-answered r (session_lines (bytes_due (talk_result r) (concat talk.blocks))) y.answered y.texts y.rest y.ends in
+      let made = subst (λ z. Leads (Called does) z (calls_for y.answered came.replies) o') at (came.made o' left) in
+      let written = answers-written (write_result (talk_result r)) (session_lines (bytes_due (talk_result r) (concat talk.blocks))) y.answered y.texts (texts_for y.answered came.replies) y.pieces y.rest came.are y.taken y.ends in
+      record { blocks = talk.blocks; last = talk.last; answered = y.answered; replies = came.replies; pieces = y.pieces; reads = talk.reads; ends = talk.ending; lines = lines; made = made; writes = y.writes; written = written }
 
   -- what each answer keeps, a chain of them keeps
   pub chain-keeps : {A N : Type 0} (answers : A → LineText → List ℕ → A → Type 0) (name : A → N) → ((a : A) (line : LineText) (text : List ℕ) (b : A) → answers a line text b → name b ≡ name a)

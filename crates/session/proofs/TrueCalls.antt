@@ -25,20 +25,5 @@ module _ {O : Type 0} (does : O → Call → OfficeReply → O → Type 0) (asks
   pub true_session : {S K : Type 0} (gives : S → ReadAnswer → S → Type 0) (takes : K → WriteAnswer → K → Type 0) (s : S) (k : K) (o : O) (s' : S) (k' : K) (o' : O) (r : Result End SessionFault) → asks o ≡ [] → Session gives takes does s k o s' k' o' r → TrueSession gives takes s k s' k' r
   true_session gives takes s k o s' k' o' r new x =
       let led = subst (λ z. Leads (Called KeepsAsks) z (calls_for x.answered x.replies) (asks o')) new (asks-led o (calls_for x.answered x.replies) o' x.made) in
-      record {
-        asks = asks o';
-        session = record {
-          blocks = x.blocks;
-          last = x.last;
-          answered = x.answered;
-          replies = x.replies;
-          pieces = x.pieces;
-          reads = x.reads;
-          ends = x.ends;
-          lines = x.lines;
-          made = led;
-          writes = x.writes;
-          written = x.written;
-        };
-        dones = each_done x.answered x.replies (all_true [] (calls_for x.answered x.replies) (asks o') led);
-      }
+      let session : Session gives takes KeepsAsks s k [] s' k' (asks o') r = record { blocks = x.blocks; last = x.last; answered = x.answered; replies = x.replies; pieces = x.pieces; reads = x.reads; ends = x.ends; lines = x.lines; made = led; writes = x.writes; written = x.written } in
+      record { asks = asks o'; session = session; dones = each_done x.answered x.replies (all_true [] (calls_for x.answered x.replies) (asks o') led) }

@@ -47,6 +47,20 @@ fn write_pair(text: &mut SessionText, word: &[u8], first: u64, second: u64)
     push_number(text, second);
 }
 
+/// A word and what is reserved.
+fn write_reserve(text: &mut SessionText, word: &[u8], reserve: Reserve)
+    requires { length word.now ≤ 10 }
+    ensures text { text.new.items ≡ word.now ++ pair_text reserve.segments reserve.nodes }
+    ensures short { length text.new.items ≤ 51 }
+{
+    write_pair(
+        text,
+        word,
+        u64::from(reserve.segments()),
+        u64::from(reserve.nodes()),
+    );
+}
+
 /// The value and the move of a job.
 fn write_analysis(text: &mut SessionText, job: u64, analysis: &Analysis)
     ensures text { text.new.items ≡ codes "DONE " ++ decimal job ++ codes " " ++ value_text analysis.now.best.value analysis.now.best.choice }
@@ -142,12 +156,7 @@ pub(crate) fn write_welcome(text: &mut SessionText, reserve: Reserve, reply: Res
     ensures short { length text.new.items ≤ 72 }
 {
     match reply {
-        Ok(()) => write_pair(
-            text,
-            b"WELCOME ",
-            u64::from(reserve.segments()),
-            u64::from(reserve.nodes()),
-        ),
+        Ok(()) => write_reserve(text, b"WELCOME ", reserve),
         Err(refusal) => write_fault(text, refusal.number()),
     }
 }
@@ -158,12 +167,7 @@ pub(crate) fn write_reserved(text: &mut SessionText, reserve: Reserve, reply: Re
     ensures short { length text.new.items ≤ 72 }
 {
     match reply {
-        Ok(()) => write_pair(
-            text,
-            b"RESERVED ",
-            u64::from(reserve.segments()),
-            u64::from(reserve.nodes()),
-        ),
+        Ok(()) => write_reserve(text, b"RESERVED ", reserve),
         Err(refusal) => write_fault(text, refusal.number()),
     }
 }

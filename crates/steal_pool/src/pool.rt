@@ -93,7 +93,7 @@ pub fn run_pool<L: Hands + Send + Sync, G: Gate + Sync, R: Threads + Wait + Sync
     requires { L.all ≡ L.parts }
     ensures workers { IfOk result (λ end. end.workers ≡ workers) }
 {
-    let (_quiet, ended) = run_pool_of(rt, alloc, desk, workers, gate, USUAL, Quiet);
+    let (_quiet, ended) = run_pool_of(USUAL, rt, alloc, desk, workers, gate, Quiet);
     match ended {
         Ok(end) => Ok(end),
         Err(not_run) => match not_run.fault {
@@ -132,7 +132,7 @@ pub fn run_pool_announced<
         },
         ..USUAL
     };
-    let (call, ended) = run_pool_of(rt, alloc, desk, workers, gate, sizes, call);
+    let (call, ended) = run_pool_of(sizes, rt, alloc, desk, workers, gate, call);
     match ended {
         Ok(end) => (call, Ok(end)),
         Err(not_run) => (call, Err(not_run.fault)),
@@ -167,12 +167,12 @@ pub(crate) fn run_pool_of<
     R: Threads + Wait + Sync,
     A: Announce + Drop,
 >(
+    sizes: Sizes,
     rt: &R,
     alloc: Global,
     desk: &Desk<L>,
     workers: Worker,
     gate: &G,
-    sizes: Sizes,
     call: A,
 ) -> (A, Result<PoolEnd<L>, NotRun>)
     requires { L.all ≡ L.parts }
@@ -182,13 +182,8 @@ pub(crate) fn run_pool_of<
 {
     let Ok(stock) = Stock::made(alloc, workers, sizes) else {
         desk.close(rt);
-        return (
-            call,
-            Err(NotRun {
-                fault: BeginFault::Pool(PoolFault::OutOfMemory),
-                ended: 0,
-            }),
-        );
+        let fault = BeginFault::Pool(PoolFault::OutOfMemory);
+        return (call, Err(NotRun { fault, ended: 0 }));
     };
     let tasks = Shared::new();
     let shared = &tasks;

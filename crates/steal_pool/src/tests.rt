@@ -136,7 +136,7 @@ fn run<L: Hands + Send + Sync, G: Gate + Sync, R: Threads + Wait + Sync>(
     match room {
         Some(room) => {
             let sizes = Sizes { room, ..USUAL };
-            let (_quiet, ended) = run_pool_of(rt, alloc, desk, workers, gate, sizes, Quiet);
+            let (_quiet, ended) = run_pool_of(sizes, rt, alloc, desk, workers, gate, Quiet);
             ended.map_err(|_not_run| PoolFault::NoThread)
         }
         None => run_pool(rt, alloc, desk, workers, gate),

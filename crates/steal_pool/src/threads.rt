@@ -4,7 +4,7 @@
 //! [`SameEnds`]: the ends that it brings back are at the deques at which those were that it got. Once all
 //! threads are joined, all seats of all deques are there, and what was pushed on each is what was taken
 //! from it and what is left.
-ghost use Rattle.std.specs.Prelude.{◌≡◌, ◌≤◌, [], true, length, map, vec_len, vec_capacity, IfErr, IfOk, OnOk};
+ghost use Rattle.std.specs.Prelude.{◌≡◌, ◌≤◌, [], true, length, map, vec_len, vec_capacity, IfErr, IfOk, Ok, OnOk};
 ghost use Rattle.task_deques.specs.Deals.{posts, posts_of, returned, returned_room, IsWhole};
 ghost use Rattle.steal_pool.specs.Announced.{IsUnsaid};
 
@@ -113,7 +113,8 @@ pub(crate) fn run_all<
     } = stock;
     let mut back = back;
     let mut handles = handles;
-    let begun = begin(site, dealt, &mut handles, &mut call);
+    let started = start_all(site, dealt, &mut handles);
+    let begun = announced(started, &mut call);
     if begun.is_err() {
         site.desk.close(site.rt);
     }
@@ -125,22 +126,13 @@ pub(crate) fn run_all<
     }
 }
 
-/// Starts all workers, and says so once they are.
-fn begin<'s, E, L: Hands + Send + Sync, G: Gate + Sync, R: Wait + Sync, A: Announce>(
-    site: &Site<'s, E, L, G, R>,
-    dealt: Vec<DequeEnds>,
-    handles: &mut Vec<Handle<L>>,
-    call: &mut A,
-) -> Result<(), BeginFault>
-    requires none { vec_len handles.old ≡ 0 }
-    requires room { vec_len dealt ≤ vec_capacity handles.old }
-    requires few { vec_len dealt ≤ 32 }
-    ensures started { OnOk result (map (λ handle. posts handle.promise.0.value) handles.new.items ≡ map posts dealt.items) }
-    ensures count { vec_len handles.new ≤ vec_len dealt }
+/// Says that the pool has begun, where its workers were started.
+fn announced<A: Announce>(started: Result<(), PoolFault>, call: &mut A) -> Result<(), BeginFault>
+    ensures after { IfOk result (λ _. started ≡ Ok tt) }
     ensures said { IfOk result (λ _. A.says call.old true call.new) }
     ensures unsaid { IfErr result (λ fault. IsUnsaid A.says call.old fault call.new) }
 {
-    if let Err(fault) = start_all(site, dealt, handles) {
+    if let Err(fault) = started {
         return Err(BeginFault::Pool(fault));
     }
     if call.announce() {

@@ -57,7 +57,7 @@ fn a_child_is_a_task(rt: HostRuntime) -> Result<(), Fail> {
 #[test]
 fn nodes_and_steps_of_one_job(rt: HostRuntime) -> Result<(), Fail> {
     let reserve = Reserve::new(8, 8).ok_or("no reservation")?;
-    let found = search_within(rt.alloc(), reserve, &opening()?, 1, 0)?;
+    let found = search_within(rt.alloc(), &opening()?, 1, 0, reserve)?;
     let left = Left {
         segments: 8,
         nodes: 3,
@@ -87,7 +87,7 @@ fn every_small_reservation_is_answered(rt: HostRuntime) -> Result<(), Fail> {
     for segments in 1..9 {
         for nodes in 1..33 {
             let reserve = Reserve::new(segments, nodes).ok_or("no reservation")?;
-            let found = search_within(rt.alloc(), reserve, &position, 2, 0)?;
+            let found = search_within(rt.alloc(), &position, 2, 0, reserve)?;
             assert_eq!(rt;
                 (found.answer.value, found.answer.choice),
                 (-4, Some(Choice::Square(19)))
@@ -195,7 +195,7 @@ fn each_growth_is_refused_in_turn(rt: HostRuntime) -> Result<(), Fail> {
     let mut done = 0u32;
     for units in 0..320usize {
         let heap = LocalHeap::new(rt.alloc(), units * 1024)?;
-        match search_within(&heap, reserve, &position, 0, 0) {
+        match search_within(&heap, &position, 0, 0, reserve) {
             Ok(found) => {
                 assert_eq!(rt; found.way, Way::Done);
                 done = done.saturating_add(1);

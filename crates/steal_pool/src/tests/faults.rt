@@ -66,7 +66,7 @@ fn not_run<L: Hands + Send + Sync, R: Threads + Wait + Sync>(
 {
     let seat = asked(rt, desk)?;
     let call = Counted { count: 0, works };
-    let (call, ended) = run_pool_of(rt, alloc, desk, Worker::new(4).unwrap(), &Open, sizes, call);
+    let (call, ended) = run_pool_of(sizes, rt, alloc, desk, Worker::new(4).unwrap(), &Open, call);
     let is_closed = desk.next_ready(rt).is_none();
     desk.leave(rt, seat);
     Some((ended.err()?, is_closed, call.count))

@@ -5,13 +5,4 @@ use Rattle.solve_engine.proofs.rows.faults_come_in_order.Goals as goal
 
 pub returns : goal.returns
 unfolding digits squares
-returns c = record {
-  too_long = refl;
-  no_space = refl;
-  no_number = refl;
-  too_deep = refl;
-  length = refl;
-  cell = refl;
-  space = refl;
-  side = refl;
-}
+returns c = record { too_long = refl; no_space = refl; no_number = refl; too_deep = refl; length = refl; cell = refl; space = refl; side = refl }

@@ -1,5 +1,5 @@
 -- A taken step goes on in its tenant's journal.
-use Rattle.std.proofs.Common.{◌≡◌, ℕ, ◌+◌, true, Option, None, ap, sym, subst, ◌∙◌}
+use Rattle.std.proofs.Common.{◌≡◌, ℕ, ◌+◌, true, Option, None, ap, sym, subst, ◌∙◌, rules}
 use Rattle.std.specs.Prelude.{Result, Ok, Err, OnOk, is_ok}
 use Rattle.std.proofs.lemmas.Bool.{false≢true}
 use Rattle.sched_rules.specs.declared.refusal.Refusal.{Refusal}
@@ -46,12 +46,13 @@ invariant_of-self g c =
     let on = taken _ _ _ c.args.step.now c.step-answer.result c.step-answer.new.self.shared (sym c.is_ok.ensures.value ∙ c.if-is_ok.true) c.self.invariant c.step-answer.ensures.one c.requires.goes_on c.requires.raises_not c.requires.search c.step-answer.ensures.known in
     rw (c.step-answer.ensures.procedure, c.write.ensures, ← c.requires.own) on.keeps
 
-pub returns-then-is_ok-clause-one : goal.returns-then-is_ok-clause-one
-returns-then-is_ok-clause-one g c = rw (← c.self.view_is) c.step-answer.ensures.one
+pub returns-then-is_ok-clause-decided : goal.returns-then-is_ok-clause-decided
+returns-then-is_ok-clause-decided g c = record {
+  one = rw (← c.self.view_is) c.step-answer.ensures.one;
+  taken = search rules;
+  refused = search rules;
+  count = on-ok c.step-answer.result (rw (← c.self.view_is) (sym (invariant_of-self g c).counted ∙ ap (λ (n : ℕ). n + 1) c.self.invariant.counted));
+}
 
-pub returns-else-is_ok-clause-one : goal.returns-else-is_ok-clause-one
-returns-else-is_ok-clause-one g c = rw (← c.self.view_is) c.step-answer.ensures.one
-
-pub returns-then-is_ok-clause-count : goal.returns-then-is_ok-clause-count
-returns-then-is_ok-clause-count g c =
-    on-ok c.step-answer.result (rw (← c.self.view_is) (sym (invariant_of-self g c).counted ∙ ap (λ (n : ℕ). n + 1) c.self.invariant.counted))
+pub returns-else-is_ok-clause-decided : goal.returns-else-is_ok-clause-decided
+returns-else-is_ok-clause-decided g c = record { one = rw (← c.self.view_is) c.step-answer.ensures.one; taken = search rules; refused = search rules; count = search rules }

@@ -1,4 +1,4 @@
-use Rattle.std.proofs.Common.{ℕ, ◌+◌, sym, ◌∙◌, ap, length, arith, refl}
+use Rattle.std.proofs.Common.{ℕ, ◌+◌, sym, ◌∙◌, ap, length, arith, refl, rules}
 use Rattle.hall.proofs.Lists.{at-within}
 use Rattle.hall.proofs.Halls.{leaves-off, left-by}
 use Rattle.hall.proofs.hall.Hall.leave.Goals as goal
@@ -16,17 +16,16 @@ invariant_of-self g c =
     let by = left-by _ _ _ c.args.number c.step.new.self.shared _ _ c.place_of-at.result c.remove-journal.result c.len.result c.self.invariant.rising off c.as_slice.ensures.value c.place_of-at.ensures c.remove-journal.ensures.items c.remove-journal.ensures.value c.len.ensures in
     rw (c.step.ensures.procedure, by.0, by.1) off.keeps
 
-pub returns-in-Ok-clause-one : goal.returns-in-Ok-clause-one
-returns-in-Ok-clause-one g c = rw (← c.self.view_is) (rw c.in-Ok.is at c.step.ensures.one)
-
-pub returns-in-Ok-clause-taken : goal.returns-in-Ok-clause-taken
-returns-in-Ok-clause-taken g c =
+pub returns-in-Ok-clause-decided : goal.returns-in-Ok-clause-decided
+returns-in-Ok-clause-decided g c =
     let off = leaves-off _ _ _ c.args.number c.in-Ok.did c.step.new.self.shared c.self.invariant (rw c.in-Ok.is at c.step.ensures.one) c.step.ensures.known in
     let by = left-by _ _ _ c.args.number c.step.new.self.shared _ _ c.place_of-at.result c.remove-journal.result c.len.result c.self.invariant.rising off c.as_slice.ensures.value c.place_of-at.ensures c.remove-journal.ensures.items c.remove-journal.ensures.value c.len.ensures in
-    rw (← c.self.view_is, c.step.ensures.procedure, by.0, by.1) refl
+    record {
+      one = rw (← c.self.view_is) (rw c.in-Ok.is at c.step.ensures.one);
+      taken = rw (← c.self.view_is, c.step.ensures.procedure, by.0, by.1) refl;
+      refused = tt;
+      count = rw (← c.self.view_is) (sym (invariant_of-self g c).counted ∙ ap (λ (n : ℕ). n + 1) c.self.invariant.counted);
+    }
 
-pub returns-in-Err-clause-one : goal.returns-in-Err-clause-one
-returns-in-Err-clause-one g c = rw (← c.self.view_is) (rw c.in-Err.is at c.step.ensures.one)
-
-pub returns-in-Ok-clause-count : goal.returns-in-Ok-clause-count
-returns-in-Ok-clause-count g c = rw (← c.self.view_is) (sym (invariant_of-self g c).counted ∙ ap (λ (n : ℕ). n + 1) c.self.invariant.counted)
+pub returns-in-Err-clause-decided : goal.returns-in-Err-clause-decided
+returns-in-Err-clause-decided g c = record { one = rw (← c.self.view_is) (rw c.in-Err.is at c.step.ensures.one); taken = tt; refused = search rules; count = tt }

@@ -1,4 +1,4 @@
-use Rattle.std.proofs.Common.{ℕ, ◌+◌, sym, ◌∙◌, ap}
+use Rattle.std.proofs.Common.{ℕ, ◌+◌, sym, ◌∙◌, ap, rules}
 use Rattle.hall.proofs.Halls.{admitted}
 use Rattle.hall.proofs.hall.Hall.let_in.Goals as goal
 
@@ -8,5 +8,10 @@ invariant_of-self g c =
     rw (c.step.ensures.procedure, c.push_reserved.ensures.items, c.room_for.ensures.same, c.in-Ok.ensures.journal)
     (admitted _ _ _ c.args.number c.args.reserve c.in-Ok-step.did c.step.new.self.shared c.self.invariant (rw c.in-Ok-step.is at c.step.ensures.one) none c.in-Ok.ensures.limits c.step.ensures.known)
 
-pub returns-in-Ok-step-clause-count : goal.returns-in-Ok-step-clause-count
-returns-in-Ok-step-clause-count g c = rw (← c.self.view_is) (sym (invariant_of-self g c).counted ∙ ap (λ (n : ℕ). n + 1) c.self.invariant.counted)
+pub returns-in-Ok-step : goal.returns-in-Ok-step
+returns-in-Ok-step g c = record {
+  one = rw (← c.self.view_is) (rw c.in-Ok-step.is at c.step.ensures.one);
+  taken = search rules;
+  refused = tt;
+  count = rw (← c.self.view_is) (sym (invariant_of-self g c).counted ∙ ap (λ (n : ℕ). n + 1) c.self.invariant.counted);
+}

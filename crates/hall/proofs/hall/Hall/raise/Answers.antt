@@ -1,5 +1,5 @@
 -- A raise that was taken goes on in its tenant's journal.
-use Rattle.std.proofs.Common.{◌≡◌, ℕ, ◌+◌, true, refl, ap, sym, ◌∙◌}
+use Rattle.std.proofs.Common.{◌≡◌, ℕ, ◌+◌, true, refl, ap, sym, ◌∙◌, rules}
 use Rattle.std.specs.Prelude.{Result, Ok, Err, OnOk, is_ok}
 use Rattle.std.proofs.lemmas.Bool.{false≢true}
 use Rattle.tenant_quota.specs.Quota.{Quota, IsWithinLimits}
@@ -50,6 +50,10 @@ invariant_of-self g c =
     let written = ok-then c.raise-answer.result ok c.raise-answer.ensures.written in
     rw (c.raise-answer.ensures.procedure, written) on.keeps
 
-pub returns-then-is_ok-clause-count : goal.returns-then-is_ok-clause-count
-returns-then-is_ok-clause-count g c =
-    on-ok c.raise-answer.result (rw (← c.self.view_is) (sym (invariant_of-self g c).counted ∙ ap (λ (n : ℕ). n + 1) c.self.invariant.counted))
+pub returns-then-is_ok : goal.returns-then-is_ok
+returns-then-is_ok g c = record {
+  one = search rules;
+  taken = search rules;
+  refused = search rules;
+  count = on-ok c.raise-answer.result (rw (← c.self.view_is) (sym (invariant_of-self g c).counted ∙ ap (λ (n : ℕ). n + 1) c.self.invariant.counted));
+}

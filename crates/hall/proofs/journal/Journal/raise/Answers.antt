@@ -8,10 +8,12 @@ use Rattle.hall.specs.declared.entry.JournalEntry.TheVariants.{Long}
 use Rattle.hall.specs.declared.entry.LongEntry.{LongEntry}
 use Rattle.hall.specs.declared.entry.LongEntry.TheVariants.{Raised}
 use Rattle.hall.specs.Entries.{long_count}
-use Rattle.hall.specs.Journals.{JournalOf, places_for, raise_count}
+use Rattle.hall.specs.Journals.{JournalOf, longer, raise_count}
 use Rattle.hall.proofs.Lists.{raise-more}
 use Rattle.hall.proofs.Halls.{wanting}
-use Rattle.hall.proofs.Entries.{steps_in-length, long_count-few, long_count-more, written-raise}
+use Rattle.hall.proofs.Entries.{seen, counts, long_count-more, written-raise}
+use Rattle.hall.proofs.journal.Journal.raise.Given.{Over}
+use Rattle.hall.proofs.journal.Journal.raise.Goals.{After-push_reserved, After-push_reserved-2}
 use Rattle.hall.proofs.journal.Journal.raise.Goals as goal
 
 -- what a growth that wasn't refused made
@@ -19,76 +21,56 @@ got : {T E P : Type 0} (answer : Result T E) → is_err answer ≡ false → OnO
 got (Ok value) made it = it
 got (Err error) made it = absurd (true≢false made)
 
+-- the entries and the long entries after the step
+pushed : (g : Over) (c : After-push_reserved g) → c.push_reserved.new.self.items ≡ c.self.inside.entries.items ++ Long ∷ []
+pushed g c = c.push_reserved.ensures.items ∙ ap (λ (es : List JournalEntry). es ++ Long ∷ []) c.reserve_exact.ensures.items
+
+added : (g : Over) (c : After-push_reserved-2 g) → c.push_reserved-2.new.self.items ≡ c.self.inside.longs.items ++ Raised c.args.reserve ∷ []
+added g c = c.push_reserved-2.ensures.items ∙ ap (λ (ls : List LongEntry). ls ++ Raised c.args.reserve ∷ []) c.reserve_exact-2.ensures.items
+
+-- they are those of the journal with the step
+written : (g : Over) (c : After-push_reserved-2 g) → seen c.self.inside.tenant (16 * c.nodes.result + 770 + (c.self.inside.raises + 1)) c.push_reserved.new.self.items c.push_reserved-2.new.self.items ≡ longer (AdmitMore c.args.self.now.tenant c.args.reserve) c.args.self.now
+written g c =
+    let before = ap (λ (j : JournalOf). raise_count j.steps) c.self.view_is in
+    written-raise c.self.inside.tenant c.self.inside.places (16 * c.nodes.result + 770 + (c.self.inside.raises + 1)) c.self.inside.entries.items c.push_reserved.new.self.items (Raised c.args.reserve) c.self.inside.longs.items c.push_reserved-2.new.self.items c.args.self.now (AdmitMore c.args.self.now.tenant c.args.reserve) c.self.view_is c.self.invariant.2
+    (c.push_reserved.ensures.items ∙ ap (λ (es : List JournalEntry). es ++ Long ∷ []) c.reserve_exact.ensures.items) (added g c) refl (omega (arith, c.nodes.ensures.value, c.self.invariant.3, before))
+
 pub overflow_sub-places : goal.overflow_sub-places
 overflow_sub-places g c =
-    let long = steps_in-length c.self.inside.tenant c.self.inside.entries.items c.self.inside.longs.items c.self.invariant.2 in
-    let few = long_count-few c.self.inside.entries.items in
-    let steps = ap (λ (j : JournalOf). length j.steps) c.self.view_is in
-    let before = ap (λ (j : JournalOf). raise_count j.steps) c.self.view_is in
-    omega (arith, long, steps, before, c.len-entries.ensures, c.self.inside.entries.ok.0, c.nodes.ensures.value, c.self.invariant.3, c.requires.place)
+    let are = counts c.self.inside.tenant c.self.inside.places c.self.inside.raises c.self.inside.entries.items c.self.inside.longs.items c.args.self.now c.self.view_is c.self.invariant.2 c.self.invariant.3 in omega (arith, are.steps, are.raises, c.len-entries.ensures, c.self.inside.entries.ok.0, c.nodes.ensures.value, c.requires.place)
 
 pub overflow_sub-places-2 : goal.overflow_sub-places-2
 overflow_sub-places-2 g c =
-    let long = steps_in-length c.self.inside.tenant c.self.inside.entries.items c.self.inside.longs.items c.self.invariant.2 in
-    let few = long_count-few c.self.inside.entries.items in
-    let steps = ap (λ (j : JournalOf). length j.steps) c.self.view_is in
-    let before = ap (λ (j : JournalOf). raise_count j.steps) c.self.view_is in
-    omega (arith, long, few, steps, before, c.len-longs.ensures, c.self.inside.longs.ok.0, c.nodes.ensures.value, c.self.invariant.2, c.self.invariant.3, c.requires.place)
+    let are = counts c.self.inside.tenant c.self.inside.places c.self.inside.raises c.self.inside.entries.items c.self.inside.longs.items c.args.self.now c.self.view_is c.self.invariant.2 c.self.invariant.3 in omega (arith, are.steps, are.longs, are.raises, c.len-longs.ensures, c.self.inside.longs.ok.0, c.nodes.ensures.value, c.requires.place)
 
 pub push_reserved-requires : goal.push_reserved-requires
 push_reserved-requires g c =
-    let long = steps_in-length c.self.inside.tenant c.self.inside.entries.items c.self.inside.longs.items c.self.invariant.2 in
-    let few = long_count-few c.self.inside.entries.items in
-    let steps = ap (λ (j : JournalOf). length j.steps) c.self.view_is in
-    let before = ap (λ (j : JournalOf). raise_count j.steps) c.self.view_is in
+    let are = counts c.self.inside.tenant c.self.inside.places c.self.inside.raises c.self.inside.entries.items c.self.inside.longs.items c.args.self.now c.self.view_is c.self.invariant.2 c.self.invariant.3 in
     let made = got c.reserve_exact.result (sym c.is_err.ensures.value ∙ c.if-is_err.false) c.reserve_exact.ensures.ok in
-    omega (arith, long, steps, before, made, c.reserve_exact.ensures.len, c.len-entries.ensures, c.self.inside.entries.ok.0, c.nodes.ensures.value, c.self.invariant.3, c.requires.place)
+    omega (arith, are.steps, are.raises, made, c.reserve_exact.ensures.len, c.len-entries.ensures, c.self.inside.entries.ok.0, c.nodes.ensures.value, c.requires.place)
 
 pub push_reserved-requires-2 : goal.push_reserved-requires-2
 push_reserved-requires-2 g c =
-    let long = steps_in-length c.self.inside.tenant c.self.inside.entries.items c.self.inside.longs.items c.self.invariant.2 in
-    let few = long_count-few c.self.inside.entries.items in
-    let steps = ap (λ (j : JournalOf). length j.steps) c.self.view_is in
-    let before = ap (λ (j : JournalOf). raise_count j.steps) c.self.view_is in
+    let are = counts c.self.inside.tenant c.self.inside.places c.self.inside.raises c.self.inside.entries.items c.self.inside.longs.items c.args.self.now c.self.view_is c.self.invariant.2 c.self.invariant.3 in
     let more = got c.reserve_exact-2.result (sym c.is_err-2.ensures.value ∙ c.if-is_err-2.false) c.reserve_exact-2.ensures.ok in
-    omega (arith, long, few, steps, before, more, c.reserve_exact-2.ensures.len, c.len-longs.ensures, c.self.inside.longs.ok.0, c.nodes.ensures.value, c.self.invariant.2, c.self.invariant.3, c.requires.place)
+    omega (arith, are.steps, are.longs, are.raises, more, c.reserve_exact-2.ensures.len, c.len-longs.ensures, c.self.inside.longs.ok.0, c.nodes.ensures.value, c.requires.place)
 
 pub invariant_of-self-2 : goal.invariant_of-self-2
 invariant_of-self-2 g c =
-    let long = steps_in-length c.self.inside.tenant c.self.inside.entries.items c.self.inside.longs.items c.self.invariant.2 in
-    let few = long_count-few c.self.inside.entries.items in
-    let steps = ap (λ (j : JournalOf). length j.steps) c.self.view_is in
-    let before = ap (λ (j : JournalOf). raise_count j.steps) c.self.view_is in
+    let are = counts c.self.inside.tenant c.self.inside.places c.self.inside.raises c.self.inside.entries.items c.self.inside.longs.items c.args.self.now c.self.view_is c.self.invariant.2 c.self.invariant.3 in
     let made = got c.reserve_exact.result (sym c.is_err.ensures.value ∙ c.if-is_err.false) c.reserve_exact.ensures.ok in
     let more = got c.reserve_exact-2.result (sym c.is_err-2.ensures.value ∙ c.if-is_err-2.false) c.reserve_exact-2.ensures.ok in
-    let pushed = c.push_reserved.ensures.items ∙ ap (λ (es : List JournalEntry). es ++ Long ∷ []) c.reserve_exact.ensures.items in
-    let added = c.push_reserved-2.ensures.items ∙ ap (λ (ls : List LongEntry). ls ++ Raised c.args.reserve ∷ []) c.reserve_exact-2.ensures.items in
-    let places : 16 * c.nodes.result + 770 + (c.self.inside.raises + 1) ≡ places_for c.args.reserve + (raise_count c.args.self.now.steps + 1) = omega (arith, c.nodes.ensures.value, c.self.invariant.3, before) in
-    let done =
-    written-raise c.self.inside.tenant c.self.inside.places (16 * c.nodes.result + 770 + (c.self.inside.raises + 1)) c.self.inside.entries.items c.push_reserved.new.self.items (Raised c.args.reserve) c.self.inside.longs.items c.push_reserved-2.new.self.items c.args.self.now (AdmitMore c.args.self.now.tenant c.args.reserve) c.self.view_is c.self.invariant.2 pushed added
-    refl places in
-    let raises = ap (λ (j : JournalOf). raise_count j.steps) done ∙ raise-more c.args.self.now.steps (AdmitMore c.args.self.now.tenant c.args.reserve) in
-    let longs = ap long_count pushed ∙ long_count-more Long c.self.inside.entries.items in
-    let one = ap length added ∙ length-append c.self.inside.longs.items (Raised c.args.reserve ∷ []) in (
-      omega (arith, long, steps, before, made, c.reserve_exact.ensures.len, c.len-entries.ensures, c.self.inside.entries.ok.0, c.nodes.ensures.value, c.self.invariant.3, c.requires.place, c.push_reserved.ensures.capacity),
-      omega (arith, long, few, steps, before, more, c.reserve_exact-2.ensures.len, c.len-longs.ensures, c.self.inside.longs.ok.0, c.nodes.ensures.value, c.self.invariant.2, c.self.invariant.3, c.requires.place, c.push_reserved-2.ensures.capacity),
+    let raises = ap (λ (j : JournalOf). raise_count j.steps) (written g (goal.at.invariant_of-self-2 g c).After-push_reserved-2) ∙ raise-more c.args.self.now.steps (AdmitMore c.args.self.now.tenant c.args.reserve) in
+    let longs = ap long_count (pushed g (goal.at.invariant_of-self-2 g c).After-push_reserved) ∙ long_count-more Long c.self.inside.entries.items in
+    let one = ap length (added g (goal.at.invariant_of-self-2 g c).After-push_reserved-2) ∙ length-append c.self.inside.longs.items (Raised c.args.reserve ∷ []) in (
+      omega (arith, are.steps, are.raises, made, c.reserve_exact.ensures.len, c.len-entries.ensures, c.self.inside.entries.ok.0, c.nodes.ensures.value, c.requires.place, c.push_reserved.ensures.capacity),
+      omega (arith, are.steps, are.longs, are.raises, more, c.reserve_exact-2.ensures.len, c.len-longs.ensures, c.self.inside.longs.ok.0, c.nodes.ensures.value, c.requires.place, c.push_reserved-2.ensures.capacity),
       omega (arith, longs, one, c.self.invariant.2),
-      omega (arith, c.self.invariant.3, before, raises),
+      omega (arith, are.raises, raises),
     )
 
 pub returns-clause-written : goal.returns-clause-written
-returns-clause-written g c =
-    let long = steps_in-length c.self.inside.tenant c.self.inside.entries.items c.self.inside.longs.items c.self.invariant.2 in
-    let few = long_count-few c.self.inside.entries.items in
-    let steps = ap (λ (j : JournalOf). length j.steps) c.self.view_is in
-    let before = ap (λ (j : JournalOf). raise_count j.steps) c.self.view_is in
-    let pushed = c.push_reserved.ensures.items ∙ ap (λ (es : List JournalEntry). es ++ Long ∷ []) c.reserve_exact.ensures.items in
-    let added = c.push_reserved-2.ensures.items ∙ ap (λ (ls : List LongEntry). ls ++ Raised c.args.reserve ∷ []) c.reserve_exact-2.ensures.items in
-    let places : 16 * c.nodes.result + 770 + (c.self.inside.raises + 1) ≡ places_for c.args.reserve + (raise_count c.args.self.now.steps + 1) = omega (arith, c.nodes.ensures.value, c.self.invariant.3, before) in
-    let done =
-    written-raise c.self.inside.tenant c.self.inside.places (16 * c.nodes.result + 770 + (c.self.inside.raises + 1)) c.self.inside.entries.items c.push_reserved.new.self.items (Raised c.args.reserve) c.self.inside.longs.items c.push_reserved-2.new.self.items c.args.self.now (AdmitMore c.args.self.now.tenant c.args.reserve) c.self.view_is c.self.invariant.2 pushed added
-    refl places in
-    done
+returns-clause-written g c = written g (goal.at.returns-clause-written g c).After-push_reserved-2
 
 pub returns-then-is_err-clause-one : goal.returns-then-is_err-clause-one
 returns-then-is_err-clause-one g c = wanting _ _ _ refl c.requires.taken

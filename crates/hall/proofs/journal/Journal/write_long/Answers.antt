@@ -9,12 +9,12 @@ use Rattle.hall.proofs.journal.Journal.write_long.Goals as goal
 
 pub push_reserved-requires : goal.push_reserved-requires
 push_reserved-requires g c =
-    let room = has-room c.self.inside.tenant c.self.inside.places c.self.inside.entries.items c.self.inside.longs.items c.args.self.now c.self.view_is c.self.invariant.2 c.requires.place in
+    let room = has-room c.self.inside.tenant c.self.inside.places c.self.inside.entries.items c.self.inside.longs.items c.args.self.now c.self.view_is c.self.invariant.2 c.requires.writable.place in
     omega (arith, room.0, c.self.invariant.0, c.self.inside.entries.ok.0)
 
 pub push_reserved-requires-2 : goal.push_reserved-requires-2
 push_reserved-requires-2 g c =
-    let room = has-room c.self.inside.tenant c.self.inside.places c.self.inside.entries.items c.self.inside.longs.items c.args.self.now c.self.view_is c.self.invariant.2 c.requires.place in
+    let room = has-room c.self.inside.tenant c.self.inside.places c.self.inside.entries.items c.self.inside.longs.items c.args.self.now c.self.view_is c.self.invariant.2 c.requires.writable.place in
     omega (arith, room.1, c.self.invariant.1, c.self.inside.longs.ok.0)
 
 pub invariant_of-self : goal.invariant_of-self
@@ -25,8 +25,8 @@ invariant_of-self g c =
     let one = length-append c.self.inside.longs.items (c.of.result ∷ []) in
     let done =
     written-long c.self.inside.tenant c.self.inside.places c.self.inside.entries.items c.push_reserved.new.self.items c.of.result c.self.inside.longs.items c.push_reserved-2.new.self.items c.args.self.now c.args.step.now c.self.view_is c.self.invariant.2 c.push_reserved.ensures.items c.push_reserved-2.ensures.items
-    (rw c.requires.own at c.of.ensures) in
-    let raises = ap (λ (j : JournalOf). raise_count j.steps) done ∙ counted-after c.args.step.now c.args.self.now.steps None c.requires.raises_not in
+    (rw c.requires.writable.own at c.of.ensures) in
+    let raises = ap (λ (j : JournalOf). raise_count j.steps) done ∙ counted-after c.args.step.now c.args.self.now.steps None c.requires.writable.raises_not in
     let before = ap (λ (j : JournalOf). raise_count j.steps) c.self.view_is in (
       omega (arith, c.self.invariant.0, c.push_reserved.ensures.capacity),
       omega (arith, c.self.invariant.1, c.push_reserved-2.ensures.capacity),
@@ -37,4 +37,4 @@ invariant_of-self g c =
 pub returns : goal.returns
 returns g c =
     written-long c.self.inside.tenant c.self.inside.places c.self.inside.entries.items c.push_reserved.new.self.items c.of.result c.self.inside.longs.items c.push_reserved-2.new.self.items c.args.self.now c.args.step.now c.self.view_is c.self.invariant.2 c.push_reserved.ensures.items c.push_reserved-2.ensures.items
-    (rw c.requires.own at c.of.ensures)
+    (rw c.requires.writable.own at c.of.ensures)
