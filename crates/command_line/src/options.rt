@@ -9,7 +9,7 @@ use crate::commands::{command_of, flag_in, othello_command};
 use crate::faults::WordsFault;
 use crate::settings::{GRAIN, Missing, NODES, PORT, SEGMENTS, SESSIONS, WORKERS};
 use clap::error::ErrorKind;
-use clap::{ArgMatches, Error};
+use clap::{ArgMatches, Command, Error};
 use std::alloc::{AllocError, Global};
 use std::convert::AsStr;
 
@@ -147,13 +147,23 @@ fn outside_error(
 ) -> Result<Error, AllocError>
     ensures { IfOk result (λ error. kind_of error ≡ ValueValidation) }
 {
-    let text = match missing {
-        Missing::Value(setting) => format!(in alloc; "{setting}")?,
-        Missing::Command => format!(in alloc; "one of the commands is needed: solve, serve")?,
-    };
-    let mut command = match matches.subcommand() {
-        Some((name, _)) => command_of(alloc, name)?,
-        None => othello_command(alloc)?,
-    };
+    let text = text_of(alloc, missing)?;
+    let mut command = named_command(alloc, matches)?;
     command.error(ErrorKind::ValueValidation, text.as_str())
+}
+
+/// What is lacking, in words.
+fn text_of(alloc: Global, missing: Missing) -> Result<String, AllocError> {
+    match missing {
+        Missing::Value(setting) => format!(in alloc; "{setting}"),
+        Missing::Command => format!(in alloc; "one of the commands is needed: solve, serve"),
+    }
+}
+
+/// The command that the words name; the program's where they name none.
+fn named_command<'a>(alloc: Global, matches: &ArgMatches<'_>) -> Result<Command<'a>, AllocError> {
+    match matches.subcommand() {
+        Some((name, _)) => command_of(alloc, name),
+        None => othello_command(alloc),
+    }
 }

@@ -6,7 +6,7 @@ use Rattle.std.proofs.lemmas.List.Concat.{flat_map-append}
 use Rattle.std.specs.List.{concat}
 use Rattle.line_io.specs.declared.faults.WriteFailed.{WriteFailed}
 use Rattle.line_io.specs.Lines.{LineText}
-use Rattle.line_io.specs.Leads.{Leads}
+use Rattle.line_io.specs.Leads.{Leads, IsPrefixOf}
 use Rattle.line_io.specs.Streams.{WriteAnswer, Took, Refused}
 use Rattle.line_io.specs.Writes.{IsWritten, LinesAnswered, IsAnswered, with_end, written_texts, writes_of}
 use Rattle.line_io.proofs.Chains.{Leads-append, Answers-append}
@@ -25,30 +25,16 @@ LinesAnswered-none takes answers k a u =
       ends = (refl, refl);
     }
 
+-- one line, where its answer's writes ended so
+one-line : {K A : Type 0} (takes : K → WriteAnswer → K → Type 0) (answers : A → LineText → List ℕ → A → Type 0) (k : K) (a : A) (line : LineText) (text bytes : List ℕ) (k' : K) (a' : A) (r : Result (Unit {0}) WriteFailed) → answers a line text a' → bytes ≡ with_end text → (w : IsWritten takes k bytes k' r) → IsAnswered r (line ∷ []) (line ∷ []) (text ∷ []) w.rest → LinesAnswered takes answers k a (line ∷ []) k' a' r
+one-line takes answers k a line text bytes k' a' r h e w ends =
+    record { answered = line ∷ []; texts = text ∷ []; pieces = w.pieces; rest = w.rest; answers_lead = (a', h, refl); writes = w.writes; taken = w.taken ∙ (e ∙ sym (append-nil (with_end text))); ends = ends }
+
 -- one line, whose answer was written
 pub LinesAnswered-one : {K A : Type 0} (takes : K → WriteAnswer → K → Type 0) (answers : A → LineText → List ℕ → A → Type 0) (k : K) (a : A) (line : LineText) (text bytes : List ℕ) (k' : K) (a' : A) (r : Result (Unit {0}) WriteFailed) → answers a line text a' → bytes ≡ with_end text → IsWritten takes k bytes k' r → LinesAnswered takes answers k a (line ∷ []) k' a' r
-LinesAnswered-one takes answers k a line text bytes k' a' (Ok u) h e w =
-    record {
-      answered = line ∷ [];
-      texts = text ∷ [];
-      pieces = w.pieces;
-      rest = w.rest;
-      answers_lead = (a', h, refl);
-      writes = w.writes;
-      taken = w.taken ∙ (e ∙ sym (append-nil (with_end text)));
-      ends = (refl, w.ends);
-    }
+LinesAnswered-one takes answers k a line text bytes k' a' (Ok u) h e w = one-line takes answers k a line text bytes k' a' (Ok u) h e w (refl, w.ends)
 LinesAnswered-one takes answers k a line text bytes k' a' (Err d) h e w =
-    record {
-      answered = line ∷ [];
-      texts = text ∷ [];
-      pieces = w.pieces;
-      rest = w.rest;
-      answers_lead = (a', h, refl);
-      writes = w.writes;
-      taken = w.taken ∙ (e ∙ sym (append-nil (with_end text)));
-      ends = (([], refl), record { before = []; last = text; begun = concat w.pieces; texts_are = refl; last_is = w.taken ∙ e; left = w.ends });
-    }
+    one-line takes answers k a line text bytes k' a' (Err d) h e w (([], refl), record { before = []; last = text; begun = concat w.pieces; texts_are = refl; last_is = w.taken ∙ e; left = w.ends })
 
 -- the writes of two lists of pieces
 pub writes_of-append : (ps qs : List (List ℕ)) (r : Result (Unit {0}) WriteFailed) → writes_of (ps ++ qs) r ≡ map Took ps ++ writes_of qs r
@@ -93,16 +79,8 @@ LinesAnswered-append takes answers k a ls k' a' u ms k'' a'' r x y =
 -- where a write failed, more lines may follow
 pub LinesAnswered-before : {K A : Type 0} (takes : K → WriteAnswer → K → Type 0) (answers : A → LineText → List ℕ → A → Type 0) (k : K) (a : A) (ls more : List LineText) (k' : K) (a' : A) (e : WriteFailed) → LinesAnswered takes answers k a ls k' a' (Err e) → LinesAnswered takes answers k a (ls ++ more) k' a' (Err e)
 LinesAnswered-before takes answers k a ls more k' a' e x =
-    record {
-      answered = x.answered;
-      texts = x.texts;
-      pieces = x.pieces;
-      rest = x.rest;
-      answers_lead = x.answers_lead;
-      writes = x.writes;
-      taken = x.taken;
-      ends = ((x.ends.0.0 ++ more, sym (append_assoc x.answered x.ends.0.0 more) ∙ ap (λ z. z ++ more) x.ends.0.1), x.ends.1);
-    }
+    let longer : IsPrefixOf x.answered (ls ++ more) = (x.ends.0.0 ++ more, sym (append_assoc x.answered x.ends.0.0 more) ∙ ap (λ z. z ++ more) x.ends.0.1) in
+    record { answered = x.answered; texts = x.texts; pieces = x.pieces; rest = x.rest; answers_lead = x.answers_lead; writes = x.writes; taken = x.taken; ends = (longer, x.ends.1) }
 
 -- the same lines by another name
 pub LinesAnswered-same : {K A : Type 0} (takes : K → WriteAnswer → K → Type 0) (answers : A → LineText → List ℕ → A → Type 0) (k : K) (a : A) (ls ms : List LineText) (k' : K) (a' : A) (r : Result (Unit {0}) WriteFailed) → ls ≡ ms → LinesAnswered takes answers k a ls k' a' r → LinesAnswered takes answers k a ms k' a' r

@@ -110,9 +110,7 @@ module _ (ends : LineText → Bool) where
     -- a line of a block ended the talk
     pub Talk-stopped : (s' : S) (k' : K) (a' : A) (h : Option (List ℕ)) (block : List ℕ) (s'' : S) (k'' : K) (a'' : A) → TalkingSoFar s' k' a' h → gives s' (Gave block) s'' → LinesAnswered takes answers k' a' (upto ends (ended_within h block)) k'' a'' (Ok tt) → none_ends ends (ended_within h block) ≡ false → Talk gives takes answers ends s k a s'' k'' a'' (Ok by_line)
     Talk-stopped s' k' a' h block s'' k'' a'' x r y some =
-        let blocks = x.so_far.blocks in
-        let ended = ended_within (Some []) (concat blocks) in
-        let more = ended_within h block in
+        let blocks = x.so_far.blocks in let ended = ended_within (Some []) (concat blocks) in let more = ended_within h block in
         let last = option_to_list (last_line (held_after (Some []) (concat (blocks ++ block ∷ [])))) in
         let all = all-lines blocks block h x.so_far.held in
         let stops : none_ends ends (ended ++ more) ≡ false = none-append ends ended more x.none ∙ some in
@@ -129,9 +127,7 @@ module _ (ends : LineText → Bool) where
     -- an answer within a block wasn't written
     pub Talk-write_failed : (s' : S) (k' : K) (a' : A) (h : Option (List ℕ)) (block : List ℕ) (s'' : S) (k'' : K) (a'' : A) (d : WriteFailed) → TalkingSoFar s' k' a' h → gives s' (Gave block) s'' → LinesAnswered takes answers k' a' (upto ends (ended_within h block)) k'' a'' (Err d) → Talk gives takes answers ends s k a s'' k'' a'' (Err Write)
     Talk-write_failed s' k' a' h block s'' k'' a'' d x r y =
-        let blocks = x.so_far.blocks in
-        let ended = ended_within (Some []) (concat blocks) in
-        let more = ended_within h block in
+        let blocks = x.so_far.blocks in let ended = ended_within (Some []) (concat blocks) in let more = ended_within h block in
         let last = option_to_list (last_line (held_after (Some []) (concat (blocks ++ block ∷ [])))) in
         let first = upto-first_of (ended ++ more) last in
         let due : (ended ++ upto ends more) ++ first.0 ≡ upto ends (lines_of (concat (blocks ++ block ∷ []))) =

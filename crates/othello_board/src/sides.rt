@@ -39,9 +39,9 @@ pub fn right_of(square: u8) -> Option<u8>
     ensures value { result ≡ right_of square }
     ensures within { IfSome result (λ s. s < 64) }
 {
-    if square % 8 == 7 {
-        None
-    } else {
+    if square % 8 < 7 {
         Some(square + 1)
+    } else {
+        None
     }
 }

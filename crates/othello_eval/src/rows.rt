@@ -59,7 +59,8 @@ pub fn finished_boards()
     ensures empty_choice { best_choice 5 no_discs ≡ None }
 {}
 
-/// The corner a1 (0) is worth 89, and e1 only 40.
+/// The corner a1 (0) is worth 89, and e1, which lies on an edge, only 40: so of these two moves the corner is
+/// the best choice.
 pub fn corner_outweighs_edge()
     ensures value { minimax 1 corner_or_edge ≡ pos 89 }
     ensures choice { best_choice 1 corner_or_edge ≡ Some (Square 0) }

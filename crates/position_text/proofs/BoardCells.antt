@@ -24,30 +24,18 @@ opp_bit Empty = 0
 abbrev cell_by : ℕ → ℕ → Cell
 cell_by a b = cond (nat_eq a 1) Own (cond (nat_eq b 1) Opp Empty)
 
-own_bit-cell_by : (a b : ℕ) → a < 2 → b < 2 → min a b ≡ 0 → own_bit (cell_by a b) ≡ a
-unfolding own_bit
-own_bit-cell_by zero zero p q h = refl
-own_bit-cell_by zero (suc zero) p q h = refl
-own_bit-cell_by (suc zero) zero p q h = refl
-own_bit-cell_by (suc zero) (suc zero) p q h = absurd (omega arith)
-own_bit-cell_by (suc (suc a)) b p q h = absurd (omega arith)
-own_bit-cell_by a (suc (suc b)) p q h = absurd (omega arith)
-
-opp_bit-cell_by : (a b : ℕ) → a < 2 → b < 2 → min a b ≡ 0 → opp_bit (cell_by a b) ≡ b
-unfolding opp_bit
-opp_bit-cell_by zero zero p q h = refl
-opp_bit-cell_by zero (suc zero) p q h = refl
-opp_bit-cell_by (suc zero) zero p q h = refl
-opp_bit-cell_by (suc zero) (suc zero) p q h = absurd (omega arith)
-opp_bit-cell_by (suc (suc a)) b p q h = absurd (omega arith)
-opp_bit-cell_by a (suc (suc b)) p q h = absurd (omega arith)
+bits-cell_by : (a b : ℕ) → a < 2 → b < 2 → min a b ≡ 0 → (own_bit (cell_by a b) ≡ a) × (opp_bit (cell_by a b) ≡ b)
+unfolding own_bit opp_bit
+bits-cell_by zero zero p q h = (refl, refl)
+bits-cell_by zero (suc zero) p q h = (refl, refl)
+bits-cell_by (suc zero) zero p q h = (refl, refl)
+bits-cell_by (suc zero) (suc zero) p q h = absurd (omega arith)
+bits-cell_by (suc (suc a)) b p q h = absurd (omega arith)
+bits-cell_by a (suc (suc b)) p q h = absurd (omega arith)
 
 -- the bits of two words, from their cell
-own_bit-cell_of : (own opp s : ℕ) → bit_and own opp ≡ 0 → own_bit (cell_of own opp s) ≡ bit_at own s
-own_bit-cell_of own opp s h = own_bit-cell_by (bit_at own s) (bit_at opp s) (bit_at-lt own s) (bit_at-lt opp s) (apart own opp s h)
-
-opp_bit-cell_of : (own opp s : ℕ) → bit_and own opp ≡ 0 → opp_bit (cell_of own opp s) ≡ bit_at opp s
-opp_bit-cell_of own opp s h = opp_bit-cell_by (bit_at own s) (bit_at opp s) (bit_at-lt own s) (bit_at-lt opp s) (apart own opp s h)
+bits-cell_of : (own opp s : ℕ) → bit_and own opp ≡ 0 → (own_bit (cell_of own opp s) ≡ bit_at own s) × (opp_bit (cell_of own opp s) ≡ bit_at opp s)
+bits-cell_of own opp s h = bits-cell_by (bit_at own s) (bit_at opp s) (bit_at-lt own s) (bit_at-lt opp s) (apart own opp s h)
 
 -- the board of two words
 board_of : (own opp : ℕ) → bit_and own opp ≡ 0 → Board
@@ -72,6 +60,6 @@ pub board_same_from_cells : (a b : Board) → a.own < 2 ^ 64 → a.opp < 2 ^ 64 
 board_same_from_cells a b fits_own fits_opp fits_own_too fits_opp_too same =
     board_same a b
     (same_from_bits_below 64 a.own b.own fits_own fits_own_too (λ s below.
-    sym (own_bit-cell_of a.own a.opp s a.disjoint) ∙ ap own_bit (same s below) ∙ own_bit-cell_of b.own b.opp s b.disjoint))
+    sym (bits-cell_of a.own a.opp s a.disjoint).0 ∙ ap own_bit (same s below) ∙ (bits-cell_of b.own b.opp s b.disjoint).0))
     (same_from_bits_below 64 a.opp b.opp fits_opp fits_opp_too (λ s below.
-    sym (opp_bit-cell_of a.own a.opp s a.disjoint) ∙ ap opp_bit (same s below) ∙ opp_bit-cell_of b.own b.opp s b.disjoint))
+    sym (bits-cell_of a.own a.opp s a.disjoint).1 ∙ ap opp_bit (same s below) ∙ (bits-cell_of b.own b.opp s b.disjoint).1))

@@ -1,9 +1,11 @@
 -- The machine values of the owners: a base is one pointer, and the cells and the title take no bytes.
 use mathlib.Core.Path.{◌≡◌, refl, subst}
+use Prim.Native.Nat.{ℕ}
 use mathlib.Core.List.{List, [], ◌∷◌, ◌++◌}
 use seplogic.Ra.Ura.{Ura}
 use mir.Val.{Val, vstruct, vcons, vnil, of_list}
 use base.Logic.{ent, emp, sep}
+use base.Fml.{Lft}
 use types.Logic.{Logic, sem}
 use types.Kit.{Item, Goal, Seq, Step, step, ‵, ◌$◌, ◌∵◌, !, qed, move, done, drop as skip, fpick, fpack, fsplit, fjoin, feq_i, feq_l, rewrite}
 use denote.RattleType.{RattleType, Valss}
@@ -17,6 +19,7 @@ use denote.Struct.Declared as Declared
 use denote.Struct.Tuple.{Tuple, tuple_type}
 use Rattle.core.proofs.mem.Param.{El, R, elτ, one, lawful}
 use Rattle.std_alloc.proofs.RcSteps.{Good, word}
+use Rattle.segment_region.specs.Places.{IsFilled}
 use Rattle.segment_region.specs.contracts.cells.Base as BaseType
 use Rattle.segment_region.specs.contracts.cells.Cells as CellsType
 
@@ -26,6 +29,17 @@ module _ (E : El) where
 
   abbrev pub CellsRow : RattleType
   CellsRow = CellsType.the_row (R E)
+
+  -- the base is that of the cells, and the place is filled
+  abbrev pub IsFilledAt : CellsRow.Denot → BaseRow.Denot → ℕ → Type 0
+  IsFilledAt cells start index = (start.ptr ≡ cells.at) × IsFilled cells.slots index
+
+  -- what a call at one place is handed: how long its loan of the cells lives, the loan, the base, and the place
+  pub record Handed (Loan : Type 0) : Type 0 where
+    pub κ : Lft
+    pub self : Loan
+    pub start : BaseRow.Denot
+    pub index : ℕ
 
   -- what the fields of the cells, or of a title, own: nothing
   abbrev pub MarkRow : RattleType

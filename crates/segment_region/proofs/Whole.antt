@@ -6,7 +6,7 @@ use Rattle.segment_region.specs.Segments.{Segment, Segments, IsTaken, IsFree, ta
 use Rattle.segment_region.specs.Blocks.{WordBlock, place_entry, place_link, link_in, entries_of, IsLink, next_of, IsFreeList, IsWhole}
 use Rattle.segment_region.specs.declared.block.Link.{Link}
 use Rattle.segment_region.proofs.Counts.{taken_count-take, taken_count-give, taken_count-write, taken_count-replicate, taken_count-le-length}
-use Rattle.segment_region.proofs.Entries.{length-entries_of, get_or-entries_of, none_from_mark, entries_of-set, entries_of-more, entries_of-less, entries_of-none, entry_of-free, entry_of-taken, TakenBlock, taken_block, taken_is, words_is, link_is}
+use Rattle.segment_region.proofs.Entries.{length-entries_of, get_or-entries_of, none_from_mark, entries_of-set, entries_of-more, entries_of-less, entries_of-none, entry_of-free, entry_of-taken, BlockAt, TakenBlock, taken_block, taken_is, words_is, link_is}
 
 -- the number stands at the head of no chain
 abbrev IsUnlisted : ℕ → List (Option WordBlock) → ℕ → Type 0
@@ -16,7 +16,7 @@ IsUnlisted mark places n = (m : ℕ) → IsFreeList mark places (Some n) m → �
 taken_unlisted : (mark : ℕ) (places : List (Option WordBlock)) (n : ℕ) → TakenBlock mark places n → IsUnlisted mark places n
 taken_unlisted mark places n t zero chain = absurd (cc)
 taken_unlisted mark places n t (suc m) chain =
-    let taken : (link_in places n).taken ≡ true = ap (λ (place : Option WordBlock). (place_link place).taken) t.is ∙ t.taken in
+    let taken : (link_in places n).taken ≡ true = ap (λ (place : Option WordBlock). (place_link place).taken) t.is ∙ t.state in
     let free = chain.1 in
     absurd (cc)
 
@@ -49,12 +49,8 @@ links-set : (places : List (Option WordBlock)) (mark new n : ℕ) (place : Optio
 links-set places mark new n place up h below other = (omega arith, ap place_link (get_or-set_other places n h place None other))
 
 -- the block at the head of the free ones
-pub record HeadBlock (mark : ℕ) (places : List (Option WordBlock)) (h : ℕ) : Type 0 where
-  pub block : WordBlock
-  pub is : get_or places h None ≡ Some block
-  pub free : block.link.taken ≡ false
-  pub marked : h < mark
-  pub below : h < length places
+abbrev pub HeadBlock : ℕ → List (Option WordBlock) → ℕ → Type 0
+HeadBlock = BlockAt false
 
 head_block : (mark : ℕ) (places : List (Option WordBlock)) (h m : ℕ) → IsFreeList mark places (Some h) m → HeadBlock mark places h
 head_block mark places h zero chain = absurd (cc)
@@ -63,18 +59,18 @@ head_block mark places h (suc m) chain = free_block mark places h chain.0 chain.
     free_block : (mark : ℕ) (places : List (Option WordBlock)) (h : ℕ) → h < mark → (link_in places h).taken ≡ false → HeadBlock mark places h
     free_block mark [] h marked free = absurd (cc)
     free_block mark (None ∷ places) zero marked free = absurd (cc)
-    free_block mark (Some block ∷ places) zero marked free = record { block = block; is = refl; free = free; marked = marked; below = omega arith }
+    free_block mark (Some block ∷ places) zero marked free = record { block = block; is = refl; state = free; marked = marked; below = omega arith }
     free_block zero (place ∷ places) (suc h) marked free = absurd (omega arith)
     free_block (suc mark) (place ∷ places) (suc h) marked free =
         let rest = free_block mark places h (omega arith) free in
-        record { block = rest.block; is = rest.is; free = rest.free; marked = marked; below = omega (arith, rest.below) }
+        record { block = rest.block; is = rest.is; state = rest.state; marked = marked; below = omega (arith, rest.below) }
 
 -- the block that the free ones are chained from
 pub listed_head : (places : List (Option WordBlock)) (count mark : ℕ) (free : Link) (listed h : ℕ) → IsWhole places count mark free listed → next_of free ≡ Some h → HeadBlock mark places h
 listed_head places count mark free listed h whole is = head_block mark places h listed (subst (λ (o : Option ℕ). IsFreeList mark places o listed) is whole.chain)
 
 pub head_is_free : (mark : ℕ) (places : List (Option WordBlock)) (h : ℕ) → HeadBlock mark places h → IsFree (entries_of mark places) h
-head_is_free mark places h t = (omega (arith, t.below, length-entries_of mark places), get_or-entries_of mark places h t.marked ∙ ap place_entry t.is ∙ entry_of-free t.block.link t.block.words t.free)
+head_is_free mark places h t = (omega (arith, t.below, length-entries_of mark places), get_or-entries_of mark places h t.marked ∙ ap place_entry t.is ∙ entry_of-free t.block.link t.block.words t.state)
 
 -- what lies from the mark on is free
 pub mark_is_free : (mark : ℕ) (places : List (Option WordBlock)) → mark < length places → IsFree (entries_of mark places) mark

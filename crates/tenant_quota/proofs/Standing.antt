@@ -1,5 +1,5 @@
 -- The account that stands at a tenant's place in a sound book, and what a write of it does.
-use Rattle.std.proofs.Common.{◌≡◌, ℕ, ◌+◌, ◌<◌, ◌≤◌, ◌⊎◌, inl, inr, List, length, get_or, set, Option, Some, None, IsSome, IsSomeAnd, IfSome, refl, ap, sym, ◌∙◌, subst}
+use Rattle.std.proofs.Common.{◌≡◌, ℕ, ◌+◌, ◌*◌, ◌<◌, ◌≤◌, ◌⊎◌, inl, inr, List, length, get_or, set, Option, Some, None, IsSome, IsSomeAnd, IfSome, refl, ap, sym, ◌∙◌, subst}
 use Rattle.tenant_quota.specs.declared.account.Account.{Account}
 use Rattle.std.specs.Prelude.{sum_by, option_map}
 use Rattle.std.specs.List.{remove}
@@ -31,6 +31,11 @@ and_at o P x at is = subst (λ y. IsSomeAnd y P) at is
 
 pub and_from : {X : Type 0} (o : Option X) (P : X → Type 0) (x : X) → o ≡ Some x → P x → IsSomeAnd o P
 and_from o P x at is = subst (λ y. IsSomeAnd y P) (sym at) is
+
+-- other counts, each within what is reserved
+pub within_with : (a : Account) (charged opened ticks : ℕ) → charged ≤ a.reserve.segments → opened ≤ a.reserve.nodes → ticks ≤ 16 * a.reserve.nodes → IsWithinReserve a → IsWithinReserve (record a { charged = charged; opened = opened; ticks = ticks })
+within_with a charged opened ticks few some many within =
+    record { some_segments = within.some_segments; segments_within = within.segments_within; some_nodes = within.some_nodes; nodes_within = within.nodes_within; charged_within = few; opened_within = some; ticks_within = many }
 
 -- what the tenant of an account has left
 pub left_is : (b : Reservations) (t : ℕ) (a : Account) (l : Left) → account_of t b.accounts ≡ Some a → l ≡ left_in a → left_of t b ≡ Some l

@@ -262,8 +262,7 @@ impl<A: Allocator> Book<A> {
         ensures short { (result ≡ Err Refusal.Short) ↔ IsShort self.old tenant segments nodes }
         ensures opened { IfOk result (λ before. opened_of tenant self.old ≡ Some before) }
         ensures charges { OnOk result (ChangesOnly self.old self.new tenant (charged_by segments nodes)) }
-        ensures sum { OnOk result (
-            charged_segments self.new.accounts ≡ charged_segments self.old.accounts + segments) }
+        ensures sum { OnOk result (charged_segments self.new.accounts ≡ charged_segments self.old.accounts + segments) }
         ensures others { KeepsOthers self.old self.new tenant }
         ensures err { OnErr result (self.new ≡ self.old) }
         ensures sound { IsSoundBook self.new }

@@ -84,14 +84,14 @@ module _ (E : El) (Z : Al) {M : Type 1} {𝓤 : Ura M} (𝓛 : Logic 𝓤) (at_m
     (takes : Triple 𝓤 (C (takes_key Z)) (Takes Z 𝓛 at_mem run)) (y : (walk_of 𝓛 (its.ended E.row Z.row Z.g Z.d Z.drops) (stayed E Z) (its.clauses E.row Z.row Z.g Z.d Z.drops 𝓛 at_mem run)).Ghost) where
   open 𝓛 use {H}
 
+  abbrev len : ℕ
+  len = y.0.3.1.0
+
   abbrev κ : Lft
   κ = y.0.0.0
 
   abbrev alloc : Bor Z.row.Denot
   alloc = y.0.3.0
-
-  abbrev len : ℕ
-  len = y.0.3.1.0
 
   abbrev tokens : List (Item 𝓤)
   tokens = ‵ (flft κ y.0.1.0) ∷ (‵ (flft y.0.0.1.0 y.0.1.1.0) ⊛ (‵ (flft y.0.0.1.1.0 y.0.1.1.1.0) ⊛ ‵ ftrue)) ∷ []

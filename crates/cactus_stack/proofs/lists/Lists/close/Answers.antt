@@ -23,10 +23,7 @@ give_chain-requires g c =
     rw (c.first-2.ensures, c.charge-count.ensures, of.kept) of.it.sound.is_chain
 
 pub index_mut-requires : goal.index_mut-requires
-index_mut-requires g c =
-    let of = read g (goal.at.index_mut-requires g c).After-index in
-    let below = of.it.within in
-    rw of.at_node (search rules)
+index_mut-requires g c = let of = read g (goal.at.index_mut-requires g c).After-index in let below = of.it.within in rw of.at_node (search rules)
 
 pub invariant_of-self : goal.invariant_of-self
 invariant_of-self g c =

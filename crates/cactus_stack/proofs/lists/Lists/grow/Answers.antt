@@ -65,10 +65,7 @@ pub overflow_cast-len-2 : goal.overflow_cast-len-2
 overflow_cast-len-2 g c = omega (arith, limit g (goal.at.overflow_cast-len-2 g c).After-index)
 
 pub index_mut-requires : goal.index_mut-requires
-index_mut-requires g c =
-    let of = read g (goal.at.index_mut-requires g c).After-index in
-    let below = of.it.within in
-    rw of.at_node (search rules)
+index_mut-requires g c = let of = read g (goal.at.index_mut-requires g c).After-index in let below = of.it.within in rw of.at_node (search rules)
 
 pub invariant_of-self : goal.invariant_of-self
 invariant_of-self g c =

@@ -38,10 +38,9 @@ use Rattle.core.proofs.mem.Param.{El, R, args, el_x}
 use Rattle.core.proofs.ptr.Rows.{times_below, one_below}
 use Rattle.std_alloc.proofs.VecSteps.Shapes.{after}
 use Rattle.std_alloc.proofs.RcSteps.{word, word-Good}
-use Rattle.segment_region.specs.Places.{IsFilled}
 use Rattle.segment_region.specs.Ownership.{place_lent, places_lent}
 use Rattle.segment_region.proofs.Memory.{Place, place_size, filled-within, seen}
-use Rattle.segment_region.proofs.Owners.{BaseRow, CellsRow, base_had}
+use Rattle.segment_region.proofs.Owners.{BaseRow, CellsRow, Handed, IsFilledAt, base_had}
 use Rattle.segment_region.specs.contracts.cells.Cells.get as its
 use Rattle.segment_region.proofs.cells.Cells.get.Statement.{statement}
 use Rattle.segment_region.proofs.cells.Cells.get.Code as code
@@ -53,23 +52,13 @@ module _ (E : El) where
   abbrev stayed : Stays (its.ended E.row).signature.params (its.ended E.row).kept
   stayed = (stay_dropped _ _, (stay_dropped _ _, (stay_dropped _ _, tt)))
 
-  abbrev Asked : (CellsRow E).Denot → (BaseRow E).Denot → ℕ → Type 0
-  Asked cells start index = (start.ptr ≡ cells.at) × IsFilled cells.slots index
-
 module _ (E : El) {M : Type 1} {𝓤 : Ura M} (𝓛 : Logic 𝓤) (at_mem : Memory → SProp 𝓤) (run : Routine → Fun 𝓤) (C : Calls 𝓤 𝓛.H) (Λ : Loops 𝓤 𝓛.H) (y : (walk_of 𝓛 (its.ended E.row) (stayed E) (its.clauses E.row 𝓛 at_mem run)).Ghost) where
   open 𝓛 use {H}
 
-  abbrev κ : Lft
-  κ = y.0.0.0
+  abbrev handed : Handed E (Bor (CellsRow E).Denot)
+  handed = record { κ = y.0.0.0; self = y.0.3.0; start = y.0.3.1.0; index = y.0.3.1.1.0 }
 
-  abbrev self : Bor (CellsRow E).Denot
-  self = y.0.3.0
-
-  abbrev start : (BaseRow E).Denot
-  start = y.0.3.1.0
-
-  abbrev index : ℕ
-  index = y.0.3.1.1.0
+  open handed use {κ, self, start, index}
 
   abbrev tokens : List (Item 𝓤)
   tokens = ‵ (flft κ y.0.1.0) ∷ (‵ (flft y.0.0.1.0 y.0.1.1.0) ⊛ ‵ ftrue) ∷ []
@@ -86,7 +75,7 @@ module _ (E : El) {M : Type 1} {𝓤 : Ura M} (𝓛 : Logic 𝓤) (at_mem : Memo
   abbrev Had : List (Item 𝓤)
   Had = ‵ (hidden_shr (CellsRow E) κ self.now self.ref_ptr.0 self.ref_ptr.1) ∷ tokens
 
-  walk : Asked E self.now start index → index < 2 ^ 64 → ent 𝓤 (⋆ 𝓛 Had) (WpFn 𝓤 H C Λ (function E) (vptr self.ref_ptr.0 self.ref_ptr.1 ∷ word start.ptr ∷ vint w64 index ∷ []) Post)
+  walk : IsFilledAt E self.now start index → index < 2 ^ 64 → ent 𝓤 (⋆ 𝓛 Had) (WpFn 𝓤 H C Λ (function E) (vptr self.ref_ptr.0 self.ref_ptr.1 ∷ word start.ptr ∷ vint w64 index ∷ []) Post)
   walk asked fits =
       let places = self.now.slots in let x = asked.1.0 in let within = filled-within places index x asked.1.1 in let size = place_size E in
       qed 𝓛 Had ∵ enter ! C Λ (function E) _ _ $ alloc_all ! (λ l. pass_all ! refl ((tt, tt), (word-Good [] start.ptr, ((tt, record { fits = fits }), tt))) $
@@ -112,7 +101,7 @@ module _ (E : El) {M : Type 1} {𝓤 : Ura M} (𝓛 : Logic 𝓤) (at_mem : Memo
       (WpFn 𝓤 H C Λ (function E) (y.0.4.0 ++ (y.0.4.1.0 ++ (y.0.4.1.1.0 ++ []))) Post)
   entry =
       qed 𝓛 (((‵ (flft κ y.0.1.0) ⊛ (‵ (flft y.0.0.1.0 y.0.1.1.0) ⊛ ‵ ftrue)) ⊛ ‵ (owns (types_at (its.ended E.row).signature.params y.0.0) y.0.3 y.0.4))
-      ∷ (raw (fact 𝓤 (y.0.0.1.0 ⊑ E.row.lives)) ⊛ raw (fact 𝓤 (Asked E self.now start index))) ∷ []) ∵
+      ∷ (raw (fact 𝓤 (y.0.0.1.0 ⊑ E.row.lives)) ⊛ raw (fact 𝓤 (IsFilledAt E self.now start index))) ∷ []) ∵
       move ! (1 ∷ []) $ split ! $ drop ! $ heard ! _ (λ asked.
       split ! $ split ! $ move ! (2 ∷ []) $ fsplit ! $ fsplit ! $ feq_l ! (λ is_self.
       move ! (1 ∷ []) $ fsplit ! $ base_had E ! start y.0.4.1.0 (λ is_base.

@@ -41,7 +41,7 @@ use Rattle.std_alloc.proofs.VecSteps.Shapes.{after}
 use Rattle.std_alloc.proofs.RcSteps.{Good, word, word-Good}
 use Rattle.segment_region.specs.Ownership.{place_owned, row_owned, places_owned}
 use Rattle.segment_region.proofs.Memory.{place_size, Others, taken_out, forgotten, put_back}
-use Rattle.segment_region.proofs.Owners.{BaseRow, CellsRow, base_had, value_had}
+use Rattle.segment_region.proofs.Owners.{BaseRow, CellsRow, Handed, base_had, value_had}
 use Rattle.segment_region.specs.contracts.cells.Cells.write as its
 use Rattle.segment_region.proofs.cells.Cells.write.Statement.{statement}
 use Rattle.segment_region.proofs.cells.Cells.write.Code as code
@@ -59,17 +59,10 @@ module _ (E : El) where
 module _ (E : El) {M : Type 1} {𝓤 : Ura M} (𝓛 : Logic 𝓤) (at_mem : Memory → SProp 𝓤) (run : Routine → Fun 𝓤) (C : Calls 𝓤 𝓛.H) (Λ : Loops 𝓤 𝓛.H) (y : (walk_of 𝓛 (its.ended E.row) (stayed E) (its.clauses E.row 𝓛 at_mem run)).Ghost) where
   open 𝓛 use {H}
 
-  abbrev κ : Lft
-  κ = y.0.0.0
+  abbrev handed : Handed E (MutBor (CellsRow E).Denot)
+  handed = record { κ = y.0.0.0; self = y.0.3.0; start = y.0.3.1.0; index = y.0.3.1.1.0 }
 
-  abbrev self : MutBor (CellsRow E).Denot
-  self = y.0.3.0
-
-  abbrev start : (BaseRow E).Denot
-  start = y.0.3.1.0
-
-  abbrev index : ℕ
-  index = y.0.3.1.1.0
+  open handed use {κ, self, start, index}
 
   abbrev item : (R E).Denot
   item = y.0.3.1.1.1.0

@@ -7,22 +7,14 @@ use Rattle.tenant_quota.specs.Accounts.{account_of, charged_by, left_in, charged
 use Rattle.tenant_quota.proofs.Places.{account_place, read-rising}
 use Rattle.tenant_quota.specs.Reservations.{Reservations, HasLeft, IsShort, left_of, opened_of, IsSoundBook}
 use Rattle.tenant_quota.specs.Keeping.{held_by}
-use Rattle.tenant_quota.proofs.Standing.{and_at, and_from, left_is, place_within, stands_for, IsChange, change_by_write, sum_by_write, one_less}
+use Rattle.tenant_quota.proofs.Standing.{and_at, and_from, left_is, place_within, stands_for, within_with, IsChange, change_by_write, sum_by_write, one_less}
 use Rattle.tenant_quota.proofs.book.Book.charge_nodes.Goals as goal
 
 charged_within : (a : Account) (l : Left) (segments nodes : ℕ) → l ≡ left_in a → segments ≤ l.segments → nodes ≤ l.nodes → IsWithinReserve a → IsWithinReserve (charged_by segments nodes a)
 charged_within a l segments nodes is some_left more_left within =
     let segments_is = ap (λ (x : Left). x.segments) is in
     let nodes_is = ap (λ (x : Left). x.nodes) is in
-    record {
-      some_segments = within.some_segments;
-      segments_within = within.segments_within;
-      some_nodes = within.some_nodes;
-      nodes_within = within.nodes_within;
-      charged_within = omega (arith, within.charged_within);
-      opened_within = omega (arith, within.opened_within);
-      ticks_within = within.ticks_within;
-    }
+    within_with a (a.charged + segments) (a.opened + nodes) a.ticks (omega (arith, within.charged_within)) (omega (arith, within.opened_within)) within.ticks_within within
 
 -- what the test of what is left tells, and what the write of a greater charge does
 record Charges (b : Reservations) (t i segments nodes : ℕ) (e : ℕ × Account) : Type 0 where

@@ -1,23 +1,16 @@
-use Rattle.std.proofs.Common.{◌≡◌, ℕ, ◌+◌, ◌≤◌, length, List, get_or, set, ap, sym, ◌∙◌, refl, arith}
+use Rattle.std.proofs.Common.{◌≡◌, ℕ, ◌+◌, ◌-◌, ◌≤◌, length, List, get_or, set, ap, sym, ◌∙◌, refl, arith}
 use Rattle.tenant_quota.specs.declared.account.Account.{Account}
 use Rattle.tenant_quota.specs.Accounts.{account_of, credited_by, charged_segments, IsWithinReserve}
 use Rattle.tenant_quota.proofs.Places.{account_place, read-rising}
 use Rattle.tenant_quota.specs.Reservations.{Reservations, HasCharged, IsSoundBook}
 use Rattle.tenant_quota.specs.Keeping.{held_by}
-use Rattle.tenant_quota.proofs.Standing.{is_some_of, and_at, place_within, stands_for, IsChange, change_by_write, sum_by_write}
+use Rattle.tenant_quota.proofs.Standing.{is_some_of, and_at, place_within, stands_for, within_with, IsChange, change_by_write, sum_by_write}
 use Rattle.tenant_quota.proofs.book.Book.give_back.Goals as goal
 
 -- giving back keeps the account within its reserve
 credited_within : (a : Account) (n : ℕ) → IsWithinReserve a → IsWithinReserve (credited_by n a)
-credited_within a n within = record {
-  some_segments = within.some_segments;
-  segments_within = within.segments_within;
-  some_nodes = within.some_nodes;
-  nodes_within = within.nodes_within;
-  charged_within = omega (arith, within.charged_within);
-  opened_within = within.opened_within;
-  ticks_within = within.ticks_within;
-}
+credited_within a n within =
+    within_with a (a.charged - n) a.opened a.ticks (omega (arith, within.charged_within)) within.opened_within within.ticks_within within
 
 -- what the write of a smaller charge does, at the place that was found
 record Credits (b : Reservations) (t i n : ℕ) (e : ℕ × Account) : Type 0 where

@@ -115,6 +115,10 @@ own : (g : Over) (c : After-index_mut g) → reserve_of c.args.tenant (held_by c
 own g c =
     ap (option_map (λ (a : Account). a.reserve)) (stands_for (held_by c.self.inside) c.args.tenant _ _ c.index_mut.result.now c.self.invariant.sound (rw (← c.self.view_is) at c.requires) c.deref.ensures.value c.place_of-place.ensures c.index_mut.ensures.value).account
 
+-- what is asked isn't above what was read of the tenant's account
+few : (g : Over) (c : After-index_mut g) → (IsAbove c.index_mut.result.now.1.reserve c.args.reserve → ⊥) → IsTooLittle (held_by c.self.inside) c.args.tenant c.args.reserve
+few g c never = too_little (held_by c.self.inside) c.args.tenant c.args.reserve _ (own g c) never
+
 pub overflow_sub-segments : goal.overflow_sub-segments
 overflow_sub-segments g c = no_less _ _ _ _ c.segments.ensures.value c.segments-2.ensures.value (c.is_above.ensures.0 c.if-not-is_above.false).segments
 
@@ -129,18 +133,15 @@ index_mut-requires g c = let within = place_within (held_by c.self.inside) c.arg
 
 pub returns-then-not-is_above-clause-ok : goal.returns-then-not-is_above-clause-ok
 returns-then-not-is_above-clause-ok g c =
-    let few = too_little (held_by c.self.inside) c.args.tenant c.args.reserve _ (own g (goal.at.returns-then-not-is_above-clause-ok g c).After-index_mut) (λ above. let yes = c.is_above.ensures.1 above in absurd cc) in
-    rw (← c.self.view_is) (λ never. absurd cc, λ can. absurd (few.taken can))
+    rw (← c.self.view_is) (λ never. absurd cc, λ can. absurd ((few g (goal.at.returns-then-not-is_above-clause-ok g c).After-index_mut (λ above. let yes = c.is_above.ensures.1 above in absurd cc)).taken can))
 
 pub returns-then-not-is_above-clause-lower : goal.returns-then-not-is_above-clause-lower
 returns-then-not-is_above-clause-lower g c =
-    let few = too_little (held_by c.self.inside) c.args.tenant c.args.reserve _ (own g (goal.at.returns-then-not-is_above-clause-lower g c).After-index_mut) (λ above. let yes = c.is_above.ensures.1 above in absurd cc) in
-    rw (← c.self.view_is) (λ _. few.lower, λ _. refl)
+    rw (← c.self.view_is) (λ _. (few g (goal.at.returns-then-not-is_above-clause-lower g c).After-index_mut (λ above. let yes = c.is_above.ensures.1 above in absurd cc)).lower, λ _. refl)
 
 pub returns-then-not-is_above-clause-full : goal.returns-then-not-is_above-clause-full
 returns-then-not-is_above-clause-full g c =
-    let few = too_little (held_by c.self.inside) c.args.tenant c.args.reserve _ (own g (goal.at.returns-then-not-is_above-clause-full g c).After-index_mut) (λ above. let yes = c.is_above.ensures.1 above in absurd cc) in
-    rw (← c.self.view_is) (λ never. absurd cc, λ much. absurd (few.much much))
+    rw (← c.self.view_is) (λ never. absurd cc, λ much. absurd ((few g (goal.at.returns-then-not-is_above-clause-full g c).After-index_mut (λ above. let yes = c.is_above.ensures.1 above in absurd cc)).much much))
 
 pub returns-then-rest-segments-clause-ok : goal.returns-then-rest-segments-clause-ok
 returns-then-rest-segments-clause-ok g c =

@@ -1,26 +1,18 @@
 -- A step that the tenant has left is counted in its account; without one it is refused.
-use Rattle.std.proofs.Common.{◌≡◌, ℕ, ◌<◌, length, List, get_or, set, IsSome, ap, sym, ◌∙◌, refl, arith}
+use Rattle.std.proofs.Common.{◌≡◌, ℕ, ◌+◌, ◌<◌, length, List, get_or, set, IsSome, ap, sym, ◌∙◌, refl, arith}
 use Rattle.tenant_quota.specs.declared.account.Account.{Account}
 use Rattle.tenant_quota.specs.declared.account.Left.{Left}
 use Rattle.tenant_quota.specs.Accounts.{account_of, ticked, left_in, charged_segments, IsWithinReserve}
 use Rattle.tenant_quota.proofs.Places.{account_place, read-rising}
 use Rattle.tenant_quota.specs.Reservations.{Reservations, HasStepLeft, IsOutOfSteps, left_of, IsSoundBook}
 use Rattle.tenant_quota.specs.Keeping.{held_by}
-use Rattle.tenant_quota.proofs.Standing.{and_at, and_from, left_is, place_within, stands_for, IsChange, change_by_write, sum_by_write}
+use Rattle.tenant_quota.proofs.Standing.{and_at, and_from, left_is, place_within, stands_for, within_with, IsChange, change_by_write, sum_by_write}
 use Rattle.tenant_quota.proofs.book.Book.tick.Goals as goal
 
 ticked_within : (a : Account) (l : Left) → l ≡ left_in a → 0 < l.steps → IsWithinReserve a → IsWithinReserve (ticked a)
 ticked_within a l is some_left within =
     let steps_are = ap (λ (x : Left). x.steps) is in
-    record {
-      some_segments = within.some_segments;
-      segments_within = within.segments_within;
-      some_nodes = within.some_nodes;
-      nodes_within = within.nodes_within;
-      charged_within = within.charged_within;
-      opened_within = within.opened_within;
-      ticks_within = omega (arith, within.ticks_within);
-    }
+    within_with a a.charged a.opened (a.ticks + 1) within.charged_within within.opened_within (omega (arith, within.ticks_within)) within
 
 -- what the test of the steps left tells, and what the write of one more step does
 record Ticks (b : Reservations) (t i : ℕ) (e : ℕ × Account) : Type 0 where
