@@ -45,10 +45,6 @@ nodes-total : (es : Entries) → reserved_nodes (accounts_in es) ≡ total (λ t
 nodes-total [] = refl
 nodes-total (e ∷ es) = sum_by-cons (λ (a : ℕ × Account). a.1.reserve.nodes) (e.0, account_in e.1) (accounts_in es) ∙ ap (λ (n : ℕ). e.1.reserve.nodes + n) (nodes-total es)
 
-charged-total : (es : Entries) → charged_in es ≡ total (λ t. charged_for t.frames) es
-charged-total [] = refl
-charged-total (e ∷ es) = ap (λ (n : ℕ). charged_for e.1.frames + n) (charged-total es)
-
 total-changed : (m : Tenant → ℕ) (n : ℕ) (old t : Tenant) (es : Entries) → tenant_in es n ≡ Some old → total m (with_tenant n t es) + m old ≡ total m es + m t
 total-changed m n old t [] at = absurd cc
 total-changed m n old t (e ∷ es) at = elim (cases_Bool (eqb e.0 n)) [
