@@ -6,22 +6,7 @@ use Rattle.jamboree_rules.specs.Places.{rest_with}
 
 -- the root with this window, in this phase, with this best score and the code of a choice, and with these statuses and rests
 abbrev pub opening_root : ℤ → ℤ → ℕ → ℤ → ℕ → List ℕ → List ℕ → Frame
-opening_root alpha beta phase best choice statuses rests = record {
-  own = 34628173824;
-  opp = 68853694464;
-  depth = 1;
-  alpha = alpha;
-  beta = beta;
-  role = role_root;
-  number = 0;
-  phase = phase;
-  best = best;
-  choice = choice;
-  count = 4;
-  spawned = 4;
-  statuses = statuses;
-  rests = rests;
-}
+opening_root alpha beta phase best choice statuses rests = record { own = 34628173824; opp = 68853694464; depth = 1; alpha = alpha; beta = beta; role = role_root; number = 0; phase = phase; best = best; choice = choice; count = 4; spawned = 4; statuses = statuses; rests = rests }
 
 -- the same with the full window
 abbrev pub full_root : ℕ → ℤ → ℕ → List ℕ → List ℕ → Frame
@@ -47,22 +32,7 @@ found_of_c4 kind score = 0 ∷ rest_with kind score ∷ 0 ∷ 0 ∷ []
 
 -- a frame below it that is looked at to this depth, with this window, in this role, for the choice of this number, in this phase, with the words of a board
 abbrev pub below_it : ℕ → ℕ → ℕ → ℤ → ℤ → ℕ → ℕ → ℕ → Frame
-below_it own opp depth alpha beta role number phase = record {
-  own = own;
-  opp = opp;
-  depth = depth;
-  alpha = alpha;
-  beta = beta;
-  role = role;
-  number = number;
-  phase = phase;
-  best = pos 0;
-  choice = 65;
-  count = 0;
-  spawned = 0;
-  statuses = [];
-  rests = [];
-}
+below_it own opp depth alpha beta role number phase = record { own = own; opp = opp; depth = depth; alpha = alpha; beta = beta; role = role; number = number; phase = phase; best = pos 0; choice = 65; count = 0; spawned = 0; statuses = []; rests = [] }
 
 -- the same once it knows the board after d3
 abbrev pub after_d3 : ℕ → ℤ → ℤ → ℕ → Frame

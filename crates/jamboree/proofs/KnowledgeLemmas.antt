@@ -1,8 +1,8 @@
 -- What is known of choices, from the rests of their entries.
-use Rattle.std.specs.Prelude.{◌≡◌, ℕ, zero, suc, ◌+◌, ◌<◌, ◌≤◌, nat_le, true, List, [], ◌∷◌, ◌++◌, map, take, drop, length, slice_index, slice_index_or, slice_get, slice_set, Some, None, All, refl}
+use Rattle.std.specs.Prelude.{◌≡◌, ℕ, zero, suc, ◌+◌, ◌<◌, ◌≤◌, nat_le, true, List, [], ◌∷◌, ◌++◌, map, take, drop, length, slice_index, slice_index_or, slice_get, Some, All, refl}
 use Rattle.std.proofs.Common.{sym, ◌∙◌, ap, subst, arith}
 use Rattle.std.proofs.lemmas.Bool.{and_parts}
-use Rattle.std.proofs.lemmas.List.{take_more, take_more_set, map-append, length-map, length-take}
+use Rattle.std.proofs.lemmas.List.{length-map, length-take}
 use Rattle.std.proofs.lemmas.List.Elements.{All-head, All-tail}
 use Rattle.othello_board.specs.declared.cells.Cell.{Cell}
 use Rattle.othello_moves.specs.declared.choices.Choice.{Choice}
@@ -29,29 +29,11 @@ rest-at es i rest are inside e =
 abbrev pub said_by : List ℕ → List Known
 said_by es = map known_of (map rest_of es)
 
-said-append : (xs ys : List ℕ) → said_by (xs ++ ys) ≡ said_by xs ++ said_by ys
-said-append xs ys = ap (map known_of) (map-append rest_of xs ys) ∙ map-append known_of (map rest_of xs) (map rest_of ys)
-
--- one entry more
-pub said-more : (known : List Known) (es : List ℕ) (i rest : ℕ) (k : Known) → i < length es → i < length known → rest ≡ rest_of (slice_index es i) → k ≡ known_of rest →
-    take i known ≡ said_by (take i es) → take (i + 1) (slice_set known i k) ≡ said_by (take (i + 1) es)
-said-more known es i rest k inside room e is so_far =
-    take_more_set known i k room ∙ ap (λ (ks : List Known). ks ++ k ∷ []) so_far
-    ∙ ap (λ (j : Known). said_by (take i es) ++ j ∷ []) (is ∙ ap known_of e)
-    ∙ sym (ap said_by (take_more es i 0 inside) ∙ said-append (take i es) (slice_index es i ∷ []))
-
 -- the bounds of choices by what their rests say
 pub bounds-said : (cs : List Choice) (rests : List ℕ) → bounds_by cs (map known_of rests) ≡ bounds_in cs rests
 bounds-said [] rests = refl
 bounds-said (c ∷ cs) [] = refl
 bounds-said (c ∷ cs) (rest ∷ rests) = ap (λ (more : List Bound). bound_by c (known_of rest) ∷ more) (bounds-said cs rests)
-
--- there are as many as the fewer of both
-pub bounds-many : (cs : List Choice) (ks : List Known) → length ks ≤ length cs → length (bounds_by cs ks) ≡ length ks
-bounds-many [] [] few = refl
-bounds-many [] (k ∷ ks) few = absurd (omega arith)
-bounds-many (c ∷ cs) [] few = refl
-bounds-many (c ∷ cs) (k ∷ ks) few = ap suc (bounds-many cs ks (omega arith))
 
 -- the bound with a number
 pub bound-at : (cs : List Choice) (ks : List Known) (n i : ℕ) (c : Choice) (d : Known) → slice_get cs i ≡ Some c → i < n → n ≤ length ks →
@@ -61,13 +43,6 @@ bound-at (e ∷ cs) [] n i c d got below few = absurd (omega arith)
 bound-at (e ∷ cs) (k ∷ ks) zero i c d got below few = absurd (omega arith)
 bound-at (e ∷ cs) (k ∷ ks) (suc n) zero c d got below few = cc
 bound-at (e ∷ cs) (k ∷ ks) (suc n) (suc i) c d got below few = bound-at cs ks n i c d got (omega arith) (omega arith)
-
-pub bound-none : (cs : List Choice) (ks : List Known) (n i : ℕ) → n ≤ i → slice_get (bounds_by cs (take n ks)) i ≡ None
-bound-none [] ks n i past = refl
-bound-none (c ∷ cs) ks zero i past = refl
-bound-none (c ∷ cs) [] (suc n) i past = refl
-bound-none (c ∷ cs) (k ∷ ks) (suc n) zero past = absurd (omega arith)
-bound-none (c ∷ cs) (k ∷ ks) (suc n) (suc i) past = bound-none cs ks n i (omega arith)
 
 -- what holds of each bound holds of the one with a number
 pub bound-holds : (P : Bound → Type 0) (bs : List Bound) (i : ℕ) (b : Bound) → All P bs → Some b ≡ slice_get bs i → P b

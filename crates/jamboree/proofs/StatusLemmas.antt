@@ -52,10 +52,6 @@ left-step w (suc k) =
 left-next : (w : List ℕ) (k : ℕ) → left w k ≡ entries_in w k ++ left w (k + 1)
 left-next w k = subst (λ (n : ℕ). left w k ≡ entries_in w k ++ left w n) (sym (add-one k)) (left-step w k)
 
-left-none : (w : List ℕ) (k : ℕ) → 0 < k → length w ≤ 16 * k → left w k ≡ []
-left-none w zero some past = absurd (omega arith)
-left-none w (suc k) some past = drop_of_length-le w past
-
 length-left : (w : List ℕ) (k : ℕ) → 0 < length (left w k) → 12 ≤ length w → length (left w k) + 12 + (16 * k - 12) ≡ length w
 length-left w zero some long = omega (arith, length-drop 12 w)
 length-left w (suc k) some long = omega (arith, length-drop (16 * suc k) w, some)
@@ -69,9 +65,6 @@ pub left-bad : (w entries : List ℕ) (k : ℕ) → entries ≡ entries_in w k �
 left-bad w entries k is bad so_far =
     sym (so_far ∙ ap are_entries (left-next w k) ∙ entries-append (entries_in w k) (left w (k + 1))
     ∙ ap (λ (b : Bool). b && are_entries (left w (k + 1))) (ap are_entries (sym is) ∙ sym bad))
-
-pub left-all : (w : List ℕ) (k : ℕ) → 0 < k → length w ≤ 16 * k → are_entries (drop 12 w) ≡ are_entries (left w k) → true ≡ are_entries (drop 12 w)
-left-all w k some past so_far = sym (so_far ∙ ap are_entries (left-none w k some past))
 
 -- all choices before a segment are settled
 abbrev pub AreSettledBefore : List ℕ → ℕ → Type 0
@@ -104,13 +97,6 @@ open-passed w entries k found is first all before =
     in
     let some : length (left w k) ≡ length entries + length (left w (k + 1)) = length-split w entries k is in
     omega (arith, before, same, some, length-map entries status_of)
-
-pub open-all : (w : List ℕ) (k : ℕ) → 0 < k → length w ≤ 16 * k → AreSettledBefore w k → length w - 12 ≡ first_open (statuses_in w)
-open-all w k some past before =
-    let none : left w k ≡ [] = left-none w k some past in
-    let len : length (left w k) ≡ 0 = ap length none in
-    let found : first_open (map status_of (left w k)) ≡ 0 = ap (λ (xs : List ℕ). first_open (map status_of xs)) none in
-    omega (arith, before, len, found, length-drop 12 w)
 
 -- the status of a choice, by its entry
 status-at : (w : List ℕ) (n : ℕ) → slice_index (statuses_in w) n ≡ status_of (slice_index w (12 + n))

@@ -33,19 +33,4 @@ status_number RunsAgain = status_runs_again
 
 -- the frame of these parts
 abbrev pub frame_by : (own opp depth : ℕ) (alpha beta : ℤ) → Role → ℕ → Phase → ℤ → (choice count spawned : ℕ) → (statuses rests : List ℕ) → Frame
-frame_by own opp depth alpha beta role number phase best choice count spawned statuses rests = record {
-  own = own;
-  opp = opp;
-  depth = depth;
-  alpha = alpha;
-  beta = beta;
-  role = role_number role;
-  number = number;
-  phase = phase_number phase;
-  best = best;
-  choice = choice;
-  count = count;
-  spawned = spawned;
-  statuses = statuses;
-  rests = rests;
-}
+frame_by own opp depth alpha beta role number phase best choice count spawned statuses rests = record { own = own; opp = opp; depth = depth; alpha = alpha; beta = beta; role = role_number role; number = number; phase = phase_number phase; best = best; choice = choice; count = count; spawned = spawned; statuses = statuses; rests = rests }

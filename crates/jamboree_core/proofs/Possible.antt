@@ -1,8 +1,6 @@
 -- What a tenant of searches does can be done: none of its steps but a Submit is refused by BadAct.
 use Rattle.std.proofs.Common.{◌≡◌, ◌≢◌, ℕ, inl, inr, Bool, true, false, not, List, [], ◌∷◌, Option, Some, None, Result, Ok, Err, refl, ap, sym, ◌∙◌, subst, ◌⊎◌}
 use Rattle.std.proofs.lemmas.Bool.{cases_Bool, false≢true, not-false, eq-eqb}
-use Rattle.frame_tree.specs.declared.names.State.{State}
-use Rattle.frame_tree.specs.declared.names.State.TheVariants.{Ready, Running, Computing, Waiting, Returned}
 use Rattle.frame_tree.specs.Frames.{frame_at, parent_of, values_of}
 use Rattle.frame_tree.specs.TreeLaws.{is_that}
 use Rattle.frame_tree.proofs.TreeLaws.{there-found, found-serial, under-there, named-under}
@@ -28,6 +26,7 @@ use Rattle.sched_laws.proofs.Shaped.{run-free, returned-childless}
 use Rattle.sched_laws.proofs.Holds.{Lists, F, kids, fits-holds, found-same, among-kids}
 use Rattle.sched_laws.proofs.Levels.{kept-above, has-origin, words-found, parent-neither}
 use Rattle.sched_laws.proofs.Fits.{has-one}
+use Rattle.sched_laws.proofs.FitRuns.{computes-marked, has-returned}
 use Rattle.jamboree_rules.specs.declared.leaf.Leaf.{Leaf}
 use Rattle.jamboree_rules.specs.declared.leaf.LeafAnswer.{LeafAnswer}
 use Rattle.jamboree_rules.specs.Acts.{next_act, inlet_act}
@@ -56,21 +55,6 @@ at-none-bad {X} frames s step each = by (frame_at frames s) refl
     by : (o : Option F) → frame_at frames s ≡ o → refusal_in (at_frame o step) ≢ Some BadAct
     by None at = λ e. absurd cc
     by (Some f) at = each f at
-
--- a frame that computes
-computing : (worker : ℕ) (state : State) → is_computed_by worker state ≡ true → mark_of state ≡ Computes
-computing worker (Ready home) is = absurd (false≢true is)
-computing worker (Running holder) is = absurd (false≢true is)
-computing worker (Computing holder) is = refl
-computing worker Waiting is = absurd (false≢true is)
-computing worker Returned is = absurd (false≢true is)
-
-returned-so : (state : State) → is_returned state ≡ true → mark_of state ≡ HasReturned
-returned-so (Ready home) is = absurd (false≢true is)
-returned-so (Running worker) is = absurd (false≢true is)
-returned-so (Computing worker) is = absurd (false≢true is)
-returned-so Waiting is = absurd (false≢true is)
-returned-so Returned is = refl
 
 module _ (grain : ℕ) (origins : Lists) (tenant : Tenant) (shape : IsShaped tenant) (fitting : TenantFits AreFitting IsRoot origins tenant) where
   -- the next act of a frame that runs
@@ -131,7 +115,7 @@ module _ (grain : ℕ) (origins : Lists) (tenant : Tenant) (shape : IsShaped ten
   possible (Answer worker name answer) none =
       at-none-bad tenant.frames name.serial (λ frame. unless (answer_tests (jamboree grain) tenant worker frame answer) (answered (jamboree grain) tenant worker frame answer)) (λ f at.
       not-bad (answer_tests (jamboree grain) tenant worker f answer) (answered (jamboree grain) tenant worker f answer)
-      ((λ e. absurd cc), λ computes. ((λ e. absurd cc), λ n. ((λ e. absurd cc), λ n. ((λ e. answer-good name.serial f answer at (computing worker f.state (not-false (is_computed_by worker f.state) computes))), λ n. tt)))))
+      ((λ e. absurd cc), λ computes. ((λ e. absurd cc), λ n. ((λ e. absurd cc), λ n. ((λ e. answer-good name.serial f answer at (computes-marked worker f.state (not-false (is_computed_by worker f.state) computes))), λ n. tt)))))
   possible (Inlet worker name) none = at-none-bad tenant.frames name.serial (λ frame. inlet_under (jamboree grain) tenant worker name frame (parent_of frame.path)) (λ f at. by f at (parent_of f.path) refl)
     where
       by : (f : F) → frame_at tenant.frames name.serial ≡ Some f → (parent : Option ℕ) → parent_of f.path ≡ parent → refusal_in (inlet_under (jamboree grain) tenant worker name f parent) ≢ Some BadAct
@@ -139,7 +123,7 @@ module _ (grain : ℕ) (origins : Lists) (tenant : Tenant) (shape : IsShaped ten
       by f at (Some parent) named =
           let act = inlet_act (words_in tenant.frames parent) f.value in
           not-bad (inlet_tests tenant worker f parent act) (taken_in {I = Leaf} tenant worker name parent act)
-          ((λ e. absurd cc), λ returned. ((λ e. absurd cc), λ n. ((λ e. inlet-good name.serial parent f at named (returned-so f.state (not-false (is_returned f.state) returned))), λ n. ((λ e. absurd cc), λ n. tt))))
+          ((λ e. absurd cc), λ returned. ((λ e. absurd cc), λ n. ((λ e. inlet-good name.serial parent f at named (has-returned f.state (not-false (is_returned f.state) returned))), λ n. ((λ e. absurd cc), λ n. tt))))
   possible (Finish worker name) none = at-none-bad tenant.frames name.serial (λ frame. unless (finish_tests tenant worker frame) (finished {I = Leaf} tenant frame)) (λ f at.
       not-bad (finish_tests tenant worker f) (finished {I = Leaf} tenant f) ((λ e. absurd cc), λ n. ((λ e. absurd cc), λ n. ((λ e. absurd cc), λ n. tt))))
   possible (Spend name) none = at-none-bad tenant.frames name.serial (λ frame. unless ((not (is_spendable (jamboree grain) tenant frame), NotSpent) ∷ []) (spent {I = Leaf} tenant frame)) (λ f at.

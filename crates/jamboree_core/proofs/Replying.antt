@@ -13,7 +13,7 @@ use Rattle.sched_rules.specs.Laws.{HasReturned, mark_of, EachFits}
 use Rattle.sched_rules.specs.Runs.{only}
 use Rattle.sched_rules.specs.Cores.{shared_by_nobody, tenant_in}
 use Rattle.sched_rules.specs.Headline.{AreAnswersTo, after_answers, taken}
-use Rattle.sched_laws.specs.Fitted.{JobsFit, TenantFits, RootFits, RootsFit, origins_of}
+use Rattle.sched_laws.specs.Fitted.{JobsFit, TenantFits, submits, RootFits, RootsFit, origins_of}
 use Rattle.sched_laws.proofs.Levels.{IsLawful}
 use Rattle.sched_laws.proofs.FitAnswers.{run-fits, nobody-fits}
 use Rattle.jamboree_rules.specs.declared.leaf.Leaf.{Leaf}
@@ -30,24 +30,28 @@ use Rattle.jamboree_rules.proofs.Keeping.{next-keeps, inlet-keeps}
 use Rattle.jamboree_rules.proofs.Soundness.{fits-sound}
 use Rattle.jamboree_rules.proofs.Answers.{accept-keeps, root-fits, root-value}
 use Rattle.jamboree_rules.proofs.Rooted.{root-whole, root-kept}
+use Rattle.jamboree_core.specs.Searching.{AreAllRootWords}
 use Rattle.jamboree_core.specs.Replies.{IsSearch, AreSearches, IsReplyTo, AreReplies, AreAllSound}
 
--- the new root of a search fits
-pub search-fits : (step : StepOf LeafAnswer) → IsSearch step → RootFits AreFitting IsRoot step
-search-fits (Admit number quota) is = tt
-search-fits (AdmitMore number quota) is = tt
-search-fits (Submit number words size) is =
+-- the new root of a search fits, and belongs to a board and a depth
+pub search-parts : {A : Type 0} (step : StepOf A) → IsSearch step → RootFits AreFitting IsRoot step × AreAllRootWords (submits step)
+search-parts (Admit number quota) is = (tt, tt)
+search-parts (AdmitMore number quota) is = (tt, tt)
+search-parts (Submit number words size) is =
     let root = root-fits is.0.own is.0.opp is.0.depth is.0.apart is.0.shallow in
-    rw (is.0.are, is.1) root
-search-fits (Take worker name) is = tt
-search-fits (Steal worker from name) is = tt
-search-fits (Advance worker name) is = tt
-search-fits (Answer worker name answer) is = tt
-search-fits (Inlet worker name) is = tt
-search-fits (Finish worker name) is = tt
-search-fits (Spend name) is = tt
-search-fits (Cancel number job) is = tt
-search-fits (Leave number) is = tt
+    (rw (is.0.are, is.1) root, (is.0, tt))
+search-parts (Take worker name) is = (tt, tt)
+search-parts (Steal worker from name) is = (tt, tt)
+search-parts (Advance worker name) is = (tt, tt)
+search-parts (Answer worker name answer) is = (tt, tt)
+search-parts (Inlet worker name) is = (tt, tt)
+search-parts (Finish worker name) is = (tt, tt)
+search-parts (Spend name) is = (tt, tt)
+search-parts (Cancel number job) is = (tt, tt)
+search-parts (Leave number) is = (tt, tt)
+
+pub search-fits : (step : StepOf LeafAnswer) → IsSearch step → RootFits AreFitting IsRoot step
+search-fits step is = (search-parts step is).0
 
 pub searches-fit : (steps : List (StepOf LeafAnswer)) → AreSearches steps → RootsFit AreFitting IsRoot steps
 searches-fit [] are = tt

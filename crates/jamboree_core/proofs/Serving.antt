@@ -6,7 +6,6 @@ use Rattle.tenant_quota.specs.Quota.{Quota}
 use Rattle.sched_rules.specs.declared.refusal.Refusal.{Refusal}
 use Rattle.sched_rules.specs.declared.step.StepOf.{StepOf}
 use Rattle.sched_rules.specs.declared.step.DidOf.{DidOf}
-use Rattle.sched_rules.specs.declared.step.StepOf.TheVariants.{Admit, AdmitMore, Submit, Take, Steal, Advance, Answer, Inlet, Finish, Spend, Cancel, Leave}
 use Rattle.sched_rules.specs.Trees.{Tenant}
 use Rattle.sched_rules.specs.Runs.{tenant_of, only}
 use Rattle.sched_rules.specs.Cores.{Shared, shared_by_nobody, tenant_in}
@@ -19,7 +18,7 @@ use Rattle.jamboree_rules.specs.declared.leaf.LeafAnswer.{LeafAnswer}
 use Rattle.jamboree_rules.specs.Fits.{AreFitting, IsRoot}
 use Rattle.jamboree_rules.specs.Procedure.{jamboree}
 use Rattle.jamboree_core.specs.Replies.{IsSearch, AreSearches, AreReplies, AreAllSound}
-use Rattle.jamboree_core.proofs.Replying.{replies-held, all-sound, searches-fit}
+use Rattle.jamboree_core.proofs.Replying.{replies-held, all-sound, search-parts, searches-fit}
 use Rattle.jamboree_core.specs.Searching.{AreAllRootWords, TenantSearches, ServesSearches, CoreSearches, HoldsReplies, submitted_to, IsHeadlineInFull}
 use Rattle.jamboree_core.specs.NewRuns.{IsHeadlineFromNew, submitted_by}
 
@@ -69,30 +68,16 @@ asked-append : (xs ys : List (List ℕ)) → AreAllRootWords xs → AreAllRootWo
 asked-append [] ys some more = more
 asked-append (x ∷ xs) ys some more = (some.0, asked-append xs ys some.1 more)
 
-step-asked : {A : Type 0} (step : StepOf A) → IsSearch step → AreAllRootWords (submits step)
-step-asked (Admit number quota) is = tt
-step-asked (AdmitMore number quota) is = tt
-step-asked (Submit number words size) is = (is.0, tt)
-step-asked (Take worker name) is = tt
-step-asked (Steal worker from name) is = tt
-step-asked (Advance worker name) is = tt
-step-asked (Answer worker name answer) is = tt
-step-asked (Inlet worker name) is = tt
-step-asked (Finish worker name) is = tt
-step-asked (Spend name) is = tt
-step-asked (Cancel number job) is = tt
-step-asked (Leave number) is = tt
-
 pub searches-asked : {A : Type 0} (steps : List (StepOf A)) → AreSearches steps → AreAllRootWords (origins_of steps)
 searches-asked [] are = tt
-searches-asked (step ∷ steps) are = asked-append (submits step) (origins_of steps) (step-asked step are.0) (searches-asked steps are.1)
+searches-asked (step ∷ steps) are = asked-append (submits step) (origins_of steps) (search-parts step are.0).1 (searches-asked steps are.1)
 
 -- the words under each number after a step and after a list
 pub after-asked : {I A : Type 0} (origins : ℕ → List (List ℕ)) (step : StepOf A) (answer : Result (DidOf I) Refusal) → ((number : ℕ) → AreAllRootWords (origins number)) → (is_ok answer ≡ true → IsSearch step) →
     (number : ℕ) → AreAllRootWords (origins_after origins step answer number)
 after-asked origins step (Err refusal) asked search number = asked number
 after-asked origins step (Ok did) asked search number = elim (cases_Bool (eqb (tenant_of step) number)) [
-  | inl own ↦ rw own (asked-append (origins number) (submits step) (asked number) (step-asked step (search refl)))
+  | inl own ↦ rw own (asked-append (origins number) (submits step) (asked number) (search-parts step (search refl)).1)
   | inr other ↦ rw other (asked number)
 ]
 

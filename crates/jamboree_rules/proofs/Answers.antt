@@ -20,7 +20,7 @@ use Rattle.jamboree_rules.proofs.LeafLemmas.{Has, has-from, same-has, moved, nam
 use Rattle.jamboree_rules.proofs.BoardWords.{length-cells-of}
 use Rattle.jamboree_rules.proofs.Openings.{accepted}
 use Rattle.jamboree_rules.proofs.Forms.{IsFrame, IsFormed, formed-told, formed-passes}
-use Rattle.jamboree_rules.proofs.Steps.{status-count}
+use Rattle.jamboree_rules.proofs.Steps.{status-count, new-form}
 use Rattle.jamboree_rules.proofs.Tabling.{tabled-none}
 use Rattle.jamboree_rules.proofs.Takings.{IsGoodStore, good-store}
 use Rattle.jamboree_rules.proofs.Keeping.{store-above}
@@ -116,16 +116,9 @@ root-form : (own opp depth : ℕ) → bit_and own opp ≡ 0 → depth ≤ 12 →
 root-form own opp depth apart shallow = record {
   places = refl;
   entries = refl;
-  frame = record {
-    leaf = record { disjoint = apart; shallow = shallow; low = omega (arith, ints); window = omega (arith, ints); high = omega (arith, ints) };
-    role = omega arith;
-    phase = omega arith;
-    choice = omega arith;
-    spawned = omega arith;
-    early = λ _. (refl, refl);
-    late = λ (e : 1 < 0). absurd (omega arith);
-    counts = ⊎_elim (λ (e : 0 ≡ 2). absurd (omega arith)) (λ (e : 0 ≡ 3). absurd (omega arith));
-  };
+  frame =
+      new-form (frame_of (padded (root_words own opp depth) frame_size)) (record { disjoint = apart; shallow = shallow; low = omega (arith, ints); window = omega (arith, ints); high = omega (arith, ints) })
+      (omega arith) refl (omega arith) refl refl refl;
 }
 
 -- a new root fits, and belongs to the words that it was submitted with

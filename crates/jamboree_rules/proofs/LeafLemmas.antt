@@ -10,7 +10,7 @@ use Rattle.leaf_search.specs.Bounds.{IsBound}
 use Rattle.jamboree_rules.specs.declared.leaf.Leaf.{Leaf}
 use Rattle.jamboree_rules.specs.declared.leaf.LeafAnswer.{LeafAnswer}
 use Rattle.jamboree_rules.specs.Frames.{is_leaf, coded}
-use Rattle.jamboree_rules.specs.Leaves.{IsLeaf, leaf-told, leaf_with, leaf_by, leaf_from, any_leaf, same_leaf}
+use Rattle.jamboree_rules.specs.Leaves.{IsLeaf, leaf-told, leaf_with, leaf_by, leaf_from, same_leaf}
 use Rattle.jamboree_rules.proofs.Forms.{leaf-passes}
 use Rattle.jamboree_rules.proofs.Codes.{coded-small}
 
@@ -99,11 +99,3 @@ leaf-is leaf own opp depth alpha beta h =
       alpha_is = h.alpha_is ∙ sym has.alpha_is;
       beta_is = h.beta_is ∙ sym has.beta_is;
     })
-
--- the leaf of numbers that don't pass the test
-leaf-by-false : (own opp depth : ℕ) (alpha beta : ℤ) (b : Bool) (h : b ≡ true → IsLeaf own opp depth alpha beta) → b ≡ false → any_leaf ≡ leaf_by own opp depth alpha beta b h
-leaf-by-false own opp depth alpha beta true h e = absurd (cc)
-leaf-by-false own opp depth alpha beta false h e = refl
-
-pub leaf-else : (own opp depth : ℕ) (alpha beta : ℤ) → is_leaf own opp depth alpha beta ≡ false → any_leaf ≡ leaf_from own opp depth alpha beta
-leaf-else own opp depth alpha beta e = leaf-by-false own opp depth alpha beta (is_leaf own opp depth alpha beta) (leaf-told own opp depth alpha beta) e

@@ -58,9 +58,9 @@ set-first w k x early long =
     let entries : drop 12 (slice_set w k x) ≡ drop 12 w = drop-front w 12 k x early in
     ap (λ (g : ℕ → ℕ). frame_with g (drop 12 (slice_set w k x))) words ∙ ap (λ (es : List ℕ). frame_with (put (slice_index w) k x) es) entries
 
-set-entry : (w : List ℕ) (i x : ℕ) → frame_of (slice_set w (12 + i) x) ≡ record (frame_of w) { statuses = slice_set (map status_of (drop 12 w)) i (status_of x); rests = slice_set (map rest_of (drop 12 w)) i (rest_of x) }
-set-entry w i x =
-    let same : (j : ℕ) → j < 12 → slice_index (slice_set w (12 + i) x) j ≡ slice_index w j = λ j below. beside w j (12 + i) x (λ e. absurd (omega (arith, e))) in
+-- words with the same first places have the same frame but for its entries
+frame-alike : (w v : List ℕ) → ((j : ℕ) → j < 12 → slice_index v j ≡ slice_index w j) → frame_of v ≡ record (frame_of w) { statuses = map status_of (drop 12 v); rests = map rest_of (drop 12 v) }
+frame-alike w v same =
     rw (
       same 0 (omega arith),
       same 1 (omega arith),
@@ -74,10 +74,14 @@ set-entry w i x =
       same 9 (omega arith),
       same 10 (omega arith),
       same 11 (omega arith),
-      drop-behind w 12 i x,
-      map-set status_of (drop 12 w) i x,
-      map-set rest_of (drop 12 w) i x,
     )
+
+set-entry : (w : List ℕ) (i x : ℕ) → frame_of (slice_set w (12 + i) x) ≡ record (frame_of w) { statuses = slice_set (map status_of (drop 12 w)) i (status_of x); rests = slice_set (map rest_of (drop 12 w)) i (rest_of x) }
+set-entry w i x =
+    frame-alike w (slice_set w (12 + i) x) (λ j below. beside w j (12 + i) x (λ e. absurd (omega (arith, e))))
+    ∙ ap (λ (es : List ℕ). record (frame_of w) { statuses = map status_of es; rests = map rest_of es }) (drop-behind w 12 i x)
+    ∙ ap (λ (st : List ℕ). record (frame_of w) { statuses = st; rests = map rest_of (slice_set (drop 12 w) i x) }) (map-set status_of (drop 12 w) i x)
+    ∙ ap (λ (rs : List ℕ). record (frame_of w) { statuses = slice_set (map status_of (drop 12 w)) i (status_of x); rests = rs }) (map-set rest_of (drop 12 w) i x)
 
 -- an entry that is set is read again
 set-both : (w : List ℕ) (i status rest : ℕ) → status ≤ 4 → frame_of (slice_set w (12 + i) (entry_of status rest)) ≡ changed (Status i status rest) (frame_of w)
@@ -175,21 +179,7 @@ entries-zeros (suc n) = entries-zeros n
 pub frame-grown : (w : List ℕ) (n : ℕ) → length w ≡ 12 → frame_of (w ++ replicate n 0) ≡ record (frame_of w) { statuses = replicate n 0; rests = replicate n 0 }
 frame-grown w n len =
     let long : 12 ≤ length w = omega arith in
-    let same : (j : ℕ) → j < 12 → slice_index (w ++ replicate n 0) j ≡ slice_index w j = λ j below. first-grown w (replicate n 0) j long below in
-    rw (
-      same 0 (omega arith),
-      same 1 (omega arith),
-      same 2 (omega arith),
-      same 3 (omega arith),
-      same 4 (omega arith),
-      same 5 (omega arith),
-      same 6 (omega arith),
-      same 7 (omega arith),
-      same 8 (omega arith),
-      same 9 (omega arith),
-      same 10 (omega arith),
-      same 11 (omega arith),
-      drop-grown w (replicate n 0) len,
-      statuses-zeros n,
-      rests-zeros n,
-    )
+    frame-alike w (w ++ replicate n 0) (λ j below. first-grown w (replicate n 0) j long below)
+    ∙ ap (λ (es : List ℕ). record (frame_of w) { statuses = map status_of es; rests = map rest_of es }) (drop-grown w (replicate n 0) len)
+    ∙ ap (λ (st : List ℕ). record (frame_of w) { statuses = st; rests = map rest_of (replicate n 0) }) (statuses-zeros n)
+    ∙ ap (λ (rs : List ℕ). record (frame_of w) { statuses = replicate n 0; rests = rs }) (rests-zeros n)

@@ -1,5 +1,5 @@
 -- One frame's search, over the values v of its choices, the codes of its choices, their statuses and what is found of them.
-use Rattle.std.specs.Prelude.{◌≡◌, ◌≢◌, ℕ, ◌<◌, ℤ, pos, neg_ℤ, ◌<ℤ◌, ◌≤ℤ◌, ◌+ℤ◌, List, length, refl, slice_index, slice_set}
+use Rattle.std.specs.Prelude.{◌≡◌, ◌≢◌, ℕ, ◌<◌, ℤ, neg_ℤ, ◌<ℤ◌, ◌≤ℤ◌, ◌+ℤ◌, List, length, refl, slice_index, slice_set}
 use Rattle.std.specs.Int.{int_max}
 use Rattle.std.proofs.Common.{sym, ◌∙◌, ap, subst, arith}
 use Rattle.std.proofs.lemmas.Grind.{common_steps}
@@ -125,13 +125,3 @@ all_settled v code st rests alpha beta best m choice s all g =
           let worth : v f.place ≡ best = f.worth in
           omega (arith, ints);
     }
-
--- the window of a test is inside the parent's, and the floor of a search again stays while tests come in low
-pub floor-kept : (alpha best t score : ℤ) → alpha ≤ℤ t → t ≤ℤ int_max alpha best → score ≤ℤ t → int_max alpha (int_max best score) ≡ int_max alpha best
-floor-kept alpha best t score a b c = omega (arith, ints, clamps)
-
--- a test's score that is above t and at least beta bounds from below
-pub test-cut : (alpha beta best t score sc m : ℤ) → t ≤ℤ int_max alpha best → best <ℤ beta → alpha <ℤ beta → score ≡ neg_ℤ sc → IsBound (neg_ℤ (t +ℤ pos 1)) (neg_ℤ t) sc m → beta ≤ℤ score → score ≤ℤ neg_ℤ m
-test-cut alpha beta best t score sc m under below window is bound high =
-    let at : sc ≤ℤ neg_ℤ (t +ℤ pos 1) = omega (arith, ints, clamps) in
-    let h : m ≤ℤ sc = bound.upper at in omega (arith, ints)

@@ -17,7 +17,7 @@ use Rattle.sched_rules.specs.Lone.{is_bad_then, is_bad_act}
 use Rattle.sched_rules.specs.Laws.{NewChildFits, Mark, Neither, HasReturned, grown, children_after, mark_after, has_one}
 use Rattle.leaf_search.specs.othello_eval.Tables.{entered}
 use Rattle.leaf_search.specs.Bounds.{IsBound}
-use Rattle.jamboree_rules.specs.Frames.{Frame, code_at, rest_at, value_at, value, floor, least, greatest, choice_at}
+use Rattle.jamboree_rules.specs.Frames.{Frame, code_at, rest_at, value_at, value, floor, least, greatest, unscored, choice_at}
 use Rattle.jamboree_rules.specs.Places.{word_of, status_of, frame_of, is_rest, are_entries, Change, OwnBits, OppBits, Phase, Best, Chosen, Count, Spawned, Status, pair_of, pairs_of, given_words, frame_size}
 use Rattle.jamboree_rules.specs.Acts.{returns, spawns, opening, first_search, tests}
 use Rattle.jamboree_rules.specs.Fits.{IsSearchingFrame, Fits, AreFitting}
@@ -28,7 +28,7 @@ use Rattle.jamboree_rules.proofs.Kinship.{next-settled, next-done}
 use Rattle.jamboree_rules.proofs.Openings.{new_child, next-first, next-again, next-test, next-opened, next-computed}
 use Rattle.jamboree_rules.proofs.Codes.{few-choices}
 use Rattle.jamboree_rules.proofs.Packing.{held, rests-are}
-use Rattle.jamboree_rules.proofs.PlaceLemmas.{length-stored, frame-stored, drop-grown, entries-zeros, frame-grown}
+use Rattle.jamboree_rules.proofs.PlaceLemmas.{AreSafe, changed_by, length-stored, frame-stored, drop-grown, entries-zeros, frame-grown}
 use Rattle.jamboree_rules.proofs.Forms.{IsFrame, IsFormed, formed-passes, formed-stored}
 
 -- a frame of the same depth, window, role and number
@@ -132,6 +132,19 @@ searching-late f (inr e) = omega arith
 late-known : (phase : ℕ) → 1 < phase → phase ≢ 0
 late-known phase h = λ (e : phase ≡ 0). absurd (omega arith)
 
+-- a frame that hasn't begun has the form
+pub new-form : (f : Frame) → IsLeaf f.own f.opp f.depth f.alpha f.beta → f.role ≤ 3 → f.phase ≡ 0 → f.choice ≤ 65 → f.spawned ≡ 0 → f.best ≡ unscored → f.count ≡ 0 → IsFrame f
+new-form f leaf role phase choice spawned best count = record {
+  leaf = leaf;
+  role = role;
+  phase = omega arith;
+  choice = choice;
+  spawned = omega arith;
+  early = λ _. (best, count);
+  late = λ (late : 1 < f.phase). absurd (omega arith);
+  counts = ⊎_elim (λ (e : f.phase ≡ 2). absurd (omega arith)) (λ (e : f.phase ≡ 3). absurd (omega arith));
+}
+
 -- the frame in a new child's words
 pub child-frame : (f : Frame) (role i : ℕ) (low high : ℤ) → least ≤ℤ low → least ≤ℤ high → frame_of (padded (given_words (f.depth - plies (choice_at f i)) low high role i) frame_size) ≡ new_child f role i low high
 child-frame f role i low high l h =
@@ -143,16 +156,8 @@ pub child-fits : (f : Frame) (role i : ℕ) (low high : ℤ) → IsFrame f → r
 child-fits f role i low high form small l window h fits =
     let is : frame_of (padded (given_words (f.depth - plies (choice_at f i)) low high role i) frame_size) ≡ new_child f role i low high = child-frame f role i low high l (omega (arith, ints)) in
     let shallow : f.depth ≤ 12 = form.leaf.shallow in
-    let frame : IsFrame (new_child f role i low high) = record {
-      leaf = record { disjoint = refl; shallow = omega arith; low = l; window = window; high = h };
-      role = small;
-      phase = omega arith;
-      choice = omega arith;
-      spawned = omega arith;
-      early = λ _. (refl, refl);
-      late = λ (e : 1 < 0). absurd (omega arith);
-      counts = ⊎_elim (λ (e : 0 ≡ 2). absurd (omega arith)) (λ (e : 0 ≡ 3). absurd (omega arith));
-    } in
+    let frame : IsFrame (new_child f role i low high) =
+    new-form (new_child f role i low high) (record { disjoint = refl; shallow = omega arith; low = l; window = window; high = h }) small refl (omega arith) refl refl refl in
     record {
       formed = formed-passes (padded (given_words (f.depth - plies (choice_at f i)) low high role i) frame_size) (record { places = refl; entries = refl; frame = subst IsFrame (sym is) frame });
       frame = subst (λ (g : Frame). Fits g [] Neither) (sym is) fits;
@@ -168,18 +173,30 @@ children-behind f c children child mark is fits =
     subst (λ (fs : List Frame). Fits f fs mark) (sym (map-joined children (child ∷ [])))
     (subst (λ (g : Frame). Fits f (map frame_of children ++ g ∷ []) mark) (sym is) fits)
 
--- to open a child, which is the frame c under the frame g that these stores leave
-spawn-good : (own : List ℕ) (children : List (List ℕ)) (changes : List Change) (role i : ℕ) (low high : ℤ) (g : Frame) → IsFormed own → frame_of (stored (pairs_of changes) own) ≡ g →
-    AreInside (frame_of own).count changes → IsFormed (stored (pairs_of changes) own) → role ≤ 3 → least ≤ℤ low → low <ℤ high → high ≤ℤ greatest →
-    Fits g (map frame_of children ++ new_child (frame_of own) role i low high ∷ []) Neither × Fits (new_child (frame_of own) role i low high) [] Neither →
-    HasSameGoal (frame_of own) g → g.own ≡ (frame_of own).own → g.opp ≡ (frame_of own).opp → g.phase ≢ 0 →
+-- the frame with this status at a choice, and so many spawned
+abbrev pub with_place : Frame → (i status spawned : ℕ) → Frame
+with_place f i status spawned = record f { spawned = spawned; statuses = slice_set f.statuses i status; rests = slice_set f.rests i (rest_at f i) }
+
+-- to open a child for choice i, inside the frame's window
+spawn-good : (own : List ℕ) (children : List (List ℕ)) (changes : List Change) (role i status spawned : ℕ) (low high : ℤ) → IsFormed own → ((frame_of own).phase ≡ 2) ⊎ ((frame_of own).phase ≡ 3) →
+    AreSafe changes → AreInside (frame_of own).count changes → changed_by changes (frame_of own) ≡ with_place (frame_of own) i status spawned → spawned ≤ (frame_of own).count → role ≤ 3 →
+    neg_ℤ (frame_of own).beta ≤ℤ low → low <ℤ high → high ≤ℤ neg_ℤ (frame_of own).alpha →
+    Fits (with_place (frame_of own) i status spawned) (map frame_of children ++ new_child (frame_of own) role i low high ∷ []) Neither × Fits (new_child (frame_of own) role i low high) [] Neither →
     IsGoodAct own children (frame_of own).own (frame_of own).opp (record { stores = pairs_of changes; after = spawns (frame_of own) role i low high })
-spawn-good own children changes role i low high g form is inside formed small l window h both goal own_is opp_is known =
+spawn-good own children changes role i status spawned low high form before safe inside is few small from window to both =
     let f : Frame = frame_of own in
-    good-by own children f.own f.opp (record { stores = pairs_of changes; after = spawns f role i low high }) g is
-    (good-act changes own f.count (has_one children) (spawns f role i low high) form.places inside refl) formed
-    (children-behind g (new_child f role i low high) children (padded (given_words (f.depth - plies (choice_at f i)) low high role i) frame_size) Neither (child-frame f role i low high l (omega (arith, ints))) both.0)
-    (child-fits f role i low high form.frame small l window h both.1) goal own_is opp_is known
+    let late = form.frame.late (searching-late f before) in
+    let leaf : IsLeaf f.own f.opp f.depth f.alpha f.beta = form.frame.leaf in
+    let bottom : least ≤ℤ f.alpha = leaf.low in
+    let top : f.beta ≤ℤ greatest = leaf.high in
+    let l : least ≤ℤ low = omega (arith, ints) in
+    good-by own children f.own f.opp (record { stores = pairs_of changes; after = spawns f role i low high }) (with_place f i status spawned) (frame-stored changes own safe (omega (arith, form.places)) ∙ is)
+    (good-act changes own f.count (has_one children) (spawns f role i low high) form.places inside refl)
+    (formed-stored changes own form safe (ap (λ (h : Frame). h.count) is) (subst IsFrame (sym is)
+    (searched f f.phase f.choice spawned f.best (slice_set f.statuses i status) (slice_set f.rests i (rest_at f i)) form.frame before (searching-late f before) form.frame.phase form.frame.choice few late.0 late.1)))
+    (children-behind (with_place f i status spawned) (new_child f role i low high) children (padded (given_words (f.depth - plies (choice_at f i)) low high role i) frame_size) Neither (child-frame f role i low high l (omega (arith, ints))) both.0)
+    (child-fits f role i low high form.frame small l window (omega (arith, ints)) both.1)
+    (record { depth = refl; alpha = refl; beta = refl; role = refl; number = refl }) refl refl (late-known f.phase (searching-late f before))
 
 -- to do nothing but wait
 wait-good : (own : List ℕ) (children : List (List ℕ)) → IsFormed own → Fits (frame_of own) (map frame_of children) Neither → (frame_of own).phase ≢ 0 →
@@ -203,21 +220,12 @@ pub first-good : (none : Bool) (own : List ℕ) (children : List (List ℕ)) →
     IsGoodAct own children (frame_of own).own (frame_of own).opp (first_search none (frame_of own))
 first-good true own children e phase form fits =
     let f : Frame = frame_of own in
-    let changes : List Change = Spawned 1 ∷ Status 0 1 (rest_at f 0) ∷ [] in
     let counts = form.frame.counts (inl phase) in
     let some : 0 < f.count = counts.1 in
-    let late = form.frame.late (searching-late f (inl phase)) in
-    let leaf : IsLeaf f.own f.opp f.depth f.alpha f.beta = form.frame.leaf in
-    let low : least ≤ℤ f.alpha = leaf.low in
-    let window : f.alpha <ℤ f.beta = leaf.window in
-    let high : f.beta ≤ℤ greatest = leaf.high in
-    spawn-good own children changes 1 0 (neg_ℤ f.beta) (neg_ℤ f.alpha) (record f { spawned = 1; statuses = slice_set f.statuses 0 1; rests = slice_set f.rests 0 (rest_at f 0) }) form
-    (frame-stored changes own (tt, ((omega arith, rest-there own 0 form), tt)) (omega (arith, form.places))) (tt, (some, tt))
-    (formed-stored changes own form (tt, ((omega arith, rest-there own 0 form), tt)) refl
-    (searched f f.phase f.choice 1 f.best (slice_set f.statuses 0 1) (slice_set f.rests 0 (rest_at f 0)) form.frame (inl phase) (searching-late f (inl phase)) form.frame.phase form.frame.choice (omega arith) late.0 late.1))
-    (omega arith) (omega (arith, ints)) (omega (arith, ints)) (omega (arith, ints))
+    let window : f.alpha <ℤ f.beta = fits.window in
+    spawn-good own children (Spawned 1 ∷ Status 0 1 (rest_at f 0) ∷ []) 1 0 1 1 (neg_ℤ f.beta) (neg_ℤ f.alpha) form (inl phase)
+    (tt, ((omega arith, rest-there own 0 form), tt)) (tt, (some, tt)) refl (omega arith) (omega arith) (omega (arith, ints)) (omega (arith, ints)) (omega (arith, ints))
     (next-first f (map frame_of children) fits phase (none-told f.spawned e))
-    (record { depth = refl; alpha = refl; beta = refl; role = refl; number = refl }) refl refl (late-known f.phase (searching-late f (inl phase)))
 first-good false own children e phase form fits = wait-good own children form fits (late-known (frame_of own).phase (searching-late (frame_of own) (inl phase)))
 
 -- no children: a list whose frames are none
@@ -261,42 +269,22 @@ pub tests-good : (failed more all : Bool) (own : List ℕ) (children : List (Lis
     IsGoodAct own children (frame_of own).own (frame_of own).opp (tests failed more all (frame_of own) j)
 tests-good true more all own children j at ef em ea phase form fits =
     let f : Frame = frame_of own in
-    let changes : List Change = Status j 4 (rest_at f j) ∷ [] in
     let told = failed-told j (length f.statuses) (slice_index f.statuses j) ef in
-    let late = form.frame.late (searching-late f (inr phase)) in
-    let leaf : IsLeaf f.own f.opp f.depth f.alpha f.beta = form.frame.leaf in
-    let low : least ≤ℤ f.alpha = leaf.low in
-    let window : f.alpha <ℤ f.beta = leaf.window in
-    let high : f.beta ≤ℤ greatest = leaf.high in
-    let s : IsSearchingFrame f = fits.searching (inr phase) in
-    let below : f.best <ℤ f.beta = s.search.below in
+    let window : f.alpha <ℤ f.beta = fits.window in
+    let below : f.best <ℤ f.beta = (fits.searching (inr phase)).search.below in
     let inside : j < f.count = omega (arith, status-count own form, told.0) in
-    spawn-good own children changes 3 j (neg_ℤ f.beta) (neg_ℤ (floor f)) (record f { statuses = slice_set f.statuses j 4; rests = slice_set f.rests j (rest_at f j) }) form
-    (frame-stored changes own ((omega arith, rest-there own j form), tt) (omega (arith, form.places))) (inside, tt)
-    (formed-stored changes own form ((omega arith, rest-there own j form), tt) refl
-    (searched f f.phase f.choice f.spawned f.best (slice_set f.statuses j 4) (slice_set f.rests j (rest_at f j)) form.frame (inr phase) (searching-late f (inr phase)) form.frame.phase form.frame.choice form.frame.spawned late.0 late.1))
-    (omega arith) (omega (arith, ints)) (omega (arith, ints, clamps)) (omega (arith, ints, clamps))
+    spawn-good own children (Status j 4 (rest_at f j) ∷ []) 3 j 4 f.spawned (neg_ℤ f.beta) (neg_ℤ (floor f)) form (inr phase)
+    ((omega arith, rest-there own j form), tt) (inside, tt) refl form.frame.spawned (omega arith) (omega (arith, ints)) (omega (arith, ints, clamps)) (omega (arith, ints, clamps))
     (next-again f (map frame_of children) j fits phase told.0 told.1 at.settled)
-    (record { depth = refl; alpha = refl; beta = refl; role = refl; number = refl }) refl refl (late-known f.phase (searching-late f (inr phase)))
 tests-good false true all own children j at ef em ea phase form fits =
     let f : Frame = frame_of own in
-    let changes : List Change = Spawned (f.spawned + 1) ∷ Status f.spawned 1 (rest_at f f.spawned) ∷ [] in
     let told : f.spawned < length f.statuses = more-told f.spawned (length f.statuses) em in
-    let late = form.frame.late (searching-late f (inr phase)) in
-    let leaf : IsLeaf f.own f.opp f.depth f.alpha f.beta = form.frame.leaf in
-    let low : least ≤ℤ f.alpha = leaf.low in
-    let window : f.alpha <ℤ f.beta = leaf.window in
-    let high : f.beta ≤ℤ greatest = leaf.high in
-    let s : IsSearchingFrame f = fits.searching (inr phase) in
-    let below : f.best <ℤ f.beta = s.search.below in
+    let window : f.alpha <ℤ f.beta = fits.window in
+    let below : f.best <ℤ f.beta = (fits.searching (inr phase)).search.below in
     let inside : f.spawned < f.count = omega (arith, status-count own form, told) in
-    spawn-good own children changes 2 f.spawned (neg_ℤ (floor f +ℤ pos 1)) (neg_ℤ (floor f)) (record f { spawned = f.spawned + 1; statuses = slice_set f.statuses f.spawned 1; rests = slice_set f.rests f.spawned (rest_at f f.spawned) }) form
-    (frame-stored changes own (tt, ((omega arith, rest-there own f.spawned form), tt)) (omega (arith, form.places))) (tt, (inside, tt))
-    (formed-stored changes own form (tt, ((omega arith, rest-there own f.spawned form), tt)) refl
-    (searched f f.phase f.choice (f.spawned + 1) f.best (slice_set f.statuses f.spawned 1) (slice_set f.rests f.spawned (rest_at f f.spawned)) form.frame (inr phase) (searching-late f (inr phase)) form.frame.phase form.frame.choice (omega arith) late.0 late.1))
-    (omega arith) (omega (arith, ints, clamps)) (omega (arith, ints, clamps)) (omega (arith, ints, clamps))
+    spawn-good own children (Spawned (f.spawned + 1) ∷ Status f.spawned 1 (rest_at f f.spawned) ∷ []) 2 f.spawned 1 (f.spawned + 1) (neg_ℤ (floor f +ℤ pos 1)) (neg_ℤ (floor f)) form (inr phase)
+    (tt, ((omega arith, rest-there own f.spawned form), tt)) (tt, (inside, tt)) refl (omega arith) (omega arith) (omega (arith, ints, clamps)) (omega (arith, ints, clamps)) (omega (arith, ints, clamps))
     (next-test f (map frame_of children) fits phase told)
-    (record { depth = refl; alpha = refl; beta = refl; role = refl; number = refl }) refl refl (late-known f.phase (searching-late f (inr phase)))
 tests-good false false true own children j at ef em ea phase form fits =
     let f : Frame = frame_of own in
     let changes : List Change = Phase 4 ∷ [] in

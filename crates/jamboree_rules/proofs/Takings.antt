@@ -13,7 +13,7 @@ use Rattle.jamboree_rules.specs.Entries.{IsOfKind, IsTrueRest}
 use Rattle.jamboree_rules.specs.Fits.{IsFirst, IsTest, IsAgain, IsInRole, First, Test, Again, IsChildOf, IsSearchingFrame, Fits}
 use Rattle.jamboree_rules.proofs.Searching.{IsSearching-low, IsSearching-higher}
 use Rattle.jamboree_rules.proofs.Tabling.{found-true, found-exact, found-passes}
-use Rattle.jamboree_rules.proofs.Kinship.{child-of, in-search, unsettled, scored, inlet-failed, inlet-low, inlet-higher, inlet-first, inlet-cut, first-low, first-exact, again-low, again-exact, test-low, over-beta}
+use Rattle.jamboree_rules.proofs.Kinship.{taken_in, child-of, in-search, unsettled, scored, inlet-failed, inlet-low, inlet-higher, inlet-first, inlet-cut, first-low, first-exact, again-low, again-exact, test-low, over-beta}
 use Rattle.jamboree_rules.proofs.Codes.{code-small}
 use Rattle.jamboree_rules.proofs.PlaceLemmas.{AreSafe, changed_by, frame-stored}
 use Rattle.jamboree_rules.proofs.Forms.{IsFrame, IsFormed, formed-stored}
@@ -21,11 +21,11 @@ use Rattle.jamboree_rules.proofs.Steps.{AreInside, inside-stored, searched, sear
 
 -- the frame after each of the five cases of an inlet
 abbrev pub frame_by : (cuts test low higher : Bool) → Frame → Frame → Frame
-frame_by true test low higher f c = record f { phase = 4; best = seen c; choice = code_at f c.number; statuses = slice_set f.statuses c.number 2; rests = slice_set f.rests c.number (found_of c) }
-frame_by false true true higher f c = record f { best = int_max f.best (seen c); statuses = slice_set f.statuses c.number 2; rests = slice_set f.rests c.number (found_of c) }
-frame_by false true false higher f c = record f { statuses = slice_set f.statuses c.number 3; rests = slice_set f.rests c.number (found_of c) }
-frame_by false false low true f c = record f { phase = 3; best = int_max f.best (seen c); choice = code_at f c.number; statuses = slice_set f.statuses c.number 2; rests = slice_set f.rests c.number (found_of c) }
-frame_by false false low false f c = record f { phase = 3; best = int_max f.best (seen c); statuses = slice_set f.statuses c.number 2; rests = slice_set f.rests c.number (found_of c) }
+frame_by true test low higher f c = taken_in f c 4 (seen c) (code_at f c.number) 2
+frame_by false true true higher f c = taken_in f c f.phase (int_max f.best (seen c)) f.choice 2
+frame_by false true false higher f c = taken_in f c f.phase f.best f.choice 3
+frame_by false false low true f c = taken_in f c 3 (int_max f.best (seen c)) (code_at f c.number) 2
+frame_by false false low false f c = taken_in f c 3 (int_max f.best (seen c)) f.choice 2
 
 -- the same, from the two frames
 abbrev pub frame_after : Frame → Frame → Frame
@@ -87,11 +87,11 @@ fits-by false true true higher f c before behind ec et el eh fits returned holds
     let worth = scored f c before behind fits returned kin in
     let under : seen c ≤ℤ neg_ℤ c.beta = le-told (seen c) (neg_ℤ c.beta) el in
     let most : neg_ℤ c.beta ≤ℤ floor f = r.most in
-    subst (λ (p : ℕ). Fits (record f { phase = p; best = int_max f.best (seen c); statuses = slice_set f.statuses c.number 2; rests = slice_set f.rests c.number (found_of c) }) (before ++ behind) Neither) (sym r.phase)
+    subst (λ (p : ℕ). Fits (taken_in f c p (int_max f.best (seen c)) f.choice 2) (before ++ behind) Neither) (sym r.phase)
     (inlet-low f c before behind fits (omega (arith, ints)) (test-low f c worth.0 worth.1 under) holds r.phase)
 fits-by false true false higher f c before behind ec et el eh fits returned holds =
     let kin : IsChildOf f c = child-of f c before behind fits.kin in
-    inlet-failed f c before behind fits returned holds (test-told f c et kin.in_role)
+    inlet-failed f c before behind fits holds (test-told f c et kin.in_role)
 fits-by false false low true f c before behind ec et el eh fits returned holds =
     let kin : IsChildOf f c = child-of f c before behind fits.kin in
     let s : IsSearchingFrame f = fits.searching (in-search f c kin.in_role) in
@@ -136,88 +136,57 @@ record AreTaken (f c : Frame) (changes : List Change) (g : Frame) : Type 0 where
   opp_is : g.opp ≡ f.opp
   known : g.phase ≢ 0
 
-same-goal : (f g : Frame) → g.depth ≡ f.depth → g.alpha ≡ f.alpha → g.beta ≡ f.beta → g.role ≡ f.role → g.number ≡ f.number → HasSameGoal f g
-same-goal f g a b c d e = record { depth = a; alpha = b; beta = c; role = d; number = e }
+taken : (f c : Frame) (changes : List Change) (phase : ℕ) (best : ℤ) (choice status : ℕ) → IsFrame f → (f.phase ≡ 2) ⊎ (f.phase ≡ 3) → 1 < phase → phase ≤ 4 → choice ≤ 65 → least ≤ℤ best → best ≤ℤ greatest →
+    AreSafe changes → AreInside f.count changes → changed_by changes f ≡ taken_in f c phase best choice status → AreTaken f c changes (taken_in f c phase best choice status)
+taken f c changes phase best choice status form before late last small low high safe inside is = record {
+  safe = safe;
+  inside = inside;
+  is = is;
+  count = refl;
+  form = searched f phase choice f.spawned best (slice_set f.statuses c.number status) (slice_set f.rests c.number (found_of c)) form before late last small form.spawned low high;
+  goal = record { depth = refl; alpha = refl; beta = refl; role = refl; number = refl };
+  own_is = refl;
+  opp_is = refl;
+  known = λ (e : phase ≡ 0). absurd (omega arith);
+}
+
+seen-ranged : (c : Frame) → IsRanged c → (least ≤ℤ seen c) × (seen c ≤ℤ greatest)
+seen-ranged c r =
+    let low : least ≤ℤ c.best = r.low in
+    let high : c.best ≤ℤ greatest = r.high in
+    (omega (arith, ints), omega (arith, ints))
+
+best-ranged : (f c : Frame) → IsRanged f → IsRanged c → (least ≤ℤ int_max f.best (seen c)) × (int_max f.best (seen c) ≤ℤ greatest)
+best-ranged f c rf rc =
+    let low : least ≤ℤ f.best = rf.low in
+    let high : f.best ≤ℤ greatest = rf.high in
+    let child = seen-ranged c rc in
+    let child_low : least ≤ℤ seen c = child.0 in
+    let child_high : seen c ≤ℤ greatest = child.1 in
+    (omega (arith, ints, clamps), omega (arith, ints, clamps))
 
 taken-by : (cuts test low higher : Bool) (f c : Frame) → IsFrame f → (f.phase ≡ 2) ⊎ (f.phase ≡ 3) → c.number < f.count → IsRanged f → IsRanged c → AreTaken f c (changes_by cuts test low higher f c) (frame_by cuts test low higher f c)
 taken-by true test low higher f c form phase inside rf rc =
-    let h : c.best ≤ℤ greatest = rc.high in
-    let l : least ≤ℤ c.best = rc.low in
     let code : code_at f c.number ≤ 64 = code-small f c.number in
-    record {
-      safe = (omega (arith, ints), (tt, ((omega arith, found-passes c l h), (tt, tt))));
-      inside = (tt, (tt, (inside, (tt, tt))));
-      is = refl;
-      count = refl;
-      form = searched f 4 (code_at f c.number) f.spawned (seen c) (slice_set f.statuses c.number 2) (slice_set f.rests c.number (found_of c)) form phase (omega arith) (omega arith) (omega arith) form.spawned (omega (arith, ints)) (omega (arith, ints));
-      goal = record { depth = refl; alpha = refl; beta = refl; role = refl; number = refl };
-      own_is = refl;
-      opp_is = refl;
-      known = λ (e : 4 ≡ 0). absurd (omega arith);
-    }
+    let ends = seen-ranged c rc in
+    taken f c (changes_by true test low higher f c) 4 (seen c) (code_at f c.number) 2 form phase (omega arith) (omega arith) (omega arith) ends.0 ends.1
+    (ends.0, (tt, ((omega arith, found-passes c rc.low rc.high), (tt, tt)))) (tt, (tt, (inside, (tt, tt)))) refl
 taken-by false true true higher f c form phase inside rf rc =
-    let h : c.best ≤ℤ greatest = rc.high in
-    let l : least ≤ℤ c.best = rc.low in
-    let fh : f.best ≤ℤ greatest = rf.high in
-    let fl : least ≤ℤ f.best = rf.low in
-    let late : 1 < f.phase = searching-late f phase in
-    record {
-      safe = (omega (arith, ints, clamps), ((omega arith, found-passes c l h), tt));
-      inside = (tt, (inside, tt));
-      is = refl;
-      count = refl;
-      form = searched f f.phase f.choice f.spawned (int_max f.best (seen c)) (slice_set f.statuses c.number 2) (slice_set f.rests c.number (found_of c)) form phase late form.phase form.choice form.spawned (omega (arith, ints, clamps)) (omega (arith, ints, clamps));
-      goal = record { depth = refl; alpha = refl; beta = refl; role = refl; number = refl };
-      own_is = refl;
-      opp_is = refl;
-      known = λ (e : f.phase ≡ 0). absurd (omega arith);
-    }
+    let ends = best-ranged f c rf rc in
+    taken f c (changes_by false true true higher f c) f.phase (int_max f.best (seen c)) f.choice 2 form phase (searching-late f phase) form.phase form.choice ends.0 ends.1
+    (ends.0, ((omega arith, found-passes c rc.low rc.high), tt)) (tt, (inside, tt)) refl
 taken-by false true false higher f c form phase inside rf rc =
-    let late : 1 < f.phase = searching-late f phase in
-    record {
-      safe = ((omega arith, found-passes c rc.low rc.high), tt);
-      inside = (inside, tt);
-      is = refl;
-      count = refl;
-      form = searched f f.phase f.choice f.spawned f.best (slice_set f.statuses c.number 3) (slice_set f.rests c.number (found_of c)) form phase late form.phase form.choice form.spawned rf.low rf.high;
-      goal = record { depth = refl; alpha = refl; beta = refl; role = refl; number = refl };
-      own_is = refl;
-      opp_is = refl;
-      known = λ (e : f.phase ≡ 0). absurd (omega arith);
-    }
+    taken f c (changes_by false true false higher f c) f.phase f.best f.choice 3 form phase (searching-late f phase) form.phase form.choice rf.low rf.high
+    ((omega arith, found-passes c rc.low rc.high), tt) (inside, tt) refl
 taken-by false false low true f c form phase inside rf rc =
-    let h : c.best ≤ℤ greatest = rc.high in
-    let l : least ≤ℤ c.best = rc.low in
-    let fh : f.best ≤ℤ greatest = rf.high in
-    let fl : least ≤ℤ f.best = rf.low in
     let code : code_at f c.number ≤ 64 = code-small f c.number in
-    record {
-      safe = (omega (arith, ints, clamps), (tt, ((omega arith, found-passes c l h), (tt, tt))));
-      inside = (tt, (tt, (inside, (tt, tt))));
-      is = refl;
-      count = refl;
-      form = searched f 3 (code_at f c.number) f.spawned (int_max f.best (seen c)) (slice_set f.statuses c.number 2) (slice_set f.rests c.number (found_of c)) form phase (omega arith) (omega arith) (omega arith) form.spawned (omega (arith, ints, clamps)) (omega (arith, ints, clamps));
-      goal = record { depth = refl; alpha = refl; beta = refl; role = refl; number = refl };
-      own_is = refl;
-      opp_is = refl;
-      known = λ (e : 3 ≡ 0). absurd (omega arith);
-    }
+    let ends = best-ranged f c rf rc in
+    taken f c (changes_by false false low true f c) 3 (int_max f.best (seen c)) (code_at f c.number) 2 form phase (omega arith) (omega arith) (omega arith) ends.0 ends.1
+    (ends.0, (tt, ((omega arith, found-passes c rc.low rc.high), (tt, tt)))) (tt, (tt, (inside, (tt, tt)))) refl
 taken-by false false low false f c form phase inside rf rc =
-    let h : c.best ≤ℤ greatest = rc.high in
-    let l : least ≤ℤ c.best = rc.low in
-    let fh : f.best ≤ℤ greatest = rf.high in
-    let fl : least ≤ℤ f.best = rf.low in
-    record {
-      safe = (omega (arith, ints, clamps), ((omega arith, found-passes c l h), (tt, tt)));
-      inside = (tt, (inside, (tt, tt)));
-      is = refl;
-      count = refl;
-      form = searched f 3 f.choice f.spawned (int_max f.best (seen c)) (slice_set f.statuses c.number 2) (slice_set f.rests c.number (found_of c)) form phase (omega arith) (omega arith) form.choice form.spawned (omega (arith, ints, clamps)) (omega (arith, ints, clamps));
-      goal = record { depth = refl; alpha = refl; beta = refl; role = refl; number = refl };
-      own_is = refl;
-      opp_is = refl;
-      known = λ (e : 3 ≡ 0). absurd (omega arith);
-    }
+    let ends = best-ranged f c rf rc in
+    taken f c (changes_by false false low false f c) 3 (int_max f.best (seen c)) f.choice 2 form phase (omega arith) (omega arith) form.choice ends.0 ends.1
+    (ends.0, ((omega arith, found-passes c rc.low rc.high), (tt, tt))) (tt, (inside, (tt, tt))) refl
 
 -- stores that can be done leave words of the form, with the same goal and the same board
 pub record IsGoodStore (own : List ℕ) (changes : List Change) (g : Frame) : Type 0 where

@@ -83,13 +83,6 @@ computes-holds worker (Computing holder) is = is
 computes-holds worker Waiting is = absurd cc
 computes-holds worker Returned is = absurd cc
 
-pub runs-holds : (worker : ℕ) (state : State) → is_run_by worker state ≡ true → is_held_by worker state ≡ true
-runs-holds worker (Ready home) is = absurd cc
-runs-holds worker (Running holder) is = is
-runs-holds worker (Computing holder) is = absurd cc
-runs-holds worker Waiting is = absurd cc
-runs-holds worker Returned is = absurd cc
-
 -- and may go on holding it
 pub may-hold : (shared : Shared) (worker : ℕ) (name : FrameId) (tenant : Tenant) (frame : Frame (List ℕ)) → tenant_in shared.tenants name.tenant ≡ Some tenant → frame_at tenant.frames name.serial ≡ Some frame →
     is_held_by worker frame.state ≡ true → may_hold shared worker name ≡ true

@@ -1,6 +1,5 @@
 -- One tenant changed, once and again, and looked up.
 use Rattle.std.proofs.Common.{◌≡◌, ℕ, ◌==◌, true, false, List, [], ◌∷◌, ◌++◌, Some, None, refl, arith, ap}
-use Rattle.std.specs.Prelude.{option_map}
 use Rattle.std.proofs.lemmas.Bool.Decides.{nat_tests}
 use Rattle.sched_rules.specs.Trees.{Tenant}
 use Rattle.sched_rules.specs.Cores.{tenant_in, with_tenant}
@@ -16,24 +15,6 @@ with_change-there n f (e ∷ es) t is =
     elim (e.0 == n) as (λ b. (e.0 == n) ≡ b → with_change n f (e ∷ es) ≡ with_tenant n (f t) (e ∷ es)) [
       | true ↦ λ same. grind (arith, nat_tests, is)
       | false ↦ λ other. grind (arith, nat_tests, with_change-there n f es t (rw other at is))
-    ] refl
-
--- and looked up
-pub tenant_in-with_change : (n : ℕ) (f : Tenant → Tenant) (es : Entries) → tenant_in (with_change n f es) n ≡ option_map f (tenant_in es n)
-tenant_in-with_change n f [] = refl
-tenant_in-with_change n f (e ∷ es) =
-    elim (e.0 == n) as (λ b. (e.0 == n) ≡ b → tenant_in (with_change n f (e ∷ es)) n ≡ option_map f (tenant_in (e ∷ es) n)) [
-      | true ↦ λ same. rw same (rw same refl)
-      | false ↦ λ other. rw other (rw other (tenant_in-with_change n f es))
-    ] refl
-
--- changed twice
-pub with_change-twice : (n : ℕ) (f g : Tenant → Tenant) (es : Entries) → with_change n f (with_change n g es) ≡ with_change n (λ t. f (g t)) es
-with_change-twice n f g [] = refl
-with_change-twice n f g (e ∷ es) =
-    elim (e.0 == n) as (λ b. (e.0 == n) ≡ b → with_change n f (with_change n g (e ∷ es)) ≡ with_change n (λ t. f (g t)) (e ∷ es)) [
-      | true ↦ λ same. rw same (rw same refl)
-      | false ↦ λ other. rw other (rw other (ap (λ rest. e ∷ rest) (with_change-twice n f g es)))
     ] refl
 
 -- a new tenant is the last

@@ -9,11 +9,12 @@ use Rattle.frame_tree.specs.Frames.{Frame, frame_at, has_frame, is_ready}
 use Rattle.sched_rules.specs.declared.refusal.Refusal.{Refusal}
 use Rattle.sched_rules.specs.declared.refusal.Refusal.TheVariants.{NoTenant, NoFrame, NotReady, NotHere, NotRunning, NotComputing, NotReturned, Mismatch, NoSteps, BadAct, Busy}
 use Rattle.sched_rules.specs.declared.act.Act.{Act}
-use Rattle.sched_rules.specs.declared.step.StepOf.TheVariants.{Take, Steal, Advance, Answer, Inlet, Finish, Spend}
+use Rattle.sched_rules.specs.declared.step.StepOf.{StepOf}
+use Rattle.sched_rules.specs.declared.step.StepOf.TheVariants.{Take, Steal, Advance, Answer, Finish}
 use Rattle.sched_rules.specs.Functions.{Functions}
 use Rattle.sched_rules.specs.Trees.{Tenant, left, is_busy_in, is_outside, is_root, has_child}
 use Rattle.sched_rules.specs.Lone.{Outcome, unless, lone, refusal_in, is_ready_at, is_run_by, is_computed_by, is_returned, taken_by, finished, no_step, act_of, act_tests, advanced, answer_tests, answered, applies, is_spendable}
-use Rattle.sched_rules.specs.Cores.{Shared, tenant_in, is_busy_elsewhere, unless_busy, shared_refusal}
+use Rattle.sched_rules.specs.Cores.{Shared, tenant_in, is_busy_elsewhere, meets_busy, unless_busy, shared_refusal}
 use Rattle.sched_core.specs.declared.engine.Seen.{Seen}
 use Rattle.sched_store.specs.Reads.{is_busy_among, AreAfter, AreRising, frames_in, sight_of, words_under}
 use Rattle.sched_core.specs.Seeing.{IsSeen, IsRunning, missing_in, missing}
@@ -42,40 +43,11 @@ lost-in busy (Some tenant) serial alone refusal nobody nothing is =
       | false ↦ λ lacks. rw (nothing tenant (unfound tenant serial (frame_at tenant.frames serial) refl lacks)) (rw lacks at is)
     ] refl
 
-pub lost-take : {I A : Type 0} (functions : Functions I A) (shared : Shared) (worker : ℕ) (name : FrameId) (refusal : Refusal) →
-    missing shared name ≡ Some refusal → shared_refusal functions shared (Take worker name) ≡ Some refusal
-lost-take functions shared worker name refusal is =
-    lost-in _ (tenant_in shared.tenants name.tenant) name.serial (λ owner. lone functions owner (Take worker name)) refusal refl (λ tenant none. rw none refl) is
-
-pub lost-steal : {I A : Type 0} (functions : Functions I A) (shared : Shared) (worker from : ℕ) (name : FrameId) (refusal : Refusal) →
-    missing shared name ≡ Some refusal → shared_refusal functions shared (Steal worker from name) ≡ Some refusal
-lost-steal functions shared worker from name refusal is =
-    lost-in _ (tenant_in shared.tenants name.tenant) name.serial (λ owner. lone functions owner (Steal worker from name)) refusal refl (λ tenant none. rw none refl) is
-
-pub lost-finish : {I A : Type 0} (functions : Functions I A) (shared : Shared) (worker : ℕ) (name : FrameId) (refusal : Refusal) →
-    missing shared name ≡ Some refusal → shared_refusal functions shared (Finish worker name) ≡ Some refusal
-lost-finish functions shared worker name refusal is =
-    lost-in _ (tenant_in shared.tenants name.tenant) name.serial (λ owner. lone functions owner (Finish worker name)) refusal refl (λ tenant none. rw none refl) is
-
-pub lost-advance : {I A : Type 0} (functions : Functions I A) (shared : Shared) (worker : ℕ) (name : FrameId) (refusal : Refusal) →
-    missing shared name ≡ Some refusal → shared_refusal functions shared (Advance worker name) ≡ Some refusal
-lost-advance functions shared worker name refusal is =
-    lost-in false (tenant_in shared.tenants name.tenant) name.serial (λ owner. lone functions owner (Advance worker name)) refusal refl (λ tenant none. rw none refl) is
-
-pub lost-answer : {I A : Type 0} (functions : Functions I A) (shared : Shared) (worker : ℕ) (name : FrameId) (answer : A) (refusal : Refusal) →
-    missing shared name ≡ Some refusal → shared_refusal functions shared (Answer worker name answer) ≡ Some refusal
-lost-answer functions shared worker name answer refusal is =
-    lost-in false (tenant_in shared.tenants name.tenant) name.serial (λ owner. lone functions owner (Answer worker name answer)) refusal refl (λ tenant none. rw none refl) is
-
-pub lost-inlet : {I A : Type 0} (functions : Functions I A) (shared : Shared) (worker : ℕ) (name : FrameId) (refusal : Refusal) →
-    missing shared name ≡ Some refusal → shared_refusal functions shared (Inlet worker name) ≡ Some refusal
-lost-inlet functions shared worker name refusal is =
-    lost-in _ (tenant_in shared.tenants name.tenant) name.serial (λ owner. lone functions owner (Inlet worker name)) refusal refl (λ tenant none. rw none refl) is
-
-pub lost-spend : {I A : Type 0} (functions : Functions I A) (shared : Shared) (name : FrameId) (refusal : Refusal) →
-    missing shared name ≡ Some refusal → shared_refusal functions shared (Spend name) ≡ Some refusal
-lost-spend functions shared name refusal is =
-    lost-in false (tenant_in shared.tenants name.tenant) name.serial (λ owner. lone functions owner (Spend name)) refusal refl (λ tenant none. rw none refl) is
+pub lost : {I A : Type 0} (functions : Functions I A) (shared : Shared) (step : StepOf A) (name : FrameId) (refusal : Refusal) →
+    shared_refusal functions shared step ≡ refusal_in (unless_busy (meets_busy step shared.tenants) (lone functions (tenant_in shared.tenants name.tenant) step)) → lone functions None step ≡ Err NoTenant →
+    ((tenant : Tenant) → frame_at tenant.frames name.serial ≡ None → lone functions (Some tenant) step ≡ Err NoFrame) → missing shared name ≡ Some refusal → shared_refusal functions shared step ≡ Some refusal
+lost functions shared step name refusal among nobody nothing is =
+    among ∙ lost-in (meets_busy step shared.tenants) (tenant_in shared.tenants name.tenant) name.serial (λ owner. lone functions owner step) refusal nobody nothing is
 
 -- the last test is that the worker is busy with a frame of this tenant, and then it may be busy elsewhere
 busy-last : {I : Type 0} (tests : List (Bool × Refusal)) (here elsewhere : Bool) (effect : Outcome I) →
@@ -138,11 +110,6 @@ not-elsewhere (Ok outcome) = refl
 not-elsewhere (Err refusal) = refl
 
 -- tests that are made in two parts
-pub first-part : (tests others : List (Bool × Refusal)) (refusal : Refusal) → unless tests (tt {0}) ≡ Err refusal → refusal_in (unless (tests ++ others) (tt {0})) ≡ Some refusal
-first-part [] others refusal is = absurd cc
-first-part ((true, told) ∷ tests) others refusal is = let same : ◌≡◌ {A = Result (Unit {0}) Refusal} (Err told) (Err refusal) = is in cc
-first-part ((false, told) ∷ tests) others refusal is = first-part tests others refusal is
-
 pub second-part : (tests others : List (Bool × Refusal)) → unless tests (tt {0}) ≡ Ok (tt {0}) → unless (tests ++ others) (tt {0}) ≡ unless others (tt {0})
 second-part [] others is = refl
 second-part ((true, told) ∷ tests) others is = absurd cc

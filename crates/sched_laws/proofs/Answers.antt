@@ -48,7 +48,7 @@ lone-shaped functions (Some tenant) step outcome is s = step-shaped functions te
 lone-shaped {I} functions None (Admit number quota) outcome is s =
     let both : ◌≡◌ {A = Result (Outcome I) Refusal} (Ok (Some (admitted_with quota), Admitted)) (Ok outcome) = is in
     let e : ◌≡◌ {A = Outcome I} (Some (admitted_with quota), Admitted) outcome = cc in
-    came (Some (admitted_with quota), Admitted) outcome e (admitted-shaped quota)
+    came LeftShaped (Some (admitted_with quota), Admitted) outcome e (admitted-shaped quota)
 lone-shaped functions None (AdmitMore number quota) outcome is s = refused NoTenant outcome is
 lone-shaped functions None (Submit number words size) outcome is s = refused NoTenant outcome is
 lone-shaped functions None (Take worker name) outcome is s = refused NoTenant outcome is
@@ -95,7 +95,7 @@ among-shaped functions before step outcome is all =
 pub judged-shaped : {I A : Type 0} (functions : Functions I A) (before : Shared) (step : StepOf A) (outcome : Outcome I) → judged functions before step ≡ Ok outcome → AreShaped before.tenants → LeftShaped outcome.0
 judged-shaped {I} functions before (Admit number quota) outcome is all =
     let effect : Outcome I = (Some (admitted_with quota), Admitted) in
-    let p = unless-passed (admit_tests before number quota) effect outcome is in came effect outcome p.1 (admitted-shaped quota)
+    let p = unless-passed (admit_tests before number quota) effect outcome is in came LeftShaped effect outcome p.1 (admitted-shaped quota)
 judged-shaped {A = A} functions before (AdmitMore number quota) outcome is all =
     lone-shaped {A = A} functions (tenant_in before.tenants number) (AdmitMore number quota) outcome (more-taken {A = A} functions before number quota outcome is).1 (own-shaped number before.tenants all)
 judged-shaped functions before (Submit number words size) outcome is all = among-shaped functions before (Submit number words size) outcome is all

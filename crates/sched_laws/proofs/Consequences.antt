@@ -89,15 +89,7 @@ root-above tenant s f shape at = root-there tenant.frames s f shape.tree at
 -- nothing is used beyond what is reserved
 pub within-reserve : (tenant : Tenant) → IsWithinLimits tenant.reserve → IsShaped tenant → IsWithinReserve (account_in tenant)
 within-reserve tenant limits shape =
-    record {
-      some_segments = limits.some_segments;
-      segments_within = limits.segments_within;
-      some_nodes = limits.some_nodes;
-      nodes_within = limits.nodes_within;
-      charged_within = shape.charged;
-      opened_within = shape.opened;
-      ticks_within = shape.ticks;
-    }
+    record { some_segments = limits.some_segments; segments_within = limits.segments_within; some_nodes = limits.some_nodes; nodes_within = limits.nodes_within; charged_within = shape.charged; opened_within = shape.opened; ticks_within = shape.ticks }
 
 -- each frame charges a segment at least
 frames-charged : (xs : Tree) → HaveWords xs → length xs ≤ charged_for xs

@@ -1,21 +1,19 @@
 -- Every answer leaves a core fitting, and so does every list of them.
-use Rattle.std.proofs.Common.{◌≡◌, ◌≢◌, ℕ, ◌<◌, ◌≤◌, ◌⊎◌, inl, inr, Bool, true, false, not, ◌||◌, eqb, List, [], ◌∷◌, ◌++◌, Option, Some, None, Result, Ok, Err, refl, ap, sym, ◌∙◌, subst, arith, append_assoc, append-nil}
+use Rattle.std.proofs.Common.{◌≡◌, ◌≢◌, ℕ, ◌<◌, ◌≤◌, ◌⊎◌, inl, inr, true, false, ◌||◌, eqb, List, [], ◌∷◌, ◌++◌, Option, Some, None, Result, Ok, Err, refl, ap, sym, ◌∙◌, subst, arith, append_assoc, append-nil}
 use Rattle.std.specs.Prelude.{is_ok}
-use Rattle.std.proofs.lemmas.Bool.{cases_Bool, cases_eq, false≢true, eq-eqb, ne_eqb, or_parts}
+use Rattle.std.proofs.lemmas.Bool.{cases_Bool, cases_eq, false≢true, eq-eqb, ne_eqb}
 use Rattle.tenant_quota.specs.Quota.{Quota}
-use Rattle.frame_tree.specs.Frames.{frame_at, parent_of, root_of}
-use Rattle.sched_rules.specs.declared.job.Job.TheVariants.{Spent as SpentJob}
+use Rattle.frame_tree.specs.Frames.{root_of}
+use Rattle.sched_rules.specs.declared.job.Job.TheVariants.{Spent as SpentJob, Cancelled as CancelledJob}
 use Rattle.sched_rules.specs.declared.refusal.Refusal.{Refusal}
-use Rattle.sched_rules.specs.declared.refusal.Refusal.TheVariants.{NotReturned, NotSpent, OldTenant, Lower}
 use Rattle.sched_rules.specs.declared.step.StepOf.{StepOf}
 use Rattle.sched_rules.specs.declared.step.StepOf.TheVariants.{Admit, AdmitMore, Submit, Take, Steal, Advance, Answer, Inlet, Finish, Spend, Cancel, Leave}
 use Rattle.sched_rules.specs.declared.step.DidOf.{DidOf}
-use Rattle.sched_rules.specs.declared.step.DidOf.TheVariants.{Admitted, Left}
+use Rattle.sched_rules.specs.declared.step.DidOf.TheVariants.{Admitted}
 use Rattle.sched_rules.specs.Functions.{Functions}
-use Rattle.sched_rules.specs.Trees.{Tenant, admitted_with, words_in}
+use Rattle.sched_rules.specs.Trees.{Tenant, admitted_with}
 use Rattle.sched_rules.specs.Laws.{Fitting, Rooting}
-use Rattle.sched_rules.specs.Lone.{Outcome, unless, lone, lone_step, is_lower, raised, submit_tests, submitted, take_tests, steal_tests, taken_by, act_of, advance_tests, advanced, answer_tests, answered, inlet_tests, taken_in, inlet_under, finish_tests, finished, is_spendable, spent}
-use Rattle.frame_tree.specs.Frames.{is_ready}
+use Rattle.sched_rules.specs.Lone.{Outcome, lone, lone_step, submit_tests, submitted}
 use Rattle.sched_rules.specs.Runs.{tenant_of, only}
 use Rattle.sched_rules.specs.Cores.{Shared, shared_by_nobody, tenant_in, with_outcome, meets_busy, admit_tests, judged, newest_after, shared_with}
 use Rattle.sched_rules.specs.Headline.{is_admission, IsAnswerTo, AreAnswersTo, after_answer, after_answers, taken, IsKnown}
@@ -23,76 +21,34 @@ use Rattle.sched_rules.proofs.Tenants.{tenant_in-with_outcome, tenant_in_other-w
 use Rattle.sched_rules.proofs.Isolation.{step-taken, there, more-there, above, newest-stays, judged-step, shared-after-taken}
 use Rattle.sched_laws.specs.Shapes.{IsShaped, AreShaped}
 use Rattle.sched_laws.specs.Fitted.{TenantFits, CoreFits, submits, origins_of, RootFits, RootsFit, origins_after, StaysFitting}
-use Rattle.sched_laws.proofs.Shaped.{unless-passed, frame-found}
-use Rattle.sched_laws.proofs.Consequences.{root-above}
+use Rattle.sched_laws.proofs.Shaped.{unless-passed, came, first-passed, by-effects}
+use Rattle.sched_laws.proofs.Consequences.{root-above, live-root}
 use Rattle.sched_laws.proofs.Answers.{shaped-in, not-busy, more-taken, shaped-answer}
-use Rattle.sched_laws.proofs.Holds.{Lists, F}
+use Rattle.sched_laws.proofs.Holds.{Lists}
 use Rattle.sched_laws.proofs.Levels.{IsLawful}
 use Rattle.sched_laws.proofs.Fits.{LeftFits}
 use Rattle.sched_laws.proofs.FitEnds.{ended-fits, submit-fits}
-use Rattle.sched_laws.proofs.FitRuns.{taken-fits, advanced-fits, answered-fits, inlet-fits, finished-fits, cancel-fits}
+use Rattle.sched_laws.proofs.FitRuns.{taken-fits, advanced-fits, answered-fits, inlet-fits, finished-fits}
 
 -- a step that submits nothing adds no origin
 same-origins : (fits : Fitting) (rooted : Rooting) (origins : Lists) (o : Option Tenant) → LeftFits fits rooted origins o → LeftFits fits rooted (origins ++ []) o
 same-origins fits rooted origins o left = let P : Lists → Type 0 = λ os. LeftFits fits rooted os o in subst P (sym (append-nil origins)) left
 
--- an effect that came out
-fits-came : {I : Type 0} (fits : Fitting) (rooted : Rooting) (origins : Lists) (effect outcome : Outcome I) → effect ≡ outcome → LeftFits fits rooted origins effect.0 → LeftFits fits rooted origins outcome.0
-fits-came {I} fits rooted origins effect outcome is left = let P : Outcome I → Type 0 = λ o. LeftFits fits rooted origins o.0 in subst P is left
-
-refused-fits : {I : Type 0} (fits : Fitting) (rooted : Rooting) (origins : Lists) (refusal : Refusal) (outcome : Outcome I) → ◌≡◌ {A = Result (Outcome I) Refusal} (Err refusal) (Ok outcome) → LeftFits fits rooted origins outcome.0
-refused-fits fits rooted origins refusal outcome e = absurd cc
-
-first-passed : (a b : Bool) → (a || b) ≡ false → a ≡ false
-first-passed a b e = (or_parts a b e).0
-
 -- every step but Submit
 own-fits : {I A : Type 0} (functions : Functions I A) (fits : Fitting) (rooted : Rooting) (origins : Lists) (tenant : Tenant) (step : StepOf A) (outcome : Outcome I) → IsLawful functions fits rooted → IsShaped tenant → TenantFits fits rooted origins tenant →
     submits step ≡ [] → lone_step functions tenant step ≡ Ok outcome → LeftFits fits rooted origins outcome.0
-own-fits functions fits rooted origins tenant (Admit number quota) outcome lawful shape fitting none is = refused-fits fits rooted origins OldTenant outcome is
-own-fits functions fits rooted origins tenant (Submit number words size) outcome lawful shape fitting none is = absurd cc
-own-fits {I} functions fits rooted origins tenant (AdmitMore number quota) outcome lawful shape fitting none is =
-    let p = unless-passed ((is_lower tenant.reserve quota, Lower) ∷ []) (raised {I = I} tenant quota) outcome is in
-    fits-came fits rooted origins (raised tenant quota) outcome p.1 (record { frames = fitting.frames; jobs = fitting.jobs })
-own-fits {I} functions fits rooted origins tenant (Take worker name) outcome lawful shape fitting none is =
-    let f = frame-found tenant.frames name.serial (λ frame. unless (take_tests tenant worker frame) (taken_by tenant worker frame)) outcome is in
-    let p = unless-passed (take_tests tenant worker f.0) (taken_by {I = I} tenant worker f.0) outcome f.2 in
-    fits-came fits rooted origins (taken_by tenant worker f.0) outcome p.1 (taken-fits I fits rooted origins tenant worker name.serial f.0 shape fitting f.1 (first-passed (not (is_ready f.0.state)) _ p.0))
-own-fits {I} functions fits rooted origins tenant (Steal worker from name) outcome lawful shape fitting none is =
-    let f = frame-found tenant.frames name.serial (λ frame. unless (steal_tests tenant worker from frame) (taken_by tenant worker frame)) outcome is in
-    let p = unless-passed (steal_tests tenant worker from f.0) (taken_by {I = I} tenant worker f.0) outcome f.2 in
-    fits-came fits rooted origins (taken_by tenant worker f.0) outcome p.1 (taken-fits I fits rooted origins tenant worker name.serial f.0 shape fitting f.1 (first-passed (not (is_ready f.0.state)) _ p.0))
-own-fits functions fits rooted origins tenant (Advance worker name) outcome lawful shape fitting none is =
-    let f = frame-found tenant.frames name.serial (λ frame. unless (advance_tests tenant worker frame (act_of functions tenant frame)) (advanced functions tenant worker name frame (act_of functions tenant frame))) outcome is in
-    let act = act_of functions tenant f.0 in
-    let p = unless-passed (advance_tests tenant worker f.0 act) (advanced functions tenant worker name f.0 act) outcome f.2 in
-    fits-came fits rooted origins (advanced functions tenant worker name f.0 act) outcome p.1 (advanced-fits functions fits rooted origins tenant worker name f.0 lawful shape fitting f.1 p.0)
-own-fits functions fits rooted origins tenant (Answer worker name answer) outcome lawful shape fitting none is =
-    let f = frame-found tenant.frames name.serial (λ frame. unless (answer_tests functions tenant worker frame answer) (answered functions tenant worker frame answer)) outcome is in
-    let p = unless-passed (answer_tests functions tenant worker f.0 answer) (answered functions tenant worker f.0 answer) outcome f.2 in
-    fits-came fits rooted origins (answered functions tenant worker f.0 answer) outcome p.1 (answered-fits functions fits rooted origins tenant worker name.serial f.0 answer lawful shape fitting f.1 p.0)
-own-fits {I} functions fits rooted origins tenant (Inlet worker name) outcome lawful shape fitting none is =
-    let f = frame-found tenant.frames name.serial (λ frame. inlet_under functions tenant worker name frame (parent_of frame.path)) outcome is in
-    by f.0 f.1 (parent_of f.0.path) refl f.2
-  where
-    by : (f : F) → frame_at tenant.frames name.serial ≡ Some f → (parent : Option ℕ) → parent_of f.path ≡ parent → inlet_under functions tenant worker name f parent ≡ Ok outcome → LeftFits fits rooted origins outcome.0
-    by f at None named e = refused-fits fits rooted origins NotReturned outcome e
-    by f at (Some parent) named e =
-        let act = functions.inlet (words_in tenant.frames parent) f.value in
-        let p = unless-passed (inlet_tests tenant worker f parent act) (taken_in {I = I} tenant worker name parent act) outcome e in
-        fits-came fits rooted origins (taken_in tenant worker name parent act) outcome p.1 (inlet-fits functions fits rooted origins tenant worker name f parent lawful shape fitting at named p.0)
-own-fits {I} functions fits rooted origins tenant (Finish worker name) outcome lawful shape fitting none is =
-    let f = frame-found tenant.frames name.serial (λ frame. unless (finish_tests tenant worker frame) (finished tenant frame)) outcome is in
-    let p = unless-passed (finish_tests tenant worker f.0) (finished {I = I} tenant f.0) outcome f.2 in
-    fits-came fits rooted origins (finished tenant f.0) outcome p.1 (finished-fits I fits rooted origins tenant worker name.serial f.0 shape fitting f.1 p.0)
-own-fits {I} functions fits rooted origins tenant (Spend name) outcome lawful shape fitting none is =
-    let f = frame-found tenant.frames name.serial (λ frame. unless ((not (is_spendable functions tenant frame), NotSpent) ∷ []) (spent tenant frame)) outcome is in
-    let p = unless-passed ((not (is_spendable functions tenant f.0), NotSpent) ∷ []) (spent {I = I} tenant f.0) outcome f.2 in
-    fits-came fits rooted origins (spent tenant f.0) outcome p.1 (ended-fits fits rooted origins tenant (root_of f.0.path) SpentJob shape fitting (root-above tenant name.serial f.0 shape f.1) (λ origin was. tt))
-own-fits functions fits rooted origins tenant (Cancel number job) outcome lawful shape fitting none is = cancel-fits fits rooted origins tenant job outcome shape fitting is
-own-fits {I} functions fits rooted origins tenant (Leave number) outcome lawful shape fitting none is =
-    let e : ◌≡◌ {A = Result (Outcome I) Refusal} (Ok (None, Left)) (Ok outcome) = is in
-    let own : ◌≡◌ {A = Outcome I} (None, Left) outcome = cc in fits-came fits rooted origins (None, Left) outcome own tt
+own-fits {I} functions fits rooted origins tenant step outcome lawful shape fitting none is = by-effects functions tenant step outcome (LeftFits fits rooted origins) is (record {
+  at_raise = λ number quota _ enough. record { frames = fitting.frames; jobs = fitting.jobs };
+  at_submit = λ number words size submit passed. (let no : words ∷ [] ≡ [] = sym (ap submits submit) ∙ none in absurd cc);
+  at_take = λ worker serial f at ready some. taken-fits I fits rooted origins tenant worker serial f shape fitting at ready;
+  at_advance = λ worker name f at passed. advanced-fits functions fits rooted origins tenant worker name f lawful shape fitting at passed;
+  at_answer = λ worker serial f answer at passed. answered-fits functions fits rooted origins tenant worker serial f answer lawful shape fitting at passed;
+  at_inlet = λ worker name f parent at named passed. inlet-fits functions fits rooted origins tenant worker name f parent lawful shape fitting at named passed;
+  at_finish = λ worker serial f at passed. finished-fits I fits rooted origins tenant worker serial f shape fitting at passed;
+  at_spend = λ serial f at. ended-fits fits rooted origins tenant (root_of f.path) SpentJob shape fitting (root-above tenant serial f shape at) (λ origin was. tt);
+  at_cancel = λ number root at. ended-fits fits rooted origins tenant root CancelledJob shape fitting (live-root tenant number root shape at) (λ origin was. tt);
+  at_leave = tt;
+})
 
 -- every step
 others-fit : {I A : Type 0} (functions : Functions I A) (fits : Fitting) (rooted : Rooting) (origins : Lists) (tenant : Tenant) (step : StepOf A) (outcome : Outcome I) → IsLawful functions fits rooted → IsShaped tenant → TenantFits fits rooted origins tenant →
@@ -105,7 +61,7 @@ pub step-fits : {I A : Type 0} (functions : Functions I A) (fits : Fitting) (roo
     RootFits fits rooted step → lone_step functions tenant step ≡ Ok outcome → LeftFits fits rooted (origins ++ submits step) outcome.0
 step-fits {I} functions fits rooted origins tenant (Submit number words size) outcome lawful shape fitting root is =
     let p = unless-passed (submit_tests tenant words size) (submitted {I = I} tenant number words size) outcome is in
-    fits-came fits rooted (origins ++ words ∷ []) (submitted tenant number words size) outcome p.1 (submit-fits fits rooted origins tenant words size shape fitting root.0 root.1)
+    came (LeftFits fits rooted (origins ++ words ∷ [])) (submitted tenant number words size) outcome p.1 (submit-fits fits rooted origins tenant words size shape fitting root.0 root.1)
 step-fits functions fits rooted origins tenant (Admit number quota) outcome lawful shape fitting root is = others-fit functions fits rooted origins tenant (Admit number quota) outcome lawful shape fitting refl is
 step-fits functions fits rooted origins tenant (AdmitMore number quota) outcome lawful shape fitting root is = others-fit functions fits rooted origins tenant (AdmitMore number quota) outcome lawful shape fitting refl is
 step-fits functions fits rooted origins tenant (Take worker name) outcome lawful shape fitting root is = others-fit functions fits rooted origins tenant (Take worker name) outcome lawful shape fitting refl is
@@ -173,7 +129,7 @@ admit-left functions fits rooted origins before number quota outcome core is =
     let p = admitted-above functions before number quota outcome is in
     let none : origins number ++ [] ≡ [] = append-nil (origins number) ∙ core.unused number p.0 in
     let P : Lists → Type 0 = λ os. LeftFits fits rooted os (Some (admitted_with quota)) in
-    fits-came fits rooted (origins number ++ []) (Some (admitted_with quota), Admitted) outcome p.1 (subst P (sym none) (record { frames = tt; jobs = tt }))
+    came (LeftFits fits rooted (origins number ++ [])) (Some (admitted_with quota), Admitted) outcome p.1 (subst P (sym none) (record { frames = tt; jobs = tt }))
 
 more-left : {I A : Type 0} (functions : Functions I A) (fits : Fitting) (rooted : Rooting) (origins : ℕ → Lists) (before : Shared) (number : ℕ) (quota : Quota) (outcome : Outcome I) → IsLawful functions fits rooted → AreShaped before.tenants → CoreFits fits rooted origins before →
     judged {A = A} functions before (AdmitMore number quota) ≡ Ok outcome → LeftFits fits rooted (origins number ++ []) outcome.0

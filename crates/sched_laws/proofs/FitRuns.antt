@@ -1,5 +1,5 @@
 -- Every answer leaves a core fitting, and so does every list of them.
-use Rattle.std.proofs.Common.{◌≡◌, ℕ, inl, inr, Bool, true, false, not, ◌||◌, ◌&&◌, eqb, List, [], ◌∷◌, Option, Some, None, Result, Ok, Err, refl, ap, sym, ◌∙◌, subst}
+use Rattle.std.proofs.Common.{◌≡◌, ℕ, inl, inr, Bool, true, false, not, ◌||◌, ◌&&◌, eqb, List, [], ◌∷◌, Some, refl, ap, sym, ◌∙◌, subst}
 use Rattle.std.proofs.lemmas.Bool.{cases_Bool, false≢true, not-false, or_parts}
 use Rattle.frame_tree.specs.declared.names.State.{State}
 use Rattle.frame_tree.specs.declared.names.State.TheVariants.{Ready, Running, Computing, Waiting, Returned}
@@ -7,25 +7,21 @@ use Rattle.frame_tree.specs.declared.names.FrameId.{FrameId}
 use Rattle.frame_tree.specs.Frames.{frame_at, parent_of, is_ready}
 use Rattle.frame_tree.proofs.TreeLaws.{there-found, found-serial, under-there, named-under}
 use Rattle.sched_rules.specs.declared.act.InletAct.{InletAct}
-use Rattle.sched_rules.specs.declared.job.Job.{Job}
-use Rattle.sched_rules.specs.declared.job.Job.TheVariants.{Live, Done, Spent as SpentJob, Cancelled as CancelledJob}
-use Rattle.sched_rules.specs.declared.refusal.Refusal.{Refusal}
-use Rattle.sched_rules.specs.declared.refusal.Refusal.TheVariants.{Mismatch, BadAct, NoJob}
-use Rattle.sched_rules.specs.declared.step.DidOf.TheVariants.{Cancelled}
+use Rattle.sched_rules.specs.declared.job.Job.TheVariants.{Done}
+use Rattle.sched_rules.specs.declared.refusal.Refusal.TheVariants.{Mismatch, BadAct}
 use Rattle.sched_rules.specs.Functions.{Functions}
-use Rattle.sched_rules.specs.Trees.{Tenant, words_in, left, stored, is_outside, has_child, is_root, job_at, kept_words}
+use Rattle.sched_rules.specs.Trees.{Tenant, words_in, left, stored, is_outside, has_child, is_root, kept_words}
 use Rattle.sched_rules.specs.Laws.{Fitting, Rooting, Neither, Computes, HasReturned, mark_of}
-use Rattle.sched_rules.specs.Lone.{Outcome, applies, no_step, not_free, counted, in_state, holding, ended, taken_by, is_run_by, is_computed_by, is_returned, act_of, is_bad_act, act_tests, advance_tests, advanced, answer_tests, answered, inlet_tests, does_wait, staying, taken_in, finish_tests, finished, cancelled}
+use Rattle.sched_rules.specs.Lone.{applies, no_step, not_free, counted, in_state, holding, ended, taken_by, is_run_by, is_computed_by, is_returned, act_of, is_bad_act, act_tests, advance_tests, advanced, answer_tests, answered, inlet_tests, does_wait, staying, taken_in, finish_tests, finished}
 use Rattle.sched_laws.specs.Shapes.{IsShaped}
 use Rattle.sched_laws.specs.Fitted.{TenantFits}
 use Rattle.sched_laws.proofs.Words.{frame_at-with_words}
 use Rattle.sched_laws.proofs.Shaped.{run-free, returned-marked, returned-childless, staying-parent, inlet-stored-shaped}
-use Rattle.sched_laws.proofs.Consequences.{live-root}
 use Rattle.sched_laws.proofs.Holds.{Lists, F, found-same}
 use Rattle.sched_laws.proofs.Levels.{IsLawful, words-found, parent-neither}
 use Rattle.sched_laws.proofs.Fits.{LeftFits, fits-counted, fits-same-mark}
 use Rattle.sched_laws.proofs.FitSteps.{advance-fits, answer-fits}
-use Rattle.sched_laws.proofs.FitEnds.{ended-fits, finish-fits, taken-in-fits, inlet-law}
+use Rattle.sched_laws.proofs.FitEnds.{finish-fits, taken-in-fits, inlet-law}
 
 -- the marks of states that were tested
 ready-free : (state : State) → is_ready state ≡ true → mark_of state ≡ Neither
@@ -35,14 +31,14 @@ ready-free (Computing worker) is = absurd (false≢true is)
 ready-free Waiting is = absurd (false≢true is)
 ready-free Returned is = absurd (false≢true is)
 
-computes-marked : (worker : ℕ) (state : State) → is_computed_by worker state ≡ true → mark_of state ≡ Computes
+pub computes-marked : (worker : ℕ) (state : State) → is_computed_by worker state ≡ true → mark_of state ≡ Computes
 computes-marked worker (Ready home) is = absurd (false≢true is)
 computes-marked worker (Running holder) is = absurd (false≢true is)
 computes-marked worker (Computing holder) is = refl
 computes-marked worker Waiting is = absurd (false≢true is)
 computes-marked worker Returned is = absurd (false≢true is)
 
-has-returned : (state : State) → is_returned state ≡ true → mark_of state ≡ HasReturned
+pub has-returned : (state : State) → is_returned state ≡ true → mark_of state ≡ HasReturned
 has-returned (Ready home) is = absurd (false≢true is)
 has-returned (Running worker) is = absurd (false≢true is)
 has-returned (Computing worker) is = absurd (false≢true is)
@@ -131,20 +127,3 @@ finished-fits I fits rooted origins tenant worker s f shape fitting at passed =
     let leaf = returned-childless tenant s f shape at (returned-marked f.state returned) in
     fits-counted fits rooted origins (ended f.serial (Done (kept_words f.value)) tenant)
     (finish-fits fits rooted origins tenant s f shape fitting at (has-returned f.state returned) leaf (not-false (is_root f.path) both.1))
-
-pub cancel-fits : {I : Type 0} (fits : Fitting) (rooted : Rooting) (origins : Lists) (tenant : Tenant) (number : ℕ) (outcome : Outcome I) → IsShaped tenant → TenantFits fits rooted origins tenant → cancelled tenant (job_at tenant.jobs number) ≡ Ok outcome → LeftFits fits rooted origins outcome.0
-cancel-fits {I} fits rooted origins tenant number outcome shape fitting is = by (job_at tenant.jobs number) refl is
-  where
-    refused : (refusal : Refusal) → ◌≡◌ {A = Result (Outcome I) Refusal} (Err refusal) (Ok outcome) → LeftFits fits rooted origins outcome.0
-    refused refusal e = absurd cc
-
-    by : (job : Option Job) → job_at tenant.jobs number ≡ job → cancelled tenant job ≡ Ok outcome → LeftFits fits rooted origins outcome.0
-    by None at e = refused NoJob e
-    by (Some (Live root)) at e =
-        let both : ◌≡◌ {A = Result (Outcome I) Refusal} (Ok (Some (ended root CancelledJob tenant), Cancelled)) (Ok outcome) = e in
-        let pair : ◌≡◌ {A = Outcome I} (Some (ended root CancelledJob tenant), Cancelled) outcome = cc in
-        let P : Outcome I → Type 0 = λ o. LeftFits fits rooted origins o.0 in
-        subst P pair (ended-fits fits rooted origins tenant root CancelledJob shape fitting (live-root tenant number root shape at) (λ origin was. tt))
-    by (Some (Done words)) at e = refused NoJob e
-    by (Some SpentJob) at e = refused NoJob e
-    by (Some CancelledJob) at e = refused NoJob e

@@ -98,10 +98,6 @@ kept-above C fits rooted tree s f words t all every at has law = elim (placed tr
       ];
     }
 
--- all frames but one fit
-abbrev pub OthersFit : Fitting → ℕ → Fact
-OthersFit fits n s w k m = s ≢ n → fits w k m
-
 -- after the words of a frame are changed, where the fact holds of it, and of all others that fit
 pub holds-after-words : (Q : Fact) (fits : Fitting) (rooted : Rooting) (tree : Tree) (n : ℕ) (f : F) (words : List ℕ) → IsTree tree → AreMarkedChildless tree tree → EveryFrameFits fits tree → frame_at tree n ≡ Some f →
     IsKeptAbove fits rooted tree f words → Q n words (kids tree n) (mark_of f.state) → ((s : ℕ) (w : List ℕ) (k : Lists) (m : Mark) → s ≢ n → fits w k m → Q s w k m) → Holds Q (with_words n words tree)

@@ -5,7 +5,7 @@ use Rattle.std.proofs.lemmas.List.Elements.{filter-append}
 use Rattle.std.proofs.lemmas.Bool.{cases_Bool, cases_eq, false≢true, true≢false, eq-eqb, ne_eqb, eqb-true, eqb-false, ltb-false}
 use Rattle.frame_tree.specs.declared.names.State.{State}
 use Rattle.frame_tree.specs.Frames.{Frame, frame_at, has_frame, path_in, AllBelow, parent_of, with_state, children_of, values_of, IsNextFrame, IsTree}
-use Rattle.frame_tree.specs.TreeLaws.{is_that, is_child_of, Each, AreAlike}
+use Rattle.frame_tree.specs.TreeLaws.{is_child_of, Each, AreAlike}
 use Rattle.frame_tree.proofs.TreeLaws.{there-found, found-serial, found-path, missing, frame_at-push, frame_at_other-push, tree-rising, each-found, found-each, children-by-paths}
 use Rattle.frame_tree.proofs.TreeChanges.{filter-found, frame_at-stays}
 use Rattle.frame_tree.proofs.TreeValues.{tree-push, children_of-push, tree-with_state, frame_at-with_state, frame_at_other-with_state, children_of-with_state}
@@ -112,9 +112,6 @@ pub childless-with_words : (n : ℕ) (words : List ℕ) (tree : Tree) → IsTree
 childless-with_words n words tree t all = words-kept n words tree tree t all
 
 -- one frame more, under a frame that neither computes nor has returned, or under none
-other-child : (s : ℕ) (parent : Option ℕ) (y : Frame (List ℕ)) → parent_of y.path ≡ parent → is_that s parent ≡ false → filter (λ x. is_child_of s x.path) (y ∷ []) ≡ []
-other-child s parent y named other = rw (named, other) refl
-
 pub childless-push : (tree : Tree) (y : Frame (List ℕ)) → IsTree tree → IsNextFrame tree y → mark_of y.state ≡ Neither →
     ((p : ℕ) (f : Frame (List ℕ)) → parent_of y.path ≡ Some p → frame_at tree p ≡ Some f → mark_of f.state ≡ Neither) →
     AreMarkedChildless tree tree → AreMarkedChildless (tree ++ y ∷ []) (tree ++ y ∷ [])

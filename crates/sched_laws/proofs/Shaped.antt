@@ -7,7 +7,7 @@ use Rattle.tenant_quota.specs.Quota.{Quota}
 use Rattle.frame_tree.specs.declared.names.State.{State}
 use Rattle.frame_tree.specs.declared.names.State.TheVariants.{Ready, Running, Computing, Waiting, Returned}
 use Rattle.frame_tree.specs.declared.names.FrameId.{FrameId}
-use Rattle.frame_tree.specs.Frames.{Frame, frame_at, parent_of, root_of, children_of}
+use Rattle.frame_tree.specs.Frames.{Frame, frame_at, parent_of, root_of, children_of, is_ready}
 use Rattle.frame_tree.proofs.TreeLaws.{there-found, found-serial, tree-rising, under-there, under-below}
 use Rattle.frame_tree.proofs.TreeChanges.{aborted-itself, frame_at_other-without}
 use Rattle.sched_rules.specs.declared.act.Act.{Act}
@@ -51,6 +51,94 @@ frame-found {X} frames s step outcome is = by (frame_at frames s) refl
     by : (o : Option (Frame (List ℕ))) → frame_at frames s ≡ o → (f : Frame (List ℕ)) × (frame_at frames s ≡ Some f) × (step f ≡ Ok outcome)
     by None e = (let none : ◌≡◌ {A = Result X Refusal} (at_frame None step) (Ok outcome) = ap (λ o. at_frame o step) (sym e) ∙ is in absurd cc)
     by (Some f) e = (f, e, ap (λ o. at_frame o step) (sym e) ∙ is)
+
+-- an effect that came out
+pub came : {I : Type 0} (P : Option Tenant → Type 0) (effect outcome : Outcome I) → effect ≡ outcome → P effect.0 → P outcome.0
+came {I} P effect outcome is holds = let Q : Outcome I → Type 0 = λ o. P o.0 in subst Q is holds
+
+-- P holds of what each effect of a step leaves, where its tests passed
+pub record HoldsOfEach {I A : Type 0} (functions : Functions I A) (tenant : Tenant) (step : StepOf A) (P : Option Tenant → Type 0) : Type 0 where
+  pub at_raise : (number : ℕ) (quota : Quota) → step ≡ AdmitMore number quota → is_lower tenant.reserve quota ≡ false → P (raised {I = I} tenant quota).0
+  pub at_submit : (number : ℕ) (words : List ℕ) (size : ℕ) → step ≡ Submit number words size → applies (submit_tests tenant words size) ≡ false → P (submitted {I = I} tenant number words size).0
+  pub at_take : (worker s : ℕ) (f : Frame (List ℕ)) → frame_at tenant.frames s ≡ Some f → not (is_ready f.state) ≡ false → eqb (left tenant).steps 0 ≡ false → P (taken_by {I = I} tenant worker f).0
+  pub at_advance : (worker : ℕ) (name : FrameId) (f : Frame (List ℕ)) → frame_at tenant.frames name.serial ≡ Some f → applies (advance_tests tenant worker f (act_of functions tenant f)) ≡ false →
+      P (advanced functions tenant worker name f (act_of functions tenant f)).0
+  pub at_answer : (worker s : ℕ) (f : Frame (List ℕ)) (answer : A) → frame_at tenant.frames s ≡ Some f → applies (answer_tests functions tenant worker f answer) ≡ false → P (answered functions tenant worker f answer).0
+  pub at_inlet : (worker : ℕ) (name : FrameId) (f : Frame (List ℕ)) (parent : ℕ) → frame_at tenant.frames name.serial ≡ Some f → parent_of f.path ≡ Some parent →
+      applies (inlet_tests tenant worker f parent (functions.inlet (words_in tenant.frames parent) f.value)) ≡ false → P (taken_in {I = I} tenant worker name parent (functions.inlet (words_in tenant.frames parent) f.value)).0
+  pub at_finish : (worker s : ℕ) (f : Frame (List ℕ)) → frame_at tenant.frames s ≡ Some f → applies (finish_tests tenant worker f) ≡ false → P (finished {I = I} tenant f).0
+  pub at_spend : (s : ℕ) (f : Frame (List ℕ)) → frame_at tenant.frames s ≡ Some f → P (spent {I = I} tenant f).0
+  pub at_cancel : (number root : ℕ) → job_at tenant.jobs number ≡ Some (Live root) → P (Some (ended root CancelledJob tenant))
+  pub at_leave : P None
+
+-- the first and the third of four tests
+pub first-passed : (a b : Bool) → (a || b) ≡ false → a ≡ false
+first-passed a b e = (or_parts a b e).0
+
+third-passed : (a b c d : Bool) → (a || (b || (c || (d || false)))) ≡ false → c ≡ false
+third-passed a b c d e = (or_parts c (d || false) (or_parts b (c || (d || false)) (or_parts a (b || (c || (d || false))) e).1).1).0
+
+-- so it holds of what a step of a tenant that has the core to itself leaves
+pub by-effects : {I A : Type 0} (functions : Functions I A) (tenant : Tenant) (step : StepOf A) (outcome : Outcome I) (P : Option Tenant → Type 0) → lone_step functions tenant step ≡ Ok outcome → HoldsOfEach functions tenant step P → P outcome.0
+by-effects {I} functions tenant (Admit number quota) outcome P is each = (let e : ◌≡◌ {A = Result (Outcome I) Refusal} (Err OldTenant) (Ok outcome) = is in absurd cc)
+by-effects {I} functions tenant (AdmitMore number quota) outcome P is each =
+    let p = unless-passed ((is_lower tenant.reserve quota, Lower) ∷ []) (raised {I = I} tenant quota) outcome is in
+    came P (raised tenant quota) outcome p.1 (each.at_raise number quota refl (or_parts (is_lower tenant.reserve quota) false p.0).0)
+by-effects {I} functions tenant (Submit number words size) outcome P is each =
+    let p = unless-passed (submit_tests tenant words size) (submitted {I = I} tenant number words size) outcome is in
+    came P (submitted tenant number words size) outcome p.1 (each.at_submit number words size refl p.0)
+by-effects {I} functions tenant (Take worker name) outcome P is each =
+    let f = frame-found tenant.frames name.serial (λ frame. unless (take_tests tenant worker frame) (taken_by tenant worker frame)) outcome is in
+    let p = unless-passed (take_tests tenant worker f.0) (taken_by {I = I} tenant worker f.0) outcome f.2 in
+    came P (taken_by tenant worker f.0) outcome p.1 (each.at_take worker name.serial f.0 f.1 (first-passed (not (is_ready f.0.state)) _ p.0) (third-passed _ _ (eqb (left tenant).steps 0) _ p.0))
+by-effects {I} functions tenant (Steal worker from name) outcome P is each =
+    let f = frame-found tenant.frames name.serial (λ frame. unless (steal_tests tenant worker from frame) (taken_by tenant worker frame)) outcome is in
+    let p = unless-passed (steal_tests tenant worker from f.0) (taken_by {I = I} tenant worker f.0) outcome f.2 in
+    came P (taken_by tenant worker f.0) outcome p.1 (each.at_take worker name.serial f.0 f.1 (first-passed (not (is_ready f.0.state)) _ p.0) (third-passed _ _ (eqb (left tenant).steps 0) _ p.0))
+by-effects {I} functions tenant (Advance worker name) outcome P is each =
+    let f = frame-found tenant.frames name.serial (λ frame. unless (advance_tests tenant worker frame (act_of functions tenant frame)) (advanced functions tenant worker name frame (act_of functions tenant frame))) outcome is in
+    let act = act_of functions tenant f.0 in
+    let p = unless-passed (advance_tests tenant worker f.0 act) (advanced functions tenant worker name f.0 act) outcome f.2 in
+    came P (advanced functions tenant worker name f.0 act) outcome p.1 (each.at_advance worker name f.0 f.1 p.0)
+by-effects {I} functions tenant (Answer worker name answer) outcome P is each =
+    let f = frame-found tenant.frames name.serial (λ frame. unless (answer_tests functions tenant worker frame answer) (answered functions tenant worker frame answer)) outcome is in
+    let p = unless-passed (answer_tests functions tenant worker f.0 answer) (answered functions tenant worker f.0 answer) outcome f.2 in
+    came P (answered functions tenant worker f.0 answer) outcome p.1 (each.at_answer worker name.serial f.0 answer f.1 p.0)
+by-effects {I} functions tenant (Inlet worker name) outcome P is each =
+    let f = frame-found tenant.frames name.serial (λ frame. inlet_under functions tenant worker name frame (parent_of frame.path)) outcome is in
+    by f.0 f.1 (parent_of f.0.path) refl f.2
+  where
+    by : (f : Frame (List ℕ)) → frame_at tenant.frames name.serial ≡ Some f → (parent : Option ℕ) → parent_of f.path ≡ parent → inlet_under functions tenant worker name f parent ≡ Ok outcome → P outcome.0
+    by f at None named e = (let no : ◌≡◌ {A = Result (Outcome I) Refusal} (Err NotReturned) (Ok outcome) = e in absurd cc)
+    by f at (Some parent) named e =
+        let act = functions.inlet (words_in tenant.frames parent) f.value in
+        let p = unless-passed (inlet_tests tenant worker f parent act) (taken_in {I = I} tenant worker name parent act) outcome e in
+        came P (taken_in tenant worker name parent act) outcome p.1 (each.at_inlet worker name f parent at named p.0)
+by-effects {I} functions tenant (Finish worker name) outcome P is each =
+    let f = frame-found tenant.frames name.serial (λ frame. unless (finish_tests tenant worker frame) (finished tenant frame)) outcome is in
+    let p = unless-passed (finish_tests tenant worker f.0) (finished {I = I} tenant f.0) outcome f.2 in
+    came P (finished tenant f.0) outcome p.1 (each.at_finish worker name.serial f.0 f.1 p.0)
+by-effects {I} functions tenant (Spend name) outcome P is each =
+    let f = frame-found tenant.frames name.serial (λ frame. unless ((not (is_spendable functions tenant frame), NotSpent) ∷ []) (spent tenant frame)) outcome is in
+    let p = unless-passed ((not (is_spendable functions tenant f.0), NotSpent) ∷ []) (spent {I = I} tenant f.0) outcome f.2 in
+    came P (spent tenant f.0) outcome p.1 (each.at_spend name.serial f.0 f.1)
+by-effects {I} functions tenant (Cancel number job) outcome P is each = by (job_at tenant.jobs job) refl is
+  where
+    none : ◌≡◌ {A = Result (Outcome I) Refusal} (Err NoJob) (Ok outcome) → P outcome.0
+    none e = absurd cc
+
+    by : (found : Option Job) → job_at tenant.jobs job ≡ found → cancelled tenant found ≡ Ok outcome → P outcome.0
+    by None at e = none e
+    by (Some (Live root)) at e =
+        let both : ◌≡◌ {A = Result (Outcome I) Refusal} (Ok (Some (ended root CancelledJob tenant), Cancelled)) (Ok outcome) = e in
+        let pair : ◌≡◌ {A = Outcome I} (Some (ended root CancelledJob tenant), Cancelled) outcome = cc in
+        came P (Some (ended root CancelledJob tenant), Cancelled) outcome pair (each.at_cancel job root at)
+    by (Some (Done words)) at e = none e
+    by (Some SpentJob) at e = none e
+    by (Some CancelledJob) at e = none e
+by-effects {I} functions tenant (Leave number) outcome P is each =
+    let e : ◌≡◌ {A = Result (Outcome I) Refusal} (Ok (None, Left)) (Ok outcome) = is in
+    let own : ◌≡◌ {A = Outcome I} (None, Left) outcome = cc in came P (None, Left) outcome own each.at_leave
 
 -- a step that is left
 step-left : (tenant : Tenant) → (eqb (left tenant).steps 0) ≡ false → tenant.steps < 16 * tenant.reserve.nodes
@@ -253,7 +341,7 @@ inlet-shaped I tenant worker name f parent act at named passed s =
       | inr sleeps ↦ rw sleeps sa
     ]
 
--- Finish, Spend and Cancel
+-- Finish and Spend
 finish-shaped : (I : Type 0) (tenant : Tenant) (worker : ℕ) (f : Frame (List ℕ)) → applies (finish_tests tenant worker f) ≡ false → IsShaped tenant → LeftShaped (finished {I = I} tenant f).0
 finish-shaped I tenant worker f passed s =
     let p = or_parts (not (is_returned f.state) || not (is_root f.path)) (applies (no_step tenant ∷ not_free tenant worker ∷ [])) passed in
@@ -262,17 +350,6 @@ finish-shaped I tenant worker f passed s =
 
 spend-shaped : (I : Type 0) (tenant : Tenant) (f : Frame (List ℕ)) → IsShaped tenant → LeftShaped (spent {I = I} tenant f).0
 spend-shaped I tenant f s = shaped-ended (root_of f.path) SpentJob tenant (λ root. refl) s
-
-cancel-shaped : {I : Type 0} (tenant : Tenant) (job : Option Job) (outcome : Outcome I) → cancelled tenant job ≡ Ok outcome → IsShaped tenant → LeftShaped outcome.0
-cancel-shaped {I} tenant None outcome is s = (let e : ◌≡◌ {A = Result (Outcome I) Refusal} (Err NoJob) (Ok outcome) = is in absurd cc)
-cancel-shaped {I} tenant (Some (Live root)) outcome is s =
-    let e : ◌≡◌ {A = Result (Outcome I) Refusal} (Ok (Some (ended root CancelledJob tenant), Cancelled)) (Ok outcome) = is in
-    let own : Some (ended root CancelledJob tenant) ≡ outcome.0 = let pair : ◌≡◌ {A = Outcome I} (Some (ended root CancelledJob tenant), Cancelled) outcome = cc in ap (λ (o : Outcome I). o.0) pair in
-    let P : Option Tenant → Type 0 = λ o. LeftShaped o in
-    subst P own (shaped-ended root CancelledJob tenant (λ r. refl) s)
-cancel-shaped {I} tenant (Some (Done words)) outcome is s = (let e : ◌≡◌ {A = Result (Outcome I) Refusal} (Err NoJob) (Ok outcome) = is in absurd cc)
-cancel-shaped {I} tenant (Some SpentJob) outcome is s = (let e : ◌≡◌ {A = Result (Outcome I) Refusal} (Err NoJob) (Ok outcome) = is in absurd cc)
-cancel-shaped {I} tenant (Some CancelledJob) outcome is s = (let e : ◌≡◌ {A = Result (Outcome I) Refusal} (Err NoJob) (Ok outcome) = is in absurd cc)
 
 -- AdmitMore: what is used stays within the greater reservation
 raised-shaped : (I : Type 0) (tenant : Tenant) (quota : Quota) → is_lower tenant.reserve quota ≡ false → IsShaped tenant → LeftShaped (raised {I = I} tenant quota).0
@@ -285,77 +362,22 @@ raised-shaped I tenant quota enough s =
     let c = s.charged in
     let o = s.opened in
     let t = s.ticks in
-    record {
-      tree = s.tree;
-      given = s.given;
-      childless = s.childless;
-      roots = s.roots;
-      live = s.live;
-      few_jobs = s.few_jobs;
-      words = s.words;
-      charged = omega (arith, c, segments);
-      opened = omega (arith, o, nodes);
-      ticks = omega (arith, t, nodes);
-    }
-
--- an effect that came out
-pub came : {I : Type 0} (effect outcome : Outcome I) → effect ≡ outcome → LeftShaped effect.0 → LeftShaped outcome.0
-came {I} effect outcome is s = let P : Outcome I → Type 0 = λ o. LeftShaped o.0 in subst P is s
+    record { tree = s.tree; given = s.given; childless = s.childless; roots = s.roots; live = s.live; few_jobs = s.few_jobs; words = s.words; charged = omega (arith, c, segments); opened = omega (arith, o, nodes); ticks = omega (arith, t, nodes) }
 
 -- every step of a tenant that has the core to itself
 pub step-shaped : {I A : Type 0} (functions : Functions I A) (tenant : Tenant) (step : StepOf A) (outcome : Outcome I) → lone_step functions tenant step ≡ Ok outcome → IsShaped tenant → LeftShaped outcome.0
-step-shaped {I} functions tenant (Admit number quota) outcome is s = (let e : ◌≡◌ {A = Result (Outcome I) Refusal} (Err OldTenant) (Ok outcome) = is in absurd cc)
-step-shaped {I} functions tenant (AdmitMore number quota) outcome is s =
-    let p = unless-passed ((is_lower tenant.reserve quota, Lower) ∷ []) (raised {I = I} tenant quota) outcome is in
-    came (raised tenant quota) outcome p.1 (raised-shaped I tenant quota (or_parts (is_lower tenant.reserve quota) false p.0).0 s)
-step-shaped {I} functions tenant (Submit number words size) outcome is s =
-    let p = unless-passed (submit_tests tenant words size) (submitted {I = I} tenant number words size) outcome is in
-    came (submitted tenant number words size) outcome p.1 (submit-shaped I tenant number words size p.0 s)
-step-shaped {I} functions tenant (Take worker name) outcome is s =
-    let f = frame-found tenant.frames name.serial (λ frame. unless (take_tests tenant worker frame) (taken_by tenant worker frame)) outcome is in
-    let p = unless-passed (take_tests tenant worker f.0) (taken_by {I = I} tenant worker f.0) outcome f.2 in
-    came (taken_by tenant worker f.0) outcome p.1 (taken-shaped I tenant worker f.0 (third _ _ (eqb (left tenant).steps 0) _ p.0) s)
-  where
-    third : (a b c d : Bool) → (a || (b || (c || (d || false)))) ≡ false → c ≡ false
-    third a b c d e = (or_parts c (d || false) (or_parts b (c || (d || false)) (or_parts a (b || (c || (d || false))) e).1).1).0
-step-shaped {I} functions tenant (Steal worker from name) outcome is s =
-    let f = frame-found tenant.frames name.serial (λ frame. unless (steal_tests tenant worker from frame) (taken_by tenant worker frame)) outcome is in
-    let p = unless-passed (steal_tests tenant worker from f.0) (taken_by {I = I} tenant worker f.0) outcome f.2 in
-    came (taken_by tenant worker f.0) outcome p.1 (taken-shaped I tenant worker f.0 (third _ _ (eqb (left tenant).steps 0) _ p.0) s)
-  where
-    third : (a b c d : Bool) → (a || (b || (c || (d || false)))) ≡ false → c ≡ false
-    third a b c d e = (or_parts c (d || false) (or_parts b (c || (d || false)) (or_parts a (b || (c || (d || false))) e).1).1).0
-step-shaped {I} functions tenant (Advance worker name) outcome is s =
-    let f = frame-found tenant.frames name.serial (λ frame. unless (advance_tests tenant worker frame (act_of functions tenant frame)) (advanced functions tenant worker name frame (act_of functions tenant frame))) outcome is in
-    let act = act_of functions tenant f.0 in
-    let p = unless-passed (advance_tests tenant worker f.0 act) (advanced functions tenant worker name f.0 act) outcome f.2 in
-    came (advanced functions tenant worker name f.0 act) outcome p.1 (advance-shaped functions tenant worker name f.0 act f.1 p.0 s)
-step-shaped {I} functions tenant (Answer worker name answer) outcome is s =
-    let f = frame-found tenant.frames name.serial (λ frame. unless (answer_tests functions tenant worker frame answer) (answered functions tenant worker frame answer)) outcome is in
-    let p = unless-passed (answer_tests functions tenant worker f.0 answer) (answered functions tenant worker f.0 answer) outcome f.2 in
-    came (answered functions tenant worker f.0 answer) outcome p.1 (answer-shaped functions tenant worker name.serial f.0 answer f.1 p.0 s)
-step-shaped {I} functions tenant (Inlet worker name) outcome is s =
-    let f = frame-found tenant.frames name.serial (λ frame. inlet_under functions tenant worker name frame (parent_of frame.path)) outcome is in
-    by f.0 f.1 (parent_of f.0.path) refl f.2
-  where
-    by : (f : Frame (List ℕ)) → frame_at tenant.frames name.serial ≡ Some f → (parent : Option ℕ) → parent_of f.path ≡ parent → inlet_under functions tenant worker name f parent ≡ Ok outcome → LeftShaped outcome.0
-    by f at None named e = (let no : ◌≡◌ {A = Result (Outcome I) Refusal} (Err NotReturned) (Ok outcome) = e in absurd cc)
-    by f at (Some parent) named e =
-        let act = functions.inlet (words_in tenant.frames parent) f.value in
-        let p = unless-passed (inlet_tests tenant worker f parent act) (taken_in {I = I} tenant worker name parent act) outcome e in
-        came (taken_in tenant worker name parent act) outcome p.1 (inlet-shaped I tenant worker name f parent act at named p.0 s)
-step-shaped {I} functions tenant (Finish worker name) outcome is s =
-    let f = frame-found tenant.frames name.serial (λ frame. unless (finish_tests tenant worker frame) (finished tenant frame)) outcome is in
-    let p = unless-passed (finish_tests tenant worker f.0) (finished {I = I} tenant f.0) outcome f.2 in
-    came (finished tenant f.0) outcome p.1 (finish-shaped I tenant worker f.0 p.0 s)
-step-shaped {I} functions tenant (Spend name) outcome is s =
-    let f = frame-found tenant.frames name.serial (λ frame. unless ((not (is_spendable functions tenant frame), NotSpent) ∷ []) (spent tenant frame)) outcome is in
-    let p = unless-passed ((not (is_spendable functions tenant f.0), NotSpent) ∷ []) (spent {I = I} tenant f.0) outcome f.2 in
-    came (spent tenant f.0) outcome p.1 (spend-shaped I tenant f.0 s)
-step-shaped functions tenant (Cancel number job) outcome is s = cancel-shaped tenant (job_at tenant.jobs job) outcome is s
-step-shaped {I} functions tenant (Leave number) outcome is s =
-    let e : ◌≡◌ {A = Result (Outcome I) Refusal} (Ok (None, Left)) (Ok outcome) = is in
-    let own : ◌≡◌ {A = Outcome I} (None, Left) outcome = cc in came (None, Left) outcome own tt
+step-shaped {I} functions tenant step outcome is s = by-effects functions tenant step outcome LeftShaped is (record {
+  at_raise = λ number quota _ enough. raised-shaped I tenant quota enough s;
+  at_submit = λ number words size _ passed. submit-shaped I tenant number words size passed s;
+  at_take = λ worker serial f at ready some. taken-shaped I tenant worker f some s;
+  at_advance = λ worker name f at passed. advance-shaped functions tenant worker name f (act_of functions tenant f) at passed s;
+  at_answer = λ worker serial f answer at passed. answer-shaped functions tenant worker serial f answer at passed s;
+  at_inlet = λ worker name f parent at named passed. inlet-shaped I tenant worker name f parent (functions.inlet (words_in tenant.frames parent) f.value) at named passed s;
+  at_finish = λ worker serial f at passed. finish-shaped I tenant worker f passed s;
+  at_spend = λ serial f at. spend-shaped I tenant f s;
+  at_cancel = λ number root at. shaped-ended root CancelledJob tenant (λ r. refl) s;
+  at_leave = tt;
+})
 
 -- from nothing: an admission
 pub admitted-shaped : (quota : Quota) → IsShaped (admitted_with quota)

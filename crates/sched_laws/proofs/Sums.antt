@@ -1,33 +1,31 @@
 -- What all tenants have reserved and are charged, under each answer.
 use Rattle.std.proofs.Common.{◌≡◌, ◌↔◌, ℕ, ◌+◌, ◌*◌, ◌≤◌, inl, inr, Bool, false, not, ◌||◌, ◌&&◌, eqb, ltb, leb, List, [], ◌∷◌, Option, Some, None, Result, Ok, Err, length, refl, ap, sym, ◌∙◌, subst, arith}
 use Rattle.std.proofs.lemmas.List.Sums.{sum_by-cons}
-use Rattle.std.proofs.lemmas.Bool.{cases_Bool, ltb-false, le-ltb, or_parts}
+use Rattle.std.proofs.lemmas.Bool.{cases_Bool, false≢true, ltb-false, le-ltb, or_parts}
 use Rattle.tenant_quota.specs.Quota.{Quota}
 use Rattle.tenant_quota.specs.Accounts.{reserved_segments, reserved_nodes}
 use Rattle.tenant_quota.specs.declared.account.Account.{Account}
 use Rattle.frame_tree.specs.declared.names.FrameId.{FrameId}
-use Rattle.frame_tree.specs.Frames.{Frame, frame_at, parent_of}
+use Rattle.frame_tree.specs.Frames.{frame_at}
 use Rattle.sched_rules.specs.declared.act.InletAct.{InletAct}
 use Rattle.sched_rules.specs.declared.act.Then.{Then}
 use Rattle.sched_rules.specs.declared.act.Then.TheVariants.{Grow, Spawn, Go, Wait, Compute, Return}
-use Rattle.sched_rules.specs.declared.job.Job.{Job}
-use Rattle.sched_rules.specs.declared.job.Job.TheVariants.{Live, Done, Spent as SpentJob, Cancelled as CancelledJob}
 use Rattle.sched_rules.specs.declared.refusal.Refusal.{Refusal}
-use Rattle.sched_rules.specs.declared.refusal.Refusal.TheVariants.{NotSpent, OldTenant, NotReturned, NoJob, NoTenant, Lower}
+use Rattle.sched_rules.specs.declared.refusal.Refusal.TheVariants.{NoTenant, Lower}
 use Rattle.sched_rules.specs.declared.step.StepOf.{StepOf}
-use Rattle.sched_rules.specs.declared.step.StepOf.TheVariants.{Admit, AdmitMore, Submit, Take, Steal, Advance, Answer, Inlet, Finish, Spend, Cancel, Leave}
+use Rattle.sched_rules.specs.declared.step.StepOf.TheVariants.{Admit, AdmitMore}
 use Rattle.sched_rules.specs.declared.step.DidOf.{DidOf}
-use Rattle.sched_rules.specs.declared.step.DidOf.TheVariants.{Admitted, Cancelled, Left}
+use Rattle.sched_rules.specs.declared.step.DidOf.TheVariants.{Admitted}
 use Rattle.sched_rules.specs.Functions.{Functions}
-use Rattle.sched_rules.specs.Trees.{Tenant, admitted_with, account_in, charged_for, words_in, left, has_child, job_at}
-use Rattle.sched_rules.specs.Lone.{Outcome, unless, lone, lone_step, is_lower, raised, counted, holding, submit_tests, submitted, take_tests, steal_tests, taken_by, act_of, advance_tests, then_done, advanced, answer_tests, answered, inlet_tests, does_wait, staying, taken_in, inlet_under, finish_tests, finished, is_spendable, spent, cancelled, ended}
+use Rattle.sched_rules.specs.Trees.{Tenant, admitted_with, account_in, charged_for, words_in, left, has_child}
+use Rattle.sched_rules.specs.Lone.{Outcome, lone, lone_step, is_lower, raised, counted, holding, act_of, then_done, does_wait, staying, taken_in}
 use Rattle.sched_rules.specs.Runs.{tenant_of}
 use Rattle.sched_rules.specs.Views.{free_in}
 use Rattle.sched_rules.specs.Cores.{Shared, tenant_in, with_tenant, without_tenant, with_outcome, accounts_in, reservations_in, is_full, reserved_by, is_beyond, admit_tests, judged, shared_after, charged_in}
 use Rattle.sched_rules.specs.Headline.{is_admission, after_answer, after_answers}
 use Rattle.sched_rules.proofs.Isolation.{there}
 use Rattle.sched_laws.specs.Shapes.{IsShaped, AreShaped, IsReservedWithin, IsCovered}
-use Rattle.sched_laws.proofs.Shaped.{unless-passed, frame-found}
+use Rattle.sched_laws.proofs.Shaped.{unless-passed, by-effects}
 use Rattle.sched_laws.proofs.FitAnswers.{taken-alone, admission}
 use Rattle.sched_laws.proofs.Answers.{more-taken}
 
@@ -46,10 +44,6 @@ segments-total (e ∷ es) = sum_by-cons (λ (a : ℕ × Account). a.1.reserve.se
 nodes-total : (es : Entries) → reserved_nodes (accounts_in es) ≡ total (λ t. t.reserve.nodes) es
 nodes-total [] = refl
 nodes-total (e ∷ es) = sum_by-cons (λ (a : ℕ × Account). a.1.reserve.nodes) (e.0, account_in e.1) (accounts_in es) ∙ ap (λ (n : ℕ). e.1.reserve.nodes + n) (nodes-total es)
-
-charged-total : (es : Entries) → charged_in es ≡ total (λ t. charged_for t.frames) es
-charged-total [] = refl
-charged-total (e ∷ es) = ap (λ (n : ℕ). charged_for e.1.frames + n) (charged-total es)
 
 total-changed : (m : Tenant → ℕ) (n : ℕ) (old t : Tenant) (es : Entries) → tenant_in es n ≡ Some old → total m (with_tenant n t es) + m old ≡ total m es + m t
 total-changed m n old t [] at = absurd cc
@@ -90,59 +84,20 @@ inlet-reserve I tenant worker name parent act =
     let frames = staying tenant.frames name.serial parent act.abort in
     elim (cases_Bool (does_wait (frame_at frames parent) && (act.abort || act.wake || not (has_child frames parent)))) [ inl woken ↦ rw woken refl | inr sleeps ↦ rw sleeps refl ]
 
-came-reserve : {I : Type 0} (quota : Quota) (effect outcome : Outcome I) → effect ≡ outcome → KeepsReserve quota effect.0 → KeepsReserve quota outcome.0
-came-reserve {I} quota effect outcome is keeps = let P : Outcome I → Type 0 = λ o. KeepsReserve quota o.0 in subst P is keeps
-
-refused-reserve : {I : Type 0} (quota : Quota) (refusal : Refusal) (outcome : Outcome I) → ◌≡◌ {A = Result (Outcome I) Refusal} (Err refusal) (Ok outcome) → KeepsReserve quota outcome.0
-refused-reserve quota refusal outcome e = absurd cc
-
-cancel-reserve : {I : Type 0} (tenant : Tenant) (job : Option Job) (outcome : Outcome I) → cancelled tenant job ≡ Ok outcome → KeepsReserve tenant.reserve outcome.0
-cancel-reserve tenant None outcome is = refused-reserve tenant.reserve NoJob outcome is
-cancel-reserve {I} tenant (Some (Live root)) outcome is =
-    let e : ◌≡◌ {A = Result (Outcome I) Refusal} (Ok (Some (ended root CancelledJob tenant), Cancelled)) (Ok outcome) = is in
-    let pair : ◌≡◌ {A = Outcome I} (Some (ended root CancelledJob tenant), Cancelled) outcome = cc in
-    came-reserve tenant.reserve (Some (ended root CancelledJob tenant), Cancelled) outcome pair refl
-cancel-reserve tenant (Some (Done words)) outcome is = refused-reserve tenant.reserve NoJob outcome is
-cancel-reserve tenant (Some SpentJob) outcome is = refused-reserve tenant.reserve NoJob outcome is
-cancel-reserve tenant (Some CancelledJob) outcome is = refused-reserve tenant.reserve NoJob outcome is
-
 -- every step but an admission of more
 pub step-reserve : {I A : Type 0} (functions : Functions I A) (tenant : Tenant) (step : StepOf A) (outcome : Outcome I) → is_admission step ≡ false → lone_step functions tenant step ≡ Ok outcome → KeepsReserve tenant.reserve outcome.0
-step-reserve functions tenant (Admit number quota) outcome no_admission is = refused-reserve tenant.reserve OldTenant outcome is
-step-reserve functions tenant (AdmitMore number quota) outcome no_admission is = absurd cc
-step-reserve {I} functions tenant (Submit number words size) outcome no_admission is =
-    let p = unless-passed (submit_tests tenant words size) (submitted {I = I} tenant number words size) outcome is in came-reserve tenant.reserve (submitted tenant number words size) outcome p.1 refl
-step-reserve {I} functions tenant (Take worker name) outcome no_admission is =
-    let f = frame-found tenant.frames name.serial (λ frame. unless (take_tests tenant worker frame) (taken_by tenant worker frame)) outcome is in
-    let p = unless-passed (take_tests tenant worker f.0) (taken_by {I = I} tenant worker f.0) outcome f.2 in came-reserve tenant.reserve (taken_by tenant worker f.0) outcome p.1 refl
-step-reserve {I} functions tenant (Steal worker from name) outcome no_admission is =
-    let f = frame-found tenant.frames name.serial (λ frame. unless (steal_tests tenant worker from frame) (taken_by tenant worker frame)) outcome is in
-    let p = unless-passed (steal_tests tenant worker from f.0) (taken_by {I = I} tenant worker f.0) outcome f.2 in came-reserve tenant.reserve (taken_by tenant worker f.0) outcome p.1 refl
-step-reserve functions tenant (Advance worker name) outcome no_admission is =
-    let f = frame-found tenant.frames name.serial (λ frame. unless (advance_tests tenant worker frame (act_of functions tenant frame)) (advanced functions tenant worker name frame (act_of functions tenant frame))) outcome is in
-    let act = act_of functions tenant f.0 in
-    let p = unless-passed (advance_tests tenant worker f.0 act) (advanced functions tenant worker name f.0 act) outcome f.2 in
-    came-reserve tenant.reserve (advanced functions tenant worker name f.0 act) outcome p.1 (then-reserve functions (counted (holding f.0.serial _ tenant)) worker name f.0.path _ act.after)
-step-reserve functions tenant (Answer worker name answer) outcome no_admission is =
-    let f = frame-found tenant.frames name.serial (λ frame. unless (answer_tests functions tenant worker frame answer) (answered functions tenant worker frame answer)) outcome is in
-    let p = unless-passed (answer_tests functions tenant worker f.0 answer) (answered functions tenant worker f.0 answer) outcome f.2 in came-reserve tenant.reserve (answered functions tenant worker f.0 answer) outcome p.1 refl
-step-reserve {I} functions tenant (Inlet worker name) outcome no_admission is =
-    let f = frame-found tenant.frames name.serial (λ frame. inlet_under functions tenant worker name frame (parent_of frame.path)) outcome is in by f.0 (parent_of f.0.path) f.2
-  where
-    by : (f : Frame (List ℕ)) (parent : Option ℕ) → inlet_under functions tenant worker name f parent ≡ Ok outcome → KeepsReserve tenant.reserve outcome.0
-    by f None e = refused-reserve tenant.reserve NotReturned outcome e
-    by f (Some parent) e =
-        let act = functions.inlet (words_in tenant.frames parent) f.value in
-        let p = unless-passed (inlet_tests tenant worker f parent act) (taken_in {I = I} tenant worker name parent act) outcome e in came-reserve tenant.reserve (taken_in tenant worker name parent act) outcome p.1 (inlet-reserve I tenant worker name parent act)
-step-reserve {I} functions tenant (Finish worker name) outcome no_admission is =
-    let f = frame-found tenant.frames name.serial (λ frame. unless (finish_tests tenant worker frame) (finished tenant frame)) outcome is in
-    let p = unless-passed (finish_tests tenant worker f.0) (finished {I = I} tenant f.0) outcome f.2 in came-reserve tenant.reserve (finished tenant f.0) outcome p.1 refl
-step-reserve {I} functions tenant (Spend name) outcome no_admission is =
-    let f = frame-found tenant.frames name.serial (λ frame. unless ((not (is_spendable functions tenant frame), NotSpent) ∷ []) (spent tenant frame)) outcome is in
-    let p = unless-passed ((not (is_spendable functions tenant f.0), NotSpent) ∷ []) (spent {I = I} tenant f.0) outcome f.2 in came-reserve tenant.reserve (spent tenant f.0) outcome p.1 refl
-step-reserve functions tenant (Cancel number job) outcome no_admission is = cancel-reserve tenant (job_at tenant.jobs job) outcome is
-step-reserve {I} functions tenant (Leave number) outcome no_admission is =
-    let e : ◌≡◌ {A = Result (Outcome I) Refusal} (Ok (None, Left)) (Ok outcome) = is in let own : ◌≡◌ {A = Outcome I} (None, Left) outcome = cc in came-reserve tenant.reserve (None, Left) outcome own tt
+step-reserve {I} functions tenant step outcome no_admission is = by-effects functions tenant step outcome (KeepsReserve tenant.reserve) is (record {
+  at_raise = λ number quota more enough. absurd (false≢true (sym no_admission ∙ ap is_admission more));
+  at_submit = λ number words size _ passed. refl;
+  at_take = λ worker serial f found ready some. refl;
+  at_advance = λ worker name f found passed. then-reserve functions (counted (holding f.serial _ tenant)) worker name f.path _ (act_of functions tenant f).after;
+  at_answer = λ worker serial f answer found passed. refl;
+  at_inlet = λ worker name f parent found named passed. inlet-reserve I tenant worker name parent (functions.inlet (words_in tenant.frames parent) f.value);
+  at_finish = λ worker serial f found passed. refl;
+  at_spend = λ serial f found. refl;
+  at_cancel = λ number root found. refl;
+  at_leave = tt;
+})
 
 -- a number that goes by what is reserved, after a tenant came to this
 outcome-total : (m : Quota → ℕ) (n : ℕ) (old : Tenant) (o : Option Tenant) (es : Entries) → tenant_in es n ≡ Some old → KeepsReserve old.reserve o → total (λ t. m t.reserve) (with_outcome n o es) ≤ total (λ t. m t.reserve) es

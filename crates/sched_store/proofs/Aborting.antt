@@ -1,5 +1,6 @@
 -- An abort at a frame: the frames under it go, with their nodes and what they were charged.
 use Rattle.std.proofs.Common.{◌≡◌, ◌≢◌, ℕ, ◌+◌, ◌-◌, ◌≤◌, inl, inr, Bool, true, false, not, List, [], ◌∷◌, length, Option, Some, None, IsSome, All, AllPairs, refl, ap, sym, ◌∙◌, subst, arith, option_map}
+use Rattle.std.specs.List.{filter}
 use Rattle.std.proofs.lemmas.Bool.{cases_Bool, true≢false, false≢true, eq-eqb}
 use Rattle.cactus_stack.specs.Nodes.{Nodes, IsOpen, node_words, without, total_charge, HasAllChildren}
 use Rattle.cactus_stack.proofs.LawFacts.{charge-without}
@@ -14,7 +15,7 @@ use Rattle.frame_tree.proofs.TreeLaws.{found-there}
 use Rattle.frame_tree.proofs.TreeChanges.{tree-aborted, child-further-under}
 use Rattle.frame_tree.proofs.TreeValues.{aborted-map_values, frames_under-map_values}
 use Rattle.sched_rules.specs.Trees.{Tenant}
-use Rattle.sched_rules.specs.Changes.{on_tenant, without_under}
+use Rattle.sched_rules.specs.Changes.{on_tenant}
 use Rattle.sched_rules.specs.Views.{named}
 use Rattle.sched_store.specs.Ledgers.{jobs_of}
 use Rattle.sched_store.specs.Parts.{Parts, worded, shared_of}
@@ -58,6 +59,83 @@ pub freed-is : (nodes : Nodes) (numbers : List ℕ) (before later : ℕ) → All
 freed-is nodes numbers before later once long was is =
     let closed_all = charge-without nodes numbers once in
     (omega (arith, closed_all, long, was, is), omega (arith, closed_all, long, was, is))
+
+-- no less is free, it is what the nodes of the frames that don't stay gave back, and the tenant was charged as much
+pub record AreFreed (parts : Parts) (name : FrameId) (stay : Frame ℕ → Bool) (before later : ℕ) : Type 0 where
+  pub more : before ≤ later
+  pub few : later ≤ 65536
+  pub frees : total_charge (without parts.nodes (closing parts.trees name.tenant stay)) + (later - before) ≡ total_charge parts.nodes
+  pub charged : HasCharged parts.book name.tenant (later - before)
+
+pub nodes-free : (parts : Parts) (nodes : Nodes) (name : FrameId) (stay : Frame ℕ → Bool) (before later : ℕ) → IsStored parts → IsSome (named (shared_of parts) name) → without parts.nodes (closing parts.trees name.tenant stay) ≡ nodes →
+    before + total_charge parts.nodes ≡ length parts.nodes → later + total_charge nodes ≡ length nodes → AreFreed parts name stay before later
+nodes-free parts nodes name stay before later stored some gone was_free is_free =
+    let numbers = closing parts.trees name.tenant stay in
+    let long = length-without parts.nodes numbers in
+    let free : later + total_charge (without parts.nodes numbers) ≡ length (without parts.nodes numbers) = subst (λ (n : Nodes). later + total_charge n ≡ length n) (sym gone) is_free in
+    let once = closing-once parts.nodes parts.trees name.tenant stay stored.frames_nodes (stored.forest name.tenant) in
+    let freed = freed-is parts.nodes numbers before later once long was_free free in
+    let there = is-there parts stored name some in
+    let segments = stored.segments in
+    let within = IsSoundBook.segments_within stored.book in
+    record {
+      more = freed.0;
+      few = omega (arith, free, long, segments, within);
+      frees = freed.1;
+      charged = can-give-back parts name.tenant (later - before) stay stored there.account there.there freed.1;
+    }
+
+-- what the table, the stack and the book told of frames that went
+pub record AreGone (parts : Parts) (nodes : Nodes) (trees : List (TenantTree ℕ)) (book : Reservations) (name : FrameId) (stay : Frame ℕ → Bool) (before later : ℕ) : Type 0 where
+  pub some : IsSome (named (shared_of parts) name)
+  pub gone : without parts.nodes (closing parts.trees name.tenant stay) ≡ nodes
+  pub was_free : before + total_charge parts.nodes ≡ length parts.nodes
+  pub is_free : later + total_charge nodes ≡ length nodes
+  pub cut : IsCut parts.trees trees name.tenant stay
+  pub keeps : KeepsOthers parts.trees trees name.tenant
+  pub credited : ChangesOnly parts.book book name.tenant (credited_by (later - before))
+  pub sum : charged_segments book.accounts + (later - before) ≡ charged_segments parts.book.accounts
+  pub others : KeepsOtherAccounts parts.book book name.tenant
+  pub sound : IsSoundBook book
+
+gone-removal : (parts : Parts) (nodes : Nodes) (trees : List (TenantTree ℕ)) (book : Reservations) (name : FrameId) (stay : Frame ℕ → Bool) (before later : ℕ) → IsStored parts →
+    AreGone parts nodes trees book name stay before later → IsRemoval parts trees book name.tenant (later - before) stay
+gone-removal parts nodes trees book name stay before later stored is =
+    let there = is-there parts stored name is.some in
+    record {
+      account = there.account;
+      there = there.there;
+      cut = is.cut;
+      table = is.keeps;
+      frees = (nodes-free parts nodes name stay before later stored is.some is.gone is.was_free is.is_free).frees;
+      credited = is.credited;
+      sum = is.sum;
+      others = is.others;
+      sound = is.sound;
+    }
+
+-- the parts after it
+abbrev pub with_parts : Parts → Nodes → List (TenantTree ℕ) → Reservations → Parts
+with_parts parts nodes trees book = record parts { nodes = nodes; trees = trees; book = book }
+
+pub gone-stored : (parts : Parts) (nodes : Nodes) (trees : List (TenantTree ℕ)) (book : Reservations) (name : FrameId) (stay : Frame ℕ → Bool) (before later : ℕ) → IsStored parts →
+    AreGone parts nodes trees book name stay before later → IsStored (with_parts parts nodes trees book)
+gone-stored parts nodes trees book name stay before later stored is =
+    subst (λ (n : Nodes). IsStored (with_parts parts n trees book)) is.gone
+    (removed-stored parts trees book name.tenant (later - before) stay stored (gone-removal parts nodes trees book name stay before later stored is))
+
+-- the core after it, where the tenant's frames with their words are changed so
+pub gone-shared : (parts : Parts) (nodes : Nodes) (trees : List (TenantTree ℕ)) (book : Reservations) (name : FrameId) (stay : Frame ℕ → Bool) (before later : ℕ) (change : List (Frame (List ℕ)) → List (Frame (List ℕ))) → IsStored parts →
+    AreGone parts nodes trees book name stay before later → worded parts.nodes (filter stay (frames_of parts.trees name.tenant)) ≡ change (worded parts.nodes (frames_of parts.trees name.tenant)) →
+    shared_of (with_parts parts nodes trees book) ≡ on_tenant name.tenant (λ tenant. record tenant { frames = change tenant.frames }) (shared_of parts)
+gone-shared parts nodes trees book name stay before later change stored is words =
+    let removal = gone-removal parts nodes trees book name stay before later stored is in
+    let frames = own-words parts trees book name.tenant (later - before) stay stored removal ∙ words in
+    subst (λ (n : Nodes). shared_of (with_parts parts n trees book) ≡ on_tenant name.tenant (λ tenant. record tenant { frames = change tenant.frames }) (shared_of parts)) is.gone
+    (removed-shared parts trees book name.tenant (later - before) stay (λ tenant. record tenant { frames = change tenant.frames }) stored removal (ap (with-frames removal.account) frames))
+  where
+    with-frames : Account → List (Frame (List ℕ)) → Tenant
+    with-frames account frames = record { reserve = account.reserve; serials = account.opened; steps = account.ticks; jobs = jobs_of parts.ledgers name.tenant; frames = frames }
 
 -- the frames that an abort leaves
 abbrev pub stays : ℕ → Frame ℕ → Bool
@@ -107,98 +185,14 @@ abort-closes parts name numbers stored is =
       with_children = closing-children parts.nodes parts.trees name.tenant (stays name.serial) stored.frames_nodes tree (takes-under name.serial (frames_of parts.trees name.tenant) tree);
     })
 
--- what an abort was told by the table, the stack and the book
-pub record IsAborted (parts : Parts) (nodes : Nodes) (trees : List (TenantTree ℕ)) (book : Reservations) (name : FrameId) (numbers : List ℕ) (before later : ℕ) : Type 0 where
-  pub some : IsSome (named (shared_of parts) name)
-  pub values : numbers ≡ values_of (frames_under name.serial (frames_of parts.trees name.tenant))
-  pub closed_all : nodes ≡ without parts.nodes numbers
-  pub was_free : before + total_charge parts.nodes ≡ length parts.nodes
-  pub is_free : later + total_charge nodes ≡ length nodes
-  pub frames : frames_of trees name.tenant ≡ aborted name.serial (frames_of parts.trees name.tenant)
-  pub keeps : KeepsOthers parts.trees trees name.tenant
-  pub credited : ChangesOnly parts.book book name.tenant (credited_by (later - before))
-  pub sum : charged_segments book.accounts + (later - before) ≡ charged_segments parts.book.accounts
-  pub others : KeepsOtherAccounts parts.book book name.tenant
-  pub sound : IsSoundBook book
-
--- no less is free, it is what the nodes gave back, and the tenant was charged as much
-pub record AreFreed (parts : Parts) (name : FrameId) (numbers : List ℕ) (before later : ℕ) : Type 0 where
-  pub more : before ≤ later
-  pub few : later ≤ 65536
-  pub frees : total_charge (without parts.nodes (closing parts.trees name.tenant (stays name.serial))) + (later - before) ≡ total_charge parts.nodes
-  pub charged : HasCharged parts.book name.tenant (later - before)
-
-pub abort-frees : (parts : Parts) (nodes : Nodes) (name : FrameId) (numbers : List ℕ) (before later : ℕ) → IsStored parts → IsSome (named (shared_of parts) name) →
-    numbers ≡ values_of (frames_under name.serial (frames_of parts.trees name.tenant)) → nodes ≡ without parts.nodes numbers → before + total_charge parts.nodes ≡ length parts.nodes → later + total_charge nodes ≡ length nodes →
-    AreFreed parts name numbers before later
-abort-frees parts nodes name numbers before later stored some values closed_all was_free is_free =
-    let closes = abort-closes parts name numbers stored values in
-    let long = length-without parts.nodes numbers in
-    let free : later + total_charge (without parts.nodes numbers) ≡ length (without parts.nodes numbers) = subst (λ (n : Nodes). later + total_charge n ≡ length n) closed_all is_free in
-    let freed = freed-is parts.nodes numbers before later closes.once long was_free free in
-    let same : numbers ≡ closing parts.trees name.tenant (stays name.serial) = values ∙ sym (closing-under name.serial (frames_of parts.trees name.tenant)) in
-    let frees = subst (λ (ns : List ℕ). total_charge (without parts.nodes ns) + (later - before) ≡ total_charge parts.nodes) same freed.1 in
-    let there = is-there parts stored name some in
-    let segments = stored.segments in
-    let within = IsSoundBook.segments_within stored.book in
-    record {
-      more = freed.0;
-      few = omega (arith, free, long, segments, within);
-      frees = frees;
-      charged = can-give-back parts name.tenant (later - before) (stays name.serial) stored there.account there.there frees;
-    }
-
-abort-removal : (parts : Parts) (nodes : Nodes) (trees : List (TenantTree ℕ)) (book : Reservations) (name : FrameId) (numbers : List ℕ) (before later : ℕ) → IsStored parts →
-    IsAborted parts nodes trees book name numbers before later → IsRemoval parts trees book name.tenant (later - before) (stays name.serial)
-abort-removal parts nodes trees book name numbers before later stored is =
-    let there = is-there parts stored name is.some in
-    let freed = abort-frees parts nodes name numbers before later stored is.some is.values is.closed_all is.was_free is.is_free in
-    record {
-      account = there.account;
-      there = there.there;
-      cut = abort-cut parts trees name stored is.frames is.keeps;
-      table = is.keeps;
-      frees = freed.frees;
-      credited = is.credited;
-      sum = is.sum;
-      others = is.others;
-      sound = is.sound;
-    }
-
--- the parts after an abort
-abbrev pub with_parts : Parts → Nodes → List (TenantTree ℕ) → Reservations → Parts
-with_parts parts nodes trees book = record parts { nodes = nodes; trees = trees; book = book }
-
-closed-same : (parts : Parts) (nodes : Nodes) (name : FrameId) (numbers : List ℕ) → numbers ≡ values_of (frames_under name.serial (frames_of parts.trees name.tenant)) → nodes ≡ without parts.nodes numbers →
+-- they are those of the frames that go
+pub abort-gone : (parts : Parts) (nodes : Nodes) (name : FrameId) (numbers : List ℕ) → numbers ≡ values_of (frames_under name.serial (frames_of parts.trees name.tenant)) → nodes ≡ without parts.nodes numbers →
     without parts.nodes (closing parts.trees name.tenant (stays name.serial)) ≡ nodes
-closed-same parts nodes name numbers values closed_all =
+abort-gone parts nodes name numbers values closed_all =
     ap (without parts.nodes) (closing-under name.serial (frames_of parts.trees name.tenant) ∙ sym values) ∙ sym closed_all
 
-pub abort-stored : (parts : Parts) (nodes : Nodes) (trees : List (TenantTree ℕ)) (book : Reservations) (name : FrameId) (numbers : List ℕ) (before later : ℕ) → IsStored parts →
-    IsAborted parts nodes trees book name numbers before later → IsStored (with_parts parts nodes trees book)
-abort-stored parts nodes trees book name numbers before later stored is =
-    let removal = abort-removal parts nodes trees book name numbers before later stored is in
-    subst (λ (n : Nodes). IsStored (with_parts parts n trees book)) (closed-same parts nodes name numbers is.values is.closed_all)
-    (removed-stored parts trees book name.tenant (later - before) (stays name.serial) stored removal)
-
-abort-frames : (parts : Parts) (nodes : Nodes) (trees : List (TenantTree ℕ)) (book : Reservations) (name : FrameId) (numbers : List ℕ) (before later : ℕ) → IsStored parts →
-    IsAborted parts nodes trees book name numbers before later →
-    worded (without parts.nodes (closing parts.trees name.tenant (stays name.serial))) (frames_of trees name.tenant) ≡ aborted name.serial (worded parts.nodes (frames_of parts.trees name.tenant))
-abort-frames parts nodes trees book name numbers before later stored is =
-    let removal = abort-removal parts nodes trees book name numbers before later stored is in
-    own-words parts trees book name.tenant (later - before) (stays name.serial) stored removal
-    ∙ sym (aborted-map_values (node_words parts.nodes) name.serial (frames_of parts.trees name.tenant))
-
-pub abort-shared : (parts : Parts) (nodes : Nodes) (trees : List (TenantTree ℕ)) (book : Reservations) (name : FrameId) (numbers : List ℕ) (before later : ℕ) → IsStored parts →
-    IsAborted parts nodes trees book name numbers before later → shared_of (with_parts parts nodes trees book) ≡ on_tenant name.tenant (without_under name.serial) (shared_of parts)
-abort-shared parts nodes trees book name numbers before later stored is =
-    let removal = abort-removal parts nodes trees book name numbers before later stored is in
-    let frames = abort-frames parts nodes trees book name numbers before later stored is in
-    subst (λ (n : Nodes). shared_of (with_parts parts n trees book) ≡ on_tenant name.tenant (without_under name.serial) (shared_of parts)) (closed-same parts nodes name numbers is.values is.closed_all)
-    (removed-shared parts trees book name.tenant (later - before) (stays name.serial) (without_under name.serial) stored removal (ap (with-frames removal.account) frames))
-  where
-    with-frames : Account → List (Frame (List ℕ)) → Tenant
-    with-frames account frames = record { reserve = account.reserve; serials = account.opened; steps = account.ticks; jobs = jobs_of parts.ledgers name.tenant; frames = frames }
+pub abort-words : (parts : Parts) (name : FrameId) → worded parts.nodes (filter (stays name.serial) (frames_of parts.trees name.tenant)) ≡ aborted name.serial (worded parts.nodes (frames_of parts.trees name.tenant))
+abort-words parts name = sym (aborted-map_values (node_words parts.nodes) name.serial (frames_of parts.trees name.tenant))
 
 -- as many go as are under the frame
 pub abort-count : (parts : Parts) → IsStored parts → (name : FrameId) (numbers : List ℕ) → numbers ≡ values_of (frames_under name.serial (frames_of parts.trees name.tenant)) →

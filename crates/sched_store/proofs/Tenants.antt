@@ -4,7 +4,7 @@ use Rattle.std.proofs.lemmas.Bool.{cases_Bool, false≢true}
 use Rattle.tenant_quota.specs.Accounts.{account_of, ticked, charged_segments, left_in}
 use Rattle.tenant_quota.specs.declared.account.Account.{Account}
 use Rattle.tenant_quota.specs.declared.account.Left.{Left}
-use Rattle.tenant_quota.specs.Reservations.{Reservations, ChangesOnly, IsSoundBook, left_of as left_of_book}
+use Rattle.tenant_quota.specs.Reservations.{Reservations, changed, ChangesOnly, IsSoundBook, left_of as left_of_book}
 use Rattle.sched_rules.specs.declared.job.Job.{Job}
 use Rattle.sched_rules.specs.Trees.{Tenant}
 use Rattle.sched_rules.specs.Lone.{counted}
@@ -15,7 +15,7 @@ use Rattle.tenant_quota.proofs.Standing.{some_of}
 use Rattle.number_index.proofs.Edits.{said-with_own, said-with_other}
 use Rattle.sched_store.specs.Ledgers.{Ledger, number_in, jobs_of, numbers_of, is_there, with_jobs}
 use Rattle.sched_store.specs.Parts.{Parts, shared_of}
-use Rattle.sched_store.specs.Stored.{IsStored, numbers_in}
+use Rattle.sched_store.specs.Stored.{IsStored, IsAccountFor, numbers_in}
 use Rattle.sched_store.proofs.Lookups.{tenant-there, left-found}
 use Rattle.sched_store.proofs.LedgerPlaces.{numbers-with_jobs}
 use Rattle.sched_store.proofs.Steps.{TenantStep, changed-same, step-stored, step-shared}
@@ -42,15 +42,15 @@ left-account parts stored number P is =
 pub book-left : (parts : Parts) → IsStored parts → (number : ℕ) (P : Left → Type 0) → IsSomeAnd (left_of (shared_of parts) number) P → IsSomeAnd (left_of_book number parts.book) P
 book-left parts stored number P is = let Q : Option Left → Type 0 = λ left. IsSomeAnd left P in subst Q (left-found parts stored number) is
 
--- a step is counted
-
-ticked-step : (old : Parts) (book : Reservations) (number : ℕ) (account : Account) → IsStored old → account_of number old.book.accounts ≡ Some account → IsSoundBook book → ChangesOnly old.book book number ticked → charged_segments book.accounts ≡ charged_segments old.book.accounts →
-    TenantStep old (record old { book = book }) number ticked account
-ticked-step old book number account stored there sound changes sum =
+-- a step that leaves the trees and the nodes as they are
+steady-step : (old : Parts) (book : Reservations) (ledgers : List Ledger) (number : ℕ) (change : Account → Account) (account : Account) → IsStored old → account_of number old.book.accounts ≡ Some account →
+    IsSoundBook book → book ≡ changed old.book number change → charged_segments book.accounts ≡ charged_segments old.book.accounts → IsAccountFor old.nodes old.trees number (change account) →
+    numbers_of ledgers ≡ numbers_of old.ledgers → ((other : ℕ) → other ≢ number → jobs_of ledgers other ≡ jobs_of old.ledgers other) → TenantStep old (record old { book = book; ledgers = ledgers }) number change account
+steady-step old book ledgers number change account stored there sound is sum own numbers jobs =
     record {
       there = there;
       sound = sound;
-      book = changes.whole;
+      book = is;
       trees = record { frames = λ other differs. refl; places = λ other differs. refl };
       count = refl;
       tree = stored.forest number;
@@ -58,14 +58,22 @@ ticked-step old book number account stored there sound changes sum =
       sized = stored.sized;
       segments = refl;
       charges = stored.charges ∙ sym sum;
-      own = (let own = stored.accounts number account there in record { charged = own.charged; places = own.places; serials = own.serials });
+      own = own;
       words = λ other differs. refl;
-      ledgers = refl;
-      jobs = λ other differs. refl;
+      ledgers = numbers;
+      jobs = jobs;
       workers = stored.workers;
       places = stored.places;
       newest = refl;
     }
+
+-- a step is counted
+
+ticked-step : (old : Parts) (book : Reservations) (number : ℕ) (account : Account) → IsStored old → account_of number old.book.accounts ≡ Some account → IsSoundBook book → ChangesOnly old.book book number ticked → charged_segments book.accounts ≡ charged_segments old.book.accounts →
+    TenantStep old (record old { book = book }) number ticked account
+ticked-step old book number account stored there sound changes sum =
+    let own = stored.accounts number account there in
+    steady-step old book old.ledgers number ticked account stored there sound changes.whole sum (record { charged = own.charged; places = own.places; serials = own.serials }) refl (λ other differs. refl)
 
 pub record Counted (old : Parts) (book : Reservations) (number : ℕ) : Type 0 where
   pub stored : IsStored (record old { book = book })
@@ -106,25 +114,8 @@ jobs_changed change tenant = record tenant { jobs = change tenant.jobs }
 
 jobs-step : (old : Parts) (number : ℕ) (account : Account) (change : List Job → List Job) → IsStored old → account_of number old.book.accounts ≡ Some account → TenantStep old (record old { ledgers = with_jobs number change old.ledgers }) number (λ a. a) account
 jobs-step old number account change stored there =
-    record {
-      there = there;
-      sound = stored.book;
-      book = ap (λ (entries : List (ℕ × Account)). at_entries entries) (sym (changed-same number old.book.accounts));
-      trees = record { frames = λ other differs. refl; places = λ other differs. refl };
-      count = refl;
-      tree = stored.forest number;
-      frames_nodes = stored.frames_nodes;
-      sized = stored.sized;
-      segments = refl;
-      charges = stored.charges;
-      own = stored.accounts number account there;
-      words = λ other differs. refl;
-      ledgers = numbers-with_jobs number change old.ledgers;
-      jobs = λ other differs. jobs_other-with_jobs number other change old.ledgers differs;
-      workers = stored.workers;
-      places = stored.places;
-      newest = refl;
-    }
+    steady-step old old.book (with_jobs number change old.ledgers) number (λ a. a) account stored there stored.book (ap (λ (entries : List (ℕ × Account)). at_entries entries) (sym (changed-same number old.book.accounts))) refl
+    (stored.accounts number account there) (numbers-with_jobs number change old.ledgers) (λ other differs. jobs_other-with_jobs number other change old.ledgers differs)
   where
     at_entries : List (ℕ × Account) → Reservations
     at_entries entries = record old.book { accounts = entries }

@@ -1,19 +1,19 @@
 -- Representation: worked examples of Chain, as lists of steps.
 use Rattle.std.specs.Prelude.{ℕ, List, [], ◌∷◌}
+use Rattle.sched_rules.specs.declared.job.Job.TheVariants.{Spent as SpentJob}
 use Rattle.sched_rules.specs.declared.step.StepOf.{StepOf}
 use Rattle.sched_rules.specs.declared.step.StepOf.TheVariants.{Admit, Submit, Take, Steal, Advance, Inlet, Finish}
+use Rattle.sched_rules.specs.Trees.{Tenant}
 use Rattle.sched_toys.specs.FanRows.{one, quota}
 
 -- tenant 1 with so much, and one job of Chain with count 2, whose root opens frame 2, which worker 1 then runs
 abbrev pub chain_begins : ℕ → ℕ → List (StepOf ℕ)
 chain_begins segments nodes =
-    Admit 1 (quota segments nodes)
-    ∷ Submit 1 (2 ∷ 0 ∷ []) 20
-    ∷ Steal 1 0 (one 1)
-    ∷ Advance 1 (one 1)
-    ∷ Advance 1 (one 1)
-    ∷ Take 1 (one 2)
-    ∷ []
+    Admit 1 (quota segments nodes) ∷ Submit 1 (2 ∷ 0 ∷ []) 20 ∷ Steal 1 0 (one 1) ∷ Advance 1 (one 1) ∷ Advance 1 (one 1) ∷ Take 1 (one 2) ∷ []
+
+-- where frame 2 can't open its child and the job is spent, so much is left of it
+abbrev pub chain_spent : ℕ → ℕ → Tenant
+chain_spent segments nodes = record { reserve = quota segments nodes; serials = 2; steps = 4; jobs = SpentJob ∷ []; frames = [] }
 
 -- the rest of the job, by one worker that takes the newest ready frame
 abbrev pub chain_ends : List (StepOf ℕ)

@@ -42,13 +42,7 @@ answer asked value = record { asked = asked; value = value }
 -- one job, whose root opens frames 2, 3 and 4 and waits
 abbrev pub fan_opens : List (StepOf FanAnswer)
 fan_opens =
-    Submit 1 (0 ∷ 0 ∷ []) 4
-    ∷ Steal 1 0 (one 1)
-    ∷ Advance 1 (one 1)
-    ∷ Advance 1 (one 1)
-    ∷ Advance 1 (one 1)
-    ∷ Advance 1 (one 1)
-    ∷ []
+    Submit 1 (0 ∷ 0 ∷ []) 4 ∷ Steal 1 0 (one 1) ∷ Advance 1 (one 1) ∷ Advance 1 (one 1) ∷ Advance 1 (one 1) ∷ Advance 1 (one 1) ∷ []
 
 -- frame 2 is computed by worker 2, and frame 3 opens frame 5
 abbrev pub fan_opens_five : List (StepOf FanAnswer)

@@ -1,7 +1,7 @@
 //! The definitions, tried on worked examples: each contract is computed from the definitions alone.
 ghost use Rattle.std.specs.Prelude.{◌≡◌, [], ◌∷◌, ◌++◌, Some, None, Ok, Err, true, false, option_map, replicate};
 ghost use Rattle.frame_tree.specs.declared.names.State.TheVariants.{Ready, Running, Computing, Waiting, Returned};
-ghost use Rattle.sched_rules.specs.declared.job.Job.TheVariants.{Live, Done, Spent as SpentJob};
+ghost use Rattle.sched_rules.specs.declared.job.Job.TheVariants.{Live, Done};
 ghost use Rattle.sched_rules.specs.declared.refusal.Refusal.TheVariants.{NoFrame, NoSegments, NoNodes, NotSpent, Full, Lower};
 ghost use Rattle.sched_rules.specs.declared.step.StepOf.TheVariants.{Admit, AdmitMore, Take, Advance, Answer, Spend, Leave};
 ghost use Rattle.sched_rules.specs.declared.step.DidOf.TheVariants.{Admitted, Submitted, Took, Spawned, Waited, Computing as IsComputing, Returned as HasReturned, Answered, TakenIn, Left};
@@ -13,7 +13,7 @@ ghost use Rattle.sched_rules.specs.Headline.{taken, told};
 ghost use Rattle.sched_rules.specs.Views.{left_of, job_of, frame_of, words_of_frame, live_of, newest_ready_in, ready_count, free_in};
 ghost use Rattle.sched_toys.specs.Toys.{fan, chain};
 ghost use Rattle.sched_toys.specs.FanRows.{one, two, quota, some_left, frame, answer, one_with, fan_opens, fan_opens_five, fan_steps, fan_steps_before_inlet, steps_between, mixed_steps, narrow_opens, narrow_returns, before_inlet, used_up, with_more, some_steps, some_answers};
-ghost use Rattle.sched_toys.specs.ChainRows.{chain_begins, chain_ends};
+ghost use Rattle.sched_toys.specs.ChainRows.{chain_begins, chain_ends, chain_spent};
 
 /// One job of Fan: the inlet of frame 2 removes frames 3, 4 and 5 too, wakes the root for worker 2,
 /// and gives their segments back; nodes aren't given back.
@@ -138,26 +138,14 @@ pub fn chain_with_enough()
 /// With five segments frame 2 can't open its child; the job is spent, and its segments are back.
 pub fn chain_with_too_few_segments()
     ensures refused { lone_refusal chain (alone chain (chain_begins 5 3)) (Advance 1 (one 2)) ≡ Some NoSegments }
-    ensures spent { alone chain (chain_begins 5 3 ++ Spend (one 2) ∷ []) ≡ Some (record {
-      reserve = quota 5 3;
-      serials = 2;
-      steps = 4;
-      jobs = SpentJob ∷ [];
-      frames = [];
-    }) }
+    ensures spent { alone chain (chain_begins 5 3 ++ Spend (one 2) ∷ []) ≡ Some (chain_spent 5 3) }
     ensures left { option_map left (alone chain (chain_begins 5 3 ++ Spend (one 2) ∷ [])) ≡ Some (some_left 5 1 44) }
 {}
 
 /// With two nodes frame 2 can't open its child either.
 pub fn chain_with_too_few_nodes()
     ensures refused { lone_refusal chain (alone chain (chain_begins 6 2)) (Advance 1 (one 2)) ≡ Some NoNodes }
-    ensures spent { alone chain (chain_begins 6 2 ++ Spend (one 2) ∷ []) ≡ Some (record {
-      reserve = quota 6 2;
-      serials = 2;
-      steps = 4;
-      jobs = SpentJob ∷ [];
-      frames = [];
-    }) }
+    ensures spent { alone chain (chain_begins 6 2 ++ Spend (one 2) ∷ []) ≡ Some (chain_spent 6 2) }
     ensures left { option_map left (alone chain (chain_begins 6 2 ++ Spend (one 2) ∷ [])) ≡ Some (some_left 6 0 28) }
 {}
 

@@ -13,8 +13,7 @@ use Rattle.definition_tests.proofs.tables.tables_that_are_none.Goals as goal
 -- a number for each kind and for the first of some choices
 exactness : BoundKind → ℕ
 exactness Low = 0
-exactness High = 1
-exactness Exact = 2
+exactness _ = 1
 
 not_exact : exactness Low ≡ exactness Exact → ⊥
 unfolding exactness

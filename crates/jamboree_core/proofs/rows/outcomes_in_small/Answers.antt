@@ -2,14 +2,4 @@ use Rattle.std.proofs.Common.{refl}
 use Rattle.jamboree_core.proofs.rows.outcomes_in_small.Goals as goal
 
 pub returns : goal.returns
-returns c = record {
-  first = refl;
-  second = refl;
-  zeroth = refl;
-  third = refl;
-  pending = tt;
-  forgotten = λ is. is;
-  unasked = λ is. is;
-  spent = refl;
-  live = λ is. cc;
-}
+returns c = record { first = refl; second = refl; zeroth = refl; third = refl; pending = tt; forgotten = λ is. is; unasked = λ is. is; spent = refl; live = λ is. cc }

@@ -1,6 +1,7 @@
-use Rattle.std.proofs.Common.{sym}
+use Rattle.std.proofs.Common.{refl, sym}
 use Rattle.std.proofs.lemmas.Result.{err_from_is_err_and}
-use Rattle.sched_core.proofs.Deciding.{passed-on, lost-answer, answer-told}
+use Rattle.sched_rules.specs.declared.step.StepOf.TheVariants.{Answer}
+use Rattle.sched_core.proofs.Deciding.{passed-on, lost, answer-told}
 use Rattle.sched_core.proofs.Fitting.{own-fits}
 use Rattle.sched_core.proofs.engine.Engine.accepted.Goals as goal
 
@@ -13,7 +14,7 @@ accept_of-stores-requires g c so =
 pub returns-in_err-seen-clause-refusal : goal.returns-in_err-seen-clause-refusal
 returns-in_err-seen-clause-refusal g c =
     let p = err_from_is_err_and c.from_residual.result c.from_residual.ensures.1 in
-    passed-on _ _ _ _ p.1 p.2 (lost-answer (g.P.Procedure.functions c.args.self.now.procedure) c.args.self.now.store c.args.worker c.args.name c.args.answer.now _ c.in_err-seen.ensures.frame)
+    passed-on _ _ _ _ p.1 p.2 (lost (g.P.Procedure.functions c.args.self.now.procedure) c.args.self.now.store (Answer c.args.worker c.args.name c.args.answer.now) c.args.name _ refl refl (λ tenant none. rw none refl) c.in_err-seen.ensures.frame)
 
 pub returns-in_err-first_of_four-clause-refusal : goal.returns-in_err-first_of_four-clause-refusal
 returns-in_err-first_of_four-clause-refusal g c =

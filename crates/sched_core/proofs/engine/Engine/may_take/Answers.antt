@@ -1,11 +1,13 @@
+use Rattle.std.proofs.Common.{refl}
 use Rattle.std.proofs.lemmas.Result.{err_from_is_err_and}
-use Rattle.sched_core.proofs.Deciding.{passed-on, lost-take, take-decided}
+use Rattle.sched_rules.specs.declared.step.StepOf.TheVariants.{Take}
+use Rattle.sched_core.proofs.Deciding.{passed-on, lost, take-decided}
 use Rattle.sched_core.proofs.engine.Engine.may_take.Goals as goal
 
 pub returns-in_err-seen-clause-refusal : goal.returns-in_err-seen-clause-refusal
 returns-in_err-seen-clause-refusal g c =
     let p = err_from_is_err_and c.from_residual.result c.from_residual.ensures.1 in
-    passed-on _ _ _ _ p.1 p.2 (lost-take (g.P.Procedure.functions c.args.self.now.procedure) c.args.self.now.store c.args.worker c.args.name _ c.in_err-seen.ensures)
+    passed-on _ _ _ _ p.1 p.2 (lost (g.P.Procedure.functions c.args.self.now.procedure) c.args.self.now.store (Take c.args.worker c.args.name) c.args.name _ refl refl (λ tenant none. rw none refl) c.in_err-seen.ensures)
 
 pub returns-clause-refusal : goal.returns-clause-refusal
 returns-clause-refusal g c =

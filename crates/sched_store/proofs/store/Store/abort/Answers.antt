@@ -4,33 +4,34 @@ use Rattle.sched_rules.specs.Cores.{Shared}
 use Rattle.sched_rules.specs.Views.{named}
 use Rattle.sched_store.specs.Inside.{parts_of}
 use Rattle.sched_store.specs.Reads.{frames_in}
-use Rattle.frame_tree.specs.Frames.{frames_under}
-use Rattle.sched_store.proofs.Aborting.{has-frame, abort-closes, AreFreed, abort-frees, IsAborted, abort-stored, abort-shared, abort-count}
+use Rattle.frame_tree.specs.Frames.{aborted, frames_under}
+use Rattle.sched_store.proofs.Aborting.{has-frame, stays, abort-cut, abort-closes, abort-gone, abort-words, AreFreed, nodes-free, AreGone, gone-stored, gone-shared, abort-count}
 use Rattle.sched_store.proofs.store.Store.abort.Given.{Over}
 use Rattle.sched_store.proofs.store.Store.abort.Goals.{After-free_count, After-give_back}
 use Rattle.sched_store.proofs.store.Store.abort.Goals as goal
 
 -- what the nodes gave back
-freed : (g : Over) (c : After-free_count g) → AreFreed (parts_of c.self.inside) c.args.name c.remove_under-nodes.result.now c.free_count-before.result c.free_count.result
+freed : (g : Over) (c : After-free_count g) → AreFreed (parts_of c.self.inside) c.args.name (stays c.args.name.serial) c.free_count-before.result c.free_count.result
 freed g c =
-    abort-frees _ c.close_all.new.self _ _ _ _ c.self.invariant (subst (λ (s : Shared). IsSome (named s c.args.name)) (sym c.self.view_is) c.requires)
-    c.remove_under-nodes.ensures.values c.close_all.ensures c.free_count-before.ensures c.free_count.ensures
+    nodes-free _ c.close_all.new.self _ _ _ _ c.self.invariant (subst (λ (s : Shared). IsSome (named s c.args.name)) (sym c.self.view_is) c.requires)
+    (abort-gone (parts_of c.self.inside) _ c.args.name c.remove_under-nodes.result.now c.remove_under-nodes.ensures.values c.close_all.ensures) c.free_count-before.ensures c.free_count.ensures
 
 -- what the table, the stack and the book told
-told : (g : Over) (c : After-give_back g) → IsAborted (parts_of c.self.inside) c.close_all.new.self c.remove_under-nodes.follows.lender-at-none c.give_back.new.self c.args.name c.remove_under-nodes.result.now c.free_count-before.result c.free_count.result
-told g c = record {
-  some = subst (λ (s : Shared). IsSome (named s c.args.name)) (sym c.self.view_is) c.requires;
-  values = c.remove_under-nodes.ensures.values;
-  closed_all = c.close_all.ensures;
-  was_free = c.free_count-before.ensures;
-  is_free = c.free_count.ensures;
-  frames = c.remove_under-nodes.follows.holds-at-none.0;
-  keeps = c.remove_under-nodes.follows.holds-at-none.1;
-  credited = c.give_back.ensures.credits;
-  sum = c.give_back.ensures.sum;
-  others = c.give_back.ensures.others;
-  sound = c.give_back.ensures.sound;
-}
+told : (g : Over) (c : After-give_back g) → AreGone (parts_of c.self.inside) c.close_all.new.self c.remove_under-nodes.follows.lender-at-none c.give_back.new.self c.args.name (stays c.args.name.serial) c.free_count-before.result c.free_count.result
+told g c =
+    let under = c.remove_under-nodes.follows.holds-at-none in
+    record {
+      some = subst (λ (s : Shared). IsSome (named s c.args.name)) (sym c.self.view_is) c.requires;
+      gone = abort-gone (parts_of c.self.inside) _ c.args.name c.remove_under-nodes.result.now c.remove_under-nodes.ensures.values c.close_all.ensures;
+      was_free = c.free_count-before.ensures;
+      is_free = c.free_count.ensures;
+      cut = abort-cut (parts_of c.self.inside) c.remove_under-nodes.follows.lender-at-none c.args.name c.self.invariant under.0 under.1;
+      keeps = under.1;
+      credited = c.give_back.ensures.credits;
+      sum = c.give_back.ensures.sum;
+      others = c.give_back.ensures.others;
+      sound = c.give_back.ensures.sound;
+    }
 
 pub remove_under-nodes-requires : goal.remove_under-nodes-requires
 remove_under-nodes-requires g c =
@@ -55,11 +56,12 @@ pub give_back-requires : goal.give_back-requires
 give_back-requires g c = (freed g (goal.at.give_back-requires g c).After-free_count).charged
 
 pub invariant_of-self : goal.invariant_of-self
-invariant_of-self g c = abort-stored _ _ _ _ _ _ _ _ c.self.invariant (told g (goal.at.invariant_of-self g c).After-give_back)
+invariant_of-self g c = gone-stored _ _ _ _ _ _ _ _ c.self.invariant (told g (goal.at.invariant_of-self g c).After-give_back)
 
 pub returns-clause-aborted : goal.returns-clause-aborted
 returns-clause-aborted g c =
-    abort-shared _ _ _ _ _ _ _ _ c.self.invariant (told g (goal.at.returns-clause-aborted g c).After-give_back) ∙ ap (on_tenant c.args.name.tenant (without_under c.args.name.serial)) c.self.view_is
+    gone-shared _ _ _ _ _ _ _ _ (aborted c.args.name.serial) c.self.invariant (told g (goal.at.returns-clause-aborted g c).After-give_back) (abort-words (parts_of c.self.inside) c.args.name)
+    ∙ ap (on_tenant c.args.name.tenant (without_under c.args.name.serial)) c.self.view_is
 
 pub returns-clause-count : goal.returns-clause-count
 returns-clause-count g c =

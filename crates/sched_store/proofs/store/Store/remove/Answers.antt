@@ -5,37 +5,38 @@ use Rattle.sched_rules.specs.Cores.{Shared}
 use Rattle.sched_rules.specs.Views.{named}
 use Rattle.cactus_stack.specs.Nodes.{IsOpen, HasNoChild}
 use Rattle.frame_table.specs.Tables.{frames_of}
-use Rattle.frame_tree.specs.Frames.{frame_at}
+use Rattle.frame_tree.specs.Frames.{frame_at, frames_without}
 use Rattle.sched_store.specs.Inside.{parts_of}
 use Rattle.sched_store.specs.Reads.{frames_in}
-use Rattle.sched_store.proofs.Aborting.{has-frame}
-use Rattle.sched_store.proofs.Leaves.{no-children, leaf-node, has-value, IsFreed, leaf-frees, IsRemoved, remove-stored, remove-shared}
+use Rattle.sched_store.proofs.Aborting.{has-frame, AreFreed, nodes-free, AreGone, gone-stored, gone-shared}
+use Rattle.sched_store.proofs.Leaves.{others_stay, no-children, leaf-node, has-value, leaf-gone, leaf-cut, leaf-words}
 use Rattle.sched_store.proofs.store.Store.remove.Given.{Over}
 use Rattle.sched_store.proofs.store.Store.remove.Goals.{After-free_count, After-give_back}
 use Rattle.sched_store.proofs.store.Store.remove.Goals as goal
 
 -- what the node gave back
-freed : (g : Over) (c : After-free_count g) → IsFreed (parts_of c.self.inside) c.args.name c.free_count-before.result c.free_count.result
+freed : (g : Over) (c : After-free_count g) → AreFreed (parts_of c.self.inside) c.args.name (others_stay c.args.name.serial) c.free_count-before.result c.free_count.result
 freed g c =
-    leaf-frees _ c.close.new.self _ c.remove-node.result _ _ c.self.invariant (subst (λ (s : Shared). IsSome (named s c.args.name)) (sym c.self.view_is) c.requires.there)
-    c.remove-node.ensures.value c.close.ensures c.free_count-before.ensures c.free_count.ensures
+    nodes-free _ c.close.new.self _ _ _ _ c.self.invariant (subst (λ (s : Shared). IsSome (named s c.args.name)) (sym c.self.view_is) c.requires.there)
+    (leaf-gone (parts_of c.self.inside) _ c.args.name c.remove-node.result c.self.invariant c.remove-node.ensures.value c.close.ensures) c.free_count-before.ensures c.free_count.ensures
 
 -- what the table, the stack and the book told
-told : (g : Over) (c : After-give_back g) → IsRemoved (parts_of c.self.inside) c.close.new.self c.remove-node.new.self c.give_back.new.self c.args.name c.remove-node.result c.free_count-before.result c.free_count.result
-told g c = record {
-  some = subst (λ (s : Shared). IsSome (named s c.args.name)) (sym c.self.view_is) c.requires.there;
-  leaf = no-children (parts_of c.self.inside) c.self.invariant c.args.name (subst (λ (s : Shared). has_child (frames_in s c.args.name.tenant) c.args.name.serial ≡ false) (sym c.self.view_is) c.requires.leaf);
-  value = c.remove-node.ensures.value;
-  closed_one = c.close.ensures;
-  was_free = c.free_count-before.ensures;
-  is_free = c.free_count.ensures;
-  frames = c.remove-node.ensures.frames;
-  keeps = c.remove-node.ensures.kept;
-  credited = c.give_back.ensures.credits;
-  sum = c.give_back.ensures.sum;
-  others = c.give_back.ensures.others;
-  sound = c.give_back.ensures.sound;
-}
+told : (g : Over) (c : After-give_back g) → AreGone (parts_of c.self.inside) c.close.new.self c.remove-node.new.self c.give_back.new.self c.args.name (others_stay c.args.name.serial) c.free_count-before.result c.free_count.result
+told g c =
+    let back = c.give_back.ensures in
+    let leaf = no-children (parts_of c.self.inside) c.self.invariant c.args.name (subst (λ (s : Shared). has_child (frames_in s c.args.name.tenant) c.args.name.serial ≡ false) (sym c.self.view_is) c.requires.leaf) in
+    record {
+      some = subst (λ (s : Shared). IsSome (named s c.args.name)) (sym c.self.view_is) c.requires.there;
+      gone = leaf-gone (parts_of c.self.inside) _ c.args.name c.remove-node.result c.self.invariant c.remove-node.ensures.value c.close.ensures;
+      was_free = c.free_count-before.ensures;
+      is_free = c.free_count.ensures;
+      cut = leaf-cut (parts_of c.self.inside) c.remove-node.new.self c.args.name c.self.invariant leaf c.remove-node.ensures.frames c.remove-node.ensures.kept;
+      keeps = c.remove-node.ensures.kept;
+      credited = back.credits;
+      sum = back.sum;
+      others = back.others;
+      sound = back.sound;
+    }
 
 pub remove-node-requires-clause-there : goal.remove-node-requires-clause-there
 remove-node-requires-clause-there g c =
@@ -64,8 +65,9 @@ pub give_back-requires : goal.give_back-requires
 give_back-requires g c = (freed g (goal.at.give_back-requires g c).After-free_count).charged
 
 pub invariant_of-self : goal.invariant_of-self
-invariant_of-self g c = remove-stored _ _ _ _ _ _ _ _ c.self.invariant (told g (goal.at.invariant_of-self g c).After-give_back)
+invariant_of-self g c = gone-stored _ _ _ _ _ _ _ _ c.self.invariant (told g (goal.at.invariant_of-self g c).After-give_back)
 
 pub returns : goal.returns
 returns g c =
-    remove-shared _ _ _ _ _ _ _ _ c.self.invariant (told g (goal.at.returns g c).After-give_back) ∙ ap (on_tenant c.args.name.tenant (without_frame c.args.name.serial)) c.self.view_is
+    gone-shared _ _ _ _ _ _ _ _ (frames_without c.args.name.serial) c.self.invariant (told g (goal.at.returns g c).After-give_back) (leaf-words (parts_of c.self.inside) c.args.name)
+    ∙ ap (on_tenant c.args.name.tenant (without_frame c.args.name.serial)) c.self.view_is
