@@ -113,10 +113,7 @@ with_state serial state (frame ∷ frames) = (if frame.serial == serial then rec
 -- whether a frame waits for a worker to run it
 abbrev pub is_ready : State → Bool
 is_ready (Ready home) = true
-is_ready (Running worker) = false
-is_ready (Computing worker) = false
-is_ready Waiting = false
-is_ready Returned = false
+is_ready _ = false
 
 -- the frames that are ready
 abbrev pub ready_frames : {T : Type 0} → List (Frame T) → List (Frame T)

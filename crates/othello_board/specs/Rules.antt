@@ -80,18 +80,15 @@ flips board s = flat_map (run board s) directions
 
 abbrev pub is_empty_cell : Cell → Bool
 is_empty_cell Empty = true
-is_empty_cell Own = false
-is_empty_cell Opp = false
+is_empty_cell _ = false
 
 abbrev pub is_own_cell : Cell → Bool
-is_own_cell Empty = false
 is_own_cell Own = true
-is_own_cell Opp = false
+is_own_cell _ = false
 
 abbrev pub is_opp_cell : Cell → Bool
-is_opp_cell Empty = false
-is_opp_cell Own = false
 is_opp_cell Opp = true
+is_opp_cell _ = false
 
 abbrev pub is_nil : List ℕ → Bool
 is_nil [] = true

@@ -22,14 +22,11 @@ bit_there word (Some s) = bit_at word s
 
 -- whether a step in a direction leads to a greater square
 abbrev pub rises : Direction → Bool
-rises North = false
-rises NorthEast = false
 rises East = true
 rises SouthEast = true
 rises South = true
 rises SouthWest = true
-rises West = false
-rises NorthWest = false
+rises _ = false
 
 -- the number that is k less, and the one that is k more, where it is one of the 64
 abbrev pub less_by : ℕ → ℕ → Option ℕ

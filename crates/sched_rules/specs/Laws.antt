@@ -2,7 +2,7 @@
 use Rattle.std.specs.Prelude.{◌≡◌, ℕ, Bool, true, false, nat_lt, List, [], ◌∷◌, ◌++◌, if◌then◌else◌, length, replicate}
 use Rattle.cactus_stack.specs.Nodes.{padded}
 use Rattle.frame_tree.specs.declared.names.State.{State}
-use Rattle.frame_tree.specs.declared.names.State.TheVariants.{Ready, Running, Computing, Waiting, Returned}
+use Rattle.frame_tree.specs.declared.names.State.TheVariants.{Computing, Returned}
 use Rattle.frame_tree.specs.Frames.{Frame, children_of, values_of}
 use Rattle.sched_rules.specs.declared.act.Act.{Act}
 use Rattle.sched_rules.specs.declared.act.Then.{Then}
@@ -19,11 +19,9 @@ pub data Mark : Type 0 where
 
 -- the mark of a frame in this state
 abbrev pub mark_of : State → Mark
-mark_of (Ready home) = Neither
-mark_of (Running worker) = Neither
 mark_of (Computing worker) = Computes
-mark_of Waiting = Neither
 mark_of Returned = HasReturned
+mark_of _ = Neither
 
 -- a procedure's own invariant of its frames: it relates a frame's words, its children's words and its mark. "Fits" means it holds
 abbrev pub Fitting : Type 1

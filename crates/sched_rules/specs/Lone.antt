@@ -126,35 +126,23 @@ taken_by tenant worker frame = (Some (counted (in_state frame.serial (Running wo
 
 -- whether this worker runs a frame in this state
 abbrev pub is_run_by : ℕ → State → Bool
-is_run_by worker (Ready home) = false
 is_run_by worker (Running holder) = holder == worker
-is_run_by worker (Computing holder) = false
-is_run_by worker Waiting = false
-is_run_by worker Returned = false
+is_run_by worker _ = false
 
 -- whether this worker computes a frame in this state
 abbrev pub is_computed_by : ℕ → State → Bool
-is_computed_by worker (Ready home) = false
-is_computed_by worker (Running holder) = false
 is_computed_by worker (Computing holder) = holder == worker
-is_computed_by worker Waiting = false
-is_computed_by worker Returned = false
+is_computed_by worker _ = false
 
 -- whether some worker runs a frame in this state
 abbrev pub is_run : State → Bool
-is_run (Ready home) = false
 is_run (Running holder) = true
-is_run (Computing holder) = false
-is_run Waiting = false
-is_run Returned = false
+is_run _ = false
 
 -- whether a frame in this state has returned
 abbrev pub is_returned : State → Bool
-is_returned (Ready home) = false
-is_returned (Running holder) = false
-is_returned (Computing holder) = false
-is_returned Waiting = false
 is_returned Returned = true
+is_returned _ = false
 
 -- the next act of a frame
 abbrev pub act_of : {I A : Type 0} → Functions I A → Tenant → Frame (List ℕ) → Act

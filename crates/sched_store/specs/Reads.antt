@@ -3,7 +3,7 @@ use Rattle.std.specs.Prelude.{◌≡◌, ℕ, ◌+◌, ◌≤◌, Bool, true, fa
 use Rattle.tenant_quota.specs.Quota.{Quota}
 use Rattle.frame_tree.specs.declared.names.FrameId.{FrameId}
 use Rattle.frame_tree.specs.declared.names.State.{State}
-use Rattle.frame_tree.specs.declared.names.State.TheVariants.{Ready, Running, Computing, Waiting, Returned}
+use Rattle.frame_tree.specs.declared.names.State.TheVariants.{Running, Computing}
 use Rattle.frame_tree.specs.Frames.{Frame, IsReadyAt}
 use Rattle.sched_rules.specs.declared.job.Job.{Job}
 use Rattle.sched_rules.specs.Trees.{Tree, Tenant, words_of, sight, is_held_by, is_busy_in}
@@ -67,11 +67,9 @@ may_hold shared worker name = not (is_busy_among worker shared.tenants) || holds
 
 -- whether a state names a worker that runs or computes the frame
 abbrev pub is_held : State → Bool
-is_held (Ready home) = false
 is_held (Running worker) = true
 is_held (Computing worker) = true
-is_held Waiting = false
-is_held Returned = false
+is_held _ = false
 
 -- the tenant is there, and this is above what it reserves
 abbrev pub IsAboveOwn : Option Tenant → Quota → Type 0
