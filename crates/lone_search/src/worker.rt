@@ -1,4 +1,4 @@
-//! The worker's turns, each one step of the core.
+//! The worker's turns, each one step of the core, or two where a leaf is computed between them.
 //!
 //! What a worker does next is decided by `pool_rules` ([`Holding`]); this one has the core to itself. Without a frame
 //! it takes the tenant's ready frame of the greatest serial: one that its own steps made ready, or the root, which
@@ -8,60 +8,161 @@ ghost use Rattle.std.specs.Prelude.{IfSome};
 ghost use Rattle.lone_search.specs.Asked.{IsWork, Keeps};
 
 use crate::job::TENANT;
-use jamboree_core::jamboree::{Jamboree, LeafAnswer};
+use frame_tree::FrameId;
+use jamboree_core::jamboree::{Jamboree, Leaf, LeafAnswer};
 use jamboree_core::sched_core::Core;
 use jamboree_core::step_search;
 use pool_rules::{Deed, Holding, Task};
 use sched_rules::{Did, Refusal, Step, Worker};
 use std::alloc::Allocator;
 
-/// The only worker.
-#[inline(always)]
-fn the_worker() -> Worker {
-    Worker::new(1).unwrap()
+/// The worker's number.
+const WORKER: u8 = 1;
+
+/// What the worker does next, in few words: a holding has room for a leaf and its answer, and one that is handed on is
+/// put together and taken apart each time.
+#[derive(Clone, Copy)]
+enum Ahead {
+    /// To get the newest ready frame.
+    Pick,
+    /// To advance the frame that it runs.
+    Run(FrameId),
+    /// To have the returned frame taken in by its parent.
+    TakeIn(FrameId),
 }
 
-/// Works until the job has ended or can't go on, for at most so many turns. Each turn but the last three takes one of
-/// the tenant's steps.
+/// Works until the job has ended or can't go on, for at most so many turns. Each turn but the last takes one of the
+/// tenant's steps, or two where a leaf is computed.
 pub(crate) fn work<A: Allocator + Clone>(core: &mut Core<Jamboree, A>, turns: u32)
     ensures { Keeps core.old core.new }
 {
-    let mut held = Holding::Nothing;
+    let Some(worker) = Worker::new(WORKER) else {
+        return;
+    };
+    let mut ahead = Ahead::Pick;
     for _turn in 0..turns {
-        let Some(next) = turn(core, held) else {
+        let Some(next) = turn(core, worker, ahead) else {
             return;
         };
-        held = next;
+        ahead = next;
     }
 }
 
-/// One turn, and what the worker holds after it; None where the job has ended, or can't go on. What it holds is known at
+/// One turn, and what the worker does after it; None where the job has ended, or can't go on. What it holds is known at
 /// each place from which it offers a step, so that no holding is put together only to be looked at.
 #[inline(always)]
-fn turn<A: Allocator + Clone>(core: &mut Core<Jamboree, A>, held: Holding) -> Option<Holding>
+fn turn<A: Allocator + Clone>(
+    core: &mut Core<Jamboree, A>,
+    worker: Worker,
+    ahead: Ahead,
+) -> Option<Ahead>
+    ensures { Keeps core.old core.new }
+{
+    match ahead {
+        Ahead::Pick => {
+            let task = newest_task(core)?;
+            offer_on(core, worker, Holding::Next(Deed::Get(task)))
+        }
+        Ahead::Run(frame) => offer_on(core, worker, Holding::Next(Deed::Run(frame))),
+        Ahead::TakeIn(frame) => offer_on(core, worker, Holding::Next(Deed::TakeIn(frame))),
+    }
+}
+
+/// Offers the step of what the worker holds, and goes on to where its next step is known.
+#[inline(always)]
+fn offer_on<A: Allocator + Clone>(
+    core: &mut Core<Jamboree, A>,
+    worker: Worker,
+    held: Holding,
+) -> Option<Ahead>
+    ensures { Keeps core.old core.new }
+{
+    let next = offer(core, worker, held)?;
+    go_on(core, worker, next)
+}
+
+/// What the worker does with what it holds now: it computes a leaf at once, and ends the job. No holding is handed on
+/// from here.
+#[inline(always)]
+fn go_on<A: Allocator + Clone>(
+    core: &mut Core<Jamboree, A>,
+    worker: Worker,
+    held: Holding,
+) -> Option<Ahead>
     ensures { Keeps core.old core.new }
 {
     match held {
-        Holding::Nothing => {
-            let task = newest_task(core)?;
-            offer(core, Holding::Next(Deed::Get(task)))
-        }
-        Holding::Next(Deed::Run(frame)) => offer(core, Holding::Next(Deed::Run(frame))),
-        Holding::Next(Deed::TakeIn(frame)) => offer(core, Holding::Next(Deed::TakeIn(frame))),
-        Holding::Computing(frame, leaf) => {
-            let answer = LeafAnswer::compute(leaf);
-            offer(core, Holding::Next(Deed::Bring(frame, answer)))
-        }
-        Holding::Next(_) | Holding::Short(_) => offer_rare(core, held),
+        Holding::Nothing => Some(Ahead::Pick),
+        Holding::Next(Deed::Run(frame)) => Some(Ahead::Run(frame)),
+        Holding::Next(Deed::TakeIn(frame)) => Some(Ahead::TakeIn(frame)),
+        Holding::Computing(frame, leaf) => bring(core, worker, frame, leaf),
+        Holding::Next(Deed::Finish(frame)) => finish(core, worker, frame),
+        Holding::Short(deed) => spend(core, worker, deed.frame()),
+        // Nothing that was taken leads here.
+        Holding::Next(Deed::Get(_)) | Holding::Next(Deed::Bring(_, _)) => None,
     }
 }
 
-/// Offers what is seldom held: the end of the job, or to spend it.
-#[inline(never)]
-fn offer_rare<A: Allocator + Clone>(core: &mut Core<Jamboree, A>, held: Holding) -> Option<Holding>
+/// Computes a leaf, and brings its answer.
+#[inline(always)]
+fn bring<A: Allocator + Clone>(
+    core: &mut Core<Jamboree, A>,
+    worker: Worker,
+    frame: FrameId,
+    leaf: Leaf,
+) -> Option<Ahead>
     ensures { Keeps core.old core.new }
 {
-    offer(core, held)
+    let answer = LeafAnswer::compute(leaf);
+    let next = offer(core, worker, Holding::Next(Deed::Bring(frame, answer)))?;
+    run_on(core, worker, next)
+}
+
+/// What the worker does after it has brought an answer: it runs its frame.
+#[inline(always)]
+fn run_on<A: Allocator + Clone>(
+    core: &mut Core<Jamboree, A>,
+    worker: Worker,
+    held: Holding,
+) -> Option<Ahead>
+    ensures { Keeps core.old core.new }
+{
+    match held {
+        Holding::Next(Deed::Run(frame)) => Some(Ahead::Run(frame)),
+        Holding::Short(deed) => spend(core, worker, deed.frame()),
+        // Nothing else is held then.
+        _ => None,
+    }
+}
+
+/// Ends the job of the returned root, or spends it where that is refused for want of quota. Nothing is left to do then.
+#[cold]
+#[inline(never)]
+fn finish<A: Allocator + Clone>(
+    core: &mut Core<Jamboree, A>,
+    worker: Worker,
+    root: FrameId,
+) -> Option<Ahead>
+    ensures { Keeps core.old core.new }
+{
+    match offer(core, worker, Holding::Next(Deed::Finish(root)))? {
+        Holding::Short(deed) => spend(core, worker, deed.frame()),
+        _ => None,
+    }
+}
+
+/// Offers to spend the job of a frame. Nothing is left to do then, whether or not it may be spent.
+#[cold]
+#[inline(never)]
+fn spend<A: Allocator + Clone>(
+    core: &mut Core<Jamboree, A>,
+    worker: Worker,
+    frame: FrameId,
+) -> Option<Ahead>
+    ensures { Keeps core.old core.new }
+{
+    let _ = offer(core, worker, Holding::Short(Deed::Run(frame)));
+    None
 }
 
 /// The tenant's ready frame of the greatest serial, if one is ready, as a task.
@@ -73,10 +174,13 @@ fn newest_task<A: Allocator + Clone>(core: &Core<Jamboree, A>) -> Option<Task> {
 
 /// Offers the step of what the worker holds, if it has one; what it holds after it.
 #[inline(always)]
-fn offer<A: Allocator + Clone>(core: &mut Core<Jamboree, A>, held: Holding) -> Option<Holding>
+fn offer<A: Allocator + Clone>(
+    core: &mut Core<Jamboree, A>,
+    worker: Worker,
+    held: Holding,
+) -> Option<Holding>
     ensures { Keeps core.old core.new }
 {
-    let worker = the_worker();
     let step = own_step(worker, &held)?;
     let answer = take(core, &step);
     let refused = answer.is_err();
