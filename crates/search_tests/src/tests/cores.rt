@@ -3,10 +3,10 @@ ghost use Rattle.sched_rules.specs.Cores.{tenant_in};
 ghost use Rattle.jamboree_core.specs.Replies.{AreSearches};
 ghost use Rattle.jamboree_core.specs.Searching.{ServesSearches};
 
-use jamboree_core::{Outcome, outcome_of, run_from_new, run_searches, submit};
 use driver::{SearchCore, drive};
 use frame_tree::FrameId;
 use jamboree::{Bound, BoundKind, Jamboree, Leaf, LeafAnswer, Reply};
+use jamboree_core::{Outcome, outcome_of, run_from_new, run_searches, submit};
 use jamboree_rules::leaf_search::{INF, search_full};
 use linked_list_allocator::LocalHeap;
 use orders::{Crew, Draw};

@@ -1,8 +1,8 @@
 //! Rows of `solve` and `solve --visited`, and readers and writers that fail.
-use solve_engine::{solve, solve_bytes, solve_visited};
 use arrayvec::ArrayVec;
 use line_io::{FromReader, FromWriter, LineFault, ReadFailed, Sink, Source, WriteFailed};
 use linked_list_allocator::LocalHeap;
+use solve_engine::{solve, solve_bytes, solve_visited};
 use std::test::Fail;
 
 /// Lines, and the answers that they get.

@@ -2,9 +2,9 @@
 ghost use Rattle.jamboree_rules.specs.declared.leaf.LeafAnswer.{LeafAnswer};
 ghost use Rattle.jamboree_core.specs.Replies.{IsSearch};
 
-use jamboree_core::{Outcome, outcome_of, step_search};
 use frame_tree::{FrameId, State};
 use jamboree::{Jamboree, Leaf, LeafAnswer};
+use jamboree_core::{Outcome, outcome_of, step_search};
 use sched_core::Core;
 use sched_rules::{Config, Did, DidOf, Refusal, Step, StepOf, Worker};
 use std::alloc::{AllocError, Global};
