@@ -32,15 +32,13 @@ pub(crate) trait Scenario {
         requires { L.all ≡ L.parts };
 }
 
-/// What a pool came to: whether the scenario was content, the joined badge's share, the tasks, whether
-/// all that was out came back, the steps in all, and the segments that are free.
+/// What a pool came to: whether the scenario was content, the joined badge's share, how many tasks were pushed, taken
+/// and left, whether all that was out came back, and the segments that are free.
 #[derive(Clone, Copy, Debug, PartialEq, Eq)]
 pub(crate) struct Played {
     pub(crate) content: bool,
     pub(crate) share: u128,
-    pub(crate) pushed: u128,
-    pub(crate) taken: u128,
-    pub(crate) left: u128,
+    pub(crate) tasks: [u128; 3],
     pub(crate) whole: bool,
     pub(crate) free: usize,
 }
@@ -55,6 +53,26 @@ pub(crate) struct Table<'t, S, G> {
     pub(crate) segments: u32,
     /// How many tasks there is room for, or else the usual room.
     pub(crate) room: Option<usize>,
+}
+
+impl<'t, S, G> Table<'t, S, G> {
+    /// So many workers with the usual room, and a desk of this grain with so many segments.
+    pub(crate) fn of(
+        scenario: &'t S,
+        gate: &'t G,
+        workers: u8,
+        grain: u8,
+        segments: u32,
+    ) -> Table<'t, S, G> {
+        Table {
+            scenario,
+            gate,
+            workers,
+            grain,
+            segments,
+            room: None,
+        }
+    }
 }
 
 /// Plays a scenario beside a pool; None where the table is outside the limits or no pool ran.
@@ -111,9 +129,7 @@ fn play_on<L: Hands + Send + Sync, S: Scenario, G: Gate + Sync, R: Threads + Wai
     Some(Played {
         content,
         share,
-        pushed: end.pushed,
-        taken: end.taken,
-        left: end.left,
+        tasks: [end.pushed, end.taken, end.left],
         whole,
         free: hall.core().free_segments(),
     })

@@ -38,6 +38,14 @@ fn pushes<A: Allocator>(all: &mut Vec<DequeEnds<A>, A>, worker: Worker, serial: 
     all[place].push(task(serial, worker.number())).is_ok()
 }
 
+/// A worker pushes tasks 1, 2 and 3; false where one is handed back.
+fn pushes_three<A: Allocator>(all: &mut Vec<DequeEnds<A>, A>, worker: Worker) -> bool
+    ensures posts { map posts all.new.items ≡ map posts all.old.items }
+    ensures len { vec_len all.new ≡ vec_len all.old }
+{
+    pushes(all, worker, 1) && pushes(all, worker, 2) && pushes(all, worker, 3)
+}
+
 /// A worker takes a task.
 fn takes<A: Allocator>(all: &mut Vec<DequeEnds<A>, A>, worker: Worker) -> u64
     ensures posts { map posts all.new.items ≡ map posts all.old.items }
@@ -119,11 +127,7 @@ fn in_turn(alloc: Global) -> Result<Option<([u64; 6], bool, Sums)>, AllocError> 
         return Ok(None);
     };
     let mut all = deal(alloc, three, 3)?;
-    let kept = pushes(&mut all, one, 1)
-        && pushes(&mut all, one, 2)
-        && pushes(&mut all, one, 3)
-        && pushes(&mut all, two, 4)
-        && pushes(&mut all, two, 5);
+    let kept = pushes_three(&mut all, one) && pushes(&mut all, two, 4) && pushes(&mut all, two, 5);
     let refused = kept && !pushes(&mut all, one, 6);
     let taken = [
         takes(&mut all, one),
@@ -136,16 +140,22 @@ fn in_turn(alloc: Global) -> Result<Option<([u64; 6], bool, Sums)>, AllocError> 
     Ok(Some((taken, refused, sums(alloc, three, all)?)))
 }
 
+/// So many tasks pushed, taken and left.
+fn sums_of(pushed: u128, taken: u128, left: u128) -> Sums
+    requires { pushed ≡ taken + left }
+{
+    Sums {
+        pushed,
+        taken,
+        left,
+    }
+}
+
 /// A worker takes its own newest task, else the oldest of the next worker's that has one; where there
 /// is no room a task is handed back.
 #[test]
 fn own_newest_else_the_next_workers_oldest(rt: HostRuntime) -> Result<(), Fail> {
-    let sums = Sums {
-        pushed: 5,
-        taken: 5,
-        left: 0,
-    };
-    let wanted = ([3, 1, 5, 2, 4, 0], true, sums);
+    let wanted = ([3, 1, 5, 2, 4, 0], true, sums_of(5, 5, 0));
     assert_eq!(rt; in_turn(rt.alloc())?, Some(wanted));
     Ok(())
 }
@@ -156,11 +166,7 @@ fn left_over(alloc: Global) -> Result<Option<Sums>, AllocError> {
         return Ok(None);
     };
     let mut all = deal(alloc, two, 8)?;
-    let kept = pushes(&mut all, one, 1)
-        && pushes(&mut all, one, 2)
-        && pushes(&mut all, one, 3)
-        && pushes(&mut all, one, 4)
-        && pushes(&mut all, one, 5);
+    let kept = pushes_three(&mut all, one) && pushes(&mut all, one, 4) && pushes(&mut all, one, 5);
     let taken = [takes(&mut all, two), takes(&mut all, one)];
     if !kept || taken != [1, 5] {
         return Ok(None);
@@ -171,12 +177,7 @@ fn left_over(alloc: Global) -> Result<Option<Sums>, AllocError> {
 /// Of five tasks one is stolen and one popped: three are left.
 #[test]
 fn what_is_left_is_counted(rt: HostRuntime) -> Result<(), Fail> {
-    let wanted = Sums {
-        pushed: 5,
-        taken: 2,
-        left: 3,
-    };
-    assert_eq!(rt; left_over(rt.alloc())?, Some(wanted));
+    assert_eq!(rt; left_over(rt.alloc())?, Some(sums_of(5, 2, 3)));
     Ok(())
 }
 

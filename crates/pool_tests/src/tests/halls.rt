@@ -286,6 +286,18 @@ fn is_wanting_of(
     Ok(is_wanting(rt, &heap, config, reserve))
 }
 
+/// Whether memory is enough; counts where it is wanting, by what it answered.
+fn is_enough(is_wanting: Option<bool>, wanting: &mut u32) -> bool {
+    match is_wanting {
+        None => false,
+        Some(true) => {
+            *wanting = wanting.saturating_add(1);
+            false
+        }
+        Some(false) => true,
+    }
+}
+
 /// Each growth of an admission is refused in turn: that of the list of journals, of the journal, and
 /// of the core.
 #[test]
@@ -294,13 +306,12 @@ fn each_growth_of_an_admission_is_refused(rt: HostRuntime) -> Result<(), Fail> {
     let reserve = reserve_of(&rt, 1, 1);
     let mut wanting = 0u32;
     for units in 0..16384usize {
-        match is_wanting_of(&rt, rt.alloc(), units, config, reserve)? {
-            None => {}
-            Some(true) => wanting = wanting.saturating_add(1),
-            Some(false) => {
-                assert!(rt; wanting > 786 * 2);
-                return Ok(());
-            }
+        if is_enough(
+            is_wanting_of(&rt, rt.alloc(), units, config, reserve)?,
+            &mut wanting,
+        ) {
+            assert!(rt; wanting > 786 * 2);
+            return Ok(());
         }
     }
     Err(Fail::new("more is wanting"))
@@ -405,13 +416,12 @@ fn each_growth_of_a_raise_is_refused(rt: HostRuntime) -> Result<(), Fail> {
     };
     let mut wanting = 0u32;
     for units in 0..16384usize {
-        match is_raise_wanting_of(&rt, rt.alloc(), units, config, &plan)? {
-            None => {}
-            Some(true) => wanting = wanting.saturating_add(1),
-            Some(false) => {
-                assert!(rt; wanting > 819 * 48 / 32);
-                return Ok(());
-            }
+        if is_enough(
+            is_raise_wanting_of(&rt, rt.alloc(), units, config, &plan)?,
+            &mut wanting,
+        ) {
+            assert!(rt; wanting > 819 * 48 / 32);
+            return Ok(());
         }
     }
     Err(Fail::new("more is wanting"))

@@ -190,6 +190,16 @@ struct Size {
     grain: u8,
 }
 
+impl Size {
+    fn of(segments: u32, nodes: u32, grain: u8) -> Size {
+        Size {
+            segments,
+            nodes,
+            grain,
+        }
+    }
+}
+
 /// A hall of this size.
 fn hall_of(alloc: Global, size: Size) -> Result<Hall, Fail> {
     let config = Config::new(size.segments, size.nodes).ok_or("no config")?;
@@ -337,21 +347,13 @@ impl Scene for ManyJobs {
 
 #[test]
 fn a_session_has_256_jobs(rt: HostRuntime) -> Result<(), Fail> {
-    let size = Size {
-        segments: 300,
-        nodes: 300,
-        grain: 0,
-    };
+    let size = Size::of(300, 300, 0);
     found(&rt, rt.alloc(), size, &ManyJobs)
 }
 
 #[test]
 fn a_job_is_done_and_its_tenant_leaves(rt: HostRuntime) -> Result<(), Fail> {
-    let size = Size {
-        segments: 8,
-        nodes: 8,
-        grain: 2,
-    };
+    let size = Size::of(8, 8, 2);
     let sessions = Sessions {
         first: ONE_JOB.as_slice(),
         first_due: b"ERR 14\nERR 14\nWELCOME 4 8\nJOB 1\nDONE 1 0 -\nDONE 1 0 -\nTABLE 1\nQUOTA 4 7 123\nERR 14\nERR 14\nERR 20\nERR 20\nQUOTA 4 7 123\nRESERVED 7 8\nQUOTA 7 7 123\nRESERVED 8 8\nQUOTA 8 7 123\nBYE\n",
@@ -363,11 +365,7 @@ fn a_job_is_done_and_its_tenant_leaves(rt: HostRuntime) -> Result<(), Fail> {
 
 #[test]
 fn a_job_is_spent_and_its_tenant_leaves(rt: HostRuntime) -> Result<(), Fail> {
-    let size = Size {
-        segments: 4096,
-        nodes: 65536,
-        grain: 0,
-    };
+    let size = Size::of(4096, 65536, 0);
     let sessions = Sessions {
         first: SPENT_JOB.as_slice(),
         first_due: b"WELCOME 8 1\nJOB 1\nSPENT 1\nSPENT 1\nQUOTA 8 0 14\nLIVE 0 0\nRESERVED 8 5\nQUOTA 8 4 78\nRESERVED 4096 65536\nQUOTA 4096 65535 1048574\n",

@@ -123,32 +123,36 @@ fn is_served<R: Wait>(
     result == Ok(end) && !office.here && sink.writer.as_slice() == due
 }
 
-#[test]
-fn a_job_is_asked_for_and_shown(rt: HostRuntime) {
-    let mut office = Prepared::new(NOTHING_TO_PLAY, 4, 7, 123);
-    let is_served = is_served(
-        &rt,
-        rt.alloc(),
-        &mut office,
-        b"HELLO 4 8
+/// The lines of a session, how it ends, and what it writes.
+type Talk = (&'static [u8], End, &'static [u8]);
+
+/// Whether a session at this office goes so.
+fn is_talk<R: Wait>(rt: &R, alloc: Global, office: Prepared, talk: Talk) -> bool {
+    let mut office = office;
+    let (lines, end, due) = talk;
+    is_served(rt, alloc, &mut office, lines, end, due)
+}
+
+/// A job that is asked for and shown.
+const ASKED: Talk = (
+    b"HELLO 4 8
 ASK 0 ---------------------------OX------XO--------------------------- X
 WAIT 1
 QUOTA
 ",
-        End::EndOfInput,
-        b"WELCOME 4 8\nJOB 1\nDONE 1 0 -\nQUOTA 4 7 123\n",
-    );
-    assert!(rt; is_served);
-}
+    End::EndOfInput,
+    b"WELCOME 4 8\nJOB 1\nDONE 1 0 -\nQUOTA 4 7 123\n",
+);
 
 #[test]
-fn a_spent_job_is_cancelled_no_more(rt: HostRuntime) {
-    let mut office = Prepared::new(Standing::Spent, 8, 0, 14);
-    let is_served = is_served(
-        &rt,
-        rt.alloc(),
-        &mut office,
-        b"HELLO 8 1
+fn a_job_is_asked_for_and_shown(rt: HostRuntime) {
+    let office = Prepared::new(NOTHING_TO_PLAY, 4, 7, 123);
+    assert!(rt; is_talk(&rt, rt.alloc(), office, ASKED));
+}
+
+/// A spent job.
+const SPENT: Talk = (
+    b"HELLO 8 1
 ASK 3 ---------------------------OX------XO--------------------------- X
 WAIT 1
 QUOTA
@@ -158,20 +162,19 @@ GET 1
 BYE\r
 LIVE
 ",
-        End::Bye,
-        b"WELCOME 8 1\nJOB 1\nSPENT 1\nQUOTA 8 0 14\nLIVE 0 0\nCANCELLED 1\nCANCELLED 1\nBYE\n",
-    );
-    assert!(rt; is_served);
-}
+    End::Bye,
+    b"WELCOME 8 1\nJOB 1\nSPENT 1\nQUOTA 8 0 14\nLIVE 0 0\nCANCELLED 1\nCANCELLED 1\nBYE\n",
+);
 
 #[test]
-fn foreign_lines_get_their_faults(rt: HostRuntime) {
-    let mut office = Prepared::new(Standing::Pending, 4, 8, 128);
-    let is_served = is_served(
-        &rt,
-        rt.alloc(),
-        &mut office,
-        b"GET 1
+fn a_spent_job_is_cancelled_no_more(rt: HostRuntime) {
+    let office = Prepared::new(Standing::Spent, 8, 0, 14);
+    assert!(rt; is_talk(&rt, rt.alloc(), office, SPENT));
+}
+
+/// Lines that are no command as they stand.
+const FOREIGN: Talk = (
+    b"GET 1
 WAIT x
 HELLO 4097 1
 HELLO 0 1
@@ -191,20 +194,19 @@ ASK 0  ---------------------------OX------XO--------------------------- X
 ASK 0 ---\xff-----------------------OX------XO--------------------------- X
 ASK 0 ---------------------------OX------XO--------------------------- Q
 ASK 0 ",
-        End::EndOfInput,
-        b"ERR 28\nERR 28\nERR 23\nERR 23\nWELCOME 4 8\nERR 29\nERR 21\nERR 21\nERR 21\nERR 21\nERR 21\nERR 22\nERR 23\nERR 23\nERR 17\nERR 27\nERR 24\nERR 25\nERR 26\nERR 24\n",
-    );
-    assert!(rt; is_served);
-}
+    End::EndOfInput,
+    b"ERR 28\nERR 28\nERR 23\nERR 23\nWELCOME 4 8\nERR 29\nERR 21\nERR 21\nERR 21\nERR 21\nERR 21\nERR 22\nERR 23\nERR 23\nERR 17\nERR 27\nERR 24\nERR 25\nERR 26\nERR 24\n",
+);
 
 #[test]
-fn more_is_reserved_while_a_job_runs(rt: HostRuntime) {
-    let mut office = Prepared::new(NOTHING_TO_PLAY, 8, 1, 16);
-    let is_served = is_served(
-        &rt,
-        rt.alloc(),
-        &mut office,
-        b"RESERVE 8 8
+fn foreign_lines_get_their_faults(rt: HostRuntime) {
+    let office = Prepared::new(Standing::Pending, 4, 8, 128);
+    assert!(rt; is_talk(&rt, rt.alloc(), office, FOREIGN));
+}
+
+/// A tenant that reserves more.
+const MORE: Talk = (
+    b"RESERVE 8 8
 HELLO 8 1
 ASK 0 ---------------------------OX------XO--------------------------- X
 RESERVE 8
@@ -216,10 +218,14 @@ RESERVE 8 8
 WAIT 1
 RESERVE 4 8
 ",
-        End::EndOfInput,
-        b"ERR 28\nWELCOME 8 1\nJOB 1\nERR 21\nERR 23\nERR 23\nERR 23\nERR 21\nRESERVED 8 8\nDONE 1 0 -\nERR 20\n",
-    );
-    assert!(rt; is_served);
+    End::EndOfInput,
+    b"ERR 28\nWELCOME 8 1\nJOB 1\nERR 21\nERR 23\nERR 23\nERR 23\nERR 21\nRESERVED 8 8\nDONE 1 0 -\nERR 20\n",
+);
+
+#[test]
+fn more_is_reserved_while_a_job_runs(rt: HostRuntime) {
+    let office = Prepared::new(NOTHING_TO_PLAY, 8, 1, 16);
+    assert!(rt; is_talk(&rt, rt.alloc(), office, MORE));
 }
 
 /// Whether a session of one line gets this answer.

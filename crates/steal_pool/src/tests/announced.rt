@@ -67,15 +67,9 @@ fn each_task_is_announced(rt: HostRuntime) -> Result<(), Fail> {
         let_go: AtomicBool::new(false),
         count: AtomicU64::new(0),
     };
-    let table = Table {
-        scenario: &Untouched { gate: &gate },
-        gate: &gate,
-        workers: 1,
-        grain: 0,
-        room: None,
-        segments: 8,
-    };
+    let table = Table::of(&Untouched { gate: &gate }, &gate, 1, 0, 8);
     let played = well(&rt, rt.alloc(), &table).ok_or("no pool, or not as it should be")?;
-    assert_eq!(rt; (played.taken, gate.count.load(Ordering::SeqCst)), (8, 9));
+    let [_, taken, _] = played.tasks;
+    assert_eq!(rt; (taken, gate.count.load(Ordering::SeqCst)), (8, 9));
     Ok(())
 }

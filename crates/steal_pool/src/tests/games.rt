@@ -61,14 +61,7 @@ fn are_three_found<L: Hands, R: Wait>(rt: &R, desk: &Desk<L>, seat: &Seat<L>) ->
 #[test]
 fn replies_are_to_their_positions(rt: HostRuntime) {
     for workers in [1, 2, 8] {
-        let table = Table {
-            scenario: &Foreign,
-            gate: &Open,
-            workers,
-            grain: 0,
-            room: None,
-            segments: 128,
-        };
+        let table = Table::of(&Foreign, &Open, workers, 0, 128);
         assert!(rt;
             well(&rt, rt.alloc(), &table).is_some(),
             "{workers} workers"
@@ -149,7 +142,10 @@ impl Scenario for Four {
 /// Whether a pool has ended well, and what was pushed on its deques is what was taken and left.
 fn adds_up(played: Option<Played>) -> bool {
     match played {
-        Some(played) => Some(played.pushed) == played.taken.checked_add(played.left),
+        Some(played) => {
+            let [pushed, taken, left] = played.tasks;
+            Some(pushed) == taken.checked_add(left)
+        }
         None => false,
     }
 }
@@ -159,14 +155,7 @@ fn adds_up(played: Option<Played>) -> bool {
 #[test]
 fn any_number_of_workers(rt: HostRuntime) {
     for workers in [1, 2, 8, 32] {
-        let table = Table {
-            scenario: &Four { depth: 4 },
-            gate: &Open,
-            workers,
-            grain: 2,
-            room: None,
-            segments: 1_024,
-        };
+        let table = Table::of(&Four { depth: 4 }, &Open, workers, 2, 1_024);
         assert!(rt; adds_up(well(&rt, rt.alloc(), &table)), "{workers} workers");
     }
 }
@@ -183,21 +172,14 @@ fn no_room_for_tasks(rt: HostRuntime) {
         segments: 1_024,
     };
     let played = well(&rt, rt.alloc(), &table);
-    assert!(rt; matches!(played, Some(played) if played.pushed == 0));
+    assert!(rt; matches!(played, Some(played) if played.tasks[0] == 0));
 }
 
 /// No worker is lost: 200 pools of 8 workers each end.
 #[test]
 fn two_hundred_pools_end(rt: HostRuntime) {
     for run in 0..200 {
-        let table = Table {
-            scenario: &Four { depth: 2 },
-            gate: &Open,
-            workers: 8,
-            grain: 0,
-            room: None,
-            segments: 1_024,
-        };
+        let table = Table::of(&Four { depth: 2 }, &Open, 8, 0, 1_024);
         assert!(rt; well(&rt, rt.alloc(), &table).is_some(), "run {run}");
     }
 }
@@ -282,14 +264,7 @@ fn jobs_end_in_the_midst(rt: HostRuntime) {
             let_go: AtomicBool::new(false),
             late: AtomicBool::new(false),
         };
-        let table = Table {
-            scenario: &Mixed { gate: &gate },
-            gate: &gate,
-            workers: 8,
-            grain: 0,
-            room: None,
-            segments: 196,
-        };
+        let table = Table::of(&Mixed { gate: &gate }, &gate, 8, 0, 196);
         let adds_up = adds_up(well(&rt, rt.alloc(), &table));
         assert!(rt; adds_up && !gate.late.load(Ordering::SeqCst), "run {run}");
     }

@@ -43,13 +43,6 @@ fn is_short(before: Option<Duration>, after: Option<Duration>) -> bool {
 /// asked.
 #[test]
 fn an_idle_pool_sleeps(rt: HostRuntime) {
-    let table = Table {
-        scenario: &Silence { clock: &rt },
-        gate: &Open,
-        workers: 4,
-        grain: 0,
-        room: None,
-        segments: 8,
-    };
+    let table = Table::of(&Silence { clock: &rt }, &Open, 4, 0, 8);
     assert!(rt; well(&rt, rt.alloc(), &table).is_some());
 }

@@ -6,9 +6,10 @@ use super::{MOST_TURNS, Scenario, Table, well};
 use crate::{Gate, Task};
 use desk::{Desk, Hands, Seat};
 use sched_rules::Worker;
+use std::alloc::Global;
 use std::sync::Wait;
 use std::sync::atomic::{AtomicBool, Ordering};
-use std::thread;
+use std::thread::{self, Threads};
 
 /// The computation of this number waits within a limit until it is let go on.
 #[derive(Drop)]
@@ -76,22 +77,28 @@ impl Scenario for TwoJobs {
     }
 }
 
+/// Whether a scenario is content with two workers and with eight, where this computation goes on only once the next was
+/// begun.
+fn overlap<S: Scenario, R: Threads + Wait + Sync>(
+    rt: &R,
+    alloc: Global,
+    scenario: &S,
+    number: u64,
+) -> bool {
+    for workers in [2, 8] {
+        let gate = is_held(number, true);
+        let played = well(rt, alloc, &Table::of(scenario, &gate, workers, 0, 16));
+        if played.is_none() || gate.late.load(Ordering::SeqCst) {
+            return false;
+        }
+    }
+    true
+}
+
 /// The first computation of a pool goes on only once the second was begun.
 #[test]
 fn two_computations_overlap(rt: HostRuntime) {
-    for workers in [2, 8] {
-        let gate = is_held(1, true);
-        let table = Table {
-            scenario: &TwoJobs,
-            gate: &gate,
-            workers,
-            grain: 0,
-            room: None,
-            segments: 8,
-        };
-        let is_well = well(&rt, rt.alloc(), &table).is_some();
-        assert!(rt; is_well && !gate.late.load(Ordering::SeqCst));
-    }
+    assert!(rt; overlap(&rt, rt.alloc(), &TwoJobs, 1));
 }
 
 /// How often the scenario lets others run, so that workers with nothing to do fall asleep.
@@ -120,19 +127,7 @@ impl Scenario for OneJob {
 /// computation waits, another worker begins the third.
 #[test]
 fn a_ready_frame_wakes_a_worker(rt: HostRuntime) {
-    for workers in [2, 8] {
-        let gate = is_held(2, true);
-        let table = Table {
-            scenario: &OneJob,
-            gate: &gate,
-            workers,
-            grain: 0,
-            room: None,
-            segments: 16,
-        };
-        let is_well = well(&rt, rt.alloc(), &table).is_some();
-        assert!(rt; is_well && !gate.late.load(Ordering::SeqCst));
-    }
+    assert!(rt; overlap(&rt, rt.alloc(), &OneJob, 2));
 }
 
 /// A first seat's job is computed when the seat leaves, or cancels it; a second seat's job ends all the
@@ -197,17 +192,11 @@ fn goes_on<L: Hands, R: Wait>(rt: &R, desk: &Desk<L>, gate: &Held, seat: Seat<L>
 fn late_answers(rt: HostRuntime) {
     for leaves in [true, false] {
         let gate = is_held(1, false);
-        let table = Table {
-            scenario: &Late {
-                gate: &gate,
-                leaves,
-            },
+        let late = Late {
             gate: &gate,
-            workers: 2,
-            grain: 0,
-            room: None,
-            segments: 8,
+            leaves,
         };
+        let table = Table::of(&late, &gate, 2, 0, 8);
         let played = well(&rt, rt.alloc(), &table);
         assert!(rt; matches!(played, Some(played) if played.share == 2 + 5));
     }

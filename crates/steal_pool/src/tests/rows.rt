@@ -33,20 +33,11 @@ impl Scenario for OneJob {
 /// One worker, the opening to depth 1 at grain 0: 36 steps, 8 tasks pushed and taken.
 #[test]
 fn one_worker_counted(rt: HostRuntime) {
-    let table = Table {
-        scenario: &OneJob,
-        gate: &Open,
-        workers: 1,
-        grain: 0,
-        room: None,
-        segments: 8,
-    };
+    let table = Table::of(&OneJob, &Open, 1, 0, 8);
     let wanted = Played {
         content: true,
         share: 36,
-        pushed: 8,
-        taken: 8,
-        left: 0,
+        tasks: [8, 8, 0],
         whole: true,
         free: 8,
     };

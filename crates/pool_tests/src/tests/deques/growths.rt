@@ -28,18 +28,20 @@ fn ends_work<A: Allocator>(rt: &impl Abort, all: Vec<DequeEnds<A>, A>, one: Work
     assert_eq!(rt; takes(&mut all, three), 0);
 }
 
+/// The first and the last of three workers.
+fn first_and_last() -> Result<(Worker, Worker), Fail> {
+    let one = Worker::new(1).ok_or("a worker")?;
+    let three = Worker::new(3).ok_or("a worker")?;
+    Ok((one, three))
+}
+
 /// Which growth of a deal to three workers is refused in a heap with room for so many units, the first of
 /// which is 1; 0 where none is, and then the ends work. What was had before it was given back, so that
 /// the calls are one less than twice the number of the growth; and the heap has got all.
-fn refused_in_deal(
-    rt: &impl Abort,
-    alloc: Global,
-    one: Worker,
-    three: Worker,
-    units: usize,
-) -> Result<u64, Fail>
+fn refused_in_deal(rt: &impl Abort, alloc: Global, units: usize) -> Result<u64, Fail>
     requires { units < 4096 }
 {
+    let (one, three) = first_and_last()?;
     let heap = LocalHeap::new(alloc, units * 16)?;
     let counted = Counted::new(&heap);
     let number = match deal(&counted, three, 8) {
@@ -55,15 +57,10 @@ fn refused_in_deal(
 
 /// Which growth of the room for three workers' ends is refused in such a heap; 0 where none is, and then
 /// the ends, which are another heap's, come back with a task that is left.
-fn refused_in_return(
-    rt: &impl Abort,
-    alloc: Global,
-    one: Worker,
-    three: Worker,
-    units: usize,
-) -> Result<u64, Fail>
+fn refused_in_return(rt: &impl Abort, alloc: Global, units: usize) -> Result<u64, Fail>
     requires { units < 4096 }
 {
+    let (one, three) = first_and_last()?;
     let ample = LocalHeap::new(alloc, AMPLE)?;
     let heap = LocalHeap::new(alloc, units * 16)?;
     let others = Counted::new(&ample);
@@ -83,13 +80,11 @@ fn refused_in_return(
 
 /// Each growth is refused in turn, so many of them.
 fn are_refused(rt: &impl Abort, alloc: Global, growing: Growing, many: u64) -> Result<(), Fail> {
-    let one = Worker::new(1).ok_or("a worker")?;
-    let three = Worker::new(3).ok_or("a worker")?;
     let mut last = 0u64;
     for units in 0..4096usize {
         let number = match growing {
-            Growing::Deal => refused_in_deal(rt, alloc, one, three, units)?,
-            Growing::Return => refused_in_return(rt, alloc, one, three, units)?,
+            Growing::Deal => refused_in_deal(rt, alloc, units)?,
+            Growing::Return => refused_in_return(rt, alloc, units)?,
         };
         if number == 0 {
             assert_eq!(rt; last, many);

@@ -2,6 +2,7 @@
 use super::{Trial, asks, badge_of, cancels, compute, root_of, seat_of, try_out, worker_of};
 use desk::{Badge, Desk, Hands, Held, Seat, StepOf, Worker};
 use frame_tree::FrameId;
+use std::alloc::Global;
 use std::process::Abort;
 use std::sync::Wait;
 use std::sync::atomic::{AtomicU64, Ordering};
@@ -248,24 +249,23 @@ fn each_of_two_children_wakes_a_worker(rt: HostRuntime) -> Result<(), Fail> {
     try_out(&rt, rt.alloc(), Trial::Children)
 }
 
+/// So many seats wait, and then so many workers.
+fn try_both<R>(rt: &R, alloc: Global, many: u64, what: What) -> Result<(), Fail>
+where
+    R: Wait + Abort + Threads + Clock + CpuClock + Sync,
+{
+    try_out(rt, alloc, Trial::Crowd(Who::Seats, many, what))?;
+    try_out(rt, alloc, Trial::Crowd(Who::Workers, many, what))
+}
+
 /// The closing wakes two seats, and two workers.
 #[test]
 fn a_closing_wakes_all(rt: HostRuntime) -> Result<(), Fail> {
-    try_out(&rt, rt.alloc(), Trial::Crowd(Who::Seats, 2, What::Closing))?;
-    try_out(
-        &rt,
-        rt.alloc(),
-        Trial::Crowd(Who::Workers, 2, What::Closing),
-    )
+    try_both(&rt, rt.alloc(), 2, What::Closing)
 }
 
 /// Four seats, and four workers, sleep while they wait.
 #[test]
 fn who_waits_sleeps(rt: HostRuntime) -> Result<(), Fail> {
-    try_out(&rt, rt.alloc(), Trial::Crowd(Who::Seats, 4, What::Silence))?;
-    try_out(
-        &rt,
-        rt.alloc(),
-        Trial::Crowd(Who::Workers, 4, What::Silence),
-    )
+    try_both(&rt, rt.alloc(), 4, What::Silence)
 }

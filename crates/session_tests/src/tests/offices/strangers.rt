@@ -78,10 +78,6 @@ impl Scene for Strangers {
 #[test]
 fn an_office_has_one_tenant_and_says_where_it_has_none(rt: HostRuntime) -> Result<(), Fail> {
     let reserve = Reserve::new(1, 1).ok_or("no reservation")?;
-    let size = Size {
-        segments: 8,
-        nodes: 8,
-        grain: 0,
-    };
+    let size = Size::of(8, 8, 0);
     found(&rt, rt.alloc(), size, &Strangers { reserve })
 }

@@ -1,5 +1,5 @@
 //! The answers to TABLE.
-use super::{NOTHING_TO_PLAY, Prepared, is_served};
+use super::{NOTHING_TO_PLAY, Prepared, Talk, is_served, is_talk};
 use line_io::{FromReader, Sink, WriteFailed};
 use othello_eval::{Bound, BoundKind, Valued};
 use othello_moves::Choice;
@@ -116,14 +116,9 @@ fn other_jobs_have_no_table(rt: HostRuntime) {
     }
 }
 
-#[test]
-fn faults_of_table_are_those_of_get(rt: HostRuntime) {
-    let mut office = Prepared::new(NOTHING_TO_PLAY, 4, 7, 123);
-    let is_served = is_served(
-        &rt,
-        rt.alloc(),
-        &mut office,
-        b"TABLE 1
+/// Lines of TABLE, most with a fault.
+const FAULTS: Talk = (
+    b"TABLE 1
 TABLE x
 TABLE
 HELLO 4 8
@@ -139,10 +134,14 @@ ASK 0 ---------------------------OX------XO--------------------------- X
 TABLE 2
 TABLE 01\r
 ",
-        End::EndOfInput,
-        b"ERR 28\nERR 28\nERR 21\nWELCOME 4 8\nERR 21\nERR 21\nERR 21\nERR 21\nERR 23\nERR 23\nERR 17\nERR 17\nJOB 1\nERR 17\nTABLE 1\n",
-    );
-    assert!(rt; is_served);
+    End::EndOfInput,
+    b"ERR 28\nERR 28\nERR 21\nWELCOME 4 8\nERR 21\nERR 21\nERR 21\nERR 21\nERR 23\nERR 23\nERR 17\nERR 17\nJOB 1\nERR 17\nTABLE 1\n",
+);
+
+#[test]
+fn faults_of_table_are_those_of_get(rt: HostRuntime) {
+    let office = Prepared::new(NOTHING_TO_PLAY, 4, 7, 123);
+    assert!(rt; is_talk(&rt, rt.alloc(), office, FAULTS));
 }
 
 /// Takes each answer by one call, and keeps the last.
