@@ -210,15 +210,7 @@ added_ready xs parent slot home frames e state =
 
 -- a tenant, from slots that are sound by any count, their serials and the ready frames among them
 pub is_tenant : {T : Type 0} (slots : List (Slot T)) (count places : ℕ) (serials : SerialList) (ready : ReadyList) → AreSoundSlots slots count → serials.serials ≡ serials_of slots → ready.frames ≡ ready_in slots → length slots ≤ places → places ≤ 4096 → places ≤ serials.places → places ≤ ready.places → IsTenant slots places serials ready
-is_tenant slots count places serials ready s i e within few same_serials same = record {
-  sound = record { linked = s.linked; counted = s.counted; ready_count = ap length e ∙ ready_in-length slots };
-  index = i;
-  ready_frames = e;
-  within = within;
-  few = few;
-  serial_places = same_serials;
-  ready_places = same;
-}
+is_tenant slots count places serials ready s i e within few same_serials same = record { sound = record { linked = s.linked; counted = s.counted; ready_count = ap length e ∙ ready_in-length slots }; index = i; ready_frames = e; within = within; few = few; serial_places = same_serials; ready_places = same }
 
 -- no more are ready than there are slots
 pub few_ready_in : {T : Type 0} (slots : List (Slot T)) → length (ready_in slots) ≤ length slots

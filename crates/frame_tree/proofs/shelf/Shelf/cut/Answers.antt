@@ -1,9 +1,17 @@
 use Rattle.std.proofs.Common.{[], refl, ◌∙◌, arith}
 use Rattle.frame_tree.specs.Shelves.{slots_in}
 use Rattle.frame_tree.proofs.Shelves.{slots_in-length}
-use Rattle.frame_tree.proofs.Cutting.{has_cut, all_there, marked_there, cut_shelf, cut_slots, cut_values}
+use Rattle.frame_tree.proofs.Cutting.{HasCut, all_there, marked_there, cut_shelf, cut_slots, cut_values}
 use Rattle.frame_tree.proofs.Early.{marks_early, none_marked_early}
+use Rattle.frame_tree.proofs.shelf.Shelf.cut.Given.{Over}
+use Rattle.frame_tree.proofs.shelf.Shelf.cut.Goals.{After-sweep}
 use Rattle.frame_tree.proofs.shelf.Shelf.cut.Goals as goal
+
+-- what the marks and the sweep left
+was_cut : (g : Over) (c : After-sweep g) → HasCut c.args.under c.self.inside.slab c.mark_under.new.slab c.sweep.new.slab c.self.inside.order.list c.sweep.new.order.list
+was_cut g c =
+    let marks = rw c.as_slice.ensures.value at c.mark_under.ensures.marked in
+    record { marks = marks; kept = c.sweep.ensures.kept; swept = c.sweep.ensures.slots }
 
 pub mark_under-requires-clause-within : goal.mark_under-requires-clause-within
 mark_under-requires-clause-within g c =
@@ -47,25 +55,16 @@ sweep-requires-clause-room g c =
 
 pub invariant_of-self : goal.invariant_of-self
 invariant_of-self g c =
-    let slab = c.self.inside.slab in
-    let order = c.self.inside.order.list in
-    let marks = rw c.as_slice.ensures.value at c.mark_under.ensures.marked in
-    let cut = has_cut c.args.under slab c.mark_under.new.slab c.sweep.new.slab order c.sweep.new.order.list marks c.sweep.ensures.kept c.sweep.ensures.slots in
+    let cut = was_cut g (goal.at.invariant_of-self g c).After-sweep in
     let linked = rw (← c.self.view_is) at c.requires.linked in
     rw c.sweep.ensures.order_places (cut_shelf _ _ _ _ _ _ _ _ cut c.self.invariant linked (omega (arith, c.sweep.ensures.len, c.mark_under.ensures.len)) (c.sweep.ensures.capacity ∙ c.mark_under.ensures.capacity))
 
 pub returns-clause-kept : goal.returns-clause-kept
 returns-clause-kept g c =
-    let slab = c.self.inside.slab in
-    let order = c.self.inside.order.list in
-    let marks = rw c.as_slice.ensures.value at c.mark_under.ensures.marked in
-    let cut = has_cut c.args.under slab c.mark_under.new.slab c.sweep.new.slab order c.sweep.new.order.list marks c.sweep.ensures.kept c.sweep.ensures.slots in
+    let cut = was_cut g (goal.at.returns-clause-kept g c).After-sweep in
     rw (← c.self.view_is, cut_slots _ _ _ _ _ _ cut c.self.invariant.here) refl
 
 pub returns-clause-values : goal.returns-clause-values
 returns-clause-values g c =
-    let slab = c.self.inside.slab in
-    let order = c.self.inside.order.list in
-    let marks = rw c.as_slice.ensures.value at c.mark_under.ensures.marked in
-    let cut = has_cut c.args.under slab c.mark_under.new.slab c.sweep.new.slab order c.sweep.new.order.list marks c.sweep.ensures.kept c.sweep.ensures.slots in
+    let cut = was_cut g (goal.at.returns-clause-values g c).After-sweep in
     rw (← c.self.view_is, ← cut_values _ _ _ _ _ _ cut c.self.invariant.here) c.sweep.ensures.values
