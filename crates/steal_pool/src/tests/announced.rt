@@ -67,7 +67,8 @@ fn each_task_is_announced(rt: HostRuntime) -> Result<(), Fail> {
         let_go: AtomicBool::new(false),
         count: AtomicU64::new(0),
     };
-    let table = Table::of(&Untouched { gate: &gate }, &gate, 1, 0, 8);
+    let scenario = Untouched { gate: &gate };
+    let table = Table::of(&scenario, &gate, 1, 0, 8);
     let played = well(&rt, rt.alloc(), &table).ok_or("no pool, or not as it should be")?;
     let [_, taken, _] = played.tasks;
     assert_eq!(rt; (taken, gate.count.load(Ordering::SeqCst)), (8, 9));

@@ -264,7 +264,8 @@ fn jobs_end_in_the_midst(rt: HostRuntime) {
             let_go: AtomicBool::new(false),
             late: AtomicBool::new(false),
         };
-        let table = Table::of(&Mixed { gate: &gate }, &gate, 8, 0, 196);
+        let scenario = Mixed { gate: &gate };
+        let table = Table::of(&scenario, &gate, 8, 0, 196);
         let adds_up = adds_up(well(&rt, rt.alloc(), &table));
         assert!(rt; adds_up && !gate.late.load(Ordering::SeqCst), "run {run}");
     }

@@ -43,6 +43,7 @@ fn is_short(before: Option<Duration>, after: Option<Duration>) -> bool {
 /// asked.
 #[test]
 fn an_idle_pool_sleeps(rt: HostRuntime) {
-    let table = Table::of(&Silence { clock: &rt }, &Open, 4, 0, 8);
+    let scenario = Silence { clock: &rt };
+    let table = Table::of(&scenario, &Open, 4, 0, 8);
     assert!(rt; well(&rt, rt.alloc(), &table).is_some());
 }

@@ -164,7 +164,8 @@ fn ask_short<L: Hands, R: Wait>(rt: &R, desk: &Desk<L>, seat: &mut Seat<L>) -> b
 fn a_short_search_is_over_before_a_long_one(rt: HostRuntime) {
     for _ in 0..TRIES {
         let gate = gate_of(&rt);
-        let table = Table::of(&Beside { gate: &gate }, &gate, 2, 6, 128);
+        let scenario = Beside { gate: &gate };
+        let table = Table::of(&scenario, &gate, 2, 6, 128);
         let is_well = well(&rt, rt.alloc(), &table).is_some();
         assert!(rt;
             is_well && !gate.is_late.load(Ordering::SeqCst),
