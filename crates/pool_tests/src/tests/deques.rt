@@ -1,5 +1,5 @@
 //! Deques in one thread: what is taken, in which order, and the sums.
-ghost use Rattle.std.specs.Prelude.{◌≡◌, ◌<◌, map, vec_len};
+ghost use Rattle.std.specs.Prelude.{◌≡◌, ◌<◌, ◌+◌, map, vec_len};
 ghost use Rattle.task_deques.specs.Deals.{posts, IsWhole};
 
 use frame_tree::FrameId;
