@@ -3,8 +3,8 @@
 //! What each call does to what lies under the lock is proved in `desk`, and that no task is lost or doubled in
 //! `task_deques`. No contract can say that a thread which waits is woken, that a closed desk lets everyone go, or
 //! that an ask succeeds where there is room. Here threads wait, are woken and are let go, in one thread and in
-//! four, and each growth is refused in turn by heaps of one unit more each time. The tests stand in a crate of their
-//! own, so that the crates below are not proved once more with them.
+//! four, and each growth of a deal is refused in turn. The tests stand in a crate of their own, so that the crates
+//! below are not proved once more with them.
 //!
 //! ```text
 //! let seat = seat_of(rt, desk, 1)?;

@@ -1,3 +1,4 @@
+//! A hall in one thread, driven step by step.
 ghost use Rattle.std.specs.Prelude.{◌<◌};
 ghost use Rattle.jamboree_core.specs.Replies.{IsSearch};
 
