@@ -1,6 +1,7 @@
 # What the benchmarks' scripts share, to be read by them; $top is the top of the repository.
 
-heap=$(dirname "$(rt doc)")/c/liblibc_c.a # how a static library of the kit asks the program for memory
+kit=$(dirname "$(rt doc)")
+heap=$kit/c/liblibc_c.a # how a static library of the kit asks the program for memory
 
 # The crates of a list that some of them stand on, and they themselves.
 below() { # LIST CRATES
@@ -18,12 +19,30 @@ below() { # LIST CRATES
         }' "$1"
 }
 
-# Lays a repository out in a folder: these crates of this one and all that they stand on, with what is proved of them, and
-# a line for another crate with its libraries.
+# Copies a crate's sources without its tests and edits, so that what a gate or a build on this machine has proved of them
+# isn't proved again.
+copy() { # CRATE FOLDER
+    mkdir -p "$2/crates/$1"
+    for part in src specs proofs; do
+        [ ! -e "$top/crates/$1/$part" ] || cp -a "$top/crates/$1/$part" "$2/crates/$1/"
+    done
+    untested "$2/crates/$1"
+}
+
+# Takes the tests out of a crate's sources.
+untested() { # FOLDER
+    rm -rf "$1/src/tests" "$1/proofs/tests" "$1/src/tests.rt"
+    for root in "$1"/src/lib.rt "$1"/src/main.rt; do
+        [ ! -e "$root" ] || sed -i -z 's/\n#\[cfg(test)\]\nmod tests;\n/\n/; s/\n\n$/\n/' "$root"
+    done
+}
+
+# Lays a repository out in a folder: these crates of this one and all that they stand on, and a line for another crate with
+# its libraries.
 lay() { # FOLDER CRATES LINE
-    mkdir -p "$1/crates"
+    mkdir -p "$1/crates" "$1/.git"
     for crate in $(below "$top/crates.txt" "$2"); do
-        cp -a "$top/crates/$crate" "$1/crates/"
+        copy "$crate" "$1"
         grep "^$crate:" "$top/crates.txt" >> "$1/crates.txt"
     done
     echo "$3" >> "$1/crates.txt"
@@ -44,7 +63,30 @@ unpack() { # TEXT FOLDER
         { print > file }' "$1")
 }
 
+# Proves a crate of a folder and all below it, as far as that isn't kept; a program is built too. `rt ci` also runs a
+# program, in its own way: whether that run is well doesn't count here.
+prove() { # FOLDER CRATE
+    (cd "$1/crates/$2" && rt fmt > /dev/null)
+    (cd "$1" && rt ci > "$1/ci.log" 2>&1 < /dev/null) || grep -q "^rt: $2 \(proved\|is kept\)" "$1/ci.log" || { tail -20 "$1/ci.log"; exit 1; }
+}
+
 # Builds a crate of a folder as a static library, or says why not.
 library() { # FOLDER CRATE
-    (cd "$1/crates/$2" && rt lib > "$1/lib.log" 2>&1) || { tail -20 "$1/lib.log"; exit 1; }
+    prove "$1" "$2"
+    (
+        cd "$1/crates/$2"
+        set -- "$1" "$2" -L "dependency=$kit/rlibs"
+        for rlib in "$1"/crates/*/out/rlib; do
+            set -- "$@" -L "dependency=$rlib"
+        done
+        for name in $(sed -n "s/^$2 staticlib: *//p" "$1/crates.txt") std; do
+            for rlib in "$1/crates/$name/out/rlib/$name.rlib" "$kit/rlibs/$name.rlib"; do
+                [ ! -d "$rlib" ] || { set -- "$@" --extern "$name=$rlib"; break; }
+            done
+        done
+        folder=$1 crate=$2
+        shift 2
+        mkdir -p out
+        rattle build --crate-name "$crate" src/lib.rt "$@" --antt-project "$kit/rattle/logic/antt-project.json" --logic-built "$kit/logic_built" --links "$crate=" --crate-type staticlib --toolchain "$kit/toolchain" -o "out/lib$crate.a" --empty-contracts > "$folder/lib.log" 2>&1
+    ) || { tail -20 "$1/lib.log"; exit 1; }
 }

@@ -22,7 +22,7 @@ build() { # NAME [COMMIT [PATCH]]
         git -C "$top" show "$2:bench/pool/picks.txt" > "$bench/proofs/timed/Invariants.antt"
     fi
     for crate in $(below "$tree/list" steal_pool); do
-        [ -d "$tree/crates/$crate" ] || cp -a "$top/crates/$crate" "$tree/crates/"
+        if [ -d "$tree/crates/$crate" ]; then untested "$tree/crates/$crate"; else copy "$crate" "$tree"; fi
         grep "^$crate:" "$tree/list" >> "$tree/crates.txt"
     done
     echo "pool_bench: $(sed -n 's/^steal_pool: //p' "$tree/list") steal_pool anyhow" >> "$tree/crates.txt"
@@ -31,7 +31,8 @@ build() { # NAME [COMMIT [PATCH]]
         patch --quiet --strip=1 --fuzz=0 --directory="$tree" < "$3"
     fi
     touch "$bench/specs/Lib.antt" "$bench/proofs/Lib.antt"
-    (cd "$bench" && rt run -- 1 4 1 < "$work/positions" > "$tree/log" 2>&1) || { tail -20 "$tree/log"; exit 1; }
+    mkdir "$tree/.git"
+    prove "$tree" pool_bench
     mv "$bench/out/pool_bench" "$tree/program"
     rm -rf "$tree/crates"
 }

@@ -2,7 +2,7 @@
 //!
 //! `othello solve` reads lines `depth position` and writes for each a line `value move`, as soon as the line is
 //! complete. `othello serve` serves sessions of many tenants over TCP. The words of the command line are read by
-//! `command_line`; the lines are the work of `solve_engine`, and sessions that of `tcp_server` and the crates below it,
+//! `command_line`; the lines are the work of `solve_command`, and sessions that of `tcp_server` and the crates below it,
 //! whose contracts say what is written of what is read. Here is what is done with the words: [`running::run`] goes from
 //! them and the three streams to the exit status, and [`serving`] says where it listens and when it has ended.
 //!

@@ -4,11 +4,11 @@ ghost use Rattle.std.specs.Prelude.{◌≡◌, ◌≤◌, true, IfOk, Ok};
 ghost use Rattle.line_io.specs.Writes.{IsWritten};
 ghost use Rattle.othello_server.specs.Running.{IsServed, ended_text, listening_text};
 
-use crate::running::{EXIT_FAILED, EXIT_OK, say};
 use crate::service::Service;
 use command_line::Options;
 use line_io::{Sink, write_text};
 use sched_rules::Worker;
+use solve_command::{EXIT_FAILED, EXIT_OK, say};
 use std::alloc::Global;
 use std::fmt::Display;
 use std::io;

@@ -1,9 +1,10 @@
 //! What the words of the command line ask for, the exit statuses, and where each text goes.
 mod served;
 
-use crate::running::{Input, Output, run};
+use crate::running::run;
 use command_line::{Options, WordsFault};
 use line_io::{FromWriter, ReadFailed, Sink, Source, WriteFailed};
+use solve_command::{Input, Output};
 use std::io::{self, Read, Write};
 use std::net::{Net, TcpListener, TcpStream};
 use std::sync::Arc;

@@ -1,6 +1,6 @@
 //! A server as its system and those who come to it see it.
 use super::{Given, LAST, is_answered};
-use crate::running::{Output, run};
+use crate::running::run;
 use line_io::{FromWriter, Sink, WriteFailed};
 use std::fs::{self, Files};
 use std::io::{self, Read};

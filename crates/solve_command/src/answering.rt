@@ -1,0 +1,88 @@
+//! The lines of an input, answered as `solve` answers them.
+ghost use Rattle.std.specs.Prelude.{◌≡◌, ◌≤◌, map, Ok, Result};
+ghost use Rattle.line_io.specs.declared.faults.LineFault.{LineFault};
+ghost use Rattle.command_line.specs.declared.options.Options.{Options};
+ghost use Rattle.command_line.specs.declared.faults.WordsFault.{WordsFault};
+ghost use Rattle.solve_command.specs.Answering.{IsAnsweredRun, IsReadOf, IsSolvedAsAsked, status_of_run};
+
+use crate::saying::{refuse, say};
+use crate::streams::{Input, Output};
+use crate::{EXIT_FAILED, EXIT_OK};
+use command_line::Options;
+use line_io::{LineFault, Sink};
+use solve_engine::{solve, solve_visited};
+use std::alloc::{AllocError, Global};
+use std::convert::AsStr;
+
+/// Bytes of the block that is allocated and freed before the first line of `solve`. Freeing it raises glibc's mmap
+/// threshold to this size, so that smaller blocks stay with the process when freed, their pages mapped. Speed only.
+const KEPT: usize = 16 << 20;
+
+/// What somebody is told who types the lines.
+const HINT: &str = "reading lines `depth position`; `othello solve --help` explains them";
+
+/// What is said where a server is asked for.
+const NO_SERVER: &str = "this program has the command `solve` alone";
+
+/// Does what the words ask for, but for a server, and gives the exit status: 1 where a server is asked for. Answers,
+/// help and the version go to the output, and all else that there is to say to the errors. A status doesn't change
+/// where a text of help or of refusal can't be written.
+pub fn run_solve<T: AsStr, S: Input, K: Output, E: Sink>(
+    alloc: Global,
+    words: &[T],
+    source: &mut S,
+    sink: &mut K,
+    errors: &mut E,
+) -> u8
+    ensures { (asked : Result Options WordsFault) × IsReadOf (map T.text words.now) asked
+        × IsSolvedAsAsked S.gives K.takes source.old sink.old source.new sink.new asked result }
+{
+    match Options::read(alloc, words) {
+        Ok(Options::Solve { grain, visited }) => {
+            answer(alloc, grain, visited, source, sink, errors)
+        }
+        Ok(Options::Serve { .. }) => {
+            say(errors, NO_SERVER);
+            EXIT_FAILED
+        }
+        Err(fault) => refuse(&fault, sink, errors),
+    }
+}
+
+/// Answers the lines of the input, with the counts of `--visited` or without, and gives the exit status: 1 where the
+/// input or the output failed. An output that nobody reads any more ends the run without a word.
+pub fn answer<S: Input, K: Output, E: Sink>(
+    alloc: Global,
+    grain: u8,
+    visited: bool,
+    source: &mut S,
+    sink: &mut K,
+    errors: &mut E,
+) -> u8
+    requires { grain ≤ 6 }
+    ensures { (r : Result (Unit {0}) LineFault) × IsAnsweredRun S.gives K.takes source.old sink.old source.new sink.new visited r × (result ≡ status_of_run r) }
+{
+    if source.is_typed() {
+        say(errors, HINT);
+    }
+    let result = if visited {
+        solve_visited(source, sink)
+    } else {
+        keep_memory(alloc);
+        solve(alloc, source, sink, grain)
+    };
+    match result {
+        Ok(()) => EXIT_OK,
+        Err(LineFault::Write) if sink.is_closed() => EXIT_FAILED,
+        Err(fault) => {
+            say(errors, fault);
+            EXIT_FAILED
+        }
+    }
+}
+
+/// Allocates and frees one block of `KEPT` bytes, so that the C library reuses a core's memory for the next line's core.
+/// If the block can't be had nothing changes.
+fn keep_memory(alloc: Global) {
+    let _: Result<Vec<u8>, AllocError> = Vec::with_capacity(alloc, KEPT);
+}

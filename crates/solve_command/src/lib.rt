@@ -1,0 +1,25 @@
+//! The command `solve` of a program, over any streams, and what is done with words that are refused.
+//!
+//! [`run_solve`] goes from the words of the command line and three streams to the exit status of a program that has this
+//! command alone (`othello_solve`). Its parts serve the program that has `serve` too (`othello_server`): [`answer`] for
+//! the lines of `solve`, [`refuse`] for refused words, [`say`] for what the program has to say of itself.
+//!
+//! ```text
+//! run_solve(alloc, &["othello", "solve", "--visited"], &mut source, &mut sink, &mut errors)  // "-4 d3 15\n", and status 0
+//! run_solve(alloc, &["othello", "solved"], &mut source, &mut sink, &mut errors)              // status 2: no such command
+//! ```
+#![tactic(auto)]
+
+mod answering;
+mod saying;
+mod streams;
+
+pub use answering::{answer, run_solve};
+pub use saying::{refuse, say};
+pub use streams::{Input, Output};
+
+/// The exit status where all went well.
+pub const EXIT_OK: u8 = 0;
+
+/// The exit status where the input or the output failed.
+pub const EXIT_FAILED: u8 = 1;
