@@ -36,7 +36,7 @@ def fail(text):
 
 def built():
     """The program that `./othello` builds, where it isn't there yet."""
-    subprocess.run([TOP / "othello", "--version"], stdout=subprocess.DEVNULL, check=True)
+    subprocess.run([TOP / "othello", "serve", "--help"], stdout=subprocess.DEVNULL, check=True)
     return str(TOP / "crates/othello_server/out/othello_server")
 
 
