@@ -1,5 +1,5 @@
 //! The commands as `clap` has them, with what help says of each.
-ghost use Rattle.std.specs.Prelude.{◌≡◌, IfOk, codes, false};
+ghost use Rattle.std.specs.Prelude.{◌≡◌, IfOk, codes, false, is_none};
 ghost use Rattle.clap.specs.Words.{app_of, found_of, new_app, rows_of, rule_of, shape_of, with_rule, with_subcommand};
 ghost use Rattle.clap.specs.declared.builder.command.Command.TheViews.{out-Command};
 ghost use Rattle.command_line.specs.CommandLine.{bare_program, is_set, program, serve_of_sessions, serve_shape, solve_shape, visited_rule};
@@ -58,28 +58,16 @@ pub(crate) fn command_of<'a>(alloc: Global, name: &str) -> Result<Command<'a>, A
     }
 }
 
-/// An option with a number: what `clap` is told of it beside its limits.
-#[derive(Clone, Copy)]
-struct NumberArg {
-    setting: Setting,
-    /// The letter that stands for its value in the usage.
-    value: &'static str,
-    /// Whether it has to be given.
-    required: bool,
-    /// What help says of it.
-    help: &'static str,
-}
-
 /// The option under its word.
-fn number_arg<'a>(alloc: Global, number: NumberArg) -> Arg<'a>
-    ensures rule { rule_of result ≡ number_rule number.setting.name.now number.required }
+fn number_arg<'a>(alloc: Global, setting: Setting) -> Arg<'a>
+    ensures rule { rule_of result ≡ number_rule setting.name.now (is_none setting.default) }
     ensures local { result.global ≡ false }
 {
-    Arg::new(alloc, number.setting.name)
-        .long(number.setting.name)
-        .value_name(number.value)
-        .required(number.required)
-        .help(number.help)
+    Arg::new(alloc, setting.name)
+        .long(setting.name)
+        .value_name(setting.value)
+        .required(setting.default.is_none())
+        .help(setting.help)
 }
 
 /// The command `solve`.
@@ -87,7 +75,7 @@ fn solve_command<'a>(alloc: Global) -> Result<Command<'a>, AllocError>
     ensures shape { IfOk result (λ command. shape_of command ≡ solve_shape) }
     ensures local { IfOk result (λ command. (out-Command command).has_globals ≡ false) }
 {
-    let command = with_number(alloc, bare_solve(alloc), GRAIN_ARG)?;
+    let command = with_number(alloc, bare_solve(alloc), GRAIN)?;
     command.arg(visited_arg(alloc))
 }
 
@@ -117,9 +105,9 @@ fn serve_command<'a>(alloc: Global) -> Result<Command<'a>, AllocError>
     ensures shape { IfOk result (λ command. shape_of command ≡ serve_shape) }
     ensures local { IfOk result (λ command. (out-Command command).has_globals ≡ false) }
 {
-    let command = with_number(alloc, serve_of_sessions(alloc)?, SEGMENTS_ARG)?;
-    let command = with_number(alloc, command, NODES_ARG)?;
-    with_number(alloc, command, GRAIN_ARG)
+    let command = with_number(alloc, serve_of_sessions(alloc)?, SEGMENTS)?;
+    let command = with_number(alloc, command, NODES)?;
+    with_number(alloc, command, GRAIN)
 }
 
 /// The command `serve` with the options of its sessions alone: how many, on which port, by how many workers.
@@ -127,9 +115,9 @@ fn serve_of_sessions<'a>(alloc: Global) -> Result<Command<'a>, AllocError>
     ensures app { IfOk result (λ command. app_of command ≡ serve_of_sessions) }
     ensures local { IfOk result (λ command. (out-Command command).has_globals ≡ false) }
 {
-    let command = with_number(alloc, bare_serve(alloc), SESSIONS_ARG)?;
-    let command = with_number(alloc, command, PORT_ARG)?;
-    with_number(alloc, command, WORKERS_ARG)
+    let command = with_number(alloc, bare_serve(alloc), SESSIONS)?;
+    let command = with_number(alloc, command, PORT)?;
+    with_number(alloc, command, WORKERS)
 }
 
 /// The command `serve` before it has options.
@@ -146,65 +134,17 @@ fn bare_serve<'a>(alloc: Global) -> Command<'a>
 fn with_number<'a>(
     alloc: Global,
     command: Command<'a>,
-    number: NumberArg,
+    setting: Setting,
 ) -> Result<Command<'a>, AllocError>
     requires { (out-Command command).has_globals ≡ false }
-    ensures app { IfOk result (λ c. app_of c ≡ with_rule (app_of command.entry) (number_rule number.setting.name.now number.required)) }
+    ensures app { IfOk result (λ c. app_of c ≡ with_rule (app_of command.entry) (number_rule setting.name.now (is_none setting.default))) }
     ensures local { IfOk result (λ c. (out-Command c).has_globals ≡ false) }
 {
-    command.arg(number_arg(alloc, number))
+    command.arg(number_arg(alloc, setting))
 }
 
 /// The program's version.
 const VERSION: &str = "0.1.0";
-
-/// The option `--grain`, which both commands have.
-const GRAIN_ARG: NumberArg = NumberArg {
-    setting: GRAIN,
-    value: "g",
-    required: false,
-    help: "the depth that one worker searches alone, 0 to 6; 4 is fastest for most jobs [default: 2]",
-};
-
-/// The option `--sessions`.
-const SESSIONS_ARG: NumberArg = NumberArg {
-    setting: SESSIONS,
-    value: "k",
-    required: true,
-    help: "how many sessions to serve before the program ends, 1 to 1000",
-};
-
-/// The option `--port`.
-const PORT_ARG: NumberArg = NumberArg {
-    setting: PORT,
-    value: "p",
-    required: false,
-    help: "the port, 0 to 65535; at 0 the system chooses one [default: 0]",
-};
-
-/// The option `--workers`.
-const WORKERS_ARG: NumberArg = NumberArg {
-    setting: WORKERS,
-    value: "w",
-    required: false,
-    help: "the workers of the pool, 1 to 32 [default: 4]",
-};
-
-/// The option `--segments`.
-const SEGMENTS_ARG: NumberArg = NumberArg {
-    setting: SEGMENTS,
-    value: "s",
-    required: false,
-    help: "the segments of all tenants together, 1 to 65536 [default: 4096]",
-};
-
-/// The option `--nodes`.
-const NODES_ARG: NumberArg = NumberArg {
-    setting: NODES,
-    value: "n",
-    required: false,
-    help: "the nodes of all tenants together, 1 to 4194304 [default: 65536]",
-};
 
 /// What a line of `solve` is, and what answers it.
 const SOLVE_HELP: &str = "A line is `depth position`, and is answered as soon as it is complete.

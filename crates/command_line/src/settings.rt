@@ -11,12 +11,16 @@ use std::fmt::{self, Display};
 pub(crate) struct Setting {
     /// Its word, without the two hyphens.
     pub name: &'static str,
+    /// The letter that stands for its value in the usage.
+    pub value: &'static str,
     /// The least value.
     pub least: u32,
     /// The greatest value.
     pub most: u32,
-    /// The value where the words give none.
+    /// The value where the words give none; an option without one has to be given.
     pub default: Option<u32>,
+    /// What help says of it.
+    pub help: &'static str,
 }
 
 /// What is said of a value outside its limits.
@@ -73,50 +77,62 @@ impl Setting {
     }
 }
 
-/// The depth that one worker searches alone.
+/// The depth that one worker searches alone, which both commands have.
 pub(crate) const GRAIN: Setting = Setting {
     name: "grain",
+    value: "g",
     least: 0,
     most: 6,
     default: Some(2),
+    help: "the depth that one worker searches alone, 0 to 6; 4 is fastest for most jobs [default: 2]",
 };
 
-/// How many sessions are served. There is no default.
+/// How many sessions are served.
 pub(crate) const SESSIONS: Setting = Setting {
     name: "sessions",
+    value: "k",
     least: 1,
     most: 1000,
     default: None,
+    help: "how many sessions to serve before the program ends, 1 to 1000",
 };
 
 /// The port; at 0 the system chooses one.
 pub(crate) const PORT: Setting = Setting {
     name: "port",
+    value: "p",
     least: 0,
     most: 65535,
     default: Some(0),
+    help: "the port, 0 to 65535; at 0 the system chooses one [default: 0]",
 };
 
 /// The number of workers.
 pub(crate) const WORKERS: Setting = Setting {
     name: "workers",
+    value: "w",
     least: 1,
     most: 32,
     default: Some(4),
+    help: "the workers of the pool, 1 to 32 [default: 4]",
 };
 
 /// The segments of all tenants together.
 pub(crate) const SEGMENTS: Setting = Setting {
     name: "segments",
+    value: "s",
     least: 1,
     most: 65536,
     default: Some(4096),
+    help: "the segments of all tenants together, 1 to 65536 [default: 4096]",
 };
 
 /// The nodes of all tenants together.
 pub(crate) const NODES: Setting = Setting {
     name: "nodes",
+    value: "n",
     least: 1,
     most: 4194304,
     default: Some(65536),
+    help: "the nodes of all tenants together, 1 to 4194304 [default: 65536]",
 };

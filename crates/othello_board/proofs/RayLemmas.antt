@@ -1,38 +1,29 @@
--- The tables of rays hold what the rules say, and the squares of a ray come in order.
+-- The table of rays holds what the rules say, and the squares of a ray come in order.
 use Rattle.std.proofs.Common.{◌≡◌, ℕ, ◌<◌, Bool, true, false, ◌&&◌, eqb, ltb, get_or, List, [], ◌∷◌, refl}
 use Rattle.std.specs.List.{list_all}
 use Rattle.std.proofs.lemmas.Bool.{eqb-true}
 use Rattle.othello_board.specs.declared.directions.Direction.{Direction}
 use Rattle.othello_board.specs.declared.directions.Direction.TheVariants.{North, NorthEast, East, SouthEast, South, SouthWest, West, NorthWest}
-use Rattle.othello_board.specs.declared.rays.TheConstants.{NORTH, NORTH_EAST, EAST, SOUTH_EAST, SOUTH, SOUTH_WEST, WEST, NORTH_WEST}
+use Rattle.othello_board.specs.declared.rays.TheConstants.{RAYS}
 use Rattle.othello_board.specs.Rules.{squares_beside, ray}
 use Rattle.othello_board.specs.Words.{bits_of}
-use Rattle.othello_board.specs.Shifts.{rises}
+use Rattle.othello_board.specs.Shifts.{number_of, rises}
 use Rattle.othello_board.proofs.ShiftLemmas.{all_below, holds_below}
 
-abbrev table : Direction → List ℕ
-table North = NORTH
-table NorthEast = NORTH_EAST
-table East = EAST
-table SouthEast = SOUTH_EAST
-table South = SOUTH
-table SouthWest = SOUTH_WEST
-table West = WEST
-table NorthWest = NORTH_WEST
-
-tables_hold : (d : Direction) → all_below 64 (λ s. eqb (get_or (table d) s 0) (bits_of (ray d s))) ≡ true
+holds_in_table : (d : Direction) → all_below 64 (λ s. eqb (get_or (get_or RAYS s []) (number_of d) 0) (bits_of (ray d s))) ≡ true
 unfolding squares_beside
-tables_hold North = refl
-tables_hold NorthEast = refl
-tables_hold East = refl
-tables_hold SouthEast = refl
-tables_hold South = refl
-tables_hold SouthWest = refl
-tables_hold West = refl
-tables_hold NorthWest = refl
+holds_in_table North = refl
+holds_in_table NorthEast = refl
+holds_in_table East = refl
+holds_in_table SouthEast = refl
+holds_in_table South = refl
+holds_in_table SouthWest = refl
+holds_in_table West = refl
+holds_in_table NorthWest = refl
 
-pub table_read : (d : Direction) (s : ℕ) → s < 64 → get_or (table d) s 0 ≡ bits_of (ray d s)
-table_read d s below = eqb-true (get_or (table d) s 0) (bits_of (ray d s)) (holds_below 64 (λ t. eqb (get_or (table d) t 0) (bits_of (ray d t))) (tables_hold d) s below)
+pub table_read : (d : Direction) (s : ℕ) → s < 64 → get_or (get_or RAYS s []) (number_of d) 0 ≡ bits_of (ray d s)
+table_read d s below =
+    eqb-true (get_or (get_or RAYS s []) (number_of d) 0) (bits_of (ray d s)) (holds_below 64 (λ t. eqb (get_or (get_or RAYS t []) (number_of d) 0) (bits_of (ray d t))) (holds_in_table d) s below)
 
 -- one square comes before another where the numbers rise, or where they fall
 abbrev pub comes : Bool → ℕ → ℕ → Bool

@@ -15,6 +15,17 @@ opposite SouthWest = NorthEast
 opposite West = East
 opposite NorthWest = SouthEast
 
+-- the number of a direction, clockwise from north
+abbrev pub number_of : Direction → ℕ
+number_of North = 0
+number_of NorthEast = 1
+number_of East = 2
+number_of SouthEast = 3
+number_of South = 4
+number_of SouthWest = 5
+number_of West = 6
+number_of NorthWest = 7
+
 -- the bit of a square, or 0 where there is no square
 abbrev pub bit_there : ℕ → Option ℕ → ℕ
 bit_there word None = 0

@@ -2,7 +2,7 @@
 ghost use Rattle.std.specs.Prelude.{◌≡◌, ◌<◌, ℕ, IfSome};
 ghost use Rattle.std.specs.Int.{bit_at};
 
-use super::rays;
+use super::rays::RAYS;
 use super::sides::{above, below, left_of, right_of};
 
 /// A direction on the board. North is towards row 1, west towards column a.
@@ -21,7 +21,7 @@ pub enum Direction {
 impl Direction {
     ghost use Rattle.othello_board.specs.Rules.{step, ray};
     ghost use Rattle.othello_board.specs.Words.{bits_of};
-    ghost use Rattle.othello_board.specs.Shifts.{opposite, rises, slid_from, bit_there};
+    ghost use Rattle.othello_board.specs.Shifts.{number_of, opposite, rises, slid_from, bit_there};
 
     /// The next square in this direction, or none at the edge.
     pub fn step(self, square: u8) -> Option<u8>
@@ -71,22 +71,22 @@ impl Direction {
         }
     }
 
+    /// Its number, clockwise from north: 0 to 7.
+    #[inline(always)]
+    fn number(self) -> usize
+        ensures value { result ≡ number_of self }
+        ensures within { result < 8 }
+    {
+        self as usize
+    }
+
     /// All squares beside a square in this direction up to the edge, as bits.
     #[inline(always)]
     pub(crate) fn ray(self, square: u8) -> u64
         requires { square < 64 }
         ensures { result ≡ bits_of (ray self square) }
     {
-        match self {
-            Direction::North => rays::NORTH[square as usize],
-            Direction::NorthEast => rays::NORTH_EAST[square as usize],
-            Direction::East => rays::EAST[square as usize],
-            Direction::SouthEast => rays::SOUTH_EAST[square as usize],
-            Direction::South => rays::SOUTH[square as usize],
-            Direction::SouthWest => rays::SOUTH_WEST[square as usize],
-            Direction::West => rays::WEST[square as usize],
-            Direction::NorthWest => rays::NORTH_WEST[square as usize],
-        }
+        RAYS[square as usize][self.number()]
     }
 
     /// A word moved by as many bits as a step in this direction is, as if the rows were one line: what

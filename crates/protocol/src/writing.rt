@@ -14,8 +14,7 @@ pub fn push_number<const ROOM: usize>(text: &mut ArrayVec<u8, ROOM>, number: u64
     ensures short { length text.new.items ≤ length text.old.items + 20 }
 {
     let mut buffer = Buffer::new();
-    text.try_extend_from_slice(buffer.format(number).as_bytes())
-        .unwrap();
+    push_digits(text, buffer.format(number));
 }
 
 /// Appends a value in decimal, with `-` where it is negative: at most 11 bytes.
@@ -25,8 +24,15 @@ pub fn push_value<const ROOM: usize>(text: &mut ArrayVec<u8, ROOM>, value: i32)
     ensures short { length text.new.items ≤ length text.old.items + 11 }
 {
     let mut buffer = Buffer::new();
-    text.try_extend_from_slice(buffer.format(value).as_bytes())
-        .unwrap();
+    push_digits(text, buffer.format(value));
+}
+
+/// Appends digits, as they are.
+fn push_digits<const ROOM: usize>(text: &mut ArrayVec<u8, ROOM>, digits: &str)
+    requires { length text.old.items + length digits.now ≤ ROOM }
+    ensures { text.new.items ≡ text.old.items ++ digits.now }
+{
+    text.try_extend_from_slice(digits.as_bytes()).unwrap();
 }
 
 /// Appends a move: a1 to h8, pass, or - for none.
@@ -53,6 +59,5 @@ pub fn push_error<const ROOM: usize>(text: &mut ArrayVec<u8, ROOM>, fault: u8)
 {
     let mut buffer = Buffer::new();
     text.try_extend_from_slice(b"ERR ").unwrap();
-    text.try_extend_from_slice(buffer.format(fault).as_bytes())
-        .unwrap();
+    push_digits(text, buffer.format(fault));
 }

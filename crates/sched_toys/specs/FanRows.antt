@@ -6,6 +6,7 @@ use Rattle.frame_tree.specs.declared.names.FrameId.{FrameId}
 use Rattle.frame_tree.specs.declared.names.State.{State}
 use Rattle.frame_tree.specs.Frames.{Frame}
 use Rattle.sched_toys.specs.declared.fan.FanAnswer.{FanAnswer}
+use Rattle.sched_rules.specs.declared.job.Job.TheVariants.{Live}
 use Rattle.sched_rules.specs.declared.step.StepOf.{StepOf}
 use Rattle.sched_rules.specs.declared.step.StepOf.TheVariants.{Admit, AdmitMore, Submit, Take, Steal, Advance, Answer, Inlet, Leave}
 use Rattle.sched_rules.specs.declared.step.DidOf.{DidOf}
@@ -13,6 +14,7 @@ use Rattle.sched_rules.specs.declared.step.DidOf.TheVariants.{Admitted, Left as 
 use Rattle.sched_rules.specs.declared.refusal.Refusal.{Refusal}
 use Rattle.sched_rules.specs.declared.refusal.Refusal.TheVariants.{NoFrame}
 use Rattle.sched_toys.specs.Toys.{fan}
+use Rattle.sched_rules.specs.Trees.{Tenant, Tree}
 use Rattle.sched_rules.specs.Cores.{Shared, shared_by_nobody, shared_run}
 
 -- the frame of this serial of tenant 1
@@ -34,6 +36,10 @@ some_left segments nodes steps = record { segments = segments; nodes = nodes; st
 -- a frame with its path, its state and its words
 abbrev pub frame : ℕ → List ℕ → State → List ℕ → Frame (List ℕ)
 frame serial path state words = record { serial = serial; path = path; state = state; value = words }
+
+-- a tenant with one job, which lives: its reservation, its last serial, its steps and its frames
+abbrev pub one_job : Quota → ℕ → ℕ → Tree → Tenant
+one_job reserve serials steps frames = record { reserve = reserve; serials = serials; steps = steps; jobs = Live 1 ∷ []; frames = frames }
 
 -- an answer that was computed from this input
 abbrev pub answer : ℕ → ℕ → FanAnswer

@@ -16,7 +16,7 @@ use Rattle.sched_rules.specs.Trees.{Tenant, Tree, admitted_with}
 use Rattle.sched_rules.specs.Lone.{Outcome, lone, lone_refusal}
 use Rattle.sched_toys.specs.Toys.{word_at}
 use Rattle.sched_rules.specs.Cores.{Shared, shared_refusal}
-use Rattle.sched_toys.specs.FanRows.{frame, quota}
+use Rattle.sched_toys.specs.FanRows.{frame, one_job, quota}
 
 -- a procedure that does this act and this inlet at any words, and stores this of any answer; an answer asks for itself
 abbrev pub always : Act → InletAct → List (ℕ × ℕ) → Functions ℕ ℕ
@@ -45,7 +45,7 @@ storing_outside = always (act [] Go) (inlet ((4, 1) ∷ []) false false) ((4, 1)
 
 -- a tenant with 4 segments and 4 nodes, one job, and 3 of the 4 nodes opened
 abbrev pub tenant_with : ℕ → Tree → Tenant
-tenant_with steps frames = record { reserve = quota 4 4; serials = 3; steps = steps; jobs = Live 1 ∷ []; frames = frames }
+tenant_with steps frames = one_job (quota 4 4) 3 steps frames
 
 -- a tenant that has taken no step of 64
 abbrev pub fresh : Tree → Tenant
@@ -57,11 +57,11 @@ tired frames = tenant_with 64 frames
 
 -- a tenant that has opened all its 4 nodes
 abbrev pub nodeless : Tree → Tenant
-nodeless frames = record { reserve = quota 4 4; serials = 4; steps = 0; jobs = Live 1 ∷ []; frames = frames }
+nodeless frames = one_job (quota 4 4) 4 0 frames
 
 -- a tenant that reserved so many segments, and 4 nodes
 abbrev pub wide : ℕ → Tree → Tenant
-wide segments frames = record { reserve = quota segments 4; serials = 3; steps = 0; jobs = Live 1 ∷ []; frames = frames }
+wide segments frames = one_job (quota segments 4) 3 0 frames
 
 -- a tenant with so many jobs, all cancelled, that has opened so many of 4 nodes
 abbrev pub tenant_of_jobs : ℕ → ℕ → Tenant

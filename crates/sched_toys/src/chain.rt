@@ -1,4 +1,5 @@
 //! The toy procedure Chain: each frame opens one child with a count of one less, and waits for it.
+use crate::acts::{counted, plain};
 use crate::view::{own_word, word};
 use cactus_stack::{Sight, Words};
 use sched_rules::{Act, GivenWords, InletAct, Procedure, Stores, Then};
@@ -26,24 +27,12 @@ impl Procedure for Chain {
     fn next(&self, sight: &Sight) -> Act {
         let count = own_word(sight, 0);
         if count == 0 {
-            return Act {
-                stores: Stores::new(),
-                after: Then::Return,
-            };
+            return plain(Then::Return);
         }
         match own_word(sight, 1) {
-            0 => Act {
-                stores: Stores::new().then(1, 1),
-                after: Then::Spawn(GivenWords::two(count - 1, 0), 20),
-            },
-            1 => Act {
-                stores: Stores::new().then(1, 2),
-                after: Then::Wait,
-            },
-            _ => Act {
-                stores: Stores::new(),
-                after: Then::Return,
-            },
+            0 => counted(1, Then::Spawn(GivenWords::two(count - 1, 0), 20)),
+            1 => counted(2, Then::Wait),
+            _ => plain(Then::Return),
         }
     }
 

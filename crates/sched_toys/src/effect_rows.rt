@@ -6,7 +6,7 @@ ghost use Rattle.sched_rules.specs.declared.job.Job.TheVariants.{Live, Done, Spe
 ghost use Rattle.sched_rules.specs.declared.step.StepOf.TheVariants.{AdmitMore, Submit, Take, Steal, Advance, Answer, Inlet, Finish, Spend, Cancel, Leave};
 ghost use Rattle.sched_rules.specs.declared.step.DidOf.TheVariants.{AdmittedMore, Submitted, Took, Went, Grew, Spawned, Waited, Computing as IsComputing, Returned as HasReturned, Answered, TakenIn, Finished, Spent, Cancelled, Left};
 ghost use Rattle.sched_rules.specs.Trees.{left, sight};
-ghost use Rattle.sched_toys.specs.FanRows.{one, quota, some_left, frame};
+ghost use Rattle.sched_toys.specs.FanRows.{one, quota, some_left, frame, one_job};
 ghost use Rattle.sched_toys.specs.SmallStates.{idle, acting, always, act, inlet, taking_in, fresh, tenant_with, root, child, outcome, bare, family, housed, two_jobs, resting};
 
 /// A frame sees its own words, its parent's and so on to the root's, and no sibling's.
@@ -30,13 +30,7 @@ pub fn acting_in_turn()
         ≡ Ok (Some (tenant_with 1 (frame 1 (1 ∷ []) (Running 1) (0 ∷ 0 ∷ 0 ∷ 5 ∷ 0 ∷ 0 ∷ []) ∷ [])), Grew) }
     ensures spawn { outcome (acting ((3, 5) ∷ []) (Spawn (8 ∷ []) 2)) (fresh (root (Running 1) ∷ [])) (Advance 1 (one 1))
         ≡ Ok (
-          Some (record {
-            reserve = quota 4 4;
-            serials = 4;
-            steps = 1;
-            jobs = Live 1 ∷ [];
-            frames = frame 1 (1 ∷ []) (Running 1) (0 ∷ 0 ∷ 0 ∷ 5 ∷ []) ∷ frame 4 (1 ∷ 4 ∷ []) (Ready 1) (8 ∷ 0 ∷ []) ∷ [];
-          }),
+          Some (one_job (quota 4 4) 4 1 (frame 1 (1 ∷ []) (Running 1) (0 ∷ 0 ∷ 0 ∷ 5 ∷ []) ∷ frame 4 (1 ∷ 4 ∷ []) (Ready 1) (8 ∷ 0 ∷ []) ∷ [])),
           Spawned (one 4),
         ) }
     ensures wait_without_child { outcome (acting [] Wait) (fresh (root (Running 1) ∷ [])) (Advance 1 (one 1)) ≡ Ok (Some (tenant_with 1 (root (Running 1) ∷ [])), Went) }

@@ -2,6 +2,7 @@
 ghost use Rattle.std.specs.Prelude.{◌≡◌};
 ghost use Rattle.sched_toys.specs.Toys.{fan_table, fan_act, spawns};
 
+use crate::acts::{counted, idle_inlet, plain};
 use crate::view::{own_word, word};
 use cactus_stack::{Sight, Words};
 use sched_rules::{Act, GivenWords, InletAct, Procedure, Stores, Then};
@@ -49,11 +50,7 @@ impl Procedure for Fan {
                 wake: false,
             }
         } else {
-            InletAct {
-                stores: Stores::new(),
-                abort: false,
-                wake: false,
-            }
+            idle_inlet()
         }
     }
 
@@ -104,15 +101,7 @@ fn act(kind: u64, count: u64) -> Act
         (1, 0) => Then::Compute,
         (2, 0) => child(1),
         (2, 1) => Then::Wait,
-        _ => {
-            return Act {
-                stores: Stores::new(),
-                after: Then::Return,
-            };
-        }
+        _ => return plain(Then::Return),
     };
-    Act {
-        stores: Stores::new().then(1, count + 1),
-        after,
-    }
+    counted(count + 1, after)
 }

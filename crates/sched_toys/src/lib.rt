@@ -19,6 +19,7 @@
 //! ```
 #![tactic(auto)]
 
+mod acts;
 mod chain;
 pub mod effect_rows;
 mod fan;

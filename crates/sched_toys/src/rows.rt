@@ -12,7 +12,7 @@ ghost use Rattle.sched_rules.specs.Cores.{shared_by_nobody, shared_run, shared_r
 ghost use Rattle.sched_rules.specs.Headline.{taken, told};
 ghost use Rattle.sched_rules.specs.Views.{left_of, job_of, frame_of, words_of_frame, live_of, newest_ready_in, ready_count, free_in};
 ghost use Rattle.sched_toys.specs.Toys.{fan, chain};
-ghost use Rattle.sched_toys.specs.FanRows.{one, two, quota, some_left, frame, answer, one_with, fan_opens, fan_opens_five, fan_steps, fan_steps_before_inlet, steps_between, mixed_steps, narrow_opens, narrow_returns, before_inlet, used_up, with_more, some_steps, some_answers};
+ghost use Rattle.sched_toys.specs.FanRows.{one, two, quota, some_left, frame, one_job, answer, one_with, fan_opens, fan_opens_five, fan_steps, fan_steps_before_inlet, steps_between, mixed_steps, narrow_opens, narrow_returns, before_inlet, used_up, with_more, some_steps, some_answers};
 ghost use Rattle.sched_toys.specs.ChainRows.{chain_begins, chain_ends, chain_spent};
 
 /// One job of Fan: the inlet of frame 2 removes frames 3, 4 and 5 too, wakes the root for worker 2,
@@ -22,25 +22,13 @@ pub fn fan_takes_in_and_aborts()
         Ok Admitted ∷ Ok (Submitted 1 (one 1)) ∷ Ok Took ∷ Ok (Spawned (one 2)) ∷ Ok (Spawned (one 3)) ∷ Ok (Spawned (one 4)) ∷ Ok Waited
         ∷ Ok Took ∷ Ok (IsComputing 1) ∷ Ok Took ∷ Ok (Spawned (one 5)) ∷ Ok Took ∷ Ok (IsComputing 1) ∷ Ok Answered ∷ Ok (HasReturned false)
         ∷ Ok (TakenIn (Some (one 1)) 3) ∷ [] }
-    ensures tree { alone fan fan_steps ≡ Some (record {
-      reserve = quota 8 8;
-      serials = 5;
-      steps = 14;
-      jobs = Live 1 ∷ [];
-      frames = frame 1 (1 ∷ []) (Ready 2) (0 ∷ 4 ∷ 1 ∷ 0 ∷ []) ∷ [];
-    }) }
+    ensures tree { alone fan fan_steps ≡ Some (one_job (quota 8 8) 5 14 (frame 1 (1 ∷ []) (Ready 2) (0 ∷ 4 ∷ 1 ∷ 0 ∷ []) ∷ [])) }
     ensures left_after { option_map left (alone fan fan_steps) ≡ Some (some_left 7 3 114) }
-    ensures tree_before { alone fan fan_steps_before_inlet ≡ Some (record {
-      reserve = quota 8 8;
-      serials = 5;
-      steps = 13;
-      jobs = Live 1 ∷ [];
-      frames = frame 1 (1 ∷ []) Waiting (0 ∷ 4 ∷ 0 ∷ 0 ∷ [])
-          ∷ frame 2 (1 ∷ 2 ∷ []) Returned (1 ∷ 2 ∷ 7 ∷ 0 ∷ [])
-          ∷ frame 3 (1 ∷ 3 ∷ []) (Running 3) (2 ∷ 1 ∷ 0 ∷ 0 ∷ [])
-          ∷ frame 4 (1 ∷ 4 ∷ []) (Computing 1) (1 ∷ 1 ∷ 0 ∷ 0 ∷ [])
-          ∷ frame 5 (1 ∷ 3 ∷ 5 ∷ []) (Ready 3) (1 ∷ 0 ∷ 0 ∷ 0 ∷ []) ∷ [];
-    }) }
+    ensures tree_before { alone fan fan_steps_before_inlet ≡ Some (one_job (quota 8 8) 5 13 (frame 1 (1 ∷ []) Waiting (0 ∷ 4 ∷ 0 ∷ 0 ∷ [])
+        ∷ frame 2 (1 ∷ 2 ∷ []) Returned (1 ∷ 2 ∷ 7 ∷ 0 ∷ [])
+        ∷ frame 3 (1 ∷ 3 ∷ []) (Running 3) (2 ∷ 1 ∷ 0 ∷ 0 ∷ [])
+        ∷ frame 4 (1 ∷ 4 ∷ []) (Computing 1) (1 ∷ 1 ∷ 0 ∷ 0 ∷ [])
+        ∷ frame 5 (1 ∷ 3 ∷ 5 ∷ []) (Ready 3) (1 ∷ 0 ∷ 0 ∷ 0 ∷ []) ∷ [])) }
     ensures left_before { option_map left (alone fan fan_steps_before_inlet) ≡ Some (some_left 3 3 115) }
 {}
 
@@ -48,13 +36,7 @@ pub fn fan_takes_in_and_aborts()
 pub fn fan_goes_on()
     ensures late { lone_refusal fan (alone fan fan_steps) (Answer 1 (one 4) (answer 1 7)) ≡ Some NoFrame }
     ensures late_changes_nothing { alone fan (fan_steps ++ Answer 1 (one 4) (answer 1 7) ∷ []) ≡ alone fan fan_steps }
-    ensures next { alone fan (fan_steps ++ Take 2 (one 1) ∷ Advance 2 (one 1) ∷ []) ≡ Some (record {
-      reserve = quota 8 8;
-      serials = 6;
-      steps = 16;
-      jobs = Live 1 ∷ [];
-      frames = frame 1 (1 ∷ []) (Running 2) (0 ∷ 5 ∷ 1 ∷ 0 ∷ []) ∷ frame 6 (1 ∷ 6 ∷ []) (Ready 2) (1 ∷ 0 ∷ 0 ∷ 0 ∷ []) ∷ [];
-    }) }
+    ensures next { alone fan (fan_steps ++ Take 2 (one 1) ∷ Advance 2 (one 1) ∷ []) ≡ Some (one_job (quota 8 8) 6 16 (frame 1 (1 ∷ []) (Running 2) (0 ∷ 5 ∷ 1 ∷ 0 ∷ []) ∷ frame 6 (1 ∷ 6 ∷ []) (Ready 2) (1 ∷ 0 ∷ 0 ∷ 0 ∷ []) ∷ [])) }
     ensures left { option_map left (alone fan (fan_steps ++ Take 2 (one 1) ∷ Advance 2 (one 1) ∷ [])) ≡ Some (some_left 6 2 112) }
 {}
 
@@ -64,13 +46,7 @@ pub fn fan_beside_another_tenant()
     ensures two_filtered { only 2 mixed_steps ≡ steps_between }
     ensures one { tenant_in (shared_run fan (shared_by_nobody (quota 32 32)) mixed_steps).tenants 1 ≡ alone fan fan_steps }
     ensures two { tenant_in (shared_run fan (shared_by_nobody (quota 32 32)) mixed_steps).tenants 2 ≡ alone fan steps_between }
-    ensures two_tree { alone fan steps_between ≡ Some (record {
-      reserve = quota 8 8;
-      serials = 2;
-      steps = 2;
-      jobs = Live 1 ∷ [];
-      frames = frame 1 (1 ∷ []) (Running 4) (0 ∷ 1 ∷ 0 ∷ 0 ∷ []) ∷ frame 2 (1 ∷ 2 ∷ []) (Ready 4) (1 ∷ 0 ∷ 0 ∷ 0 ∷ []) ∷ [];
-    }) }
+    ensures two_tree { alone fan steps_between ≡ Some (one_job (quota 8 8) 2 2 (frame 1 (1 ∷ []) (Running 4) (0 ∷ 1 ∷ 0 ∷ 0 ∷ []) ∷ frame 2 (1 ∷ 2 ∷ []) (Ready 4) (1 ∷ 0 ∷ 0 ∷ 0 ∷ []) ∷ [])) }
     ensures nobody_else { tenant_in (shared_run fan (shared_by_nobody (quota 32 32)) mixed_steps).tenants 3 ≡ None }
     ensures free_alone { free_in (shared_run fan (shared_by_nobody (quota 32 32)) fan_steps) ≡ 31 }
     ensures free_mixed { free_in (shared_run fan (shared_by_nobody (quota 32 32)) mixed_steps) ≡ 29 }
@@ -105,21 +81,9 @@ pub fn fan_reserves_more()
 /// With three segments the third child is refused; after an inlet has aborted frame 3 the root can open one.
 pub fn fan_with_three_segments()
     ensures refused { lone_refusal fan (alone fan narrow_opens) (Advance 1 (one 1)) ≡ Some NoSegments }
-    ensures tree { alone fan narrow_returns ≡ Some (record {
-      reserve = quota 3 8;
-      serials = 3;
-      steps = 8;
-      jobs = Live 1 ∷ [];
-      frames = frame 1 (1 ∷ []) (Running 1) (0 ∷ 2 ∷ 1 ∷ 0 ∷ []) ∷ [];
-    }) }
+    ensures tree { alone fan narrow_returns ≡ Some (one_job (quota 3 8) 3 8 (frame 1 (1 ∷ []) (Running 1) (0 ∷ 2 ∷ 1 ∷ 0 ∷ []) ∷ [])) }
     ensures not_spent { lone_refusal fan (alone fan narrow_returns) (Spend (one 1)) ≡ Some NotSpent }
-    ensures goes_on { alone fan (narrow_returns ++ Advance 1 (one 1) ∷ []) ≡ Some (record {
-      reserve = quota 3 8;
-      serials = 4;
-      steps = 9;
-      jobs = Live 1 ∷ [];
-      frames = frame 1 (1 ∷ []) (Running 1) (0 ∷ 3 ∷ 1 ∷ 0 ∷ []) ∷ frame 4 (1 ∷ 4 ∷ []) (Ready 1) (1 ∷ 0 ∷ 0 ∷ 0 ∷ []) ∷ [];
-    }) }
+    ensures goes_on { alone fan (narrow_returns ++ Advance 1 (one 1) ∷ []) ≡ Some (one_job (quota 3 8) 4 9 (frame 1 (1 ∷ []) (Running 1) (0 ∷ 3 ∷ 1 ∷ 0 ∷ []) ∷ frame 4 (1 ∷ 4 ∷ []) (Ready 1) (1 ∷ 0 ∷ 0 ∷ 0 ∷ []) ∷ [])) }
     ensures left { option_map left (alone fan (narrow_returns ++ Advance 1 (one 1) ∷ [])) ≡ Some (some_left 1 4 119) }
 {}
 

@@ -1,4 +1,5 @@
 //! The toy procedure Spin: a frame that goes on for ever.
+use crate::acts::{idle_inlet, plain};
 use crate::view::word;
 use cactus_stack::{Sight, Words};
 use sched_rules::{Act, InletAct, Procedure, Stores, Then};
@@ -25,19 +26,12 @@ impl Procedure for Spin {
 
     /// The frame goes on, without a store.
     fn next(&self, _sight: &Sight) -> Act {
-        Act {
-            stores: Stores::new(),
-            after: Then::Go,
-        }
+        plain(Then::Go)
     }
 
     /// Nothing is stored, nothing is aborted, and nobody is woken.
     fn inlet(&self, _own: &Words, _child: &Words) -> InletAct {
-        InletAct {
-            stores: Stores::new(),
-            abort: false,
-            wake: false,
-        }
+        idle_inlet()
     }
 
     /// The frame's word.

@@ -1,0 +1,35 @@
+//! Acts of the toy procedures.
+ghost use Rattle.std.specs.Prelude.{◌≡◌, [], ◌∷◌, false};
+
+use sched_rules::{Act, InletAct, Stores, Then};
+
+/// An act without a store.
+pub(crate) fn plain(after: Then) -> Act
+    ensures { result ≡ record { stores = []; after = after } }
+{
+    Act {
+        stores: Stores::new(),
+        after,
+    }
+}
+
+/// An act that stores a count in word 1.
+pub(crate) fn counted(count: u64, after: Then) -> Act
+    ensures { result ≡ record { stores = (1, count) ∷ []; after = after } }
+{
+    Act {
+        stores: Stores::new().then(1, count),
+        after,
+    }
+}
+
+/// An inlet that stores nothing, aborts nothing and wakes nobody.
+pub(crate) fn idle_inlet() -> InletAct
+    ensures { result ≡ record { stores = []; abort = false; wake = false } }
+{
+    InletAct {
+        stores: Stores::new(),
+        abort: false,
+        wake: false,
+    }
+}
