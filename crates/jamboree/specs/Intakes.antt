@@ -1,15 +1,21 @@
 -- Representation: the inlet that an intake stands for.
-use Rattle.std.specs.Prelude.{ℕ, List, [], ◌∷◌, true}
+use Rattle.std.specs.Prelude.{ℕ, List, [], ◌∷◌, true, Option, Some, None}
 use Rattle.jamboree_rules.specs.sched_rules.declared.act.InletAct.{InletAct}
 use Rattle.jamboree_rules.specs.Places.{Best, Chosen, Phase, Status, rest_with, pairs_of}
 use Rattle.jamboree.specs.declared.intake.Intake.{Intake}
 use Rattle.jamboree.specs.declared.intake.Said.{Said}
+use Rattle.jamboree.specs.declared.intake.Settling.{Settling}
 use Rattle.jamboree.specs.declared.intake.Verdict.{Verdict}
 use Rattle.jamboree.specs.declared.intake.Verdict.TheVariants.{Nothing, Ended, Low, Failed, Raised, Kept}
 
 -- the rest of an entry that says this
 abbrev pub rest_said : Said → ℕ
 rest_said said = rest_with said.known.kind said.known.score
+
+-- what is stored where a choice is settled; its code, too, where it has the best score now
+abbrev pub settled : Settling → Option ℕ → List (ℕ × ℕ)
+settled told None = pairs_of (Best told.best ∷ Status told.said.number 2 (rest_said told.said) ∷ [])
+settled told (Some code) = pairs_of (Best told.best ∷ Chosen code ∷ Status told.said.number 2 (rest_said told.said) ∷ [])
 
 -- what is stored of a verdict
 abbrev pub stores_for : Verdict → List (ℕ × ℕ)

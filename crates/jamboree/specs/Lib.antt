@@ -4,5 +4,6 @@ pub mod Levels
 pub mod Codes
 pub mod Knowledge
 pub mod Replies
+pub mod Changes
 pub mod Plans
 pub mod Intakes

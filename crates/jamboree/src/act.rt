@@ -1,16 +1,18 @@
 //! The act of a plan, and the inlet of an intake.
-ghost use Rattle.std.specs.Prelude.{◌≡◌, []};
-ghost use Rattle.jamboree.specs.Intakes.{inlet_for, rest_said, stores_for};
+ghost use Rattle.std.specs.Prelude.{◌≡◌, ◌≤◌, ◌++◌, ◌∷◌, [], length};
+ghost use Rattle.jamboree_rules.specs.Places.{OwnBits, OppBits, pairs_of};
+ghost use Rattle.jamboree.specs.Intakes.{inlet_for, rest_said, settled, stores_for};
 ghost use Rattle.jamboree.specs.Plans.{act_for, spawn_of};
 
 use crate::codes::NONE;
 use crate::entry::EntryRest;
-use crate::intake::{Intake, Said, Verdict};
+use crate::intake::{Intake, Said, Settling, Verdict};
 use crate::phases::{Phase, Status};
 use crate::plan::{NewChild, Plan};
-use crate::view::{Changes, spawn};
+use crate::view::{Change, Changes, spawn};
 use jamboree_rules::leaf_search::INF;
 use jamboree_rules::sched_rules::{Act, InletAct, Stores, Then};
+use othello_board::Board;
 
 impl NewChild {
     /// To open it.
@@ -34,7 +36,7 @@ impl Plan {
             Plan::Computes => return without_stores(Then::Compute),
             Plan::Ends => {
                 let mut changes = Changes::new();
-                changes.phase(Phase::Done);
+                changes.set(Change::Phase(Phase::Done));
                 return Act {
                     stores: changes.stores(),
                     after: Then::Return,
@@ -42,9 +44,8 @@ impl Plan {
             }
             Plan::Computed(board) => {
                 let mut changes = Changes::new();
-                changes.own_bits(board.own);
-                changes.opp_bits(board.opp);
-                changes.phase(Phase::Computing);
+                changes.set_board(board);
+                changes.set(Change::Phase(Phase::Computing));
                 return Act {
                     stores: changes.stores(),
                     after: Then::Compute,
@@ -52,13 +53,12 @@ impl Plan {
             }
             Plan::Counts(board, count) => {
                 let mut changes = Changes::new();
-                changes.own_bits(board.own);
-                changes.opp_bits(board.opp);
-                changes.phase(Phase::First);
-                changes.best(-INF);
-                changes.chosen(NONE);
-                changes.count(count);
-                changes.spawned(0);
+                changes.set_board(board);
+                changes.set(Change::Phase(Phase::First));
+                changes.set(Change::Best(-INF));
+                changes.set(Change::Chosen(NONE));
+                changes.set(Change::Count(count));
+                changes.set(Change::Spawned(0));
                 return Act {
                     stores: changes.stores(),
                     after: Then::Grow(count),
@@ -66,8 +66,8 @@ impl Plan {
             }
             Plan::Starts(child, rest) => {
                 let mut changes = Changes::new();
-                changes.spawned(child.number + 1);
-                changes.status(child.number, Status::Runs, rest);
+                changes.set(Change::Spawned(child.number + 1));
+                changes.set(Change::Status(child.number, Status::Runs, rest));
                 return Act {
                     stores: changes.stores(),
                     after: child.spawn(),
@@ -75,13 +75,40 @@ impl Plan {
             }
             Plan::Again(child, rest) => {
                 let mut changes = Changes::new();
-                changes.status(child.number, Status::RunsAgain, rest);
+                changes.set(Change::Status(child.number, Status::RunsAgain, rest));
                 return Act {
                     stores: changes.stores(),
                     after: child.spawn(),
                 };
             }
         }
+    }
+}
+
+impl Changes {
+    /// The board of a new frame, too.
+    #[inline(always)]
+    fn set_board(&mut self, board: Board)
+        requires { length self.old ≤ 6 }
+        ensures { self.new ≡ self.old ++ pairs_of (OwnBits board.own ∷ OppBits board.opp ∷ []) }
+    {
+        self.set(Change::OwnBits(board.own));
+        self.set(Change::OppBits(board.opp));
+    }
+
+    /// That a choice is settled, too, and the best score; where a code is given, it is the choice that has
+    /// this score.
+    #[inline(always)]
+    fn settle(&mut self, told: Settling, code: Option<u64>)
+        requires { length self.old ≤ 5 }
+        ensures { self.new ≡ self.old ++ settled told code }
+    {
+        self.set(Change::Best(told.best));
+        if let Some(code) = code {
+            self.set(Change::Chosen(code));
+        }
+        let rest = told.said.rest();
+        self.set(Change::Status(told.said.number, Status::Settled, rest));
     }
 }
 
@@ -115,29 +142,21 @@ impl Verdict {
         let mut changes = Changes::new();
         match self {
             Verdict::Nothing => {}
-            Verdict::Ended(told, code) => {
-                changes.best(told.best);
-                changes.chosen(code);
-                changes.status(told.said.number, Status::Settled, told.said.rest());
-                changes.phase(Phase::Done);
-            }
-            Verdict::Low(told) => {
-                changes.best(told.best);
-                changes.status(told.said.number, Status::Settled, told.said.rest());
-            }
             Verdict::Failed(said) => {
-                changes.status(said.number, Status::Failed, said.rest());
+                changes.set(Change::Status(said.number, Status::Failed, said.rest()));
+            }
+            Verdict::Low(told) => changes.settle(told, None),
+            Verdict::Kept(told) => {
+                changes.settle(told, None);
+                changes.set(Change::Phase(Phase::Tests));
             }
             Verdict::Raised(told, code) => {
-                changes.best(told.best);
-                changes.chosen(code);
-                changes.status(told.said.number, Status::Settled, told.said.rest());
-                changes.phase(Phase::Tests);
+                changes.settle(told, Some(code));
+                changes.set(Change::Phase(Phase::Tests));
             }
-            Verdict::Kept(told) => {
-                changes.best(told.best);
-                changes.status(told.said.number, Status::Settled, told.said.rest());
-                changes.phase(Phase::Tests);
+            Verdict::Ended(told, code) => {
+                changes.settle(told, Some(code));
+                changes.set(Change::Phase(Phase::Done));
             }
         }
         changes.stores()

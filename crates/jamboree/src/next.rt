@@ -18,16 +18,18 @@ use othello_board::Board;
 use othello_moves::{after, choice, choice_count, plies};
 
 /// What a new frame does next, whose board is this: it is computed outside near the leaves and where
-/// the game is over; else its choices are counted.
+/// the game is over; else its choices are counted. Near the leaves they aren't sought at all.
 #[inline(always)]
 pub(crate) fn opening(grain: u8, frame: &View, board: Board) -> Plan
     ensures { act_for result ≡ opening_on grain (frame_in frame.now) board.own board.opp }
 {
-    let count = choice_count(board);
-    if frame.depth <= grain || count == 0 {
+    if frame.depth <= grain {
         return Plan::Computed(board);
     }
-    Plan::Counts(board, count)
+    match choice_count(board) {
+        0 => Plan::Computed(board),
+        count => Plan::Counts(board, count),
+    }
 }
 
 /// The greater of alpha and the best score: only a score above it still counts.

@@ -20,7 +20,7 @@ use crate::intake::Intake;
 use crate::next::{board_under, later, of_root, opening};
 use crate::phases::{Phase, Role};
 use crate::plan::Plan;
-use crate::view::{Changes, SIZE, are_root_words, is_formed, read_leaf, view};
+use crate::view::{Change, Changes, SIZE, are_root_words, is_formed, read_leaf, view};
 use cactus_stack::{Sight, Words};
 use jamboree_rules::sched_rules::{Act, InletAct, Procedure, Stores};
 use jamboree_rules::{Leaf, LeafAnswer};
@@ -309,8 +309,8 @@ fn answered(answer: &LeafAnswer) -> Stores
     ensures { result ≡ pairs_of (changes_of_answer answer.now) }
 {
     let mut changes = Changes::new();
-    changes.best(answer.score());
-    changes.chosen(coded(answer.choice()));
-    changes.phase(Phase::Done);
+    changes.set(Change::Best(answer.score()));
+    changes.set(Change::Chosen(coded(answer.choice())));
+    changes.set(Change::Phase(Phase::Done));
     changes.stores()
 }

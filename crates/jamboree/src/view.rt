@@ -5,13 +5,14 @@
 //! frame in words that have it.
 ghost use Rattle.std.specs.Prelude.{◌≡◌, ◌<◌, ◌≤◌, ◌+◌, ◌++◌, ◌∷◌, [], ◌↔◌, ◌==◌, ◌&&◌, true, IsSome, IfSome, List, ℕ, ◌*◌, ◌-◌, bit_and, drop, length, map, slice_get, slice_index, ◌≤ℤ◌, pos, negsuc};
 ghost use Rattle.jamboree_rules.specs.Frames.{is_leaf, is_frame, is_in_phase, counts_choices, least, greatest};
-ghost use Rattle.jamboree_rules.specs.Places.{score_of, frame_of, is_formed, pair_of, OwnBits, OppBits, Phase as ToPhase, Best, Chosen, Count, Spawned, Status as ToStatus, given_words, root_words, frame_size};
+ghost use Rattle.jamboree_rules.specs.Places.{score_of, frame_of, is_formed, pair_of, given_words, root_words, frame_size};
 ghost use Rattle.jamboree_rules.specs.Fits.{AreFitting, IsRoot};
 ghost use Rattle.cactus_stack.specs.Nodes.{padded};
 ghost use Rattle.jamboree_rules.specs.sched_rules.Laws.{Neither};
 ghost use Rattle.jamboree_rules.specs.sched_rules.declared.act.Then.TheVariants.{Spawn};
 ghost use Rattle.jamboree_rules.specs.Leaves.{any_leaf, leaf_in, leaf_from};
-ghost use Rattle.jamboree.specs.Numbers.{role_number, phase_number, status_number};
+ghost use Rattle.jamboree.specs.Numbers.{role_number};
+ghost use Rattle.jamboree.specs.Changes.{store_of, score_set, number_set};
 ghost use Rattle.jamboree.specs.Views.{head_of, frame_from, frame_with, entries_of, entries_in};
 
 use crate::entry::EntryRest;
@@ -287,6 +288,27 @@ pub(crate) fn read_leaf(words: &Words) -> Leaf
     read_any_head(words).leaf()
 }
 
+/// One store on a frame, by what it sets.
+#[derive(Drop)]
+pub(crate) enum Change {
+    /// The bits of the mover's discs.
+    OwnBits(u64),
+    /// The bits of the opponent's discs.
+    OppBits(u64),
+    /// The phase.
+    Phase(Phase),
+    /// The best score, from -1,000,000 to 1,000,000.
+    Best(i32),
+    /// The code of the choice that has it.
+    Chosen(u64),
+    /// The count of choices.
+    Count(usize),
+    /// The count of choices that were spawned.
+    Spawned(usize),
+    /// The status of the choice of this number, and what is known of it.
+    Status(usize, Status, EntryRest),
+}
+
 /// Stores on a frame, by what they set, done in order.
 #[derive(Drop)]
 pub(crate) struct Changes {
@@ -321,79 +343,27 @@ impl Changes {
         self.stores
     }
 
-    /// The bits of the mover's discs, too.
+    /// One store more.
     #[inline(always)]
-    pub(crate) fn own_bits(&mut self, bits: u64)
-        requires { length self.old < 8 }
-        ensures { self.new ≡ self.old ++ pair_of (OwnBits bits) ∷ [] }
-    {
-        self.stores.push(0, bits);
-    }
-
-    /// The bits of the opponent's discs, too.
-    #[inline(always)]
-    pub(crate) fn opp_bits(&mut self, bits: u64)
-        requires { length self.old < 8 }
-        ensures { self.new ≡ self.old ++ pair_of (OppBits bits) ∷ [] }
-    {
-        self.stores.push(1, bits);
-    }
-
-    /// The phase, too.
-    #[inline(always)]
-    pub(crate) fn phase(&mut self, phase: Phase)
-        requires { length self.old < 8 }
-        ensures { self.new ≡ self.old ++ pair_of (ToPhase (phase_number phase)) ∷ [] }
-    {
-        self.stores.push(7, phase.number());
-    }
-
-    /// The best score, from -1,000,000 to 1,000,000, too.
-    #[inline(always)]
-    pub(crate) fn best(&mut self, score: i32)
+    pub(crate) fn set(&mut self, change: Change)
         requires room { length self.old < 8 }
-        requires low { negsuc 999999 ≤ℤ score }
-        requires high { score ≤ℤ pos 1000000 }
-        ensures { self.new ≡ self.old ++ pair_of (Best score) ∷ [] }
+        requires low { negsuc 999999 ≤ℤ score_set change }
+        requires high { score_set change ≤ℤ pos 1000000 }
+        requires small { number_set change ≤ 255 }
+        ensures { self.new ≡ self.old ++ pair_of (store_of change) ∷ [] }
     {
-        self.stores.push(8, word_of_score(score));
-    }
-
-    /// The code of the choice that has it, too.
-    #[inline(always)]
-    pub(crate) fn chosen(&mut self, code: u64)
-        requires { length self.old < 8 }
-        ensures { self.new ≡ self.old ++ pair_of (Chosen code) ∷ [] }
-    {
-        self.stores.push(9, code);
-    }
-
-    /// The count of choices, too.
-    #[inline(always)]
-    pub(crate) fn count(&mut self, count: usize)
-        requires { length self.old < 8 }
-        ensures { self.new ≡ self.old ++ pair_of (Count count) ∷ [] }
-    {
-        self.stores.push(10, count as u64);
-    }
-
-    /// The count of choices that were spawned, too.
-    #[inline(always)]
-    pub(crate) fn spawned(&mut self, count: usize)
-        requires { length self.old < 8 }
-        ensures { self.new ≡ self.old ++ pair_of (Spawned count) ∷ [] }
-    {
-        self.stores.push(11, count as u64);
-    }
-
-    /// The status of a choice, too, and what is known of it.
-    #[inline(always)]
-    pub(crate) fn status(&mut self, number: usize, status: Status, rest: EntryRest)
-        requires room { length self.old < 8 }
-        requires small { number ≤ 255 }
-        ensures { self.new ≡ self.old ++ pair_of (ToStatus number (status_number status) rest.word) ∷ [] }
-    {
-        self.stores.push(SIZE + number, rest.entry(status));
+        match change {
+            Change::OwnBits(bits) => self.stores.push(0, bits),
+            Change::OppBits(bits) => self.stores.push(1, bits),
+            Change::Phase(phase) => self.stores.push(7, phase.number()),
+            Change::Best(score) => self.stores.push(8, word_of_score(score)),
+            Change::Chosen(code) => self.stores.push(9, code),
+            Change::Count(count) => self.stores.push(10, count as u64),
+            Change::Spawned(count) => self.stores.push(11, count as u64),
+            Change::Status(number, status, rest) => {
+                self.stores.push(SIZE + number, rest.entry(status));
+            }
+        }
     }
 }
 

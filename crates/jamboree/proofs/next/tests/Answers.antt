@@ -1,9 +1,11 @@
-use Rattle.std.specs.Prelude.{◌==◌, nat_lt, slice_index, List, true, false}
-use Rattle.std.proofs.Common.{◌≡◌, ℕ, ◌+◌, ◌<◌, drop, length, subst, refl, sym, ◌∙◌, arith}
+use Rattle.std.specs.Prelude.{◌==◌, ◌≤◌, ◌&&◌, nat_lt, nat_le, slice_index, List, Bool, true, false}
+use Rattle.std.proofs.Common.{◌≡◌, ℕ, ◌+◌, ◌<◌, drop, length, subst, refl, sym, ◌∙◌, ap, arith}
 use Rattle.std.proofs.lemmas.Bool.{and_parts, lt-ltb, le-ltb, ltb-true, le-leb, lt-leb}
 use Rattle.std.proofs.lemmas.List.{length-map, length-drop}
 use Rattle.jamboree_rules.specs.Places.{status_of}
-use Rattle.jamboree_rules.specs.Acts.{tests_from}
+use Rattle.jamboree_rules.specs.sched_rules.declared.act.Act.{Act}
+use Rattle.jamboree_rules.specs.Acts.{first_open, tests, tests_from}
+use Rattle.jamboree.specs.declared.frame.View.{View}
 use Rattle.jamboree.specs.declared.plan.Plan.TheVariants.{Ends, Waits}
 use Rattle.jamboree.specs.Plans.{act_for}
 use Rattle.jamboree.specs.Views.{frame_with, entries_of, statuses_in}
@@ -70,26 +72,25 @@ test-requires-clause-next c = refl
 pub test-requires-clause-inside : goal.test-requires-clause-inside
 test-requires-clause-inside c = c.if-frame.true
 
+-- what is next where no test has failed and no choice is left to be tested, by whether all are settled
+untested : (v : View) (w : List ℕ) (n : ℕ) (act : Act) (all : Bool) → length w ≡ 12 + v.count → n ≡ first_open (statuses_in w) →
+    (nat_lt n (length (statuses_in w)) && (slice_index (statuses_in w) n == 3)) ≡ false → v.count ≤ v.spawned → nat_le v.count n ≡ all →
+    act ≡ tests false false all (frame_with v (entries_of w)) n → act ≡ tests_from (frame_with v (entries_of w)) (first_open (statuses_in w))
+untested v w n act all entries first quiet spawned settled next =
+    let f = frame_with v (entries_of w) in
+    let some : length (statuses_in w) ≡ v.count = statuses w v.count entries in
+    subst (λ (k : ℕ). act ≡ tests_from f k) first
+    (tests-by f n act false false all quiet (le-ltb v.spawned (length (statuses_in w)) (omega (arith, some, spawned)))
+    (ap (λ (m : ℕ). nat_le m n) some ∙ settled) next)
+
 pub returns-then-frame-open : goal.returns-then-frame-open
 returns-then-frame-open c =
     let v = c.args.frame.now in
-    let w = c.args.words.now in
-    let f = frame_with v (entries_of w) in
     let n = c.first_open-open.result in
-    let some = statuses w v.count c.requires.entries in
-    subst (λ (k : ℕ). act_for Ends ≡ tests_from f k) c.first_open-open.ensures.value
-    (tests-by f n (act_for Ends) false false true (sym c.has_failed.ensures ∙ c.if-has_failed.false)
-    (le-ltb v.spawned (length (statuses_in w)) (omega (arith, some, c.if-frame.false)))
-    (le-leb (length (statuses_in w)) n (omega (arith, some, c.if-frame-open.true))) refl)
+    untested v c.args.words.now n (act_for Ends) true c.requires.entries c.first_open-open.ensures.value (sym c.has_failed.ensures ∙ c.if-has_failed.false) c.if-frame.false (le-leb v.count n c.if-frame-open.true) refl
 
 pub returns : goal.returns
 returns c =
     let v = c.args.frame.now in
-    let w = c.args.words.now in
-    let f = frame_with v (entries_of w) in
     let n = c.first_open-open.result in
-    let some = statuses w v.count c.requires.entries in
-    subst (λ (k : ℕ). act_for Waits ≡ tests_from f k) c.first_open-open.ensures.value
-    (tests-by f n (act_for Waits) false false false (sym c.has_failed.ensures ∙ c.if-has_failed.false)
-    (le-ltb v.spawned (length (statuses_in w)) (omega (arith, some, c.if-frame.false)))
-    (lt-leb (length (statuses_in w)) n (omega (arith, some, c.if-frame-open.false))) refl)
+    untested v c.args.words.now n (act_for Waits) false c.requires.entries c.first_open-open.ensures.value (sym c.has_failed.ensures ∙ c.if-has_failed.false) c.if-frame.false (lt-leb v.count n c.if-frame-open.false) refl
