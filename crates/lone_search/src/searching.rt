@@ -62,6 +62,6 @@ pub fn search_within<A: Allocator + Clone>(
     let mut core = Core::new(alloc, config, Jamboree { grain })?;
     admit(&mut core, reserve)?;
     ask(&mut core, position, depth);
-    work(&mut core, MOST_TURNS);
+    let core = work(core, MOST_TURNS);
     Ok(answer_in(&core, position, depth))
 }

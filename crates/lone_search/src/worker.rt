@@ -1,9 +1,9 @@
 //! The worker's turns, each one step of the core, or two where a leaf is computed between them.
 //!
-//! What a worker does next is decided by `pool_rules` ([`Holding`]); this one has the core to itself. Without a frame
-//! it takes the tenant's ready frame of the greatest serial: one that its own steps made ready, or the root, which
-//! stands ready in the hall; so it needs no list of its tasks. What its frame asks for it computes between two steps.
-//! Where the quota is at its end it offers the job to be spent, once: nobody else can give anything back.
+//! What a worker does next is decided by `pool_rules` ([`Holding`]); this one, a [`Searcher`], has the core to itself.
+//! Without a frame it takes the tenant's ready frame of the greatest serial: one that its own steps made ready, or the
+//! root, which stands ready in the hall; so it needs no list of its tasks. What its frame asks for it computes between
+//! two steps. Where the quota is at its end it offers the job to be spent, once: nobody else can give anything back.
 ghost use Rattle.std.specs.Prelude.{IfSome};
 ghost use Rattle.lone_search.specs.Asked.{IsWork, Keeps};
 
@@ -31,160 +31,147 @@ enum Ahead {
     TakeIn(FrameId),
 }
 
-/// Works until the job has ended or can't go on, for at most so many turns. Each turn but the last takes one of the
-/// tenant's steps, or two where a leaf is computed.
-pub(crate) fn work<A: Allocator + Clone>(core: &mut Core<Jamboree, A>, turns: u32)
-    ensures { Keeps core.old core.new }
+/// A worker, and the core that it has to itself.
+#[derive(Drop)]
+struct Searcher<A: Allocator> {
+    core: Core<Jamboree, A>,
+    worker: Worker,
+}
+
+/// Works until the core's job has ended or can't go on, for at most so many turns. Each turn but the last takes one of
+/// the tenant's steps, or two where a leaf is computed.
+pub(crate) fn work<A: Allocator + Clone>(core: Core<Jamboree, A>, turns: u32) -> Core<Jamboree, A>
+    ensures { Keeps core result }
 {
-    let Some(worker) = Worker::new(WORKER) else {
-        return;
-    };
+    let worker = Worker::new(WORKER).unwrap();
+    let mut searcher = Searcher { core, worker };
     let mut ahead = Ahead::Pick;
     for _turn in 0..turns {
-        let Some(next) = turn(core, worker, ahead) else {
-            return;
+        let Some(next) = searcher.turn(ahead) else {
+            break;
         };
         ahead = next;
     }
+    let Searcher { core, .. } = searcher;
+    core
 }
 
-/// One turn, and what the worker does after it; None where the job has ended, or can't go on. What it holds is known at
-/// each place from which it offers a step, so that no holding is put together only to be looked at.
-#[inline(always)]
-fn turn<A: Allocator + Clone>(
-    core: &mut Core<Jamboree, A>,
-    worker: Worker,
-    ahead: Ahead,
-) -> Option<Ahead>
-    ensures { Keeps core.old core.new }
-{
-    match ahead {
-        Ahead::Pick => {
-            let task = newest_task(core)?;
-            offer_on(core, worker, Holding::Next(Deed::Get(task)))
+impl<A: Allocator + Clone> Searcher<A> {
+    /// One turn, and what the worker does after it; None where the job has ended, or can't go on. What it holds is
+    /// known at each place from which it offers a step, so that no holding is put together only to be looked at.
+    #[inline(always)]
+    fn turn(&mut self, ahead: Ahead) -> Option<Ahead>
+        ensures { Keeps self.old.core self.new.core }
+    {
+        match ahead {
+            Ahead::Pick => {
+                let task = self.newest_task()?;
+                self.offer_on(Holding::Next(Deed::Get(task)))
+            }
+            Ahead::Run(frame) => self.offer_on(Holding::Next(Deed::Run(frame))),
+            Ahead::TakeIn(frame) => self.offer_on(Holding::Next(Deed::TakeIn(frame))),
         }
-        Ahead::Run(frame) => offer_on(core, worker, Holding::Next(Deed::Run(frame))),
-        Ahead::TakeIn(frame) => offer_on(core, worker, Holding::Next(Deed::TakeIn(frame))),
     }
-}
 
-/// Offers the step of what the worker holds, and goes on to where its next step is known.
-#[inline(always)]
-fn offer_on<A: Allocator + Clone>(
-    core: &mut Core<Jamboree, A>,
-    worker: Worker,
-    held: Holding,
-) -> Option<Ahead>
-    ensures { Keeps core.old core.new }
-{
-    let next = offer(core, worker, held)?;
-    go_on(core, worker, next)
-}
-
-/// What the worker does with what it holds now: it computes a leaf at once, and ends the job. No holding is handed on
-/// from here.
-#[inline(always)]
-fn go_on<A: Allocator + Clone>(
-    core: &mut Core<Jamboree, A>,
-    worker: Worker,
-    held: Holding,
-) -> Option<Ahead>
-    ensures { Keeps core.old core.new }
-{
-    match held {
-        Holding::Nothing => Some(Ahead::Pick),
-        Holding::Next(Deed::Run(frame)) => Some(Ahead::Run(frame)),
-        Holding::Next(Deed::TakeIn(frame)) => Some(Ahead::TakeIn(frame)),
-        Holding::Computing(frame, leaf) => bring(core, worker, frame, leaf),
-        Holding::Next(Deed::Finish(frame)) => finish(core, worker, frame),
-        Holding::Short(deed) => spend(core, worker, deed.frame()),
-        // Nothing that was taken leads here.
-        Holding::Next(Deed::Get(_)) | Holding::Next(Deed::Bring(_, _)) => None,
+    /// The tenant's ready frame of the greatest serial, if one is ready, as a task.
+    #[inline(always)]
+    fn newest_task(&self) -> Option<Task> {
+        let (frame, home) = self.core.newest_ready(TENANT)?;
+        Some(Task { frame, home })
     }
-}
 
-/// Computes a leaf, and brings its answer.
-#[inline(always)]
-fn bring<A: Allocator + Clone>(
-    core: &mut Core<Jamboree, A>,
-    worker: Worker,
-    frame: FrameId,
-    leaf: Leaf,
-) -> Option<Ahead>
-    ensures { Keeps core.old core.new }
-{
-    let answer = LeafAnswer::compute(leaf);
-    let next = offer(core, worker, Holding::Next(Deed::Bring(frame, answer)))?;
-    run_on(core, worker, next)
-}
-
-/// What the worker does after it has brought an answer: it runs its frame.
-#[inline(always)]
-fn run_on<A: Allocator + Clone>(
-    core: &mut Core<Jamboree, A>,
-    worker: Worker,
-    held: Holding,
-) -> Option<Ahead>
-    ensures { Keeps core.old core.new }
-{
-    match held {
-        Holding::Next(Deed::Run(frame)) => Some(Ahead::Run(frame)),
-        Holding::Short(deed) => spend(core, worker, deed.frame()),
-        // Nothing else is held then.
-        _ => None,
+    /// Offers the step of what the worker holds, and goes on to where its next step is known.
+    #[inline(always)]
+    fn offer_on(&mut self, held: Holding) -> Option<Ahead>
+        ensures { Keeps self.old.core self.new.core }
+    {
+        let next = self.offer(held)?;
+        self.go_on(next)
     }
-}
 
-/// Ends the job of the returned root, or spends it where that is refused for want of quota. Nothing is left to do then.
-#[cold]
-#[inline(never)]
-fn finish<A: Allocator + Clone>(
-    core: &mut Core<Jamboree, A>,
-    worker: Worker,
-    root: FrameId,
-) -> Option<Ahead>
-    ensures { Keeps core.old core.new }
-{
-    match offer(core, worker, Holding::Next(Deed::Finish(root)))? {
-        Holding::Short(deed) => spend(core, worker, deed.frame()),
-        _ => None,
+    /// What the worker does with what it holds now: it computes a leaf at once, and ends the job. No holding is handed
+    /// on from here.
+    #[inline(always)]
+    fn go_on(&mut self, held: Holding) -> Option<Ahead>
+        ensures { Keeps self.old.core self.new.core }
+    {
+        match held {
+            Holding::Nothing => Some(Ahead::Pick),
+            Holding::Next(Deed::Run(frame)) => Some(Ahead::Run(frame)),
+            Holding::Next(Deed::TakeIn(frame)) => Some(Ahead::TakeIn(frame)),
+            Holding::Computing(frame, leaf) => self.bring(frame, leaf),
+            Holding::Next(Deed::Finish(frame)) => self.finish(frame),
+            Holding::Short(deed) => self.spend(deed.frame()),
+            // Nothing that was taken leads here.
+            Holding::Next(Deed::Get(_)) | Holding::Next(Deed::Bring(_, _)) => None,
+        }
     }
-}
 
-/// Offers to spend the job of a frame. Nothing is left to do then, whether or not it may be spent.
-#[cold]
-#[inline(never)]
-fn spend<A: Allocator + Clone>(
-    core: &mut Core<Jamboree, A>,
-    worker: Worker,
-    frame: FrameId,
-) -> Option<Ahead>
-    ensures { Keeps core.old core.new }
-{
-    let _ = offer(core, worker, Holding::Short(Deed::Run(frame)));
-    None
-}
+    /// Computes a leaf, and brings its answer.
+    #[inline(always)]
+    fn bring(&mut self, frame: FrameId, leaf: Leaf) -> Option<Ahead>
+        ensures { Keeps self.old.core self.new.core }
+    {
+        let answer = LeafAnswer::compute(leaf);
+        let next = self.offer(Holding::Next(Deed::Bring(frame, answer)))?;
+        self.run_on(next)
+    }
 
-/// The tenant's ready frame of the greatest serial, if one is ready, as a task.
-#[inline(always)]
-fn newest_task<A: Allocator + Clone>(core: &Core<Jamboree, A>) -> Option<Task> {
-    let (frame, home) = core.newest_ready(TENANT)?;
-    Some(Task { frame, home })
-}
+    /// What the worker does after it has brought an answer: it runs its frame.
+    #[inline(always)]
+    fn run_on(&mut self, held: Holding) -> Option<Ahead>
+        ensures { Keeps self.old.core self.new.core }
+    {
+        match held {
+            Holding::Next(Deed::Run(frame)) => Some(Ahead::Run(frame)),
+            Holding::Short(deed) => self.spend(deed.frame()),
+            // Nothing else is held then.
+            _ => None,
+        }
+    }
 
-/// Offers the step of what the worker holds, if it has one; what it holds after it.
-#[inline(always)]
-fn offer<A: Allocator + Clone>(
-    core: &mut Core<Jamboree, A>,
-    worker: Worker,
-    held: Holding,
-) -> Option<Holding>
-    ensures { Keeps core.old core.new }
-{
-    let step = own_step(worker, &held)?;
-    let answer = take(core, &step);
-    let refused = answer.is_err();
-    goes_on(refused, held.turned(worker, answer).holding)
+    /// Ends the job of the returned root, or spends it where that is refused for want of quota. Nothing is left to do
+    /// then.
+    #[cold]
+    #[inline(never)]
+    fn finish(&mut self, root: FrameId) -> Option<Ahead>
+        ensures { Keeps self.old.core self.new.core }
+    {
+        match self.offer(Holding::Next(Deed::Finish(root)))? {
+            Holding::Short(deed) => self.spend(deed.frame()),
+            _ => None,
+        }
+    }
+
+    /// Offers to spend the job of a frame. Nothing is left to do then, whether or not it may be spent.
+    #[cold]
+    #[inline(never)]
+    fn spend(&mut self, frame: FrameId) -> Option<Ahead>
+        ensures { Keeps self.old.core self.new.core }
+    {
+        let _ = self.offer(Holding::Short(Deed::Run(frame)));
+        None
+    }
+
+    /// Offers the step of what the worker holds, if it has one; what it holds after it.
+    #[inline(always)]
+    fn offer(&mut self, held: Holding) -> Option<Holding>
+        ensures { Keeps self.old.core self.new.core }
+    {
+        let step = own_step(self.worker, &held)?;
+        let answer = self.take(&step);
+        let refused = answer.is_err();
+        goes_on(refused, held.turned(self.worker, answer).holding)
+    }
+
+    /// Takes such a step, if it isn't refused.
+    #[inline(always)]
+    fn take(&mut self, step: &Step<Jamboree>) -> Result<Did<Jamboree>, Refusal>
+        requires { IsWork step.now }
+        ensures { Keeps self.old.core self.new.core }
+    {
+        step_search(&mut self.core, step)
+    }
 }
 
 /// The step that the worker offers with what it holds, which is a worker's step or Spend.
@@ -193,18 +180,6 @@ fn own_step(worker: Worker, held: &Holding) -> Option<Step<Jamboree>>
     ensures { IfSome result (λ step. IsWork step) }
 {
     held.step(worker)
-}
-
-/// Takes such a step, if it isn't refused.
-#[inline(always)]
-fn take<A: Allocator + Clone>(
-    core: &mut Core<Jamboree, A>,
-    step: &Step<Jamboree>,
-) -> Result<Did<Jamboree>, Refusal>
-    requires { IsWork step.now }
-    ensures { Keeps core.old core.new }
-{
-    step_search(core, step)
 }
 
 /// What the worker goes on with after its turn. A refusal for want of quota leaves it the offer to spend the job; after

@@ -7,17 +7,17 @@ pub answer_in-requires-clause-there : goal.answer_in-requires-clause-there
 answer_in-requires-clause-there g c =
     let P : ℕ → Type 0 = λ grain. IsBegun grain c.args.reserve c.admit.new.core in
     let begun = subst P (ap (λ (p : Jamboree). p.grain) c.in_ok-core.ensures.procedure) c.in_ok-admit.ensures in
-    (c.args.reserve, (c.work.ensures _ (c.ask.ensures c.args.grain c.args.reserve c.segments.ensures.limits begun)).reserved)
+    (c.args.reserve, (c.work-core.ensures _ (c.ask.ensures c.args.grain c.args.reserve c.segments.ensures.limits begun)).reserved)
 
 pub answer_in-requires-clause-asked : goal.answer_in-requires-clause-asked
 answer_in-requires-clause-asked g c =
     let P : ℕ → Type 0 = λ grain. IsBegun grain c.args.reserve c.admit.new.core in
     let begun = subst P (ap (λ (p : Jamboree). p.grain) c.in_ok-core.ensures.procedure) c.in_ok-admit.ensures in
-    (c.work.ensures _ (c.ask.ensures c.args.grain c.args.reserve c.segments.ensures.limits begun)).asked
+    (c.work-core.ensures _ (c.ask.ensures c.args.grain c.args.reserve c.segments.ensures.limits begun)).asked
 
 pub returns-clause-found : goal.returns-clause-found
 returns-clause-found g c =
     let P : ℕ → Type 0 = λ grain. IsBegun grain c.args.reserve c.admit.new.core in
     let begun = subst P (ap (λ (p : Jamboree). p.grain) c.in_ok-core.ensures.procedure) c.in_ok-admit.ensures in
-    let works = c.work.ensures _ (c.ask.ensures c.args.grain c.args.reserve c.segments.ensures.limits begun) in
-    record { shared = c.work.new.core.shared; run = works.run; reserved = works.reserved; asked = works.asked; found_in = c.answer_in.ensures.found }
+    let works = c.work-core.ensures _ (c.ask.ensures c.args.grain c.args.reserve c.segments.ensures.limits begun) in
+    record { shared = c.work-core.result.shared; run = works.run; reserved = works.reserved; asked = works.asked; found_in = c.answer_in.ensures.found }
