@@ -75,19 +75,13 @@ fn solve_command<'a>(alloc: Global) -> Result<Command<'a>, AllocError>
     ensures shape { IfOk result (λ command. shape_of command ≡ solve_shape) }
     ensures local { IfOk result (λ command. (out-Command command).has_globals ≡ false) }
 {
-    let command = with_number(alloc, bare_solve(alloc), GRAIN)?;
+    let command = with_number(alloc, bare(alloc, "solve", SOLVE_ABOUT, SOLVE_HELP), GRAIN)?;
     command.arg(visited_arg(alloc))
 }
 
-/// The command `solve` before it has options.
-fn bare_solve<'a>(alloc: Global) -> Command<'a>
-    ensures app { app_of result ≡ new_app (codes "solve") }
-    ensures local { (out-Command result).has_globals ≡ false }
-{
-    Command::new(alloc, "solve")
-        .about("answers lines `depth position` from standard input by lines `value move`")
-        .after_help(SOLVE_HELP)
-}
+/// What is said of `solve`.
+const SOLVE_ABOUT: &str =
+    "answers lines `depth position` from standard input by lines `value move`";
 
 /// The flag `--visited`.
 fn visited_arg<'a>(alloc: Global) -> Arg<'a>
@@ -115,19 +109,30 @@ fn serve_of_sessions<'a>(alloc: Global) -> Result<Command<'a>, AllocError>
     ensures app { IfOk result (λ command. app_of command ≡ serve_of_sessions) }
     ensures local { IfOk result (λ command. (out-Command command).has_globals ≡ false) }
 {
-    let command = with_number(alloc, bare_serve(alloc), SESSIONS)?;
+    let command = with_number(
+        alloc,
+        bare(alloc, "serve", SERVE_ABOUT, SERVE_HELP),
+        SESSIONS,
+    )?;
     let command = with_number(alloc, command, PORT)?;
     with_number(alloc, command, WORKERS)
 }
 
-/// The command `serve` before it has options.
-fn bare_serve<'a>(alloc: Global) -> Command<'a>
-    ensures app { app_of result ≡ new_app (codes "serve") }
+/// What is said of `serve`.
+const SERVE_ABOUT: &str =
+    "serves sessions of many tenants over TCP on 127.0.0.1, with one pool of workers";
+
+/// A command before it has options: its name, what is said of it, and the help behind its options.
+fn bare<'a>(
+    alloc: Global,
+    name: &'static str,
+    about: &'static str,
+    help: &'static str,
+) -> Command<'a>
+    ensures app { app_of result ≡ new_app name.now }
     ensures local { (out-Command result).has_globals ≡ false }
 {
-    Command::new(alloc, "serve")
-        .about("serves sessions of many tenants over TCP on 127.0.0.1, with one pool of workers")
-        .after_help(SERVE_HELP)
+    Command::new(alloc, name).about(about).after_help(help)
 }
 
 /// A command with one more option that has a number.
