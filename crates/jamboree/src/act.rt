@@ -9,7 +9,7 @@ use crate::entry::EntryRest;
 use crate::intake::{Intake, Said, Settling, Verdict};
 use crate::phases::{Phase, Status};
 use crate::plan::{NewChild, Plan};
-use crate::view::{Change, Changes, spawn};
+use crate::view::{Change, set, spawn};
 use jamboree_rules::leaf_search::INF;
 use jamboree_rules::sched_rules::{Act, InletAct, Stores, Then};
 use othello_board::Board;
@@ -35,49 +35,55 @@ impl Plan {
             Plan::Waits => return without_stores(Then::Wait),
             Plan::Computes => return without_stores(Then::Compute),
             Plan::Ends => {
-                let mut changes = Changes::new();
-                changes.set(Change::Phase(Phase::Done));
+                let mut stores = Stores::new();
+                set(&mut stores, Change::Phase(Phase::Done));
                 return Act {
-                    stores: changes.stores(),
+                    stores,
                     after: Then::Return,
                 };
             }
             Plan::Computed(board) => {
-                let mut changes = Changes::new();
-                changes.set_board(board);
-                changes.set(Change::Phase(Phase::Computing));
+                let mut stores = Stores::new();
+                set_board(&mut stores, board);
+                set(&mut stores, Change::Phase(Phase::Computing));
                 return Act {
-                    stores: changes.stores(),
+                    stores,
                     after: Then::Compute,
                 };
             }
             Plan::Counts(board, count) => {
-                let mut changes = Changes::new();
-                changes.set_board(board);
-                changes.set(Change::Phase(Phase::First));
-                changes.set(Change::Best(-INF));
-                changes.set(Change::Chosen(NONE));
-                changes.set(Change::Count(count));
-                changes.set(Change::Spawned(0));
+                let mut stores = Stores::new();
+                set_board(&mut stores, board);
+                set(&mut stores, Change::Phase(Phase::First));
+                set(&mut stores, Change::Best(-INF));
+                set(&mut stores, Change::Chosen(NONE));
+                set(&mut stores, Change::Count(count));
+                set(&mut stores, Change::Spawned(0));
                 return Act {
-                    stores: changes.stores(),
+                    stores,
                     after: Then::Grow(count),
                 };
             }
             Plan::Starts(child, rest) => {
-                let mut changes = Changes::new();
-                changes.set(Change::Spawned(child.number + 1));
-                changes.set(Change::Status(child.number, Status::Runs, rest));
+                let mut stores = Stores::new();
+                set(&mut stores, Change::Spawned(child.number + 1));
+                set(
+                    &mut stores,
+                    Change::Status(child.number, Status::Runs, rest),
+                );
                 return Act {
-                    stores: changes.stores(),
+                    stores,
                     after: child.spawn(),
                 };
             }
             Plan::Again(child, rest) => {
-                let mut changes = Changes::new();
-                changes.set(Change::Status(child.number, Status::RunsAgain, rest));
+                let mut stores = Stores::new();
+                set(
+                    &mut stores,
+                    Change::Status(child.number, Status::RunsAgain, rest),
+                );
                 return Act {
-                    stores: changes.stores(),
+                    stores,
                     after: child.spawn(),
                 };
             }
@@ -85,31 +91,32 @@ impl Plan {
     }
 }
 
-impl Changes {
-    /// The board of a new frame, too.
-    #[inline(always)]
-    fn set_board(&mut self, board: Board)
-        requires { length self.old ≤ 6 }
-        ensures { self.new ≡ self.old ++ pairs_of (OwnBits board.own ∷ OppBits board.opp ∷ []) }
-    {
-        self.set(Change::OwnBits(board.own));
-        self.set(Change::OppBits(board.opp));
-    }
+/// The board of a new frame, after these stores.
+#[inline(always)]
+fn set_board(stores: &mut Stores, board: Board)
+    requires { length stores.old ≤ 6 }
+    ensures { stores.new ≡ stores.old ++ pairs_of (OwnBits board.own ∷ OppBits board.opp ∷ []) }
+{
+    set(stores, Change::OwnBits(board.own));
+    set(stores, Change::OppBits(board.opp));
+}
 
-    /// That a choice is settled, too, and the best score; where a code is given, it is the choice that has
-    /// this score.
-    #[inline(always)]
-    fn settle(&mut self, told: Settling, code: Option<u64>)
-        requires { length self.old ≤ 5 }
-        ensures { self.new ≡ self.old ++ settled told code }
-    {
-        self.set(Change::Best(told.best));
-        if let Some(code) = code {
-            self.set(Change::Chosen(code));
-        }
-        let rest = told.said.rest();
-        self.set(Change::Status(told.said.number, Status::Settled, rest));
+/// The best score and that a choice is settled, after these stores; where a code is given, it is that of
+/// the choice with this score.
+#[inline(always)]
+fn settle(stores: &mut Stores, told: Settling, code: Option<u64>)
+    requires { length stores.old ≤ 5 }
+    ensures { stores.new ≡ stores.old ++ settled told code }
+{
+    set(stores, Change::Best(told.best));
+    if let Some(code) = code {
+        set(stores, Change::Chosen(code));
     }
+    let rest = told.said.rest();
+    set(
+        stores,
+        Change::Status(told.said.number, Status::Settled, rest),
+    );
 }
 
 /// To do this, and to store nothing.
@@ -139,27 +146,30 @@ impl Verdict {
     fn stores(self) -> Stores
         ensures { result ≡ stores_for self }
     {
-        let mut changes = Changes::new();
+        let mut stores = Stores::new();
         match self {
             Verdict::Nothing => {}
             Verdict::Failed(said) => {
-                changes.set(Change::Status(said.number, Status::Failed, said.rest()));
+                set(
+                    &mut stores,
+                    Change::Status(said.number, Status::Failed, said.rest()),
+                );
             }
-            Verdict::Low(told) => changes.settle(told, None),
+            Verdict::Low(told) => settle(&mut stores, told, None),
             Verdict::Kept(told) => {
-                changes.settle(told, None);
-                changes.set(Change::Phase(Phase::Tests));
+                settle(&mut stores, told, None);
+                set(&mut stores, Change::Phase(Phase::Tests));
             }
             Verdict::Raised(told, code) => {
-                changes.settle(told, Some(code));
-                changes.set(Change::Phase(Phase::Tests));
+                settle(&mut stores, told, Some(code));
+                set(&mut stores, Change::Phase(Phase::Tests));
             }
             Verdict::Ended(told, code) => {
-                changes.settle(told, Some(code));
-                changes.set(Change::Phase(Phase::Done));
+                settle(&mut stores, told, Some(code));
+                set(&mut stores, Change::Phase(Phase::Done));
             }
         }
-        changes.stores()
+        stores
     }
 }
 

@@ -20,7 +20,7 @@ use crate::intake::Intake;
 use crate::next::{board_under, later, of_root, opening};
 use crate::phases::{Phase, Role};
 use crate::plan::Plan;
-use crate::view::{Change, Changes, SIZE, are_root_words, is_formed, read_leaf, view};
+use crate::view::{Change, SIZE, are_root_words, is_formed, read_leaf, set, view};
 use cactus_stack::{Sight, Words};
 use jamboree_rules::sched_rules::{Act, InletAct, Procedure, Stores};
 use jamboree_rules::{Leaf, LeafAnswer};
@@ -308,9 +308,9 @@ impl Procedure for Jamboree {
 fn answered(answer: &LeafAnswer) -> Stores
     ensures { result ≡ pairs_of (changes_of_answer answer.now) }
 {
-    let mut changes = Changes::new();
-    changes.set(Change::Best(answer.score()));
-    changes.set(Change::Chosen(coded(answer.choice())));
-    changes.set(Change::Phase(Phase::Done));
-    changes.stores()
+    let mut stores = Stores::new();
+    set(&mut stores, Change::Best(answer.score()));
+    set(&mut stores, Change::Chosen(coded(answer.choice())));
+    set(&mut stores, Change::Phase(Phase::Done));
+    stores
 }

@@ -47,6 +47,7 @@ fn open_in(entries: &[u64]) -> usize
 }
 
 /// The number of the first choice that isn't settled, or how many choices there are.
+#[inline(always)]
 pub(crate) fn first_open(words: &Words) -> usize
     requires { 12 ≤ length words.now }
     ensures value { result ≡ first_open (statuses_in words.now) }
@@ -63,6 +64,7 @@ pub(crate) fn first_open(words: &Words) -> usize
 }
 
 /// Whether the test of the choice of this number has failed.
+#[inline(always)]
 pub(crate) fn has_failed(words: &Words, number: usize) -> bool
     requires { number ≤ 128 }
     ensures { result ≡ (nat_lt number (length (statuses_in words.now)) && (slice_index (statuses_in words.now) number == 3)) }
@@ -74,6 +76,7 @@ pub(crate) fn has_failed(words: &Words, number: usize) -> bool
 }
 
 /// The rest of the entry of this number: what is known of the choice.
+#[inline(always)]
 pub(crate) fn rest_at(words: &Words, number: usize) -> EntryRest
     requires { number ≤ 128 }
     ensures { result.word ≡ slice_index (rests_in words.now) number }

@@ -27,7 +27,6 @@ use jamboree_rules::sched_rules::{GivenWords, Stores, Then};
 use othello_board::Board;
 use othello_moves::choice_count;
 use position_text::Position;
-use std::marker::Model;
 
 /// The size of a new frame in words, behind which the entries of its choices stand.
 pub(crate) const SIZE: usize = 12;
@@ -309,60 +308,25 @@ pub(crate) enum Change {
     Status(usize, Status, EntryRest),
 }
 
-/// Stores on a frame, by what they set, done in order.
-#[derive(Drop)]
-pub(crate) struct Changes {
-    stores: Stores,
-}
-
-// Clauses see the list of places and words.
-impl Model for Changes {
-    ghost use Rattle.std.specs.Prelude.{List, ℕ};
-
-    ghost Value = { List (ℕ × ℕ) };
-
-    ghost view = { λ c. c.stores };
-}
-
-impl Changes {
-    /// No store.
-    #[inline(always)]
-    pub(crate) fn new() -> Changes
-        ensures { result ≡ [] }
-    {
-        Changes {
-            stores: Stores::new(),
-        }
-    }
-
-    /// These stores.
-    #[inline(always)]
-    pub(crate) fn stores(self) -> Stores
-        ensures { result ≡ self }
-    {
-        self.stores
-    }
-
-    /// One store more.
-    #[inline(always)]
-    pub(crate) fn set(&mut self, change: Change)
-        requires room { length self.old < 8 }
-        requires low { negsuc 999999 ≤ℤ score_set change }
-        requires high { score_set change ≤ℤ pos 1000000 }
-        requires small { number_set change ≤ 255 }
-        ensures { self.new ≡ self.old ++ pair_of (store_of change) ∷ [] }
-    {
-        match change {
-            Change::OwnBits(bits) => self.stores.push(0, bits),
-            Change::OppBits(bits) => self.stores.push(1, bits),
-            Change::Phase(phase) => self.stores.push(7, phase.number()),
-            Change::Best(score) => self.stores.push(8, word_of_score(score)),
-            Change::Chosen(code) => self.stores.push(9, code),
-            Change::Count(count) => self.stores.push(10, count as u64),
-            Change::Spawned(count) => self.stores.push(11, count as u64),
-            Change::Status(number, status, rest) => {
-                self.stores.push(SIZE + number, rest.entry(status));
-            }
+/// One store more, done after these.
+#[inline(always)]
+pub(crate) fn set(stores: &mut Stores, change: Change)
+    requires room { length stores.old < 8 }
+    requires low { negsuc 999999 ≤ℤ score_set change }
+    requires high { score_set change ≤ℤ pos 1000000 }
+    requires small { number_set change ≤ 255 }
+    ensures { stores.new ≡ stores.old ++ pair_of (store_of change) ∷ [] }
+{
+    match change {
+        Change::OwnBits(bits) => stores.push(0, bits),
+        Change::OppBits(bits) => stores.push(1, bits),
+        Change::Phase(phase) => stores.push(7, phase.number()),
+        Change::Best(score) => stores.push(8, word_of_score(score)),
+        Change::Chosen(code) => stores.push(9, code),
+        Change::Count(count) => stores.push(10, count as u64),
+        Change::Spawned(count) => stores.push(11, count as u64),
+        Change::Status(number, status, rest) => {
+            stores.push(SIZE + number, rest.entry(status));
         }
     }
 }
