@@ -31,11 +31,11 @@ enum Ahead {
     TakeIn(FrameId),
 }
 
-/// A worker, and the core that it has to itself.
+/// The one worker, and the core that it has to itself. Its number is a constant, not a field: each step names it, and a
+/// field would be read for each.
 #[derive(Drop)]
 struct Searcher<A: Allocator> {
     core: Core<Jamboree, A>,
-    worker: Worker,
 }
 
 /// Works until the core's job has ended or can't go on, for at most so many turns. Each turn but the last takes one of
@@ -43,8 +43,7 @@ struct Searcher<A: Allocator> {
 pub(crate) fn work<A: Allocator + Clone>(core: Core<Jamboree, A>, turns: u32) -> Core<Jamboree, A>
     ensures { Keeps core result }
 {
-    let worker = Worker::new(WORKER).unwrap();
-    let mut searcher = Searcher { core, worker };
+    let mut searcher = Searcher { core };
     let mut ahead = Ahead::Pick;
     for _turn in 0..turns {
         let Some(next) = searcher.turn(ahead) else {
@@ -52,7 +51,7 @@ pub(crate) fn work<A: Allocator + Clone>(core: Core<Jamboree, A>, turns: u32) ->
         };
         ahead = next;
     }
-    let Searcher { core, .. } = searcher;
+    let Searcher { core } = searcher;
     core
 }
 
@@ -158,10 +157,11 @@ impl<A: Allocator + Clone> Searcher<A> {
     fn offer(&mut self, held: Holding) -> Option<Holding>
         ensures { Keeps self.old.core self.new.core }
     {
-        let step = own_step(self.worker, &held)?;
+        let worker = Worker::new(WORKER).unwrap();
+        let step = own_step(worker, &held)?;
         let answer = self.take(&step);
         let refused = answer.is_err();
-        goes_on(refused, held.turned(self.worker, answer).holding)
+        goes_on(refused, held.turned(worker, answer).holding)
     }
 
     /// Takes such a step, if it isn't refused.
