@@ -112,32 +112,28 @@ impl<A: Allocator + Clone> Searcher<A> {
         ensures { Keeps self.old.core self.new.core }
     {
         let answer = LeafAnswer::compute(leaf);
-        let next = self.offer(Holding::Next(Deed::Bring(frame, answer)))?;
-        self.run_on(next)
+        self.offer_and_run(Holding::Next(Deed::Bring(frame, answer)))
     }
 
-    /// What the worker does after it has brought an answer: it runs its frame.
-    #[inline(always)]
-    fn run_on(&mut self, held: Holding) -> Option<Ahead>
-        ensures { Keeps self.old.core self.new.core }
-    {
-        match held {
-            Holding::Next(Deed::Run(frame)) => Some(Ahead::Run(frame)),
-            Holding::Short(deed) => self.spend(deed.frame()),
-            // Nothing else is held then.
-            _ => None,
-        }
-    }
-
-    /// Ends the job of the returned root, or spends it where that is refused for want of quota. Nothing is left to do
-    /// then.
+    /// Ends the job of the returned root. Nothing is left to do then.
     #[cold]
     #[inline(never)]
     fn finish(&mut self, root: FrameId) -> Option<Ahead>
         ensures { Keeps self.old.core self.new.core }
     {
-        match self.offer(Holding::Next(Deed::Finish(root)))? {
+        self.offer_and_run(Holding::Next(Deed::Finish(root)))
+    }
+
+    /// Offers a step after which the worker runs its frame, or has none; where it is refused for want of quota the job
+    /// is spent.
+    #[inline(always)]
+    fn offer_and_run(&mut self, held: Holding) -> Option<Ahead>
+        ensures { Keeps self.old.core self.new.core }
+    {
+        match self.offer(held)? {
+            Holding::Next(Deed::Run(frame)) => Some(Ahead::Run(frame)),
             Holding::Short(deed) => self.spend(deed.frame()),
+            // Nothing else is held then.
             _ => None,
         }
     }
