@@ -31,11 +31,11 @@ enum Ahead {
     TakeIn(FrameId),
 }
 
-/// A worker, and the core that it has to itself.
+/// The one worker, and the core that it has to itself. Its number is a constant, not a field: each step names it, and a
+/// field would be read for each.
 #[derive(Drop)]
 struct Searcher<A: Allocator> {
     core: Core<Jamboree, A>,
-    worker: Worker,
 }
 
 /// Works until the core's job has ended or can't go on, for at most so many turns. Each turn but the last takes one of
@@ -43,8 +43,7 @@ struct Searcher<A: Allocator> {
 pub(crate) fn work<A: Allocator + Clone>(core: Core<Jamboree, A>, turns: u32) -> Core<Jamboree, A>
     ensures { Keeps core result }
 {
-    let worker = Worker::new(WORKER).unwrap();
-    let mut searcher = Searcher { core, worker };
+    let mut searcher = Searcher { core };
     let mut ahead = Ahead::Pick;
     for _turn in 0..turns {
         let Some(next) = searcher.turn(ahead) else {
@@ -52,7 +51,7 @@ pub(crate) fn work<A: Allocator + Clone>(core: Core<Jamboree, A>, turns: u32) ->
         };
         ahead = next;
     }
-    let Searcher { core, .. } = searcher;
+    let Searcher { core } = searcher;
     core
 }
 
@@ -113,32 +112,28 @@ impl<A: Allocator + Clone> Searcher<A> {
         ensures { Keeps self.old.core self.new.core }
     {
         let answer = LeafAnswer::compute(leaf);
-        let next = self.offer(Holding::Next(Deed::Bring(frame, answer)))?;
-        self.run_on(next)
+        self.offer_and_run(Holding::Next(Deed::Bring(frame, answer)))
     }
 
-    /// What the worker does after it has brought an answer: it runs its frame.
-    #[inline(always)]
-    fn run_on(&mut self, held: Holding) -> Option<Ahead>
-        ensures { Keeps self.old.core self.new.core }
-    {
-        match held {
-            Holding::Next(Deed::Run(frame)) => Some(Ahead::Run(frame)),
-            Holding::Short(deed) => self.spend(deed.frame()),
-            // Nothing else is held then.
-            _ => None,
-        }
-    }
-
-    /// Ends the job of the returned root, or spends it where that is refused for want of quota. Nothing is left to do
-    /// then.
+    /// Ends the job of the returned root. Nothing is left to do then.
     #[cold]
     #[inline(never)]
     fn finish(&mut self, root: FrameId) -> Option<Ahead>
         ensures { Keeps self.old.core self.new.core }
     {
-        match self.offer(Holding::Next(Deed::Finish(root)))? {
+        self.offer_and_run(Holding::Next(Deed::Finish(root)))
+    }
+
+    /// Offers a step after which the worker runs its frame, or has none; where it is refused for want of quota the job
+    /// is spent.
+    #[inline(always)]
+    fn offer_and_run(&mut self, held: Holding) -> Option<Ahead>
+        ensures { Keeps self.old.core self.new.core }
+    {
+        match self.offer(held)? {
+            Holding::Next(Deed::Run(frame)) => Some(Ahead::Run(frame)),
             Holding::Short(deed) => self.spend(deed.frame()),
+            // Nothing else is held then.
             _ => None,
         }
     }
@@ -158,10 +153,11 @@ impl<A: Allocator + Clone> Searcher<A> {
     fn offer(&mut self, held: Holding) -> Option<Holding>
         ensures { Keeps self.old.core self.new.core }
     {
-        let step = own_step(self.worker, &held)?;
+        let worker = Worker::new(WORKER).unwrap();
+        let step = own_step(worker, &held)?;
         let answer = self.take(&step);
         let refused = answer.is_err();
-        goes_on(refused, held.turned(self.worker, answer).holding)
+        goes_on(refused, held.turned(worker, answer).holding)
     }
 
     /// Takes such a step, if it isn't refused.
