@@ -10,7 +10,7 @@ use line_io::{Sink, write_text};
 use sched_rules::Worker;
 use solve_command::{EXIT_FAILED, EXIT_OK, say};
 use std::alloc::Global;
-use std::fmt::Display;
+use std::fmt::{self, Display};
 use std::io;
 use std::net::{Ipv4Addr, Net, SocketAddr, TcpListener, TcpStream};
 use std::sync::Wait;
@@ -18,10 +18,43 @@ use std::sync::ledger::Blank;
 use std::thread::Threads;
 use tcp_server::desk::{Config, Desk, Hall, Hands, PARTS};
 use tcp_server::steal_pool::{Announce, Open};
-use tcp_server::{ServeFault, serve_announced};
+use tcp_server::{ServeFault, ServerConfig, serve_announced};
 
-/// What is said where a line could not be written.
-const UNWRITTEN: &str = "the output could not be written";
+/// Why there is no server, or no more of it.
+#[derive(Debug, Drop)]
+enum Unserved {
+    /// The port can't be listened at.
+    Port(u16, io::Error),
+    /// Where it listens can't be told.
+    Address(io::Error),
+    /// There was no memory for the hall.
+    OutOfMemory,
+    /// A line could not be written.
+    Unwritten,
+    /// The server has ended before its sessions did.
+    Ended(ServeFault),
+}
+
+impl From<ServeFault> for Unserved {
+    fn from(fault: ServeFault) -> Unserved {
+        match fault {
+            ServeFault::Unsaid => Unserved::Unwritten,
+            fault => Unserved::Ended(fault),
+        }
+    }
+}
+
+impl Display for Unserved {
+    fn fmt<W: fmt::Write>(&self, f: &mut fmt::Formatter<W>) -> fmt::Result {
+        match self {
+            Unserved::Port(port, error) => write!(f, "port {port}: {error}"),
+            Unserved::Address(error) => write!(f, "{error}"),
+            Unserved::OutOfMemory => f.write_str("no memory for the segments"),
+            Unserved::Unwritten => f.write_str("the output could not be written"),
+            Unserved::Ended(fault) => write!(f, "{fault}"),
+        }
+    }
+}
 
 impl Service {
     ghost use Rattle.command_line.specs.CommandLine.{IsWithinLimits};
@@ -89,100 +122,73 @@ where
     ensures status { result ≤ 1 }
     ensures told { result ≡ 0 → IsServed K.takes sink.old asked.sessions sink.new }
 {
-    match TcpListener::bind(rt, (Ipv4Addr::LOCALHOST, asked.port)) {
-        Ok(listener) => { serve_at::<L, R, K, E>(rt, alloc, blank, asked, listener, sink, errors) }
-        Err(error) => no_port(alloc, errors, asked.port, error),
+    match serve_at::<L, R, K>(rt, alloc, blank, asked, sink) {
+        Ok(()) => EXIT_OK,
+        Err(why) => {
+            say(errors, why);
+            EXIT_FAILED
+        }
     }
 }
 
-/// The same with a listener: makes the hall and its desk.
-fn serve_at<L, R, K: Sink, E: Sink>(
+/// The same, but for the status: listens, and makes the hall and its desk.
+fn serve_at<L, R, K: Sink>(
     rt: &R,
     alloc: Global,
     blank: Blank,
     asked: Service,
-    listener: TcpListener,
     sink: &mut K,
-    errors: &mut E,
-) -> u8
+) -> Result<(), Unserved>
 where
     L: Hands + Send + Sync,
     R: Net<Listener = TcpListener, Stream = TcpStream> + Threads + Wait + Sync,
     requires name { blank.name ≡ L.name }
     requires parts { (blank.parts ≡ L.parts) × (L.all ≡ L.parts) × (L.all ≡ PARTS) }
-    ensures status { result ≤ 1 }
-    ensures told { result ≡ 0 → IsServed K.takes sink.old asked.sessions sink.new }
+    ensures { IfOk result (λ _. IsServed K.takes sink.old asked.sessions sink.new) }
 {
-    let address = match listener.local_addr() {
-        Ok(address) => address,
-        Err(error) => return failed(errors, error),
+    let listener = match TcpListener::bind(rt, (Ipv4Addr::LOCALHOST, asked.port)) {
+        Ok(listener) => listener,
+        Err(error) => return Err(Unserved::Port(asked.port, error)),
     };
     let Ok(hall) = Hall::new(alloc, asked.config, asked.grain) else {
-        return failed(errors, "no memory for the segments");
+        return Err(Unserved::OutOfMemory);
     };
     let desk: Desk<L> = Desk::new(hall, blank);
-    match serve_from(rt, alloc, &desk, listener, address, asked, sink) {
-        Ok(()) => EXIT_OK,
-        Err(ServeFault::Unsaid) => failed(errors, UNWRITTEN),
-        Err(fault) => failed(errors, fault),
-    }
+    serve_from(rt, alloc, &desk, listener, asked, sink)
 }
 
-/// The same at a desk: `Ok` where both lines were written, `Unsaid` where one could not be.
+/// The same at a desk: `Ok` where both lines were written.
 fn serve_from<L, R, K: Sink>(
     rt: &R,
     alloc: Global,
     desk: &Desk<L>,
     listener: TcpListener,
-    address: SocketAddr,
     asked: Service,
     sink: &mut K,
-) -> Result<(), ServeFault>
+) -> Result<(), Unserved>
 where
     L: Hands + Send + Sync,
     R: Net<Listener = TcpListener, Stream = TcpStream> + Threads + Wait + Sync,
     requires { L.all ≡ L.parts }
     ensures { IfOk result (λ _. IsServed K.takes sink.old asked.sessions sink.new) }
 {
+    let address = match listener.local_addr() {
+        Ok(address) => address,
+        Err(error) => return Err(Unserved::Address(error)),
+    };
     let call = Listening {
         alloc,
         sink,
         address,
     };
-    let (told, _end) = serve_announced(
-        rt,
-        alloc,
-        desk,
-        listener,
-        asked.sessions,
-        asked.workers,
-        &Open,
-        call,
-    )?;
+    let config = ServerConfig::new(asked.sessions, asked.workers);
+    let (told, _end) = serve_announced(rt, alloc, desk, listener, config, &Open, call)?;
     let Listening { sink: told, .. } = told;
     if is_ended(alloc, told, asked.sessions) {
         Ok(())
     } else {
-        Err(ServeFault::Unsaid)
+        Err(Unserved::Unwritten)
     }
-}
-
-/// Says that a port can't be listened at, and why.
-fn no_port<E: Sink>(alloc: Global, errors: &mut E, port: u16, error: io::Error) -> u8
-    ensures { result ≡ 1 }
-{
-    match format!(in alloc; "port {port}: {error}") {
-        Ok(why) => failed(errors, why),
-        Err(_) => failed(errors, error),
-    }
-}
-
-/// Says why there is no server, or no more of it.
-fn failed<E: Sink, D: Display + Drop>(errors: &mut E, why: D) -> u8
-    ensures { result ≡ 1 }
-{
-    say(errors, why);
-    EXIT_FAILED
 }
 
 /// Writes where the server listens, by one call, and tells whether it was written.

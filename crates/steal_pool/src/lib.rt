@@ -38,7 +38,7 @@ mod worker;
 
 pub use announce::{Announce, Quiet};
 pub use gate::{Gate, Open};
-pub use pool::{BeginFault, PoolEnd, PoolFault, run_pool, run_pool_announced};
+pub use pool::{BeginFault, PoolConfig, PoolEnd, PoolFault, run_pool, run_pool_announced};
 pub use task_deques::pool_rules::Task;
 pub use tasks::{Shared, Tasks};
 pub use worker::run_worker;

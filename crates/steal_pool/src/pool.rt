@@ -77,6 +77,27 @@ pub(crate) struct NotRun {
     pub(crate) ended: usize,
 }
 
+/// What a pool is given.
+#[derive(Clone, Copy, Debug, PartialEq, Eq)]
+pub struct PoolConfig {
+    /// The number of its last worker: it has as many.
+    pub workers: Worker,
+    /// The size of a worker's stack in bytes, or else the usual one.
+    pub stack: Option<usize>,
+}
+
+impl PoolConfig {
+    /// As many workers as the number of the last, with the usual stacks.
+    pub fn new(workers: Worker) -> PoolConfig
+        ensures { result.workers ≡ workers }
+    {
+        PoolConfig {
+            workers,
+            stack: None,
+        }
+    }
+}
+
 /// How many tasks each worker's deque has room for. A task beyond them is handed back: its frame stays
 /// ready in the hall.
 const ROOM: usize = 1_024;
@@ -93,7 +114,7 @@ pub fn run_pool<L: Hands + Send + Sync, G: Gate + Sync, R: Threads + Wait + Sync
     requires { L.all ≡ L.parts }
     ensures workers { IfOk result (λ end. end.workers ≡ workers) }
 {
-    let (_quiet, ended) = run_pool_of(USUAL, rt, alloc, desk, workers, gate, Quiet);
+    let (_quiet, ended) = run_pool_of(rt, alloc, desk, Sizes::usual(workers), gate, Quiet);
     match ended {
         Ok(end) => Ok(end),
         Err(not_run) => match not_run.fault {
@@ -104,8 +125,7 @@ pub fn run_pool<L: Hands + Send + Sync, G: Gate + Sync, R: Threads + Wait + Sync
 }
 
 /// The same, and says that the pool has begun once all its workers were started, in the thread that called. Where it
-/// can't begin nothing is said; where that can't be said, the desk is closed and the workers end. The workers' stacks
-/// have this size in bytes, or else the usual one.
+/// can't begin nothing is said; where that can't be said, the desk is closed and the workers end.
 pub fn run_pool_announced<
     L: Hands + Send + Sync,
     G: Gate + Sync,
@@ -115,24 +135,23 @@ pub fn run_pool_announced<
     rt: &R,
     alloc: Global,
     desk: &Desk<L>,
-    workers: Worker,
+    config: PoolConfig,
     gate: &G,
-    stack: Option<usize>,
     call: A,
 ) -> (A, Result<PoolEnd<L>, BeginFault>)
     requires { L.all ≡ L.parts }
-    ensures workers { IfOk result.1 (λ end. end.workers ≡ workers) }
+    ensures workers { IfOk result.1 (λ end. end.workers ≡ config.workers) }
     ensures said { IfOk result.1 (λ _. A.says call true result.0) }
     ensures unsaid { IfErr result.1 (λ fault. IsUnsaid A.says call fault result.0) }
 {
     let sizes = Sizes {
-        stack: match stack {
+        stack: match config.stack {
             Some(size) => Some((1, size)),
             None => None,
         },
-        ..USUAL
+        ..Sizes::usual(config.workers)
     };
-    let (call, ended) = run_pool_of(sizes, rt, alloc, desk, workers, gate, call);
+    let (call, ended) = run_pool_of(rt, alloc, desk, sizes, gate, call);
     match ended {
         Ok(end) => (call, Ok(end)),
         Err(not_run) => (call, Err(not_run.fault)),
@@ -142,6 +161,8 @@ pub fn run_pool_announced<
 /// How much a pool takes at its start.
 #[derive(Clone, Copy, Debug)]
 pub(crate) struct Sizes {
+    /// The number of the last worker: there are as many.
+    pub(crate) workers: Worker,
     /// How many tasks there is room for in each deque.
     pub(crate) room: usize,
     /// For how many more ends than those of the workers there is room when they come back.
@@ -152,13 +173,20 @@ pub(crate) struct Sizes {
     pub(crate) stack: Option<(u8, usize)>,
 }
 
-/// What a pool takes: room for 1,024 tasks, and for all else no more than it needs.
-pub(crate) const USUAL: Sizes = Sizes {
-    room: ROOM,
-    more_ends: 0,
-    more_threads: 0,
-    stack: None,
-};
+impl Sizes {
+    /// Room for 1,024 tasks, and for all else no more than it needs.
+    pub(crate) fn usual(workers: Worker) -> Sizes
+        ensures { result.workers ≡ workers }
+    {
+        Sizes {
+            workers,
+            room: ROOM,
+            more_ends: 0,
+            more_threads: 0,
+            stack: None,
+        }
+    }
+}
 
 /// The same with sizes of the caller's.
 pub(crate) fn run_pool_of<
@@ -167,20 +195,20 @@ pub(crate) fn run_pool_of<
     R: Threads + Wait + Sync,
     A: Announce + Drop,
 >(
-    sizes: Sizes,
     rt: &R,
     alloc: Global,
     desk: &Desk<L>,
-    workers: Worker,
+    sizes: Sizes,
     gate: &G,
     call: A,
 ) -> (A, Result<PoolEnd<L>, NotRun>)
     requires { L.all ≡ L.parts }
-    ensures workers { IfOk result.1 (λ end. end.workers ≡ workers) }
+    ensures workers { IfOk result.1 (λ end. end.workers ≡ sizes.workers) }
     ensures said { IfOk result.1 (λ _. A.says call true result.0) }
     ensures unsaid { IfErr result.1 (λ not_run. IsUnsaid A.says call not_run.fault result.0) }
 {
-    let Ok(stock) = Stock::made(alloc, workers, sizes) else {
+    let stack = sizes.stack;
+    let Ok(stock) = Stock::made(alloc, sizes.workers, sizes) else {
         desk.close(rt);
         let fault = BeginFault::Pool(PoolFault::OutOfMemory);
         return (call, Err(NotRun { fault, ended: 0 }));
@@ -199,7 +227,7 @@ pub(crate) fn run_pool_of<
                 desk,
                 shared,
                 gate,
-                stack: sizes.stack,
+                stack,
             };
             run_all(&site, stock, call)
         },

@@ -11,7 +11,7 @@ mod rows;
 mod searches;
 mod seats;
 
-use crate::pool::{Sizes, USUAL, run_pool_of};
+use crate::pool::{Sizes, run_pool_of};
 use crate::{Gate, PoolEnd, PoolFault, Quiet, run_pool};
 use desk::{Desk, Hall, Hands, PARTS};
 use sched_rules::{Config, Worker};
@@ -151,8 +151,11 @@ fn run<L: Hands + Send + Sync, G: Gate + Sync, R: Threads + Wait + Sync>(
     };
     match room {
         Some(room) => {
-            let sizes = Sizes { room, ..USUAL };
-            let (_quiet, ended) = run_pool_of(sizes, rt, alloc, desk, workers, gate, Quiet);
+            let sizes = Sizes {
+                room,
+                ..Sizes::usual(workers)
+            };
+            let (_quiet, ended) = run_pool_of(rt, alloc, desk, sizes, gate, Quiet);
             ended.map_err(|_not_run| PoolFault::NoThread)
         }
         None => run_pool(rt, alloc, desk, workers, gate),

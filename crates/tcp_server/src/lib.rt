@@ -22,7 +22,8 @@
 //!
 //! ```text
 //! let listener = TcpListener::bind(&rt, "127.0.0.1:0")?;
-//! let end = serve(&rt, alloc, &desk, listener, 2, Worker::new(4)?, &Open)?;   // after two sessions
+//! let config = ServerConfig::new(2, Worker::new(4)?);
+//! let end = serve(&rt, alloc, &desk, listener, config, &Open)?;   // after two sessions
 //! ```
 #![tactic(auto)]
 
@@ -34,7 +35,7 @@ mod faults;
 mod server;
 
 pub use faults::ServeFault;
-pub use server::{serve, serve_announced};
+pub use server::{ServerConfig, Sessions, serve, serve_announced};
 
 #[cfg(test)]
 mod tests;

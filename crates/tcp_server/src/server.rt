@@ -13,10 +13,44 @@ use std::sync::Wait;
 use std::sync::atomic::{AtomicBool, Ordering};
 use std::thread::{self, Builder, Scope, Threads};
 use steal_pool::desk::{Desk, Hands};
-use steal_pool::{Announce, Gate, PoolEnd, Quiet, run_pool_announced};
+use steal_pool::{Announce, BeginFault, Gate, PoolConfig, PoolEnd, Quiet, run_pool_announced};
 
-/// Takes so many connections and serves each in a thread of its own, with the workers beside them; then closes the
-/// desk and joins all.
+/// What a server is given.
+#[derive(Clone, Copy, Debug, PartialEq, Eq)]
+pub struct ServerConfig {
+    /// Its sessions.
+    pub sessions: Sessions,
+    /// Its pool.
+    pub pool: PoolConfig,
+}
+
+/// The sessions of a server.
+#[derive(Clone, Copy, Debug, PartialEq, Eq)]
+pub struct Sessions {
+    /// How many connections it takes.
+    pub count: u16,
+    /// The size of a session's stack in bytes, or else the usual one.
+    pub stack: Option<usize>,
+}
+
+impl ServerConfig {
+    /// So many sessions and workers, with the usual stacks.
+    pub fn new(sessions: u16, workers: Worker) -> ServerConfig
+        ensures sessions { result.sessions.count ≡ sessions }
+        ensures workers { result.pool.workers ≡ workers }
+    {
+        ServerConfig {
+            sessions: Sessions {
+                count: sessions,
+                stack: None,
+            },
+            pool: PoolConfig::new(workers),
+        }
+    }
+}
+
+/// Takes as many connections as it is given sessions and serves each in a thread of its own, with the workers beside
+/// them; then closes the desk and joins all.
 ///
 /// At Ok so many connections were taken, and all sessions have ended: each tenant has left. At an error the sessions
 /// that were there have ended too, and the desk is closed: `Listener` where no more connections could be taken,
@@ -26,15 +60,13 @@ pub fn serve<L: Hands + Send + Sync, G: Gate + Sync, R: Net + Threads + Wait + S
     alloc: Global,
     desk: &Desk<L>,
     listener: TcpListener,
-    sessions: u16,
-    workers: Worker,
+    config: ServerConfig,
     gate: &G,
 ) -> Result<PoolEnd<L>, ServeFault>
     requires { L.all ≡ L.parts }
-    ensures workers { IfOk result (λ end. end.workers ≡ workers) }
+    ensures workers { IfOk result (λ end. end.workers ≡ config.pool.workers) }
 {
-    let served = serve_announced(rt, alloc, desk, listener, sessions, workers, gate, Quiet);
-    match served {
+    match serve_announced(rt, alloc, desk, listener, config, gate, Quiet) {
         Ok((_quiet, end)) => Ok(end),
         Err(fault) => Err(fault),
     }
@@ -53,88 +85,37 @@ pub fn serve_announced<
     alloc: Global,
     desk: &Desk<L>,
     listener: TcpListener,
-    sessions: u16,
-    workers: Worker,
+    config: ServerConfig,
     gate: &G,
     call: A,
 ) -> Result<(A, PoolEnd<L>), ServeFault>
     requires { L.all ≡ L.parts }
     ensures said { IfOk result (λ served. A.says call true served.0) }
-    ensures workers { IfOk result (λ served. served.1.workers ≡ workers) }
-{
-    let asked = Sessions {
-        count: sessions,
-        stack: None,
-    };
-    serve_of(rt, alloc, desk, listener, asked, workers, None, gate, call)
-}
-
-/// The same with stacks of the caller's sizes in bytes, or else the usual ones: those of the sessions, and of the
-/// workers.
-pub(crate) fn serve_of<
-    L: Hands + Send + Sync,
-    G: Gate + Sync,
-    R: Net + Threads + Wait + Sync,
-    A: Announce + Drop,
->(
-    rt: &R,
-    alloc: Global,
-    desk: &Desk<L>,
-    listener: TcpListener,
-    sessions: Sessions,
-    workers: Worker,
-    stack: Option<usize>,
-    gate: &G,
-    call: A,
-) -> Result<(A, PoolEnd<L>), ServeFault>
-    requires { L.all ≡ L.parts }
-    ensures said { IfOk result (λ served. A.says call true served.0) }
-    ensures workers { IfOk result (λ served. served.1.workers ≡ workers) }
+    ensures workers { IfOk result (λ served. served.1.workers ≡ config.pool.workers) }
 {
     serve_beside(
         rt,
         desk,
         listener,
-        sessions,
+        config.sessions,
         move ||
             requires { L.all ≡ L.parts }
-        { run_announced(rt, alloc, desk, workers, stack, gate, call) },
+        { ended_as(run_pool_announced(rt, alloc, desk, config.pool, gate, call)) },
     )
 }
 
-/// The pool of a server.
-fn run_announced<
-    L: Hands + Send + Sync,
-    G: Gate + Sync,
-    R: Threads + Wait + Sync,
-    A: Announce + Drop,
->(
-    rt: &R,
-    alloc: Global,
-    desk: &Desk<L>,
-    workers: Worker,
-    stack: Option<usize>,
-    gate: &G,
-    call: A,
+/// What the pool of a server came to, as what the server ends with.
+fn ended_as<A: Drop, L: Hands>(
+    came: (A, Result<PoolEnd<L>, BeginFault>),
 ) -> Result<(A, PoolEnd<L>), ServeFault>
-    requires { L.all ≡ L.parts }
-    ensures said { IfOk result (λ served. A.says call true served.0) }
-    ensures workers { IfOk result (λ served. served.1.workers ≡ workers) }
+    ensures call { IfOk result (λ served. came.0 ≡ served.0) }
+    ensures end { IfOk result (λ served. came.1 ≡ Ok served.1) }
 {
-    let (call, ended) = run_pool_announced(rt, alloc, desk, workers, gate, stack, call);
+    let (call, ended) = came;
     match ended {
         Ok(end) => Ok((call, end)),
         Err(fault) => Err(ServeFault::from(fault)),
     }
-}
-
-/// The sessions of a server.
-#[derive(Clone, Copy, Debug)]
-pub(crate) struct Sessions {
-    /// How many there are.
-    pub(crate) count: u16,
-    /// The size of a session's stack in bytes, or else the usual one.
-    pub(crate) stack: Option<usize>,
 }
 
 /// The same beside any pool, which runs until the desk is closed and answers, or tells why it couldn't run. Where it

@@ -6,8 +6,8 @@ mod doors;
 mod reserving;
 mod tables;
 
-use crate::server::{Sessions, serve_beside, serve_of};
-use crate::{ServeFault, serve};
+use crate::server::serve_beside;
+use crate::{ServeFault, ServerConfig, Sessions, serve, serve_announced};
 use reserving::MORE;
 use sched_rules::{Config, Worker};
 use std::alloc::Global;
@@ -309,6 +309,7 @@ where
     requires parts { (blank.parts ≡ L.parts) × (L.all ≡ L.parts) × (L.all ≡ PARTS) }
 {
     let config = Config::new(4096, 65536).ok_or("the limits")?;
+    let server = ServerConfig::new(sessions, Worker::new(2).ok_or("two workers")?);
     let desk: Desk<L> = Desk::new(Hall::new(alloc, config, 0)?, blank);
     let listener = TcpListener::bind(rt, "127.0.0.1:0")?;
     let address = listener.local_addr()?;
@@ -321,7 +322,7 @@ where
         move || are_served(visit, streams),
         ||
             requires { L.all ≡ L.parts }
-        { serve_with_two(rt, alloc, &desk, listener, sessions) },
+        { serve(rt, alloc, &desk, listener, server, &Open) },
     );
     let PoolEnd { badge, .. } = served?;
     let (_, is_whole) = desk.into_hall(badge);
@@ -336,31 +337,13 @@ where
     visited::<Brand, R>(rt, alloc, Blank::new(PARTS), sessions, visit)
 }
 
-/// A server with two workers.
-fn serve_with_two<L, R>(
-    rt: &R,
-    alloc: Global,
-    desk: &Desk<L>,
-    listener: TcpListener,
-    sessions: u16,
-) -> Result<PoolEnd<L>, ServeFault>
-where
-    L: Hands + Send + Sync,
-    R: Net<Listener = TcpListener, Stream = TcpStream> + Threads + Wait + Sync,
-    requires { L.all ≡ L.parts }
-{
-    let workers = Worker::new(2).unwrap();
-    serve(rt, alloc, desk, listener, sessions, workers, &Open)
-}
-
 /// A server whose workers go through a gate, which drops what it has at the end.
 fn serve_through<L, R, G>(
     rt: &R,
     alloc: Global,
     desk: &Desk<L>,
     listener: TcpListener,
-    sessions: u16,
-    workers: Worker,
+    server: ServerConfig,
     gate: &G,
 ) -> Result<(), ServeFault>
 where
@@ -369,7 +352,7 @@ where
     G: Gate + Sync,
     requires { L.all ≡ L.parts }
 {
-    serve(rt, alloc, desk, listener, sessions, workers, gate)?;
+    serve(rt, alloc, desk, listener, server, gate)?;
     Ok(())
 }
 
@@ -476,19 +459,14 @@ where
     let desk: Desk<L> = Desk::new(Hall::new(alloc, config, 0)?, blank);
     let listener = TcpListener::bind(rt, "127.0.0.1:0")?;
     let address = listener.local_addr()?;
-    let usual = Sessions {
-        count: 2,
-        stack: None,
-    };
-    let workers = Worker::new(2).ok_or("two workers")?;
+    let mut server = ServerConfig::new(2, Worker::new(2).ok_or("two workers")?);
+    server.pool.stack = stack;
     let count = AtomicU32::new(0);
     let call = Counted {
         count: &count,
         works,
     };
-    let served = serve_of(
-        rt, alloc, &desk, listener, usual, workers, stack, &Open, call,
-    );
+    let served = serve_announced(rt, alloc, &desk, listener, server, &Open, call);
     let is_closed = TcpStream::connect(rt, address).is_err();
     Ok((served.err(), count.load(Ordering::SeqCst), is_closed))
 }

@@ -2,7 +2,7 @@
 ghost use Rattle.std.specs.Prelude.{◌≡◌};
 
 use super::seats::{opening, seat};
-use crate::pool::{BeginFault, NotRun, Sizes, USUAL, run_pool_of};
+use crate::pool::{BeginFault, NotRun, Sizes, run_pool_of};
 use crate::{Announce, Open, PoolFault};
 use desk::{Badge, Desk, Hall, Hands, PARTS, Seat};
 use sched_rules::{Config, Worker};
@@ -42,6 +42,11 @@ struct Found {
     said: u32,
 }
 
+/// The usual sizes of a pool of four.
+fn four() -> Sizes {
+    Sizes::usual(Worker::new(4).unwrap())
+}
+
 /// A hall of 64 segments.
 fn hall_of(alloc: Global) -> Option<Hall> {
     Hall::new(alloc, Config::new(64, 1_024)?, 0).ok()
@@ -54,7 +59,7 @@ fn asked<L: Hands, R: Wait>(rt: &R, desk: &Desk<L>) -> Option<Seat<L>> {
     if is_asked { Some(seat) } else { None }
 }
 
-/// Why a pool of four of these sizes doesn't run, whether the desk is closed then, and how often something was said.
+/// Why a pool of these sizes doesn't run, whether the desk is closed then, and how often something was said.
 fn not_run<L: Hands + Send + Sync, R: Threads + Wait + Sync>(
     rt: &R,
     alloc: Global,
@@ -66,7 +71,7 @@ fn not_run<L: Hands + Send + Sync, R: Threads + Wait + Sync>(
 {
     let seat = asked(rt, desk)?;
     let call = Counted { count: 0, works };
-    let (call, ended) = run_pool_of(sizes, rt, alloc, desk, Worker::new(4).unwrap(), &Open, call);
+    let (call, ended) = run_pool_of(rt, alloc, desk, sizes, &Open, call);
     let is_closed = desk.next_ready(rt).is_none();
     desk.leave(rt, seat);
     Some((ended.err()?, is_closed, call.count))
@@ -80,7 +85,7 @@ fn free_at<L: Hands>(desk: Desk<L>, badge: Badge<L>) -> usize
     hall.core().free_segments()
 }
 
-/// Why a pool of four of these sizes doesn't run at a desk where a job was asked, and what there is then.
+/// Why a pool of these sizes doesn't run at a desk where a job was asked, and what there is then.
 fn found_at<L: Hands + Send + Sync, R: Threads + Wait + Sync>(
     rt: &R,
     alloc: Global,
@@ -127,23 +132,15 @@ fn because(fault: BeginFault, ended: usize, said: u32) -> Option<Found> {
 /// back, and of the room for threads. The desk is closed, the fault is 1, no thread was started, and nothing is said.
 #[test]
 fn no_memory(rt: HostRuntime) {
-    let wanting = [
-        Sizes {
-            room: usize::MAX,
-            ..USUAL
-        },
-        Sizes {
-            more_ends: usize::MAX,
-            ..USUAL
-        },
-        Sizes {
-            more_threads: usize::MAX,
-            ..USUAL
-        },
-    ];
+    let mut deques = four();
+    deques.room = usize::MAX;
+    let mut ends = four();
+    ends.more_ends = usize::MAX;
+    let mut threads = four();
+    threads.more_threads = usize::MAX;
     let wanted = because(BeginFault::Pool(PoolFault::OutOfMemory), 0, 0);
-    for sizes in wanting {
-        assert_eq!(rt; tried(&rt, rt.alloc(), sizes, true), wanted, "{sizes:?}");
+    for (sizes, growth) in [(deques, "deques"), (ends, "ends"), (threads, "threads")] {
+        assert_eq!(rt; tried(&rt, rt.alloc(), sizes, true), wanted, "{growth}");
     }
     assert_eq!(rt; PoolFault::OutOfMemory.number(), 1);
 }
@@ -155,7 +152,7 @@ fn no_thread(rt: HostRuntime) {
     for (from, ended) in [(1u8, 0usize), (2, 1), (4, 3)] {
         let sizes = Sizes {
             stack: Some((from, usize::MAX)),
-            ..USUAL
+            ..four()
         };
         let wanted = because(BeginFault::Pool(PoolFault::NoThread), ended, 0);
         assert_eq!(rt;
@@ -171,5 +168,5 @@ fn no_thread(rt: HostRuntime) {
 #[test]
 fn a_beginning_that_cannot_be_said(rt: HostRuntime) {
     let wanted = because(BeginFault::Unsaid, 4, 1);
-    assert_eq!(rt; tried(&rt, rt.alloc(), USUAL, false), wanted);
+    assert_eq!(rt; tried(&rt, rt.alloc(), four(), false), wanted);
 }

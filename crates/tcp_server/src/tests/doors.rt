@@ -2,9 +2,9 @@
 ghost use Rattle.std.specs.Prelude.{◌≡◌};
 
 use super::{ANSWERED, Row, are_answered, are_told, is_answered, is_closed, serve_through};
-use crate::ServeFault;
 use crate::door::Door;
-use crate::server::{Sessions, serve_beside};
+use crate::server::serve_beside;
+use crate::{ServeFault, ServerConfig, Sessions};
 use sched_rules::{Config, Worker};
 use std::alloc::Global;
 use std::io::{self, Error, ErrorKind, Read, Write};
@@ -293,7 +293,7 @@ where
     requires parts { (blank.parts ≡ L.parts) × (L.all ≡ L.parts) × (L.all ≡ PARTS) }
 {
     let config = Config::new(256, 64).ok_or("the limits")?;
-    let workers = Worker::new(workers).ok_or("the limits")?;
+    let server = ServerConfig::new(sessions, Worker::new(workers).ok_or("the limits")?);
     let desk: Desk<L> = Desk::new(Hall::new(alloc, config, grain.min(6))?, blank);
     let listener = TcpListener::bind(rt, "127.0.0.1:0")?;
     let address = listener.local_addr()?;
@@ -308,7 +308,7 @@ where
         move || is_content(rt, address, guest, before),
         ||
             requires { L.all ≡ L.parts }
-        { serve_through(rt, alloc, &desk, listener, sessions, workers, &gate) },
+        { serve_through(rt, alloc, &desk, listener, server, &gate) },
     );
     served?;
     met(content?, gate.late.load(Ordering::SeqCst))

@@ -2,6 +2,7 @@
 ghost use Rattle.std.specs.Prelude.{◌≡◌};
 
 use super::{Row, TURNS, Visit, is_answered, serve_through, try_visit};
+use crate::ServerConfig;
 use desk_office::serve_desk;
 use line_io::{FromReader, FromWriter};
 use sched_rules::{Config, Worker};
@@ -137,7 +138,7 @@ where
     let desk: Desk<L> = Desk::new(Hall::new(alloc, config, 0)?, blank);
     let listener = TcpListener::bind(rt, "127.0.0.1:0")?;
     let stream = TcpStream::connect(rt, listener.local_addr()?)?;
-    let one = Worker::new(1).ok_or("one worker")?;
+    let one = ServerConfig::new(1, Worker::new(1).ok_or("one worker")?);
     let gate = Held {
         is_there: AtomicBool::new(false),
         is_open: AtomicBool::new(false),
@@ -147,7 +148,7 @@ where
         || is_ended(&stream, &gate, more, end),
         ||
             requires { L.all ≡ L.parts }
-        { serve_through(rt, alloc, &desk, listener, 1, one, &gate) },
+        { serve_through(rt, alloc, &desk, listener, one, &gate) },
     );
     served?;
     Ok(told?)
