@@ -8,9 +8,10 @@ use Rattle.frame_tree.specs.declared.names.State.TheVariants.{Ready, Running, Co
 use Rattle.frame_tree.specs.declared.slot.Slot.{Slot}
 use Rattle.frame_tree.specs.declared.ready.ReadyFrame.{ReadyFrame}
 use Rattle.frame_tree.specs.Frames.{first_of_two, is_ready, ready_name}
-use Rattle.frame_tree.specs.Slots.{SerialList, serials_of, AreSoundSlots, ready_slots, AllAbove, Rises, with_slot, with_child, without_child, serials_of, newest_in}
+use Rattle.frame_tree.specs.Slots.{serials_of, AreSoundSlots, ready_slots, AllAbove, Rises, with_slot, with_child, without_child, serials_of, newest_in}
 use Rattle.number_index.specs.Places.{AreAbove, AreRising}
-use Rattle.frame_tree.specs.Readies.{ReadyList, IsTenant, with_ready, ready_in, without_ready, put_ready, last_ready}
+use Rattle.frame_tree.specs.Windows.{PlacedList}
+use Rattle.frame_tree.specs.Readies.{IsTenant, with_ready, ready_in, without_ready, put_ready, last_ready}
 use Rattle.frame_tree.proofs.Search.{above_at}
 use Rattle.frame_tree.proofs.Places.{rises_by-filter, filter_not-above, filter_below-above}
 use Rattle.frame_tree.proofs.Lengths.{length-filter-le}
@@ -209,12 +210,12 @@ added_ready xs parent slot home frames e state =
     rw (ready_in-append (with_child parent xs) (slot ∷ []), ready_in-with_child parent xs, state, e) refl
 
 -- a tenant, from slots that are sound by any count, their serials and the ready frames among them
-pub is_tenant : {T : Type 0} (slots : List (Slot T)) (count places : ℕ) (serials : SerialList) (ready : ReadyList) → AreSoundSlots slots count → serials.serials ≡ serials_of slots → ready.frames ≡ ready_in slots → length slots ≤ places → places ≤ 4096 → places ≤ serials.places → places ≤ ready.places → IsTenant slots places serials ready
+pub is_tenant : {T : Type 0} (slots : List (Slot T)) (count places : ℕ) (serials : PlacedList ℕ) (ready : PlacedList ReadyFrame) → AreSoundSlots slots count → serials.list ≡ serials_of slots → ready.list ≡ ready_in slots → length slots ≤ places → places ≤ 4096 → places ≤ serials.places → places ≤ ready.places → IsTenant slots places serials ready
 is_tenant slots count places serials ready s i e within few same_serials same = record { sound = record { linked = s.linked; counted = s.counted; ready_count = ap length e ∙ ready_in-length slots }; index = i; ready_frames = e; within = within; few = few; serial_places = same_serials; ready_places = same }
 
 -- no more are ready than there are slots
 pub few_ready_in : {T : Type 0} (slots : List (Slot T)) → length (ready_in slots) ≤ length slots
 few_ready_in slots = omega (arith, ready_in-length slots, length-filter-le (λ x. is_ready x.state) slots)
 
-pub tenant_rises : {T : Type 0} (slots : List (Slot T)) (places : ℕ) (serials : SerialList) (ready : ReadyList) → IsTenant slots places serials ready → AreRising (λ frame. frame.serial) ready.frames
+pub tenant_rises : {T : Type 0} (slots : List (Slot T)) (places : ℕ) (serials : PlacedList ℕ) (ready : PlacedList ReadyFrame) → IsTenant slots places serials ready → AreRising (λ frame. frame.serial) ready.list
 tenant_rises slots places serials ready t = rw t.ready_frames (ready_in-rises slots (linked_rises [] slots t.sound.linked))

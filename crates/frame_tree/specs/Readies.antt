@@ -6,12 +6,8 @@ use Rattle.frame_tree.specs.declared.slot.Slot.{Slot}
 use Rattle.frame_tree.specs.declared.ready.ReadyFrame.{ReadyFrame}
 use Rattle.frame_tree.specs.Frames.{first_of_two, is_ready}
 use Rattle.number_index.specs.Places.{inserted}
-use Rattle.frame_tree.specs.Slots.{AreSoundSlots, SerialList, serials_of}
-
--- a number of places, and ready frames by rising serial
-pub record ReadyList : Type 0 where
-  pub places : ℕ
-  pub frames : List ReadyFrame
+use Rattle.frame_tree.specs.Slots.{AreSoundSlots, serials_of}
+use Rattle.frame_tree.specs.Windows.{PlacedList}
 
 -- the frame of this serial before others, if it is ready
 abbrev pub with_ready : ℕ → State → List ReadyFrame → List ReadyFrame
@@ -44,10 +40,10 @@ last_ready [] = None
 last_ready (frame ∷ frames) = first_of_two (last_ready frames) (Some frame)
 
 -- what is true of a tenant's slots, its number of places, its serials and its ready frames
-pub record IsTenant {T : Type 0} (slots : List (Slot T)) (places : ℕ) (serials : SerialList) (ready : ReadyList) : Type 0 where
-  pub sound : AreSoundSlots slots (length ready.frames)
-  pub index : serials.serials ≡ serials_of slots
-  pub ready_frames : ready.frames ≡ ready_in slots
+pub record IsTenant {T : Type 0} (slots : List (Slot T)) (places : ℕ) (serials : PlacedList ℕ) (ready : PlacedList ReadyFrame) : Type 0 where
+  pub sound : AreSoundSlots slots (length ready.list)
+  pub index : serials.list ≡ serials_of slots
+  pub ready_frames : ready.list ≡ ready_in slots
   pub within : length slots ≤ places
   pub few : places ≤ 4096
   pub serial_places : places ≤ serials.places

@@ -57,11 +57,6 @@ names_in tenant slots = map (λ slot. record { tenant = tenant; serial = slot.se
 abbrev pub serials_of : {T : Type 0} → List (Slot T) → List ℕ
 serials_of slots = map (λ slot. slot.serial) slots
 
--- a number of places, and serials in rising order
-pub record SerialList : Type 0 where
-  pub places : ℕ
-  pub serials : List ℕ
-
 -- whether a slot has this serial
 abbrev pub has_slot : {T : Type 0} → List (Slot T) → ℕ → Bool
 has_slot [] serial = false

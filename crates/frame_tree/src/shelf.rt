@@ -18,8 +18,8 @@ ghost use Rattle.frame_tree.specs.Places.{has_number};
 ghost use Rattle.frame_tree.specs.Shelves.{slots_in, AllHere, AreApartKeys, AreKeys, IsKeyAt, IsSeenAt, ChangesSlot, KnowsParent, new_slot, HasLink, is_taken_in, Marks, AreThere, NoneMarked, is_marked, swept_in, values_in};
 
 use crate::names::State;
-use crate::ready::ReadyFrames;
-use crate::serials::Serials;
+use crate::ready::{ReadyFrame, ReadyFrames};
+use crate::serials::{Serials, known_place, search};
 use crate::slot::Slot;
 use crate::window::ListWindow;
 use number_index::Guesses;
@@ -123,7 +123,7 @@ impl<T: Copy, A: Allocator> Shelf<T, A> {
     /// The slot with a serial.
     #[inline(always)]
     pub(crate) fn find(&self, serials: &Serials<A>, serial: u64) -> Option<Slot<T>>
-        requires index { serials.now.serials ≡ serials_of self.now.slots }
+        requires index { serials.now.list ≡ serials_of self.now.slots }
         requires rise { Rises self.now.slots }
         ensures found { IfSome result (λ slot. (at : ℕ) × IsSeenAt self.now.slots serial at slot) }
         ensures none { IfNone result (has_slot self.now.slots serial ≡ false) }
@@ -134,7 +134,7 @@ impl<T: Copy, A: Allocator> Shelf<T, A> {
                 return Some(kept.slot);
             }
         }
-        match serials.search(serial) {
+        match search(serials, serial) {
             Some(at) => Some(self.at(at)),
             None => None,
         }
@@ -143,8 +143,8 @@ impl<T: Copy, A: Allocator> Shelf<T, A> {
     /// Adds the serials of the slots from a place on.
     pub(crate) fn add_serials(&self, from: usize, serials: &mut Serials<A>)
         requires within { from ≤ length self.now.slots }
-        requires room { length serials.old.serials + length self.now.slots ≤ serials.old.places + from }
-        ensures { serials.new ≡ record serials.old { serials = serials.old.serials ++ serials_of (drop from self.now.slots) } }
+        requires room { length serials.old.list + length self.now.slots ≤ serials.old.places + from }
+        ensures { serials.new ≡ record serials.old { list = serials.old.list ++ serials_of (drop from self.now.slots) } }
     {
         for at in from..self.len() {
             serials.push(self.at(at).serial);
@@ -154,13 +154,16 @@ impl<T: Copy, A: Allocator> Shelf<T, A> {
     /// Adds the ready frames among the slots from a place on.
     pub(crate) fn add_ready(&self, from: usize, ready: &mut ReadyFrames<A>)
         requires within { from ≤ length self.now.slots }
-        requires room { length ready.old.frames + length self.now.slots ≤ ready.old.places + from }
-        ensures { ready.new ≡ record ready.old { frames = ready.old.frames ++ ready_in (drop from self.now.slots) } }
+        requires room { length ready.old.list + length self.now.slots ≤ ready.old.places + from }
+        ensures { ready.new ≡ record ready.old { list = ready.old.list ++ ready_in (drop from self.now.slots) } }
     {
         for at in from..self.len() {
             let slot = self.at(at);
             if let State::Ready(home) = slot.state {
-                ready.push(slot.serial, home);
+                ready.push(ReadyFrame {
+                    serial: slot.serial,
+                    home,
+                });
             }
         }
     }
@@ -180,7 +183,7 @@ impl<T: Copy, A: Allocator> Shelf<T, A> {
     /// Puts the slot with a serial that is there into another state, and gives the one that it was in.
     #[inline(always)]
     pub(crate) fn set_state(&mut self, serials: &Serials<A>, serial: u64, state: State) -> State
-        requires index { serials.now.serials ≡ serials_of self.old.slots }
+        requires index { serials.now.list ≡ serials_of self.old.slots }
         requires rise { Rises self.old.slots }
         requires there { has_slot self.old.slots serial ≡ true }
         ensures { ChangesSlot self.old self.new serial (λ slot. record slot { state = state }) (λ slot. result ≡ slot.state) }
@@ -205,7 +208,7 @@ impl<T: Copy, A: Allocator> Shelf<T, A> {
         value: T,
     )
         requires room { length self.old.slots < self.old.places }
-        requires index { serials.now.serials ≡ serials_of self.old.slots }
+        requires index { serials.now.list ≡ serials_of self.old.slots }
         requires rise { Rises self.old.slots }
         requires there { has_parent_slot self.old.slots parent ≡ true }
         requires few { AllCountsBelow 4096 self.old.slots }
@@ -344,12 +347,12 @@ fn search_key<A: Allocator>(
     serials: &Serials<A>,
     serial: u64,
 ) -> usize
-    requires rise { AreRising (λ n. n) serials.now.serials }
-    requires there { has_number serials.now.serials serial ≡ true }
-    requires long { length serials.now.serials ≡ length order.now.list }
-    ensures { (at : ℕ) × (at < length order.now.list) × (result ≡ get_or order.now.list at result) × (slice_index serials.now.serials at ≡ serial) }
+    requires rise { AreRising (λ n. n) serials.now.list }
+    requires there { has_number serials.now.list serial ≡ true }
+    requires long { length serials.now.list ≡ length order.now.list }
+    ensures { (at : ℕ) × (at < length order.now.list) × (result ≡ get_or order.now.list at result) × (slice_index serials.now.list at ≡ serial) }
 {
-    order.at(serials.known_place(serial))
+    order.at(known_place(serials, serial))
 }
 
 /// Counts one more child of a parent, and gives the root of the new frame, and the parent's key.
@@ -363,7 +366,7 @@ fn adopt<T: Copy, A: Allocator>(
     serial: u64,
 ) -> (u64, Option<usize>)
     requires keys { AreKeys slab.old order.now.list }
-    requires index { serials.now.serials ≡ serials_of (slots_in slab.old order.now.list) }
+    requires index { serials.now.list ≡ serials_of (slots_in slab.old order.now.list) }
     requires rise { Rises (slots_in slab.old order.now.list) }
     requires there { has_parent_slot (slots_in slab.old order.now.list) parent ≡ true }
     requires few { AllCountsBelow 4096 (slots_in slab.old order.now.list) }

@@ -9,10 +9,11 @@ ghost use Rattle.frame_tree.specs.Slots.{frames_from, IsLinked};
 ghost use Rattle.frame_tree.specs.Frames.{frame_at, has_frame, path_in, root_of, children_of, aborted, frames_under, frames_without, values_of, with_state, ready_frames, AllBelow, entry_of, newest_ready_of, new_frame, one_if_ready, HasValue, has_parent, IsReadyAt, IsTree};
 
 use crate::names::{Entry, FrameId, State};
-use crate::ready::ReadyFrames;
-use crate::serials::Serials;
+use crate::ready::{ReadyFrame, ReadyFrames, follow, forget_from, leave, newest};
+use crate::serials::{Serials, known_place, place_of};
 use crate::shelf::Shelf;
 use crate::slot::Slot;
+use crate::window::ListWindow;
 use number_index::Numbered;
 use std::alloc::{AllocError, Allocator, Global};
 use std::marker::Model;
@@ -61,8 +62,8 @@ impl<T: Copy, A: Allocator> TenantFrames<T, A> {
         ensures { IfOk result (λ t. t ≡ record { tenant = tenant; places = places; frames = [] }) }
     {
         let shelf = Shelf::new(alloc.clone()?, places)?;
-        let serials = Serials::new(alloc.clone()?, places)?;
-        let ready = ReadyFrames::new(alloc, places)?;
+        let serials = ListWindow::new(alloc.clone()?, places)?;
+        let ready = ListWindow::new(alloc, places)?;
         Ok(TenantFrames {
             tenant,
             shelf,
@@ -136,7 +137,7 @@ impl<T: Copy, A: Allocator> TenantFrames<T, A> {
         requires { IsTrue (has_frame self.now.frames serial) }
         ensures { result ≡ root_of (path_in self.now.frames serial) }
     {
-        let at = self.serials.known_place(serial);
+        let at = known_place(&self.serials, serial);
         self.shelf.at(at).root
     }
 
@@ -156,7 +157,7 @@ impl<T: Copy, A: Allocator> TenantFrames<T, A> {
     pub fn contains(&self, serial: u64) -> bool
         ensures { result ≡ has_frame self.now.frames serial }
     {
-        self.serials.place_of(serial).is_some()
+        place_of(&self.serials, serial).is_some()
     }
 
     /// Whether this serial is greater than every frame's, so that a new frame may have it.
@@ -176,7 +177,7 @@ impl<T: Copy, A: Allocator> TenantFrames<T, A> {
         ensures value { result ≡ newest_ready_of self.now.tenant self.now.frames }
         ensures found { IfSome result (λ ready. (ready.0.tenant ≡ self.now.tenant) × IsReadyAt (frame_at self.now.frames ready.0.serial) ready.1) }
     {
-        match self.ready.newest() {
+        match newest(&self.ready) {
             Some(frame) => {
                 let tenant = self.tenant;
                 let serial = frame.serial;
@@ -196,7 +197,7 @@ impl<T: Copy, A: Allocator> TenantFrames<T, A> {
     {
         self.shelf.push(&self.serials, serial, parent, home, value);
         self.serials.push(serial);
-        self.ready.push(serial, home);
+        self.ready.push(ReadyFrame { serial, home });
     }
 
     /// Puts a frame into another state, and gives the one that it was in.
@@ -207,7 +208,7 @@ impl<T: Copy, A: Allocator> TenantFrames<T, A> {
         ensures count { length (ready_frames self.new.frames) + one_if_ready result ≡ length (ready_frames self.old.frames) + one_if_ready state }
     {
         let was = self.shelf.set_state(&self.serials, serial, state);
-        self.ready.follow(serial, was, state);
+        follow(&mut self.ready, serial, was, state);
         was
     }
 
@@ -220,7 +221,7 @@ impl<T: Copy, A: Allocator> TenantFrames<T, A> {
         ensures values { removed.new.items ≡ removed.old.items ++ values_of (frames_under serial self.old.frames) }
         ensures capacity { vec_capacity removed.new ≡ vec_capacity removed.old }
     {
-        let at = self.serials.known_place(serial);
+        let at = known_place(&self.serials, serial);
         let slot = self.shelf.at(at);
         if slot.children == 0 {
             return;
@@ -235,7 +236,7 @@ impl<T: Copy, A: Allocator> TenantFrames<T, A> {
         self.shelf.cut(at, serial, removed);
         self.serials.truncate(at);
         self.shelf.add_serials(at, &mut self.serials);
-        self.ready.forget_from(serial);
+        forget_from(&mut self.ready, serial);
         self.shelf.add_ready(at, &mut self.ready);
     }
 
@@ -261,10 +262,10 @@ impl<T: Copy, A: Allocator> TenantFrames<T, A> {
         ensures value { HasValue (frame_at self.old.frames serial) result.1 }
         ensures count { length (ready_frames self.new.frames) + one_if_ready result.0 ≡ length (ready_frames self.old.frames) }
     {
-        let at = self.serials.known_place(serial);
+        let at = known_place(&self.serials, serial);
         let slot = self.shelf.take(at);
         self.serials.remove(at);
-        self.ready.leave(serial, slot.state);
+        leave(&mut self.ready, serial, slot.state);
         (slot.state, slot.value)
     }
 }

@@ -1,8 +1,8 @@
 //! The iterators over names.
-ghost use Rattle.std.specs.Prelude.{◌≡◌, List, drop};
+ghost use Rattle.std.specs.Prelude.{◌≡◌, [], drop};
 ghost use Rattle.std.specs.Iterator.{YieldsFirst, item_count};
 ghost use Rattle.frame_tree.specs.Frames.{names_of, children_of, frames_in, IsTree};
-ghost use Rattle.frame_tree.specs.Slots.{names_in, child_slots, SplitsChild};
+ghost use Rattle.frame_tree.specs.Slots.{frames_from, IsLinked, SplitsChild};
 ghost use Rattle.frame_tree.specs.Shelves.{slots_after};
 
 use crate::names::FrameId;
@@ -38,19 +38,9 @@ impl<'a, T, A: Allocator> Frames<'a, T, A> {
         ensures names { result ≡ names_of tenant (frames_in tree.entry) }
         ensures tree { IsTree (frames_in tree.entry) }
     {
-        match tree {
-            Some(tree) => Frames::new(tenant, Some(tree.shelf())),
-            None => Frames::new(tenant, None),
-        }
-    }
-
-    /// The names of the frames on a shelf.
-    fn new(tenant: u64, shelf: Option<&'a Shelf<T, A>>) -> Self
-        ensures { result ≡ names_in tenant (slots_after 0 shelf.entry) }
-    {
         Frames {
             tenant,
-            shelf,
+            shelf: shelf_of(tree),
             at: 0,
         }
     }
@@ -102,20 +92,10 @@ impl<'a, T, A: Allocator> Children<'a, T, A> {
         T: Copy,
         ensures { result ≡ names_of parent.tenant (children_of (frames_in tree.entry) parent.serial) }
     {
-        match tree {
-            Some(tree) => Children::new(parent, Some(tree.shelf())),
-            None => Children::new(parent, None),
-        }
-    }
-
-    /// The names of a frame's children on a shelf.
-    fn new(parent: FrameId, shelf: Option<&'a Shelf<T, A>>) -> Self
-        ensures { result ≡ names_in parent.tenant (child_slots parent.serial (slots_after 0 shelf.entry)) }
-    {
         Children {
             tenant: parent.tenant,
             parent: parent.serial,
-            shelf,
+            shelf: shelf_of(tree),
             at: 0,
         }
     }
@@ -139,6 +119,19 @@ impl<'a, T: Copy, A: Allocator> Iterator for Children<'a, T, A> {
             }),
             None => None,
         }
+    }
+}
+
+/// The shelf of a tree, and none where there is no tree.
+fn shelf_of<'a, T: Copy, A: Allocator>(
+    tree: Option<&'a TenantFrames<T, A>>,
+) -> Option<&'a Shelf<T, A>>
+    ensures frames { frames_from [] (slots_after 0 result) ≡ frames_in tree.entry }
+    ensures linked { IsLinked [] (slots_after 0 result) }
+{
+    match tree {
+        Some(tree) => Some(tree.shelf()),
+        None => None,
     }
 }
 

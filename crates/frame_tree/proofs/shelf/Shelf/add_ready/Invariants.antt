@@ -4,7 +4,7 @@ use Rattle.frame_tree.proofs.shelf.Shelf.add_ready.Given as goal
 
 abbrev pub invariant-loop-at : goal.invariant-loop-at
 invariant-loop-at g l = record {
-  left : l.ready.frames ++ ready_in (drop l.at l.self.slots) ≡ l.initial.ready.frames ++ ready_in (drop l.from l.self.slots);
+  left : l.ready.list ++ ready_in (drop l.at l.self.slots) ≡ l.initial.ready.list ++ ready_in (drop l.from l.self.slots);
   places : l.ready.places ≡ l.initial.ready.places;
-  room : length l.ready.frames + length l.self.slots ≤ l.ready.places + l.at;
+  room : length l.ready.list + length l.self.slots ≤ l.ready.places + l.at;
 }

@@ -4,7 +4,7 @@ use Rattle.frame_tree.proofs.shelf.Shelf.add_serials.Given as goal
 
 abbrev pub invariant-loop-at : goal.invariant-loop-at
 invariant-loop-at g l = record {
-  left : l.serials.serials ++ serials_of (drop l.at l.self.slots) ≡ l.initial.serials.serials ++ serials_of (drop l.from l.self.slots);
+  left : l.serials.list ++ serials_of (drop l.at l.self.slots) ≡ l.initial.serials.list ++ serials_of (drop l.from l.self.slots);
   places : l.serials.places ≡ l.initial.serials.places;
-  room : length l.serials.serials + length l.self.slots ≤ l.serials.places + l.at;
+  room : length l.serials.list + length l.self.slots ≤ l.serials.places + l.at;
 }

@@ -21,7 +21,7 @@ push-requires-clause-there g c =
 pub push-requires-clause-few : goal.push-requires-clause-few
 push-requires-clause-few g c =
     let room = rw (← c.self.view_is) at c.requires.room in
-    few_counts c.self.inside.shelf.slots (length c.self.inside.ready.frames) 4096 c.self.invariant.sound (omega (arith, room, c.self.invariant.few))
+    few_counts c.self.inside.shelf.slots (length c.self.inside.ready.list) 4096 c.self.invariant.sound (omega (arith, room, c.self.invariant.few))
 
 pub push-requires-clause-room : goal.push-requires-clause-room
 push-requires-clause-room g c =
@@ -51,9 +51,9 @@ invariant_of-self g c =
     let root = root_under slots c.args.parent c.args.serial in
     let long = frames_from-length [] slots in
     rw (c.push.ensures, c.push-2.ensures, c.push-3.ensures) (is_tenant _ _ _ _ _
-    (added_sound slots _ (length c.self.inside.ready.frames) c.args.serial root c.args.home c.args.parent c.args.value c.self.invariant.sound above there refl refl)
-    (added_index slots c.args.parent _ c.self.inside.serials.serials c.self.invariant.index)
-    (added_ready slots c.args.parent _ c.args.home c.self.inside.ready.frames c.self.invariant.ready_frames refl)
+    (added_sound slots _ (length c.self.inside.ready.list) c.args.serial root c.args.home c.args.parent c.args.value c.self.invariant.sound above there refl refl)
+    (added_index slots c.args.parent _ c.self.inside.serials.list c.self.invariant.index)
+    (added_ready slots c.args.parent _ c.args.home c.self.inside.ready.list c.self.invariant.ready_frames refl)
     (omega (arith, room, long, length-with_child c.args.parent slots, length_more (with_child c.args.parent slots) (record { serial = c.args.serial; parent = c.args.parent; root = root; state = Ready c.args.home; children = 0; value = c.args.value })))
     c.self.invariant.few
     c.self.invariant.serial_places

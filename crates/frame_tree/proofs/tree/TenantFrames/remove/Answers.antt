@@ -48,9 +48,9 @@ invariant_of-self g c =
     let slots = c.self.inside.shelf.slots in
     let leaf = rw (← c.self.view_is) at c.requires.leaf in
     let gone = ready_in-remove slots c.known_place-at.result c.args.serial c.take-slot.result (linked_rises [] slots c.self.invariant.sound.linked) place.within place.found c.take-slot.ensures.value in
-    rw (c.take-slot.ensures.left, c.leave.ensures, c.remove.ensures) (is_tenant _ _ _ _ _
+    rw (c.take-slot.ensures.left, c.leave.ensures, c.remove.ensures.left) (is_tenant _ _ _ _ _
     (lost_sound slots _ _ _ c.known_place-at.result c.args.serial c.take-slot.result c.self.invariant.sound place.within place.found c.take-slot.ensures.value leaf refl refl)
-    (removed_index slots c.self.inside.serials.serials c.known_place-at.result c.self.invariant.index ∙ sym (serials_of-without_child c.take-slot.result.parent (remove slots c.known_place-at.result)))
+    (removed_index slots c.self.inside.serials.list c.known_place-at.result c.self.invariant.index ∙ sym (serials_of-without_child c.take-slot.result.parent (remove slots c.known_place-at.result)))
     (rw (ready_in-without_child c.take-slot.result.parent (remove slots c.known_place-at.result), c.self.invariant.ready_frames) gone)
     (omega (arith, c.self.invariant.within, length-remove slots c.known_place-at.result place.within, length-without_child c.take-slot.result.parent (remove slots c.known_place-at.result)))
     c.self.invariant.few

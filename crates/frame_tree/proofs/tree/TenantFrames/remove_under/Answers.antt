@@ -36,7 +36,7 @@ returns-then-slot-eq0-clause-values g c =
 pub cut-requires-clause-linked : goal.cut-requires-clause-linked
 cut-requires-clause-linked g c =
     let place = found_at _ _ _ _ c.self.invariant.index c.known_place-at.ensures.within c.known_place-at.ensures.found in
-    rw c.put.ensures (cut_linked c.self.inside.shelf.slots (length c.self.inside.ready.frames) c.known_place-at.result c.args.serial c.at-slot.result c.self.invariant.sound place.within place.found c.at-slot.ensures)
+    rw c.put.ensures (cut_linked c.self.inside.shelf.slots (length c.self.inside.ready.list) c.known_place-at.result c.args.serial c.at-slot.result c.self.invariant.sound place.within place.found c.at-slot.ensures)
 
 pub cut-requires-clause-room : goal.cut-requires-clause-room
 cut-requires-clause-room g c =
@@ -55,14 +55,14 @@ forget_from-requires g c = tenant_rises _ _ _ _ c.self.invariant
 pub add_serials-requires : goal.add_serials-requires
 add_serials-requires g c =
     let place = found_at _ _ _ _ c.self.invariant.index c.known_place-at.ensures.within c.known_place-at.ensures.found in
-    let cuts = cut_ready c.self.inside.shelf.slots _ c.known_place-at.result c.args.serial c.self.inside.shelf.places c.at-slot.result _ c.self.inside.ready.frames c.self.invariant.sound place.within place.found c.at-slot.ensures refl c.self.invariant.ready_frames c.self.invariant.within in
+    let cuts = cut_ready c.self.inside.shelf.slots _ c.known_place-at.result c.args.serial c.self.inside.shelf.places c.at-slot.result _ c.self.inside.ready.list c.self.invariant.sound place.within place.found c.at-slot.ensures refl c.self.invariant.ready_frames c.self.invariant.within in
     let fewer = cut_length c.args.serial c.self.inside.shelf.slots c.known_place-at.result c.at-slot.result _ refl in
-    rw (c.truncate.ensures, c.cut.ensures.kept, c.put.ensures) (record { within = cuts.within; room = omega (arith, length-take-le c.known_place-at.result c.self.inside.serials.serials, fewer, c.self.invariant.within, c.self.invariant.serial_places) })
+    rw (c.truncate.ensures, c.cut.ensures.kept, c.put.ensures) (record { within = cuts.within; room = omega (arith, length-take-le c.known_place-at.result c.self.inside.serials.list, fewer, c.self.invariant.within, c.self.invariant.serial_places) })
 
 pub add_ready-requires : goal.add_ready-requires
 add_ready-requires g c =
     let place = found_at _ _ _ _ c.self.invariant.index c.known_place-at.ensures.within c.known_place-at.ensures.found in
-    let cuts = cut_ready c.self.inside.shelf.slots _ c.known_place-at.result c.args.serial c.self.inside.shelf.places c.at-slot.result _ c.self.inside.ready.frames c.self.invariant.sound place.within place.found c.at-slot.ensures refl c.self.invariant.ready_frames c.self.invariant.within in
+    let cuts = cut_ready c.self.inside.shelf.slots _ c.known_place-at.result c.args.serial c.self.inside.shelf.places c.at-slot.result _ c.self.inside.ready.list c.self.invariant.sound place.within place.found c.at-slot.ensures refl c.self.invariant.ready_frames c.self.invariant.within in
     let room = cuts.room in
     rw (c.forget_from.ensures, c.cut.ensures.kept, c.put.ensures) (record { within = cuts.within; room = omega (arith, room, c.self.invariant.ready_places) })
 
@@ -70,10 +70,10 @@ pub invariant_of-self : goal.invariant_of-self
 invariant_of-self g c =
     let place = found_at _ _ _ _ c.self.invariant.index c.known_place-at.ensures.within c.known_place-at.ensures.found in
     let slots = c.self.inside.shelf.slots in
-    let cuts = cut_ready slots _ c.known_place-at.result c.args.serial c.self.inside.shelf.places c.at-slot.result _ c.self.inside.ready.frames c.self.invariant.sound place.within place.found c.at-slot.ensures refl c.self.invariant.ready_frames c.self.invariant.within in
+    let cuts = cut_ready slots _ c.known_place-at.result c.args.serial c.self.inside.shelf.places c.at-slot.result _ c.self.inside.ready.list c.self.invariant.sound place.within place.found c.at-slot.ensures refl c.self.invariant.ready_frames c.self.invariant.within in
     rw (c.add_ready.ensures, c.forget_from.ensures, c.add_serials.ensures, c.truncate.ensures, c.cut.ensures.kept, c.put.ensures) (is_tenant _ _ _ _ _
     (cut_sound slots _ _ c.known_place-at.result c.args.serial c.at-slot.result _ c.self.invariant.sound place.within place.found c.at-slot.ensures refl refl)
-    (cut_index slots _ c.self.inside.serials.serials c.known_place-at.result c.self.invariant.index cuts.front)
+    (cut_index slots _ c.self.inside.serials.list c.known_place-at.result c.self.invariant.index cuts.front)
     cuts.ready
     (omega (arith, cut_length c.args.serial slots c.known_place-at.result c.at-slot.result _ refl, c.self.invariant.within))
     c.self.invariant.few
@@ -90,5 +90,5 @@ pub returns-clause-values : goal.returns-clause-values
 returns-clause-values g c =
     let place = found_at _ _ _ _ c.self.invariant.index c.known_place-at.ensures.within c.known_place-at.ensures.found in
     let slots = c.self.inside.shelf.slots in
-    let values = cut_values slots (length c.self.inside.ready.frames) c.known_place-at.result c.args.serial c.at-slot.result c.self.invariant.sound place.within place.found c.at-slot.ensures in
+    let values = cut_values slots (length c.self.inside.ready.list) c.known_place-at.result c.args.serial c.at-slot.result c.self.invariant.sound place.within place.found c.at-slot.ensures in
     rw (← c.self.view_is) (rw (c.put.ensures, values) at c.cut.ensures.values)

@@ -33,8 +33,8 @@ invariant_of-self g c =
     let slot = was.slot in
     let changed = ready_in-state slots was.at c.args.serial slot c.args.state (linked_rises [] slots c.self.invariant.sound.linked) was.seen.within was.seen.named was.seen.read in
     rw (was.changed, c.follow.ensures, was.told) (is_tenant _ _ _ _ _
-    (sound_state slots (length c.self.inside.ready.frames) (length (ready_slots (set slots was.at (in_state c.args.state slot)))) was.at c.args.serial slot c.args.state c.self.invariant.sound was.seen.within was.seen.named was.seen.read (omega (arith, c.self.invariant.sound.ready_count, ready_state slots was.at slot c.args.state was.seen.within was.seen.read)))
-    (index_set slots c.self.inside.serials.serials was.at c.args.serial slot (in_state c.args.state slot) c.self.invariant.index (record { within = was.seen.within; found = was.seen.named }) was.seen.read refl)
+    (sound_state slots (length c.self.inside.ready.list) (length (ready_slots (set slots was.at (in_state c.args.state slot)))) was.at c.args.serial slot c.args.state c.self.invariant.sound was.seen.within was.seen.named was.seen.read (omega (arith, c.self.invariant.sound.ready_count, ready_state slots was.at slot c.args.state was.seen.within was.seen.read)))
+    (index_set slots c.self.inside.serials.list was.at c.args.serial slot (in_state c.args.state slot) c.self.invariant.index (record { within = was.seen.within; found = was.seen.named }) was.seen.read refl)
     (rw c.self.invariant.ready_frames changed)
     (omega (arith, c.self.invariant.within, length-set slots was.at (in_state c.args.state slot)))
     c.self.invariant.few
