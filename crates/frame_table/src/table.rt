@@ -146,7 +146,7 @@ impl<T: Copy, A: Allocator> FrameTable<T, A> {
             Some(tree) => {
                 may_follow(tree, f.tenant, parent)
                     && tree.len() < tree.places()
-                    && tree.is_above(f.serial)
+                    && tree.exceeds_all(f.serial)
             }
             None => false,
         }

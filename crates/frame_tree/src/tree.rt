@@ -161,7 +161,7 @@ impl<T: Copy, A: Allocator> TenantFrames<T, A> {
     }
 
     /// Whether this serial is greater than every frame's, so that a new frame may have it.
-    pub fn is_above(&self, serial: u64) -> bool
+    pub fn exceeds_all(&self, serial: u64) -> bool
         ensures above { IsTrue result → AllBelow serial self.now.frames }
         ensures otherwise { AllBelow serial self.now.frames → IsTrue result }
     {

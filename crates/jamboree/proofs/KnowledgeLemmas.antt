@@ -9,7 +9,7 @@ use Rattle.othello_moves.specs.declared.choices.Choice.{Choice}
 use Rattle.othello_moves.specs.Choices.{choices}
 use Rattle.jamboree_rules.specs.othello_eval.declared.bound.Bound.{Bound}
 use Rattle.jamboree_rules.specs.othello_eval.Tables.{entered, IsTable}
-use Rattle.jamboree_rules.specs.Places.{rest_of, status_of, is_rest, is_entry, are_entries}
+use Rattle.jamboree_rules.specs.Places.{entry_rest, status_of, is_rest, is_entry, are_entries}
 use Rattle.jamboree_rules.specs.Entries.{bounds_in}
 use Rattle.jamboree.specs.declared.entry.Known.{Known}
 use Rattle.jamboree.specs.Knowledge.{known_of, bound_by, bounds_by}
@@ -21,13 +21,13 @@ entry-at (e ∷ es) zero are inside = (and_parts (is_entry e) (are_entries es) a
 entry-at (e ∷ es) (suc i) are inside = entry-at es i (and_parts (is_entry e) (are_entries es) are).1 (omega arith)
 
 -- so its rest is one
-pub rest-at : (es : List ℕ) (i rest : ℕ) → are_entries es ≡ true → i < length es → rest ≡ rest_of (slice_index es i) → is_rest rest ≡ true
+pub rest-at : (es : List ℕ) (i rest : ℕ) → are_entries es ≡ true → i < length es → rest ≡ entry_rest (slice_index es i) → is_rest rest ≡ true
 rest-at es i rest are inside e =
-    ap is_rest e ∙ (and_parts (nat_le (status_of (slice_index es i)) 4) (is_rest (rest_of (slice_index es i))) (entry-at es i are inside)).1
+    ap is_rest e ∙ (and_parts (nat_le (status_of (slice_index es i)) 4) (is_rest (entry_rest (slice_index es i))) (entry-at es i are inside)).1
 
 -- what the first entries say
 abbrev pub said_by : List ℕ → List Known
-said_by es = map known_of (map rest_of es)
+said_by es = map known_of (map entry_rest es)
 
 -- the bounds of choices by what their rests say
 pub bounds-said : (cs : List Choice) (rests : List ℕ) → bounds_by cs (map known_of rests) ≡ bounds_in cs rests
@@ -51,8 +51,8 @@ bound-holds P (e ∷ bs) zero b all got = subst P (cc) (All-head P e bs all)
 bound-holds P (e ∷ bs) (suc i) b all got = bound-holds P bs i b (All-tail P e bs all) got
 
 -- the bounds that are read of a frame's words
-pub table-read : (cs : List Choice) (es w : List ℕ) (ks : List Known) → ks ≡ said_by es → es ≡ drop 12 w → bounds_by cs ks ≡ bounds_in cs (map rest_of (drop 12 w))
-table-read cs es w ks read is = ap (bounds_by cs) read ∙ bounds-said cs (map rest_of es) ∙ ap (λ (xs : List ℕ). bounds_in cs (map rest_of xs)) is
+pub table-read : (cs : List Choice) (es w : List ℕ) (ks : List Known) → ks ≡ said_by es → es ≡ drop 12 w → bounds_by cs ks ≡ bounds_in cs (map entry_rest (drop 12 w))
+table-read cs es w ks read is = ap (bounds_by cs) read ∙ bounds-said cs (map entry_rest es) ∙ ap (λ (xs : List ℕ). bounds_in cs (map entry_rest xs)) is
 
 -- there are no more bounds than is known of
 bounds-few : (cs : List Choice) (ks : List Known) → length (bounds_by cs ks) ≤ length ks

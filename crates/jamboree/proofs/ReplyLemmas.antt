@@ -16,7 +16,7 @@ use Rattle.jamboree_rules.proofs.EvalLemmas.MinimaxLemmas.{best_choice-leaf, bes
 use Rattle.jamboree_rules.specs.sched_rules.Laws.{HasReturned}
 use Rattle.jamboree_rules.specs.othello_eval.Tables.{entered, IsTable}
 use Rattle.jamboree_rules.specs.Frames.{Frame, board, coded}
-use Rattle.jamboree_rules.specs.Places.{score_of, rest_of, frame_of, are_entries}
+use Rattle.jamboree_rules.specs.Places.{score_of, entry_rest, frame_of, are_entries}
 use Rattle.jamboree_rules.specs.Entries.{bounds_of}
 use Rattle.jamboree_rules.specs.Fits.{AreFitting, IsRoot, IsKeptRoot}
 use Rattle.jamboree_rules.proofs.Forms.{IsFormed, formed-told}
@@ -76,7 +76,7 @@ whole-held origin whole fits root =
     let late = form.frame.late (omega arith) in
     let holds = root-value origin whole fits root in
     let table = root-whole origin whole fits root in
-    let counted : length (drop 12 whole) ≡ length (entered f.depth (board f)) = sym (length-map (drop 12 whole) rest_of) ∙ table.0 in
+    let counted : length (drop 12 whole) ≡ length (entered f.depth (board f)) = sym (length-map (drop 12 whole) entry_rest) ∙ table.0 in
     record {
       long = omega (arith, form.places);
       few = omega (arith, form.places, counted, length-drop 12 whole, few-entered f.depth (board f));

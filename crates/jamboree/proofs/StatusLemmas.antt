@@ -6,7 +6,7 @@ use Rattle.std.proofs.Math.ListN.{drop_of_length-le, get_or-map}
 use Rattle.std.proofs.lemmas.Bool.{lt-ltb, le-ltb, cases_lt}
 use Rattle.std.proofs.lemmas.List.{take-append-drop, drop-take, drop-drop, length-append, length-drop, length-take, length-map, map-append, get_or-drop}
 use Rattle.std.proofs.lemmas.Option.{slice_get_within, unwrap_or-slice_get, slice_get-get_or}
-use Rattle.jamboree_rules.specs.Places.{status_of, rest_of, is_entry, are_entries}
+use Rattle.jamboree_rules.specs.Places.{status_of, entry_rest, is_entry, are_entries}
 use Rattle.jamboree_rules.specs.Acts.{first_open}
 use Rattle.jamboree.specs.Views.{statuses_in, rests_in, entries_in}
 use Rattle.jamboree.proofs.OpenLemmas.{open-early, open-later}
@@ -117,9 +117,9 @@ entry-none w n status got =
     ap (λ (b : Bool). b && (slice_index (statuses_in w) n == status)) (sym (le-ltb n (length (statuses_in w)) (omega (arith, length-map (drop 12 w) status_of, length-drop 12 w))))
 
 -- the rest of its entry, and 0 where there is no entry
-rest-is : (w : List ℕ) (n : ℕ) → rest_of (slice_index w (12 + n)) ≡ slice_index (rests_in w) n
-rest-is w n = sym (get_or-map rest_of (drop 12 w) n 0 ∙ ap rest_of (get_or-drop 12 w n 0))
+rest-is : (w : List ℕ) (n : ℕ) → entry_rest (slice_index w (12 + n)) ≡ slice_index (rests_in w) n
+rest-is w n = sym (get_or-map entry_rest (drop 12 w) n 0 ∙ ap entry_rest (get_or-drop 12 w n 0))
 
-pub rest-read : (w : List ℕ) (n rest entry : ℕ) (got : Option ℕ) → got ≡ slice_get w (12 + n) → entry ≡ unwrap_or got 0 → rest ≡ rest_of entry → rest ≡ slice_index (rests_in w) n
+pub rest-read : (w : List ℕ) (n rest entry : ℕ) (got : Option ℕ) → got ≡ slice_get w (12 + n) → entry ≡ unwrap_or got 0 → rest ≡ entry_rest entry → rest ≡ slice_index (rests_in w) n
 rest-read w n rest entry got is read e =
-    e ∙ ap rest_of (read ∙ ap (λ (o : Option ℕ). unwrap_or o 0) is ∙ unwrap_or-slice_get w (12 + n) 0) ∙ rest-is w n
+    e ∙ ap entry_rest (read ∙ ap (λ (o : Option ℕ). unwrap_or o 0) is ∙ unwrap_or-slice_get w (12 + n) 0) ∙ rest-is w n

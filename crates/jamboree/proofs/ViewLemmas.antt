@@ -5,7 +5,7 @@ use Rattle.std.proofs.lemmas.List.{get_or-take}
 use Rattle.std.proofs.lemmas.Int.{ints}
 use Rattle.std.proofs.lemmas.Bool.{cases_lt, and_parts, eqb-true, eq-eqb}
 use Rattle.jamboree_rules.specs.Frames.{least, greatest, unscored, is_frame}
-use Rattle.jamboree_rules.specs.Places.{score_of, status_of, rest_of, frame_of, are_entries, is_formed}
+use Rattle.jamboree_rules.specs.Places.{score_of, status_of, entry_rest, frame_of, are_entries, is_formed}
 use Rattle.jamboree_rules.proofs.Forms.{IsFrame, frame-told}
 use Rattle.jamboree.specs.declared.phases.Phase.{Phase}
 use Rattle.jamboree.specs.declared.phases.Role.{Role}
@@ -64,7 +64,7 @@ as-wide w s e small = omega (arith, ints)
 
 -- the frame of parts that stand for these words
 pub frame-same : (h : Head) (entries : List ℕ) (role : Role) (phase : Phase) (alpha beta best : ℤ) → alpha ≡ score_of h.alpha → beta ≡ score_of h.beta → role_number role ≡ h.role → phase_number phase ≡ h.phase → best ≡ score_of h.best →
-    frame_by h.own h.opp h.depth alpha beta role h.number phase best h.choice h.count h.spawned (map status_of entries) (map rest_of entries) ≡ frame_from h entries
+    frame_by h.own h.opp h.depth alpha beta role h.number phase best h.choice h.count h.spawned (map status_of entries) (map entry_rest entries) ≡ frame_from h entries
 frame-same h entries role phase alpha beta best ea eb er ep es = rw (ea, eb, er, ep, es) refl
 
 -- the first words stand in the first segment
@@ -131,6 +131,6 @@ best-high h s r e = omega (arith, ints)
 
 -- the frame of a head whose scores are read into 32 bits
 pub frame-read : (h : Head) (entries : List ℕ) (role : Role) (phase : Phase) (alpha beta best : ℤ) → AreRanged h → alpha ≡ score_of h.alpha → beta ≡ score_of h.beta → role_number role ≡ h.role → phase_number phase ≡ h.phase → best ≡ score_of h.best →
-    frame_by h.own h.opp h.depth (to_z w32 (of_z w32 alpha)) (to_z w32 (of_z w32 beta)) role h.number phase (to_z w32 (of_z w32 best)) h.choice h.count h.spawned (map status_of entries) (map rest_of entries) ≡ frame_from h entries
+    frame_by h.own h.opp h.depth (to_z w32 (of_z w32 alpha)) (to_z w32 (of_z w32 beta)) role h.number phase (to_z w32 (of_z w32 best)) h.choice h.count h.spawned (map status_of entries) (map entry_rest entries) ≡ frame_from h entries
 frame-read h entries role phase alpha beta best r ea eb er ep es =
     frame-same h entries role phase _ _ _ (as-wide h.alpha alpha ea r.alpha_high) (as-wide h.beta beta eb r.beta_high) er ep (as-wide h.best best es r.best)

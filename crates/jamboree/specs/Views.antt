@@ -3,7 +3,7 @@ use Rattle.std.specs.Prelude.{ℕ, zero, suc, ◌*◌, List, [], map, drop, take
 use Rattle.jamboree.specs.declared.view.Head.{Head}
 use Rattle.jamboree.specs.declared.frame.View.{View}
 use Rattle.jamboree_rules.specs.Frames.{Frame}
-use Rattle.jamboree_rules.specs.Places.{score_of, status_of, rest_of}
+use Rattle.jamboree_rules.specs.Places.{score_of, status_of, entry_rest}
 use Rattle.jamboree.specs.Numbers.{frame_by}
 
 -- the first twelve words
@@ -39,7 +39,7 @@ frame_from head entries = record {
   count = head.count;
   spawned = head.spawned;
   statuses = map status_of entries;
-  rests = map rest_of entries;
+  rests = map entry_rest entries;
 }
 
 -- the entries of the choices in these words: one from place 12 on for each choice
@@ -51,11 +51,11 @@ abbrev pub statuses_in : List ℕ → List ℕ
 statuses_in words = map status_of (entries_of words)
 
 abbrev pub rests_in : List ℕ → List ℕ
-rests_in words = map rest_of (entries_of words)
+rests_in words = map entry_rest (entries_of words)
 
 -- the frame that a view shows, of choices with these entries
 abbrev pub frame_with : View → List ℕ → Frame
-frame_with v entries = frame_by v.board.own v.board.opp v.depth v.alpha v.beta v.role v.number v.phase v.best v.choice v.count v.spawned (map status_of entries) (map rest_of entries)
+frame_with v entries = frame_by v.board.own v.board.opp v.depth v.alpha v.beta v.role v.number v.phase v.best v.choice v.count v.spawned (map status_of entries) (map entry_rest entries)
 
 -- the same where nothing asks for the entries
 abbrev pub frame_in : View → Frame

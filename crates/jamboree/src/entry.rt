@@ -4,7 +4,7 @@
 //! exact, and 0 where nothing is known, and then the score's part is 0 too. What stands above the
 //! status, `kind + 4 * word(score)`, is the rest of the entry. No other module takes an entry apart.
 ghost use Rattle.std.specs.Prelude.{◌≡◌, ◌≤◌, ◌≤ℤ◌, ◌==◌, ◌/◌, true, pos, negsuc};
-ghost use Rattle.jamboree_rules.specs.Places.{status_of, rest_of, entry_of, kind_number, rest_with, is_rest, is_entry};
+ghost use Rattle.jamboree_rules.specs.Places.{status_of, entry_rest, entry_of, kind_number, rest_with, is_rest, is_entry};
 ghost use Rattle.jamboree_rules.specs.Entries.{kind_numbered};
 ghost use Rattle.jamboree.specs.Numbers.{status_number};
 ghost use Rattle.jamboree.specs.Knowledge.{known_of};
@@ -31,7 +31,7 @@ impl EntryRest {
     /// What stands above the status in an entry.
     #[inline(always)]
     pub(crate) fn of(entry: u64) -> EntryRest
-        ensures { result.word ≡ rest_of entry }
+        ensures { result.word ≡ entry_rest entry }
     {
         EntryRest { word: entry / 8 }
     }

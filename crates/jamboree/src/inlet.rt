@@ -5,7 +5,7 @@ ghost use Rattle.othello_board.specs.Words.{cells};
 ghost use Rattle.othello_moves.specs.Choices.{choices};
 ghost use Rattle.jamboree_rules.specs.Frames.{floor, may_be_child};
 ghost use Rattle.jamboree_rules.specs.Places.{pairs_of};
-ghost use Rattle.jamboree_rules.specs.Acts.{seen, kind_of, found_of, changes_by, changes_of, wakes, inlet_of};
+ghost use Rattle.jamboree_rules.specs.Acts.{seen, kind_of, found_rest, changes_by, changes_of, wakes, inlet_of};
 ghost use Rattle.jamboree.specs.Intakes.{inlet_for, stores_for, rest_said};
 ghost use Rattle.jamboree.specs.Views.{frame_in};
 
@@ -134,7 +134,7 @@ fn said(frame: &View, child: &View) -> Said
     requires { may_be_child (frame_in frame.now) (frame_in child.now) ≡ true }
     ensures number { result.number ≡ child.now.number }
     ensures inside { result.number < length (choices (cells frame.now.board)) }
-    ensures rest { rest_said result ≡ found_of (frame_in child.now) }
+    ensures rest { rest_said result ≡ found_rest (frame_in child.now) }
 {
     let number = number_of(frame, child);
     let score = seen(child);
@@ -152,7 +152,7 @@ fn told(frame: &View, child: &View) -> Settling
     ensures best { result.best ≡ int_max frame.now.best (seen (frame_in child.now)) }
     ensures number { result.said.number ≡ child.now.number }
     ensures inside { result.said.number < length (choices (cells frame.now.board)) }
-    ensures rest { rest_said result.said ≡ found_of (frame_in child.now) }
+    ensures rest { rest_said result.said ≡ found_rest (frame_in child.now) }
 {
     let said = said(frame, child);
     let best = best_of(frame, child);

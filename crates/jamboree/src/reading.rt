@@ -1,6 +1,6 @@
 //! Replies, read and shown.
 ghost use Rattle.std.specs.Prelude.{◌≡◌, ◌≤◌, ◌<◌, ◌↔◌, true, Some, IsSome, IfSome, length, map, slice_get, slice_index, take};
-ghost use Rattle.jamboree_rules.specs.Places.{frame_of, rest_of, are_entries};
+ghost use Rattle.jamboree_rules.specs.Places.{frame_of, entry_rest, are_entries};
 ghost use Rattle.jamboree_rules.specs.Entries.{bounds_of};
 ghost use Rattle.jamboree.specs.Knowledge.{known_of, bound_by};
 
@@ -17,7 +17,7 @@ use othello_moves::{Choice, choice};
 fn known_in(entries: &[u64]) -> [Known; MOST]
     requires few { length entries.now ≤ 64 }
     requires entries { are_entries entries.now ≡ true }
-    ensures { take (length entries.now) result ≡ map known_of (map rest_of entries.now) }
+    ensures { take (length entries.now) result ≡ map known_of (map entry_rest entries.now) }
 {
     let nothing = Known {
         score: 0,

@@ -13,7 +13,7 @@ use Rattle.leaf_search.specs.othello_eval.declared.bound.BoundKind.TheVariants.{
 use Rattle.leaf_search.specs.othello_eval.Tables.{entered}
 use Rattle.jamboree_rules.specs.Fits.{IsSearching, IsTabled}
 use Rattle.jamboree_rules.specs.Entries.{IsOfKind, IsTrueRest}
-use Rattle.jamboree_rules.specs.Acts.{found_of}
+use Rattle.jamboree_rules.specs.Acts.{found_rest}
 use Rattle.jamboree_rules.proofs.Searching.{all_settled, IsSearching-mark, IsSearching-low, IsSearching-higher, set_there, set_beside, set_length, low_side, high_side, inner_side, cut, IsGreatest}
 use Rattle.jamboree_rules.specs.Frames.{Frame, coded, board, choice_at, code_at, rest_at, value_at, value, floor}
 use Rattle.jamboree_rules.specs.Fits.{IsFirst, IsTest, IsAgain, IsInRole, First, Test, Again, IsChildOf, AreChildren, how_many, IsSearchingFrame, Fits}
@@ -146,11 +146,11 @@ whole-set f c children x role fits root = set_length f.statuses c.number x ∙ f
 
 -- the frame that the inlet of c leaves, in this phase and with this best score, choice and status of c's place
 abbrev pub taken_in : (f c : Frame) (phase : ℕ) (best : ℤ) (choice status : ℕ) → Frame
-taken_in f c phase best choice status = record f { phase = phase; best = best; choice = choice; statuses = slice_set f.statuses c.number status; rests = slice_set f.rests c.number (found_of c) }
+taken_in f c phase best choice status = record f { phase = phase; best = best; choice = choice; statuses = slice_set f.statuses c.number status; rests = slice_set f.rests c.number (found_rest c) }
 
 -- it fits where its choices are still searched and the other children keep their roles
-Fits-searched : (f c : Frame) (before behind : List Frame) (phase : ℕ) (best : ℤ) (choice status : ℕ) → Fits f (before ++ c ∷ behind) Neither → IsTrueRest (found_of c) (value_at f c.number) → phase ≡ 3 →
-    IsSearching (value_at f) (code_at f) (slice_set f.statuses c.number status) (slice_set f.rests c.number (found_of c)) f.alpha f.beta best choice →
+Fits-searched : (f c : Frame) (before behind : List Frame) (phase : ℕ) (best : ℤ) (choice status : ℕ) → Fits f (before ++ c ∷ behind) Neither → IsTrueRest (found_rest c) (value_at f c.number) → phase ≡ 3 →
+    IsSearching (value_at f) (code_at f) (slice_set f.statuses c.number status) (slice_set f.rests c.number (found_rest c)) f.alpha f.beta best choice →
     ((d : Frame) → d.number ≢ c.number → IsInRole f d → IsInRole (taken_in f c phase best choice status) d) →
     Fits (taken_in f c phase best choice status) (before ++ behind) Neither
 Fits-searched f c before behind phase best choice status fits holds late search roles =
@@ -168,7 +168,7 @@ Fits-searched f c before behind phase best choice status fits holds late search 
         unspawned = unspawned-set f.statuses c.number status f.spawned (begun f c kin.in_role) s.unspawned;
         search = search;
       };
-      table = tabled-set (value_at f) f.statuses f.rests c.number status (found_of c) kin.inside holds (λ _. found-said c) fits.table;
+      table = tabled-set (value_at f) f.statuses f.rests c.number status (found_rest c) kin.inside holds (λ _. found-said c) fits.table;
       whole = whole-set f c (before ++ c ∷ behind) status kin.in_role fits;
       step = λ d other dkin. record {
         inside = rw (set_length f.statuses c.number status) dkin.inside;
@@ -179,15 +179,15 @@ Fits-searched f c before behind phase best choice status fits holds late search 
     })
 
 -- inlet case 4: a test above its window's lower end, below beta
-pub inlet-failed : (f c : Frame) (before behind : List Frame) → Fits f (before ++ c ∷ behind) Neither → IsTrueRest (found_of c) (value_at f c.number) → IsTest f c →
+pub inlet-failed : (f c : Frame) (before behind : List Frame) → Fits f (before ++ c ∷ behind) Neither → IsTrueRest (found_rest c) (value_at f c.number) → IsTest f c →
     Fits (taken_in f c f.phase f.best f.choice 3) (before ++ behind) Neither
 inlet-failed f c before behind fits holds test =
     let kin : IsChildOf f c = child-of f c before behind fits.kin in
     let s : IsSearchingFrame f = fits.searching (inr test.phase) in
     let open_ : slice_index f.statuses c.number ≢ 2 = unsettled f c kin.in_role in
     Fits-searched f c before behind f.phase f.best f.choice 3 fits holds test.phase
-    (IsSearching-mark (value_at f) (code_at f) f.statuses f.rests f.alpha f.beta f.best f.choice c.number 3 (found_of c) kin.inside open_ (λ e. absurd (omega (arith, e))) s.search)
-    (λ d other. role-kept-mark f d c.number 3 (found_of c) kin.inside other open_)
+    (IsSearching-mark (value_at f) (code_at f) f.statuses f.rests f.alpha f.beta f.best f.choice c.number 3 (found_rest c) kin.inside open_ (λ e. absurd (omega (arith, e))) s.search)
+    (λ d other. role-kept-mark f d c.number 3 (found_rest c) kin.inside other open_)
 
 -- what a returned child's score says, of any role
 pub scored : (f c : Frame) (before behind : List Frame) → Fits f (before ++ c ∷ behind) Neither → Fits c [] HasReturned → IsChildOf f c → (value_at f c.number ≡ neg_ℤ (value c)) × IsBound c.alpha c.beta c.best (value c)
@@ -197,14 +197,14 @@ scored f c before behind fits returned kin =
 
 -- inlet cases 2 and 3 with a score that is at most the greater of alpha and best, and an upper bound of the choice's value
 pub inlet-low : (f c : Frame) (before behind : List Frame) → Fits f (before ++ c ∷ behind) Neither →
-    neg_ℤ c.best ≤ℤ floor f → value_at f c.number ≤ℤ neg_ℤ c.best → IsTrueRest (found_of c) (value_at f c.number) → f.phase ≡ 3 →
+    neg_ℤ c.best ≤ℤ floor f → value_at f c.number ≤ℤ neg_ℤ c.best → IsTrueRest (found_rest c) (value_at f c.number) → f.phase ≡ 3 →
     Fits (taken_in f c 3 (int_max f.best (neg_ℤ c.best)) f.choice 2) (before ++ behind) Neither
 inlet-low f c before behind fits low worth holds phase =
     let kin : IsChildOf f c = child-of f c before behind fits.kin in
     let s : IsSearchingFrame f = fits.searching (inr phase) in
     Fits-searched f c before behind 3 (int_max f.best (neg_ℤ c.best)) f.choice 2 fits holds refl
-    (IsSearching-low (value_at f) (code_at f) f.statuses f.rests f.alpha f.beta f.best (neg_ℤ c.best) f.choice c.number (found_of c) fits.window kin.inside (unsettled f c kin.in_role) low worth s.search)
-    (λ d other. role-kept-settle f d c.number f.choice (found_of c) (int_max f.best (neg_ℤ c.best)) kin.inside other phase (omega (arith, ints, clamps)) (λ _. omega (arith, ints, clamps)))
+    (IsSearching-low (value_at f) (code_at f) f.statuses f.rests f.alpha f.beta f.best (neg_ℤ c.best) f.choice c.number (found_rest c) fits.window kin.inside (unsettled f c kin.in_role) low worth s.search)
+    (λ d other. role-kept-settle f d c.number f.choice (found_rest c) (int_max f.best (neg_ℤ c.best)) kin.inside other phase (omega (arith, ints, clamps)) (λ _. omega (arith, ints, clamps)))
 
 -- two searches again are of one choice
 pub one-again : (f c d : Frame) → IsAgain f c → IsAgain f d → d.number ≢ c.number → ⊥
@@ -218,18 +218,18 @@ one-again f c d r q other =
 
 -- inlet case 2 of a search again, with a better score
 pub inlet-higher : (f c : Frame) (before behind : List Frame) → Fits f (before ++ c ∷ behind) Neither → IsAgain f c →
-    floor f <ℤ neg_ℤ c.best → neg_ℤ c.best <ℤ f.beta → value_at f c.number ≡ neg_ℤ c.best → IsTrueRest (found_of c) (value_at f c.number) → IsOfKind (found_of c) Exact →
+    floor f <ℤ neg_ℤ c.best → neg_ℤ c.best <ℤ f.beta → value_at f c.number ≡ neg_ℤ c.best → IsTrueRest (found_rest c) (value_at f c.number) → IsOfKind (found_rest c) Exact →
     Fits (taken_in f c 3 (int_max f.best (neg_ℤ c.best)) (code_at f c.number) 2) (before ++ behind) Neither
 inlet-higher f c before behind fits again high under worth holds exact =
     let kin : IsChildOf f c = child-of f c before behind fits.kin in
     let s : IsSearchingFrame f = fits.searching (inr again.phase) in
     Fits-searched f c before behind 3 (int_max f.best (neg_ℤ c.best)) (code_at f c.number) 2 fits holds refl
-    (IsSearching-higher (value_at f) (code_at f) f.statuses f.rests f.alpha f.beta f.best (neg_ℤ c.best) f.choice c.number (found_of c) kin.inside fits.table.places exact high under worth again.earlier s.search)
-    (λ d other. role-kept-settle f d c.number (code_at f c.number) (found_of c) (int_max f.best (neg_ℤ c.best)) kin.inside other again.phase (omega (arith, ints, clamps)) (λ r. absurd (one-again f c d again r other)))
+    (IsSearching-higher (value_at f) (code_at f) f.statuses f.rests f.alpha f.beta f.best (neg_ℤ c.best) f.choice c.number (found_rest c) kin.inside fits.table.places exact high under worth again.earlier s.search)
+    (λ d other. role-kept-settle f d c.number (code_at f c.number) (found_rest c) (int_max f.best (neg_ℤ c.best)) kin.inside other again.phase (omega (arith, ints, clamps)) (λ r. absurd (one-again f c d again r other)))
 
 -- inlet case 1: the frame is done, and has no child
 pub inlet-cut : (f c : Frame) (before behind : List Frame) (m : ℤ) (g : IsGreatest (value_at f) (length f.statuses) (value f)) → Fits f (before ++ c ∷ behind) Neither →
-    f.beta ≤ℤ neg_ℤ c.best → neg_ℤ c.best ≤ℤ value_at f c.number → IsTrueRest (found_of c) (value_at f c.number) →
+    f.beta ≤ℤ neg_ℤ c.best → neg_ℤ c.best ≤ℤ value_at f c.number → IsTrueRest (found_rest c) (value_at f c.number) →
     Fits (taken_in f c 4 (neg_ℤ c.best) (code_at f c.number) 2) [] Neither
 inlet-cut f c before behind m g fits high under holds =
     let kin : IsChildOf f c = child-of f c before behind fits.kin in
@@ -244,7 +244,7 @@ inlet-cut f c before behind m g fits high under holds =
         all = λ (low : neg_ℤ c.best <ℤ f.beta). absurd (omega (arith, ints));
         found = λ _ (low : neg_ℤ c.best <ℤ f.beta). absurd (omega (arith, ints));
       };
-      table = tabled-set (value_at f) f.statuses f.rests c.number 2 (found_of c) kin.inside holds (λ _. found-said c) fits.table;
+      table = tabled-set (value_at f) f.statuses f.rests c.number 2 (found_rest c) kin.inside holds (λ _. found-said c) fits.table;
       whole = λ root _. whole-set f c (before ++ c ∷ behind) 2 kin.in_role fits root;
       kin = tt;
       once = λ i. omega arith;
@@ -257,8 +257,8 @@ first-alone f c d first (Test r) other = absurd (omega (arith, first.phase, r.ph
 first-alone f c d first (Again r) other = absurd (omega (arith, first.phase, r.phase))
 
 -- inlet case 2 of the first child: below beta
-pub inlet-first : (f c : Frame) (before behind : List Frame) (choice : ℕ) → Fits f (before ++ c ∷ behind) Neither → IsFirst f c → IsTrueRest (found_of c) (value_at f c.number) →
-    IsSearching (value_at f) (code_at f) (slice_set f.statuses c.number 2) (slice_set f.rests c.number (found_of c)) f.alpha f.beta (int_max f.best (neg_ℤ c.best)) choice →
+pub inlet-first : (f c : Frame) (before behind : List Frame) (choice : ℕ) → Fits f (before ++ c ∷ behind) Neither → IsFirst f c → IsTrueRest (found_rest c) (value_at f c.number) →
+    IsSearching (value_at f) (code_at f) (slice_set f.statuses c.number 2) (slice_set f.rests c.number (found_rest c)) f.alpha f.beta (int_max f.best (neg_ℤ c.best)) choice →
     Fits (taken_in f c 3 (int_max f.best (neg_ℤ c.best)) choice 2) (before ++ behind) Neither
 inlet-first f c before behind choice fits first holds search =
     Fits-searched f c before behind 3 (int_max f.best (neg_ℤ c.best)) choice 2 fits holds refl search (λ d other role. first-alone f c d first role other)

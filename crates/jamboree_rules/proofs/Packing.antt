@@ -8,7 +8,7 @@ use Rattle.std.proofs.lemmas.Nat.{mod-mul-add, div-mul-add}
 use Rattle.leaf_search.specs.othello_eval.declared.bound.BoundKind.{BoundKind}
 use Rattle.leaf_search.specs.othello_eval.declared.bound.BoundKind.TheVariants.{Low, High, Exact}
 use Rattle.jamboree_rules.specs.Frames.{least, greatest, is_score}
-use Rattle.jamboree_rules.specs.Places.{score_of, word_of, status_of, rest_of, entry_of, kind_number, kind_in, score_in, rest_with, is_rest, is_entry, are_entries}
+use Rattle.jamboree_rules.specs.Places.{score_of, word_of, status_of, entry_rest, entry_of, kind_number, kind_in, score_in, rest_with, is_rest, is_entry, are_entries}
 
 -- the word of a score holds it
 pub held : (s : ℤ) → least ≤ℤ s → score_of (word_of s) ≡ s
@@ -20,7 +20,7 @@ turned b k n = omega arith
 pub status-read : (status rest : ℕ) → status ≤ 4 → status_of (entry_of status rest) ≡ status
 status-read status rest small = ap (λ (n : ℕ). n % 8) (turned status rest 8) ∙ mod-mul-add rest 8 status (omega arith)
 
-pub rest-read : (status rest : ℕ) → status ≤ 4 → rest_of (entry_of status rest) ≡ rest
+pub rest-read : (status rest : ℕ) → status ≤ 4 → entry_rest (entry_of status rest) ≡ rest
 rest-read status rest small = ap (λ (n : ℕ). n / 8) (turned status rest 8) ∙ div-mul-add rest 8 status (omega arith)
 
 kind-small : (kind : BoundKind) → kind_number kind < 4
@@ -63,14 +63,14 @@ rest-passes kind score low high =
 -- an entry of a status and a rest is one
 pub entry-passes : (status rest : ℕ) → status ≤ 4 → is_rest rest ≡ true → is_entry (entry_of status rest) ≡ true
 entry-passes status rest small is =
-    and_from (nat_le (status_of (entry_of status rest)) 4) (is_rest (rest_of (entry_of status rest)))
+    and_from (nat_le (status_of (entry_of status rest)) 4) (is_rest (entry_rest (entry_of status rest)))
     (ap (λ (n : ℕ). nat_le n 4) (status-read status rest small) ∙ le-leb status 4 small)
     (ap is_rest (rest-read status rest small) ∙ is)
 
 -- each rest among entries is one
-pub rests-are : (entries : List ℕ) (i : ℕ) → are_entries entries ≡ true → is_rest (slice_index (map rest_of entries) i) ≡ true
+pub rests-are : (entries : List ℕ) (i : ℕ) → are_entries entries ≡ true → is_rest (slice_index (map entry_rest entries) i) ≡ true
 rests-are [] i all = refl
 rests-are (entry ∷ entries) zero all =
     let both = and_parts (is_entry entry) (are_entries entries) all in
-    (and_parts (nat_le (status_of entry) 4) (is_rest (rest_of entry)) both.0).1
+    (and_parts (nat_le (status_of entry) 4) (is_rest (entry_rest entry)) both.0).1
 rests-are (entry ∷ entries) (suc i) all = rests-are entries i (and_parts (is_entry entry) (are_entries entries) all).1

@@ -9,7 +9,7 @@ use Rattle.std.proofs.Math.Path.{fun_ext}
 use Rattle.sched_rules.specs.Trees.{stored}
 use Rattle.jamboree_rules.proofs.Packing.{held, status-read, rest-read, entry-passes}
 use Rattle.jamboree_rules.specs.Frames.{Frame, least}
-use Rattle.jamboree_rules.specs.Places.{score_of, word_of, status_of, rest_of, entry_of, frame_of, is_rest, is_entry, are_entries, Change, OwnBits, OppBits, Phase, Best, Chosen, Count, Spawned, Status, pair_of, pairs_of, changed}
+use Rattle.jamboree_rules.specs.Places.{score_of, word_of, status_of, entry_rest, entry_of, frame_of, is_rest, is_entry, are_entries, Change, OwnBits, OppBits, Phase, Best, Chosen, Count, Spawned, Status, pair_of, pairs_of, changed}
 
 -- a word among others changed
 abbrev pub put : (ℕ → ℕ) → ℕ → ℕ → ℕ → ℕ
@@ -31,7 +31,7 @@ frame_with g entries = record {
   count = g 10;
   spawned = g 11;
   statuses = map status_of entries;
-  rests = map rest_of entries;
+  rests = map entry_rest entries;
 }
 
 pub there : (w : List ℕ) (place x : ℕ) → place < length w → slice_index (slice_set w place x) place ≡ x
@@ -59,7 +59,7 @@ set-first w k x early long =
     ap (λ (g : ℕ → ℕ). frame_with g (drop 12 (slice_set w k x))) words ∙ ap (λ (es : List ℕ). frame_with (put (slice_index w) k x) es) entries
 
 -- words with the same first places have the same frame but for its entries
-frame-alike : (w v : List ℕ) → ((j : ℕ) → j < 12 → slice_index v j ≡ slice_index w j) → frame_of v ≡ record (frame_of w) { statuses = map status_of (drop 12 v); rests = map rest_of (drop 12 v) }
+frame-alike : (w v : List ℕ) → ((j : ℕ) → j < 12 → slice_index v j ≡ slice_index w j) → frame_of v ≡ record (frame_of w) { statuses = map status_of (drop 12 v); rests = map entry_rest (drop 12 v) }
 frame-alike w v same =
     rw (
       same 0 (omega arith),
@@ -76,19 +76,19 @@ frame-alike w v same =
       same 11 (omega arith),
     )
 
-set-entry : (w : List ℕ) (i x : ℕ) → frame_of (slice_set w (12 + i) x) ≡ record (frame_of w) { statuses = slice_set (map status_of (drop 12 w)) i (status_of x); rests = slice_set (map rest_of (drop 12 w)) i (rest_of x) }
+set-entry : (w : List ℕ) (i x : ℕ) → frame_of (slice_set w (12 + i) x) ≡ record (frame_of w) { statuses = slice_set (map status_of (drop 12 w)) i (status_of x); rests = slice_set (map entry_rest (drop 12 w)) i (entry_rest x) }
 set-entry w i x =
     frame-alike w (slice_set w (12 + i) x) (λ j below. beside w j (12 + i) x (λ e. absurd (omega (arith, e))))
-    ∙ ap (λ (es : List ℕ). record (frame_of w) { statuses = map status_of es; rests = map rest_of es }) (drop-behind w 12 i x)
-    ∙ ap (λ (st : List ℕ). record (frame_of w) { statuses = st; rests = map rest_of (slice_set (drop 12 w) i x) }) (map-set status_of (drop 12 w) i x)
-    ∙ ap (λ (rs : List ℕ). record (frame_of w) { statuses = slice_set (map status_of (drop 12 w)) i (status_of x); rests = rs }) (map-set rest_of (drop 12 w) i x)
+    ∙ ap (λ (es : List ℕ). record (frame_of w) { statuses = map status_of es; rests = map entry_rest es }) (drop-behind w 12 i x)
+    ∙ ap (λ (st : List ℕ). record (frame_of w) { statuses = st; rests = map entry_rest (slice_set (drop 12 w) i x) }) (map-set status_of (drop 12 w) i x)
+    ∙ ap (λ (rs : List ℕ). record (frame_of w) { statuses = slice_set (map status_of (drop 12 w)) i (status_of x); rests = rs }) (map-set entry_rest (drop 12 w) i x)
 
 -- an entry that is set is read again
 set-both : (w : List ℕ) (i status rest : ℕ) → status ≤ 4 → frame_of (slice_set w (12 + i) (entry_of status rest)) ≡ changed (Status i status rest) (frame_of w)
 set-both w i status rest small =
     set-entry w i (entry_of status rest)
-    ∙ ap (λ (x : ℕ). record (frame_of w) { statuses = slice_set (map status_of (drop 12 w)) i x; rests = slice_set (map rest_of (drop 12 w)) i (rest_of (entry_of status rest)) }) (status-read status rest small)
-    ∙ ap (λ (x : ℕ). record (frame_of w) { statuses = slice_set (map status_of (drop 12 w)) i status; rests = slice_set (map rest_of (drop 12 w)) i x }) (rest-read status rest small)
+    ∙ ap (λ (x : ℕ). record (frame_of w) { statuses = slice_set (map status_of (drop 12 w)) i x; rests = slice_set (map entry_rest (drop 12 w)) i (entry_rest (entry_of status rest)) }) (status-read status rest small)
+    ∙ ap (λ (x : ℕ). record (frame_of w) { statuses = slice_set (map status_of (drop 12 w)) i status; rests = slice_set (map entry_rest (drop 12 w)) i x }) (rest-read status rest small)
 
 -- what is stored can be read again: a score is one, and a status and a rest are
 abbrev pub IsSafe : Change → Type 0
@@ -168,7 +168,7 @@ statuses-zeros : (n : ℕ) → map status_of (replicate n 0) ≡ replicate n 0
 statuses-zeros zero = refl
 statuses-zeros (suc n) = ap (λ rest. 0 ∷ rest) (statuses-zeros n)
 
-rests-zeros : (n : ℕ) → map rest_of (replicate n 0) ≡ replicate n 0
+rests-zeros : (n : ℕ) → map entry_rest (replicate n 0) ≡ replicate n 0
 rests-zeros zero = refl
 rests-zeros (suc n) = ap (λ rest. 0 ∷ rest) (rests-zeros n)
 
@@ -180,6 +180,6 @@ pub frame-grown : (w : List ℕ) (n : ℕ) → length w ≡ 12 → frame_of (w +
 frame-grown w n len =
     let long : 12 ≤ length w = omega arith in
     frame-alike w (w ++ replicate n 0) (λ j below. first-grown w (replicate n 0) j long below)
-    ∙ ap (λ (es : List ℕ). record (frame_of w) { statuses = map status_of es; rests = map rest_of es }) (drop-grown w (replicate n 0) len)
-    ∙ ap (λ (st : List ℕ). record (frame_of w) { statuses = st; rests = map rest_of (replicate n 0) }) (statuses-zeros n)
+    ∙ ap (λ (es : List ℕ). record (frame_of w) { statuses = map status_of es; rests = map entry_rest es }) (drop-grown w (replicate n 0) len)
+    ∙ ap (λ (st : List ℕ). record (frame_of w) { statuses = st; rests = map entry_rest (replicate n 0) }) (statuses-zeros n)
     ∙ ap (λ (rs : List ℕ). record (frame_of w) { statuses = replicate n 0; rests = rs }) (rests-zeros n)

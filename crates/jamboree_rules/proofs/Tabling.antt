@@ -14,7 +14,7 @@ use Rattle.leaf_search.specs.Bounds.{IsBound}
 use Rattle.jamboree_rules.specs.Frames.{Frame, value, least, greatest}
 use Rattle.jamboree_rules.specs.Places.{kind_number, kind_in, score_in, is_rest}
 use Rattle.jamboree_rules.specs.Entries.{IsOfKind, IsTrueRest}
-use Rattle.jamboree_rules.specs.Acts.{seen, kind_by, kind_of, found_of}
+use Rattle.jamboree_rules.specs.Acts.{seen, kind_by, kind_of, found_rest}
 use Rattle.jamboree_rules.specs.Fits.{IsTabled}
 use Rattle.jamboree_rules.proofs.Packing.{kind-some, kind-read, score-read, same-kind, rest-passes}
 use Rattle.jamboree_rules.proofs.Searching.{set_there, set_beside, set_length}
@@ -39,15 +39,15 @@ says-by false false alpha beta s m el eh b =
     ap neg_ℤ (b.exact (omega (arith, ints)) (omega (arith, ints)))
 
 -- what a returned child's score says of its choice is true
-pub found-true : (c : Frame) (v : ℤ) → least ≤ℤ seen c → IsBound c.alpha c.beta c.best (value c) → v ≡ neg_ℤ (value c) → IsTrueRest (found_of c) v
+pub found-true : (c : Frame) (v : ℤ) → least ≤ℤ seen c → IsBound c.alpha c.beta c.best (value c) → v ≡ neg_ℤ (value c) → IsTrueRest (found_rest c) v
 found-true c v low bound worth kind is =
     let own : BoundKind = kind_of (neg_ℤ c.beta) (neg_ℤ c.alpha) (seen c) in
     let says : Says own (seen c) (neg_ℤ (value c)) = says-by (int_le (seen c) (neg_ℤ c.beta)) (int_le (neg_ℤ c.alpha) (seen c)) c.alpha c.beta c.best (value c) refl refl bound in
-    let there : Says own (score_in (found_of c)) v = subst (λ (s : ℤ). Says own s v) (sym (score-read own (seen c) low)) (subst (λ (m : ℤ). Says own (seen c) m) (sym worth) says) in
-    same-kind (λ (k : BoundKind). Says k (score_in (found_of c)) v) own kind (sym (kind-read own (seen c)) ∙ is) there
+    let there : Says own (score_in (found_rest c)) v = subst (λ (s : ℤ). Says own s v) (sym (score-read own (seen c) low)) (subst (λ (m : ℤ). Says own (seen c) m) (sym worth) says) in
+    same-kind (λ (k : BoundKind). Says k (score_in (found_rest c)) v) own kind (sym (kind-read own (seen c)) ∙ is) there
 
 -- and it says something
-pub found-said : (c : Frame) → kind_in (found_of c) ≢ 0
+pub found-said : (c : Frame) → kind_in (found_rest c) ≢ 0
 found-said c none = kind-some (kind_of (neg_ℤ c.beta) (neg_ℤ c.alpha) (seen c)) (sym (kind-read (kind_of (neg_ℤ c.beta) (neg_ℤ c.alpha) (seen c)) (seen c)) ∙ none)
 
 kind-exact : (low high : Bool) → low ≡ false → high ≡ false → kind_number (kind_by low high) ≡ 3
@@ -57,12 +57,12 @@ above-told : (x y : ℤ) → y <ℤ x → int_le x y ≡ false
 above-told x y h = grind (arith, ints)
 
 -- inside its window it is exact
-pub found-exact : (c : Frame) → neg_ℤ c.beta <ℤ seen c → seen c <ℤ neg_ℤ c.alpha → IsOfKind (found_of c) Exact
+pub found-exact : (c : Frame) → neg_ℤ c.beta <ℤ seen c → seen c <ℤ neg_ℤ c.alpha → IsOfKind (found_rest c) Exact
 found-exact c over under =
     kind-read (kind_of (neg_ℤ c.beta) (neg_ℤ c.alpha) (seen c)) (seen c)
     ∙ kind-exact (int_le (seen c) (neg_ℤ c.beta)) (int_le (neg_ℤ c.alpha) (seen c)) (above-told (seen c) (neg_ℤ c.beta) over) (above-told (neg_ℤ c.alpha) (seen c) under)
 
-pub found-passes : (c : Frame) → least ≤ℤ c.best → c.best ≤ℤ greatest → is_rest (found_of c) ≡ true
+pub found-passes : (c : Frame) → least ≤ℤ c.best → c.best ≤ℤ greatest → is_rest (found_rest c) ≡ true
 found-passes c low high = rest-passes (kind_of (neg_ℤ c.beta) (neg_ℤ c.alpha) (seen c)) (seen c) (omega (arith, ints)) (omega (arith, ints))
 
 -- a rest of nothing says nothing

@@ -7,7 +7,7 @@ use Rattle.sched_rules.specs.Trees.{stored, is_outside}
 use Rattle.sched_rules.specs.Laws.{Neither, HasReturned}
 use Rattle.jamboree_rules.specs.Frames.{Frame, code_at, value_at, value, floor, least, greatest}
 use Rattle.jamboree_rules.specs.Places.{frame_of, Change, pairs_of}
-use Rattle.jamboree_rules.specs.Acts.{seen, found_of, changes_by, changes_of}
+use Rattle.jamboree_rules.specs.Acts.{seen, found_rest, changes_by, changes_of}
 use Rattle.leaf_search.specs.othello_eval.declared.bound.BoundKind.TheVariants.{Exact}
 use Rattle.jamboree_rules.specs.Entries.{IsOfKind, IsTrueRest}
 use Rattle.jamboree_rules.specs.Fits.{IsFirst, IsTest, IsAgain, IsInRole, First, Test, Again, IsChildOf, IsSearchingFrame, Fits}
@@ -60,13 +60,13 @@ other-told f c e (Test r) = let two : c.role ≡ 2 = r.role in absurd (grind (ar
 other-told f c e (Again r) = inr r
 
 -- a better score of a search in full is exact
-first-kind : (f c : Frame) → IsFirst f c → seen c <ℤ f.beta → floor f <ℤ seen c → IsOfKind (found_of c) Exact
+first-kind : (f c : Frame) → IsFirst f c → seen c <ℤ f.beta → floor f <ℤ seen c → IsOfKind (found_rest c) Exact
 first-kind f c r under over =
     let low : c.alpha ≡ neg_ℤ f.beta = r.low in
     let high : c.beta ≡ neg_ℤ f.alpha = r.high in
     found-exact c (omega (arith, ints, clamps)) (omega (arith, ints))
 
-again-kind : (f c : Frame) → IsAgain f c → seen c <ℤ f.beta → floor f <ℤ seen c → IsOfKind (found_of c) Exact
+again-kind : (f c : Frame) → IsAgain f c → seen c <ℤ f.beta → floor f <ℤ seen c → IsOfKind (found_rest c) Exact
 again-kind f c r under over =
     let low : c.alpha ≡ neg_ℤ f.beta = r.low in
     let high : c.beta ≡ neg_ℤ (floor f) = r.high in
@@ -74,7 +74,7 @@ again-kind f c r under over =
 
 -- each case keeps that the frame fits
 fits-by : (cuts test low higher : Bool) (f c : Frame) (before behind : List Frame) → cuts ≡ int_le f.beta (seen c) → test ≡ (c.role == 2) → low ≡ int_le (seen c) (neg_ℤ c.beta) → higher ≡ int_lt (floor f) (seen c) →
-    Fits f (before ++ c ∷ behind) Neither → Fits c [] HasReturned → IsTrueRest (found_of c) (value_at f c.number) → Fits (frame_by cuts test low higher f c) (frames_left cuts (before ++ behind)) Neither
+    Fits f (before ++ c ∷ behind) Neither → Fits c [] HasReturned → IsTrueRest (found_rest c) (value_at f c.number) → Fits (frame_by cuts test low higher f c) (frames_left cuts (before ++ behind)) Neither
 fits-by true test low higher f c before behind ec et el eh fits returned holds =
     let kin : IsChildOf f c = child-of f c before behind fits.kin in
     let s : IsSearchingFrame f = fits.searching (in-search f c kin.in_role) in
@@ -100,7 +100,7 @@ fits-by false false low true f c before behind ec et el eh fits returned holds =
     let over : floor f <ℤ seen c = lt-told (floor f) (seen c) eh in
     ⊎_elim
     (λ (r : IsFirst f c). inlet-first f c before behind (code_at f c.number) fits r holds
-    (IsSearching-higher (value_at f) (code_at f) f.statuses f.rests f.alpha f.beta f.best (seen c) f.choice c.number (found_of c) kin.inside fits.table.places (first-kind f c r under over) over under
+    (IsSearching-higher (value_at f) (code_at f) f.statuses f.rests f.alpha f.beta f.best (seen c) f.choice c.number (found_rest c) kin.inside fits.table.places (first-kind f c r under over) over under
     (first-exact f c r worth.0 worth.1 under over) (λ k below. absurd (omega (arith, r.number, below))) s.search))
     (λ (r : IsAgain f c). inlet-higher f c before behind fits r over under (again-exact f c r worth.0 worth.1 under over) holds (again-kind f c r under over))
     (other-told f c et kin.in_role)
@@ -112,7 +112,7 @@ fits-by false false low false f c before behind ec et el eh fits returned holds 
     let small : seen c ≤ℤ floor f = not-lt-told (floor f) (seen c) eh in
     ⊎_elim
     (λ (r : IsFirst f c). inlet-first f c before behind f.choice fits r holds
-    (IsSearching-low (value_at f) (code_at f) f.statuses f.rests f.alpha f.beta f.best (seen c) f.choice c.number (found_of c) fits.window kin.inside (unsettled f c kin.in_role) small (first-low f c r worth.0 worth.1 under) s.search))
+    (IsSearching-low (value_at f) (code_at f) f.statuses f.rests f.alpha f.beta f.best (seen c) f.choice c.number (found_rest c) fits.window kin.inside (unsettled f c kin.in_role) small (first-low f c r worth.0 worth.1 under) s.search))
     (λ (r : IsAgain f c). inlet-low f c before behind fits small (again-low f c r worth.0 worth.1 small) holds r.phase)
     (other-told f c et kin.in_role)
 
@@ -143,7 +143,7 @@ taken f c changes phase best choice status form before late last small low high 
   inside = inside;
   is = is;
   count = refl;
-  form = searched f phase choice f.spawned best (slice_set f.statuses c.number status) (slice_set f.rests c.number (found_of c)) form before late last small form.spawned low high;
+  form = searched f phase choice f.spawned best (slice_set f.statuses c.number status) (slice_set f.rests c.number (found_rest c)) form before late last small form.spawned low high;
   goal = record { depth = refl; alpha = refl; beta = refl; role = refl; number = refl };
   own_is = refl;
   opp_is = refl;
@@ -229,7 +229,7 @@ inlet-good own c form child kin done =
     (taken-by (int_le f.beta (seen c)) (c.role == 2) (int_le (seen c) (neg_ℤ c.beta)) (int_lt (floor f) (seen c)) f c form.frame phase inside (ranged f form.frame (searching-late f phase)) (ranged c child (omega arith)))
 
 -- what it says of the child's choice is true
-inlet-true : (f c : Frame) (before behind : List Frame) → Fits f (before ++ c ∷ behind) Neither → Fits c [] HasReturned → IsFrame c → IsTrueRest (found_of c) (value_at f c.number)
+inlet-true : (f c : Frame) (before behind : List Frame) → Fits f (before ++ c ∷ behind) Neither → Fits c [] HasReturned → IsFrame c → IsTrueRest (found_rest c) (value_at f c.number)
 inlet-true f c before behind fits returned form =
     let late : 1 < c.phase = omega (arith, returned.marked) in
     let r : IsRanged c = ranged c form late in

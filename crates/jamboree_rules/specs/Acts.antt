@@ -107,17 +107,17 @@ kind_of lower upper score = kind_by (int_le score lower) (int_le upper score)
 
 -- the bound that a child's score gives for its choice, packed in one number (`rest_with`): the score as the parent sees it, and
 -- whether it is an upper bound, a lower bound or exact. The child's window (alpha, beta) is (-beta, -alpha) to the parent
-abbrev pub found_of : Frame → ℕ
-found_of c = rest_with (kind_of (neg_ℤ c.beta) (neg_ℤ c.alpha) (seen c)) (seen c)
+abbrev pub found_rest : Frame → ℕ
+found_rest c = rest_with (kind_of (neg_ℤ c.beta) (neg_ℤ c.alpha) (seen c)) (seen c)
 
 -- what the inlet of frame f stores of child c: its score is at least beta, and ends the frame; a test was low, and settles the
 -- choice; a test failed; a search in full was better than the floor, or it wasn't. Beside the status each stores what the score says
 abbrev pub changes_by : (cuts test low higher : Bool) → Frame → Frame → List Change
-changes_by true test low higher f c = Best (seen c) ∷ Chosen (code_at f c.number) ∷ Status c.number status_settled (found_of c) ∷ Phase phase_done ∷ []
-changes_by false true true higher f c = Best (int_max f.best (seen c)) ∷ Status c.number status_settled (found_of c) ∷ []
-changes_by false true false higher f c = Status c.number status_failed (found_of c) ∷ []
-changes_by false false low true f c = Best (int_max f.best (seen c)) ∷ Chosen (code_at f c.number) ∷ Status c.number status_settled (found_of c) ∷ Phase phase_tests ∷ []
-changes_by false false low false f c = Best (int_max f.best (seen c)) ∷ Status c.number status_settled (found_of c) ∷ Phase phase_tests ∷ []
+changes_by true test low higher f c = Best (seen c) ∷ Chosen (code_at f c.number) ∷ Status c.number status_settled (found_rest c) ∷ Phase phase_done ∷ []
+changes_by false true true higher f c = Best (int_max f.best (seen c)) ∷ Status c.number status_settled (found_rest c) ∷ []
+changes_by false true false higher f c = Status c.number status_failed (found_rest c) ∷ []
+changes_by false false low true f c = Best (int_max f.best (seen c)) ∷ Chosen (code_at f c.number) ∷ Status c.number status_settled (found_rest c) ∷ Phase phase_tests ∷ []
+changes_by false false low false f c = Best (int_max f.best (seen c)) ∷ Status c.number status_settled (found_rest c) ∷ Phase phase_tests ∷ []
 
 -- the same, from the two frames: the lower end of a test's window, seen from the parent, is -beta of the child
 abbrev pub changes_of : Frame → Frame → List Change

@@ -25,8 +25,8 @@ word_of score = nat_abs (score +ℤ pos 1000000)
 abbrev pub status_of : ℕ → ℕ
 status_of entry = entry % 8
 
-abbrev pub rest_of : ℕ → ℕ
-rest_of entry = entry / 8
+abbrev pub entry_rest : ℕ → ℕ
+entry_rest entry = entry / 8
 
 -- the entry of a status and a rest
 abbrev pub entry_of : ℕ → ℕ → ℕ
@@ -65,7 +65,7 @@ frame_of words = record {
   count = slice_index words 10;
   spawned = slice_index words 11;
   statuses = map status_of (drop 12 words);
-  rests = map rest_of (drop 12 words);
+  rests = map entry_rest (drop 12 words);
 }
 
 -- whether this is the rest of an entry: nothing, or a kind with the word of a score from -INF to INF
@@ -74,7 +74,7 @@ is_rest rest = if kind_in rest == 0 then rest == 0 else is_score (score_in rest)
 
 -- whether this is an entry: a status, 0 to 4, and a rest
 abbrev pub is_entry : ℕ → Bool
-is_entry entry = nat_le (status_of entry) status_runs_again && is_rest (rest_of entry)
+is_entry entry = nat_le (status_of entry) status_runs_again && is_rest (entry_rest entry)
 
 -- whether each of these is an entry
 abbrev pub are_entries : List ℕ → Bool

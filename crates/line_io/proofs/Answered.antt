@@ -8,7 +8,7 @@ use Rattle.line_io.specs.declared.faults.WriteFailed.{WriteFailed}
 use Rattle.line_io.specs.Lines.{LineText}
 use Rattle.line_io.specs.Leads.{Leads, IsPrefixOf}
 use Rattle.line_io.specs.Streams.{WriteAnswer, Took, Refused}
-use Rattle.line_io.specs.Writes.{IsWritten, LinesAnswered, IsAnswered, with_end, written_texts, writes_of}
+use Rattle.line_io.specs.Writes.{IsWritten, LinesAnswered, IsAnswered, with_newline, written_texts, writes_of}
 use Rattle.line_io.proofs.Chains.{Leads-append, Answers-append}
 
 -- no line
@@ -26,12 +26,12 @@ LinesAnswered-none takes answers k a u =
     }
 
 -- one line, where its answer's writes ended so
-one-line : {K A : Type 0} (takes : K → WriteAnswer → K → Type 0) (answers : A → LineText → List ℕ → A → Type 0) (k : K) (a : A) (line : LineText) (text bytes : List ℕ) (k' : K) (a' : A) (r : Result (Unit {0}) WriteFailed) → answers a line text a' → bytes ≡ with_end text → (w : IsWritten takes k bytes k' r) → IsAnswered r (line ∷ []) (line ∷ []) (text ∷ []) w.rest → LinesAnswered takes answers k a (line ∷ []) k' a' r
+one-line : {K A : Type 0} (takes : K → WriteAnswer → K → Type 0) (answers : A → LineText → List ℕ → A → Type 0) (k : K) (a : A) (line : LineText) (text bytes : List ℕ) (k' : K) (a' : A) (r : Result (Unit {0}) WriteFailed) → answers a line text a' → bytes ≡ with_newline text → (w : IsWritten takes k bytes k' r) → IsAnswered r (line ∷ []) (line ∷ []) (text ∷ []) w.rest → LinesAnswered takes answers k a (line ∷ []) k' a' r
 one-line takes answers k a line text bytes k' a' r h e w ends =
-    record { answered = line ∷ []; texts = text ∷ []; pieces = w.pieces; rest = w.rest; answers_lead = (a', h, refl); writes = w.writes; taken = w.taken ∙ (e ∙ sym (append-nil (with_end text))); ends = ends }
+    record { answered = line ∷ []; texts = text ∷ []; pieces = w.pieces; rest = w.rest; answers_lead = (a', h, refl); writes = w.writes; taken = w.taken ∙ (e ∙ sym (append-nil (with_newline text))); ends = ends }
 
 -- one line, whose answer was written
-pub LinesAnswered-one : {K A : Type 0} (takes : K → WriteAnswer → K → Type 0) (answers : A → LineText → List ℕ → A → Type 0) (k : K) (a : A) (line : LineText) (text bytes : List ℕ) (k' : K) (a' : A) (r : Result (Unit {0}) WriteFailed) → answers a line text a' → bytes ≡ with_end text → IsWritten takes k bytes k' r → LinesAnswered takes answers k a (line ∷ []) k' a' r
+pub LinesAnswered-one : {K A : Type 0} (takes : K → WriteAnswer → K → Type 0) (answers : A → LineText → List ℕ → A → Type 0) (k : K) (a : A) (line : LineText) (text bytes : List ℕ) (k' : K) (a' : A) (r : Result (Unit {0}) WriteFailed) → answers a line text a' → bytes ≡ with_newline text → IsWritten takes k bytes k' r → LinesAnswered takes answers k a (line ∷ []) k' a' r
 LinesAnswered-one takes answers k a line text bytes k' a' (Ok u) h e w = one-line takes answers k a line text bytes k' a' (Ok u) h e w (refl, w.ends)
 LinesAnswered-one takes answers k a line text bytes k' a' (Err d) h e w =
     one-line takes answers k a line text bytes k' a' (Err d) h e w (([], refl), record { before = []; last = text; begun = concat w.pieces; texts_are = refl; last_is = w.taken ∙ e; left = w.ends })
@@ -45,7 +45,7 @@ writes_of-append ps qs (Err e) =
 -- what is taken of two lists of texts
 taken-append : (ps qs : List (List ℕ)) (rest rest' : List ℕ) (ts us : List (List ℕ)) → concat ps ++ rest ≡ written_texts ts → rest ≡ [] → concat qs ++ rest' ≡ written_texts us → concat (ps ++ qs) ++ rest' ≡ written_texts (ts ++ us)
 taken-append ps qs rest rest' ts us p e q =
-    ap (λ z. z ++ rest') (concat-append ps qs) ∙ (append_assoc (concat ps) (concat qs) rest' ∙ (ap (λ z. concat ps ++ z) q ∙ (ap (λ z. z ++ written_texts us) (sym (append-nil (concat ps)) ∙ (ap (λ z. concat ps ++ z) (sym e) ∙ p)) ∙ sym (flat_map-append with_end ts us))))
+    ap (λ z. z ++ rest') (concat-append ps qs) ∙ (append_assoc (concat ps) (concat qs) rest' ∙ (ap (λ z. concat ps ++ z) q ∙ (ap (λ z. z ++ written_texts us) (sym (append-nil (concat ps)) ∙ (ap (λ z. concat ps ++ z) (sym e) ∙ p)) ∙ sym (flat_map-append with_newline ts us))))
 
 -- how the answers to two lists of lines end
 ends-append : (r : Result (Unit {0}) WriteFailed) (ls ls' ms ms' : List LineText) (ts us : List (List ℕ)) (rest : List ℕ) → ls' ≡ ls → IsAnswered r ms ms' us rest → IsAnswered r (ls ++ ms) (ls' ++ ms') (ts ++ us) rest

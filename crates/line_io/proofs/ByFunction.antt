@@ -9,7 +9,7 @@ use Rattle.line_io.specs.declared.faults.WriteFailed.{WriteFailed}
 use Rattle.line_io.specs.Lines.{LineText, lines_of}
 use Rattle.line_io.specs.Leads.{Answers, IsPrefixOf}
 use Rattle.line_io.specs.Streams.{ReadAnswer, WriteAnswer}
-use Rattle.line_io.specs.Writes.{IsAnswered, written_texts, with_end}
+use Rattle.line_io.specs.Writes.{IsAnswered, written_texts, with_newline}
 use Rattle.line_io.specs.Runs.{Run, FunctionRun, IsBegun, IsOutput, answers_to, bytes_due, write_result}
 
 -- the texts, where each answer is the function's in the states that this fact holds of, and keeps it
@@ -24,13 +24,13 @@ Answers-function answers holds answer step a (l ∷ ls) (t ∷ ts) b h p =
 -- all of the answers
 answers-all : (answer : LineText → List ℕ) (pieces : List (List ℕ)) (rest : List ℕ) (texts : List (List ℕ)) (answered lines : List LineText) → concat pieces ++ rest ≡ written_texts texts → texts ≡ map answer answered → answered ≡ lines → rest ≡ [] → concat pieces ≡ answers_to answer lines
 answers-all answer pieces rest texts answered lines t e same none =
-    sym (append-nil (concat pieces)) ∙ (ap (λ z. concat pieces ++ z) (sym none) ∙ (t ∙ (ap written_texts (e ∙ ap (map answer) same) ∙ flat_map-map with_end answer lines)))
+    sym (append-nil (concat pieces)) ∙ (ap (λ z. concat pieces ++ z) (sym none) ∙ (t ∙ (ap written_texts (e ∙ ap (map answer) same) ∙ flat_map-map with_newline answer lines)))
 
 -- a beginning of them
 answers-begun : (answer : LineText → List ℕ) (pieces : List (List ℕ)) (rest : List ℕ) (texts : List (List ℕ)) (answered lines : List LineText) → concat pieces ++ rest ≡ written_texts texts → texts ≡ map answer answered → IsPrefixOf answered lines → 0 < length rest → IsBegun (concat pieces) (answers_to answer lines)
 answers-begun answer pieces rest texts answered lines t e first some =
-    let f : LineText → List ℕ = λ line. with_end (answer line) in
-    let same : concat pieces ++ rest ≡ flat_map f answered = t ∙ (ap written_texts e ∙ flat_map-map with_end answer answered) in
+    let f : LineText → List ℕ = λ line. with_newline (answer line) in
+    let same : concat pieces ++ rest ≡ flat_map f answered = t ∙ (ap written_texts e ∙ flat_map-map with_newline answer answered) in
     (rest ++ flat_map f first.0, sym (append_assoc (concat pieces) rest (flat_map f first.0)) ∙ (ap (λ z. z ++ flat_map f first.0) same ∙ (sym (flat_map-append f answered first.0) ∙ ap (flat_map f) first.1)), omega (arith, length-append rest (flat_map f first.0)))
 
 -- what is written of the answers, as the writes ended

@@ -7,7 +7,7 @@ use Rattle.line_io.specs.declared.faults.WriteFailed.{WriteFailed}
 use Rattle.line_io.specs.Lines.{LineText, lines_of, up_to_last_end}
 use Rattle.line_io.specs.Leads.{Leads}
 use Rattle.line_io.specs.Streams.{ReadAnswer, Gave, Ended, Failed, WriteAnswer}
-use Rattle.line_io.specs.Writes.{LinesAnswered, with_end, writes_of}
+use Rattle.line_io.specs.Writes.{LinesAnswered, with_newline, writes_of}
 
 -- the bytes whose lines are to be answered: all, where the end of the input was read or a write failed, and else those up to the last LF
 abbrev pub bytes_due : {X : Type 0} → Result X LineFault → List ℕ → List ℕ
@@ -41,7 +41,7 @@ pub record Run {S K A : Type 0} (gives : S → ReadAnswer → S → Type 0) (tak
 
 -- these lines, each answered by this function, with LF after each answer
 abbrev pub answers_to : (LineText → List ℕ) → List LineText → List ℕ
-answers_to answer lines = flat_map (λ line. with_end (answer line)) lines
+answers_to answer lines = flat_map (λ line. with_newline (answer line)) lines
 
 -- a beginning of what was due, of which something is left
 abbrev pub IsBegun : List ℕ → List ℕ → Type 0

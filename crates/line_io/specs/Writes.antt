@@ -7,12 +7,12 @@ use Rattle.line_io.specs.Leads.{Leads, Answers, IsPrefixOf}
 use Rattle.line_io.specs.Streams.{WriteAnswer, Took, Refused}
 
 -- a text followed by LF (byte 10)
-abbrev pub with_end : List ℕ → List ℕ
-with_end text = text ++ 10 ∷ []
+abbrev pub with_newline : List ℕ → List ℕ
+with_newline text = text ++ 10 ∷ []
 
 -- these texts, each followed by LF
 abbrev pub written_texts : List (List ℕ) → List ℕ
-written_texts texts = flat_map with_end texts
+written_texts texts = flat_map with_newline texts
 
 -- the writes: each took one of these pieces, and at an error one more failed
 abbrev pub writes_of : List (List ℕ) → Result (Unit {0}) WriteFailed → List WriteAnswer
@@ -38,7 +38,7 @@ pub record IsCutShort (texts : List (List ℕ)) (rest : List ℕ) : Type 0 where
   pub last : List ℕ
   pub begun : List ℕ
   pub texts_are : texts ≡ before ++ last ∷ []
-  pub last_is : begun ++ rest ≡ with_end last
+  pub last_is : begun ++ rest ≡ with_newline last
   pub left : 0 < length rest
 
 -- at Ok all of these lines are answered and all answers taken; at an error the answer to the last of the first lines isn't

@@ -4,7 +4,7 @@ ghost use Rattle.std.specs.Option.{option_to_list};
 ghost use Rattle.line_io.specs.Lines.{LineText};
 ghost use Rattle.line_io.specs.Held.{held_after, ended_within, last_line};
 ghost use Rattle.line_io.specs.Views.{text_of};
-ghost use Rattle.line_io.specs.Writes.{LinesAnswered, with_end};
+ghost use Rattle.line_io.specs.Writes.{LinesAnswered, with_newline};
 ghost use Rattle.line_io.specs.Runs.{Run};
 
 use crate::cutting::{LF, Line, LineCutter};
@@ -29,7 +29,7 @@ pub trait Answer {
 
     /// Answers the next line.
     fn answer(&mut self, line: Line<'_>)
-        ensures { (text : List ℕ) × answers self.old (text_of line.entry) text self.new × (kept self.new ≡ with_end text) };
+        ensures { (text : List ℕ) × answers self.old (text_of line.entry) text self.new × (kept self.new ≡ with_newline text) };
 
     /// The last answer, with its LF.
     fn text(&self) -> &[u8]

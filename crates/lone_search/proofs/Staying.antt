@@ -16,27 +16,27 @@ use Rattle.sched_rules.specs.Trees.{Tenant, has_child, words_in}
 use Rattle.sched_rules.specs.Lone.{Outcome, unless, lone_step, counted, holding, take_tests, steal_tests, taken_by, act_of, advance_tests, then_done, advanced, answer_tests, answered, inlet_tests, does_wait, staying, taken_in, inlet_under, finish_tests, finished, is_spendable, spent}
 use Rattle.jamboree_core.proofs.sched_laws_Shaped.{unless-passed, frame-found}
 use Rattle.jamboree_core.specs.jamboree_rules.declared.leaf.LeafAnswer.{LeafAnswer}
-use Rattle.pool_rules.specs.declared.turn.Deed.{Deed}
-use Rattle.pool_rules.specs.declared.turn.Deed.TheVariants.{Get, Run, Bring, TakeIn, Finish as FinishRoot}
+use Rattle.pool_rules.specs.declared.turn.Action.{Action}
+use Rattle.pool_rules.specs.declared.turn.Action.TheVariants.{Get, Run, Bring, TakeIn, Finish as FinishRoot}
 use Rattle.pool_rules.specs.declared.turn.Holding.{Holding}
-use Rattle.pool_rules.specs.declared.turn.Holding.TheVariants.{Nothing, Next, Computing, Short}
+use Rattle.pool_rules.specs.declared.turn.Holding.TheVariants.{Nothing, Next, Computing, GivingUp}
 use Rattle.pool_rules.specs.Turns.{step_of, offered}
 use Rattle.lone_search.specs.Asked.{IsWork}
 
--- for each deed
-deed-work : (worker : ℕ) (deed : Deed) → IsWork (step_of worker deed)
-deed-work worker (Get task) = elim (task.home == worker) as (λ own. IsWork {A = LeafAnswer} (if own then Take worker task.frame else Steal worker task.home task.frame)) [ true ↦ tt | false ↦ tt ]
-deed-work worker (Run frame) = tt
-deed-work worker (Bring frame answer) = tt
-deed-work worker (TakeIn frame) = tt
-deed-work worker (FinishRoot frame) = tt
+-- for each action
+action-work : (worker : ℕ) (action : Action) → IsWork (step_of worker action)
+action-work worker (Get task) = elim (task.home == worker) as (λ own. IsWork {A = LeafAnswer} (if own then Take worker task.frame else Steal worker task.home task.frame)) [ true ↦ tt | false ↦ tt ]
+action-work worker (Run frame) = tt
+action-work worker (Bring frame answer) = tt
+action-work worker (TakeIn frame) = tt
+action-work worker (FinishRoot frame) = tt
 
 -- for all that it may hold
 pub held-work : (worker : ℕ) (held : Holding) → IfSome (offered worker held) (λ step. IsWork step)
 held-work worker Nothing = tt
-held-work worker (Next deed) = deed-work worker deed
+held-work worker (Next action) = action-work worker action
 held-work worker (Computing frame leaf) = tt
-held-work worker (Short deed) = tt
+held-work worker (GivingUp action) = tt
 
 -- a tenant is left, which reserves what it did
 abbrev pub Stays : Tenant → Option Tenant → Type 0

@@ -12,7 +12,7 @@ use frame_tree::FrameId;
 use jamboree_core::jamboree::{Jamboree, Leaf, LeafAnswer};
 use jamboree_core::sched_core::Core;
 use jamboree_core::step_search;
-use pool_rules::{Deed, Holding, Task};
+use pool_rules::{Action, Holding, Task};
 use sched_rules::{Did, Refusal, Step, Worker};
 use std::alloc::Allocator;
 
@@ -65,10 +65,10 @@ impl<A: Allocator + Clone> Searcher<A> {
         match ahead {
             Ahead::Pick => {
                 let task = self.newest_task()?;
-                self.offer_on(Holding::Next(Deed::Get(task)))
+                self.offer_on(Holding::Next(Action::Get(task)))
             }
-            Ahead::Run(frame) => self.offer_on(Holding::Next(Deed::Run(frame))),
-            Ahead::TakeIn(frame) => self.offer_on(Holding::Next(Deed::TakeIn(frame))),
+            Ahead::Run(frame) => self.offer_on(Holding::Next(Action::Run(frame))),
+            Ahead::TakeIn(frame) => self.offer_on(Holding::Next(Action::TakeIn(frame))),
         }
     }
 
@@ -96,13 +96,13 @@ impl<A: Allocator + Clone> Searcher<A> {
     {
         match held {
             Holding::Nothing => Some(Ahead::Pick),
-            Holding::Next(Deed::Run(frame)) => Some(Ahead::Run(frame)),
-            Holding::Next(Deed::TakeIn(frame)) => Some(Ahead::TakeIn(frame)),
+            Holding::Next(Action::Run(frame)) => Some(Ahead::Run(frame)),
+            Holding::Next(Action::TakeIn(frame)) => Some(Ahead::TakeIn(frame)),
             Holding::Computing(frame, leaf) => self.bring(frame, leaf),
-            Holding::Next(Deed::Finish(frame)) => self.finish(frame),
-            Holding::Short(deed) => self.spend(deed.frame()),
+            Holding::Next(Action::Finish(frame)) => self.finish(frame),
+            Holding::GivingUp(action) => self.spend(action.frame()),
             // Nothing that was taken leads here.
-            Holding::Next(Deed::Get(_)) | Holding::Next(Deed::Bring(_, _)) => None,
+            Holding::Next(Action::Get(_)) | Holding::Next(Action::Bring(_, _)) => None,
         }
     }
 
@@ -112,7 +112,7 @@ impl<A: Allocator + Clone> Searcher<A> {
         ensures { Keeps self.old.core self.new.core }
     {
         let answer = LeafAnswer::compute(leaf);
-        self.offer_and_run(Holding::Next(Deed::Bring(frame, answer)))
+        self.offer_and_run(Holding::Next(Action::Bring(frame, answer)))
     }
 
     /// Ends the job of the returned root. Nothing is left to do then.
@@ -121,7 +121,7 @@ impl<A: Allocator + Clone> Searcher<A> {
     fn finish(&mut self, root: FrameId) -> Option<Ahead>
         ensures { Keeps self.old.core self.new.core }
     {
-        self.offer_and_run(Holding::Next(Deed::Finish(root)))
+        self.offer_and_run(Holding::Next(Action::Finish(root)))
     }
 
     /// Offers a step after which the worker runs its frame, or has none; where it is refused for want of quota the job
@@ -131,8 +131,8 @@ impl<A: Allocator + Clone> Searcher<A> {
         ensures { Keeps self.old.core self.new.core }
     {
         match self.offer(held)? {
-            Holding::Next(Deed::Run(frame)) => Some(Ahead::Run(frame)),
-            Holding::Short(deed) => self.spend(deed.frame()),
+            Holding::Next(Action::Run(frame)) => Some(Ahead::Run(frame)),
+            Holding::GivingUp(action) => self.spend(action.frame()),
             // Nothing else is held then.
             _ => None,
         }
@@ -144,7 +144,7 @@ impl<A: Allocator + Clone> Searcher<A> {
     fn spend(&mut self, frame: FrameId) -> Option<Ahead>
         ensures { Keeps self.old.core self.new.core }
     {
-        let _ = self.offer(Holding::Short(Deed::Run(frame)));
+        let _ = self.offer(Holding::GivingUp(Action::Run(frame)));
         None
     }
 
@@ -183,7 +183,7 @@ fn own_step(worker: Worker, held: &Holding) -> Option<Step<Jamboree>>
 #[inline(always)]
 fn goes_on(refused: bool, next: Holding) -> Option<Holding> {
     match next {
-        Holding::Short(_) => Some(next),
+        Holding::GivingUp(_) => Some(next),
         _ if refused => None,
         _ => Some(next),
     }

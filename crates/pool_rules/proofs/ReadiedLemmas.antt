@@ -18,10 +18,10 @@ use Rattle.sched_rules.specs.Runs.{tenant_of}
 use Rattle.sched_rules.specs.Lone.{Outcome, unless, at_frame, lone_step, take_tests, steal_tests, taken_by, act_of, advance_tests, advanced, then_done, holding, in_state, counted, does_wait, aborted_beside, answer_tests, answered, inlet_tests, inlet_under, taken_in, staying, finish_tests, finished, spent, is_spendable}
 use Rattle.jamboree_rules.specs.declared.leaf.Leaf.{Leaf}
 use Rattle.jamboree_rules.specs.declared.leaf.LeafAnswer.{LeafAnswer}
-use Rattle.pool_rules.specs.declared.turn.Deed.{Deed}
-use Rattle.pool_rules.specs.declared.turn.Deed.TheVariants.{Get, Run, Bring, TakeIn, Finish}
+use Rattle.pool_rules.specs.declared.turn.Action.{Action}
+use Rattle.pool_rules.specs.declared.turn.Action.TheVariants.{Get, Run, Bring, TakeIn, Finish}
 use Rattle.pool_rules.specs.declared.turn.Holding.{Holding}
-use Rattle.pool_rules.specs.declared.turn.Holding.TheVariants.{Nothing, Next, Computing as IsComputed, Short}
+use Rattle.pool_rules.specs.declared.turn.Holding.TheVariants.{Nothing, Next, Computing as IsComputed, GivingUp}
 use Rattle.pool_rules.specs.Turns.{readied, task_at, frame_of, step_of, offered}
 use Rattle.pool_rules.specs.Readied.{frames_in, IsNoneForgotten, PushesWhatItReadied}
 use Rattle.pool_rules.proofs.ReadyFrames.{ready-with_state, ready-with_other, ready-with_words, ready-without, ready-aborted, ready-without_job, ready-push}
@@ -128,27 +128,27 @@ spent-names : (before : Tenant) (tenant : ℕ) (frame : Frame (List ℕ)) → Is
 spent-names before tenant frame tree serial home ready = inl (ready-without_job (root_of frame.path) before.frames serial home tree ready)
 
 -- each step of a worker
-deed-names : (functions : Functions Leaf LeafAnswer) (before : Tenant) (worker : ℕ) (deed : Deed) → IsTree before.frames →
-    IfOk (lone_step functions before (step_of worker deed)) (Names before.frames (frame_of deed).tenant worker)
-deed-names functions before worker (Get task) tree =
+action-names : (functions : Functions Leaf LeafAnswer) (before : Tenant) (worker : ℕ) (action : Action) → IsTree before.frames →
+    IfOk (lone_step functions before (step_of worker action)) (Names before.frames (frame_of action).tenant worker)
+action-names functions before worker (Get task) tree =
     let N = Names before.frames task.frame.tenant worker in
     let S : Bool → Type 0 = λ own. IfOk (lone_step functions before (if own then Take worker task.frame else Steal worker task.home task.frame)) N in
     elim (task.home == worker) as S [
       | true ↦ frame-taken N (frame_at before.frames task.frame.serial) _ (λ frame. unless-taken N (take_tests before worker frame) (taken_by before worker frame) (taken-names before task.frame.tenant worker frame))
       | false ↦ frame-taken N (frame_at before.frames task.frame.serial) _ (λ frame. unless-taken N (steal_tests before worker task.home frame) (taken_by before worker frame) (taken-names before task.frame.tenant worker frame))
     ]
-deed-names functions before worker (Run name) tree =
+action-names functions before worker (Run name) tree =
     let N = Names before.frames name.tenant worker in
     frame-taken N (frame_at before.frames name.serial) _ (λ frame.
     let act = act_of functions before frame in
     unless-taken N (advance_tests before worker frame act) (advanced functions before worker name frame act) (advanced-names functions before worker name frame act))
-deed-names functions before worker (Bring name answer) tree =
+action-names functions before worker (Bring name answer) tree =
     let N = Names before.frames name.tenant worker in
     frame-taken N (frame_at before.frames name.serial) _ (λ frame.
     unless-taken N (answer_tests functions before worker frame answer) (answered functions before worker frame answer) (answered-names functions before name.tenant worker frame answer))
-deed-names functions before worker (TakeIn name) tree =
+action-names functions before worker (TakeIn name) tree =
     frame-taken (Names before.frames name.tenant worker) (frame_at before.frames name.serial) _ (λ frame. under-names functions before worker name frame (parent_of frame.path) tree)
-deed-names functions before worker (Finish name) tree =
+action-names functions before worker (Finish name) tree =
     let N = Names before.frames name.tenant worker in
     frame-taken N (frame_at before.frames name.serial) _ (λ frame.
     unless-taken N (finish_tests before worker frame) (finished before frame) (finished-names before name.tenant worker frame tree))
@@ -162,7 +162,7 @@ spend-names functions before name tree =
     unless-taken N ((not (is_spendable functions before frame), NotSpent) ∷ []) (spent before frame) (spent-names before name.tenant frame tree))
 
 -- whose step it is
-pub tenant_of-step_of : (worker : ℕ) (deed : Deed) → tenant_of (step_of worker deed) ≡ (frame_of deed).tenant
+pub tenant_of-step_of : (worker : ℕ) (action : Action) → tenant_of (step_of worker action) ≡ (frame_of action).tenant
 tenant_of-step_of worker (Get task) =
     elim (task.home == worker) as (λ own. tenant_of {A = LeafAnswer} (if own then Take worker task.frame else Steal worker task.home task.frame) ≡ task.frame.tenant) [ true ↦ refl | false ↦ refl ]
 tenant_of-step_of worker (Run name) = refl
@@ -174,12 +174,12 @@ tenant_of-step_of worker (Finish name) = refl
 pub pushes-readied : (functions : Functions Leaf LeafAnswer) (tenant : Tenant) (worker : ℕ) (held : Holding) (step : StepOf LeafAnswer) → IsTree tenant.frames → offered worker held ≡ Some step →
     PushesWhatItReadied functions tenant worker held step
 pushes-readied functions tenant worker Nothing step tree same = absurd cc
-pushes-readied functions tenant worker (Next deed) step tree same =
-    let its : step_of worker deed ≡ step = cc in
-    let F : ℕ → Type 0 = λ number. IfOk (lone_step functions tenant (step_of worker deed)) (λ outcome. IsNoneForgotten number tenant.frames (frames_in outcome.0) (task_at worker (readied outcome.1))) in
-    let names : F (tenant_of (step_of worker deed)) = subst F (sym (tenant_of-step_of worker deed)) (deed-names functions tenant worker deed tree) in
-    subst (λ (s : StepOf LeafAnswer). PushesWhatItReadied functions tenant worker (Next deed) s) its names
+pushes-readied functions tenant worker (Next action) step tree same =
+    let its : step_of worker action ≡ step = cc in
+    let F : ℕ → Type 0 = λ number. IfOk (lone_step functions tenant (step_of worker action)) (λ outcome. IsNoneForgotten number tenant.frames (frames_in outcome.0) (task_at worker (readied outcome.1))) in
+    let names : F (tenant_of (step_of worker action)) = subst F (sym (tenant_of-step_of worker action)) (action-names functions tenant worker action tree) in
+    subst (λ (s : StepOf LeafAnswer). PushesWhatItReadied functions tenant worker (Next action) s) its names
 pushes-readied functions tenant worker (IsComputed frame leaf) step tree same = absurd cc
-pushes-readied functions tenant worker (Short deed) step tree same =
-    let its : Spend (frame_of deed) ≡ step = cc in
-    subst (λ (s : StepOf LeafAnswer). PushesWhatItReadied functions tenant worker (Short deed) s) its (spend-names functions tenant (frame_of deed) tree)
+pushes-readied functions tenant worker (GivingUp action) step tree same =
+    let its : Spend (frame_of action) ≡ step = cc in
+    subst (λ (s : StepOf LeafAnswer). PushesWhatItReadied functions tenant worker (GivingUp action) s) its (spend-names functions tenant (frame_of action) tree)

@@ -16,10 +16,10 @@ use Rattle.sched_rules.specs.Runs.{tenant_of}
 use Rattle.sched_rules.specs.Lone.{Outcome, lone_step, take_tests, steal_tests, taken_by, act_of, advance_tests, advanced, then_done, holding, in_state, counted, does_wait, aborted_beside, answer_tests, answered, inlet_tests, inlet_under, taken_in, staying, finish_tests, finished, spent, is_spendable}
 use Rattle.jamboree_rules.specs.declared.leaf.Leaf.{Leaf}
 use Rattle.jamboree_rules.specs.declared.leaf.LeafAnswer.{LeafAnswer}
-use Rattle.pool_rules.specs.declared.turn.Deed.{Deed}
-use Rattle.pool_rules.specs.declared.turn.Deed.TheVariants.{Get, Run, Bring, TakeIn, Finish}
+use Rattle.pool_rules.specs.declared.turn.Action.{Action}
+use Rattle.pool_rules.specs.declared.turn.Action.TheVariants.{Get, Run, Bring, TakeIn, Finish}
 use Rattle.pool_rules.specs.declared.turn.Holding.{Holding}
-use Rattle.pool_rules.specs.declared.turn.Holding.TheVariants.{Nothing, Next, Computing as IsComputed, Short}
+use Rattle.pool_rules.specs.declared.turn.Holding.TheVariants.{Nothing, Next, Computing as IsComputed, GivingUp}
 use Rattle.pool_rules.specs.Turns.{readied, task_at, frame_of, step_of, offered}
 use Rattle.pool_rules.specs.Readied.{frames_in, IsOfAReadyFrame, PushesWhatIsReady}
 use Rattle.pool_rules.proofs.ReadyFrames.{below-with_words, ready-woken, ready-pushed}
@@ -65,28 +65,28 @@ under-ready functions before worker name frame (Some parent) =
     unless-taken (IsTasked name.tenant worker) (inlet_tests before worker frame parent act) (taken_in before worker name parent act) (inlet-ready before worker name parent act)
 
 -- each step of a worker
-deed-ready : (functions : Functions Leaf LeafAnswer) (before : Tenant) (worker : ℕ) (deed : Deed) → AllBelow (before.serials + 1) before.frames →
-    IfOk (lone_step functions before (step_of worker deed)) (IsTasked (frame_of deed).tenant worker)
-deed-ready functions before worker (Get task) below =
+action-ready : (functions : Functions Leaf LeafAnswer) (before : Tenant) (worker : ℕ) (action : Action) → AllBelow (before.serials + 1) before.frames →
+    IfOk (lone_step functions before (step_of worker action)) (IsTasked (frame_of action).tenant worker)
+action-ready functions before worker (Get task) below =
     let R = IsTasked task.frame.tenant worker in
     let S : Bool → Type 0 = λ own. IfOk (lone_step functions before (if own then Take worker task.frame else Steal worker task.home task.frame)) R in
     elim (task.home == worker) as S [
       | true ↦ frame-taken R (frame_at before.frames task.frame.serial) _ (λ frame. unless-taken R (take_tests before worker frame) (taken_by before worker frame) tt)
       | false ↦ frame-taken R (frame_at before.frames task.frame.serial) _ (λ frame. unless-taken R (steal_tests before worker task.home frame) (taken_by before worker frame) tt)
     ]
-deed-ready functions before worker (Run name) below =
+action-ready functions before worker (Run name) below =
     let R = IsTasked name.tenant worker in
     frame-taken R (frame_at before.frames name.serial) _ (λ frame.
     let act = act_of functions before frame in
     let words = stored act.stores frame.value in
     unless-taken R (advance_tests before worker frame act) (advanced functions before worker name frame act)
     (then-ready functions (counted (holding frame.serial words before)) worker name frame.path words act.after (below-with_words (before.serials + 1) frame.serial words before.frames below)))
-deed-ready functions before worker (Bring name answer) below =
+action-ready functions before worker (Bring name answer) below =
     let R = IsTasked name.tenant worker in
     frame-taken R (frame_at before.frames name.serial) _ (λ frame. unless-taken R (answer_tests functions before worker frame answer) (answered functions before worker frame answer) tt)
-deed-ready functions before worker (TakeIn name) below =
+action-ready functions before worker (TakeIn name) below =
     frame-taken (IsTasked name.tenant worker) (frame_at before.frames name.serial) _ (λ frame. under-ready functions before worker name frame (parent_of frame.path))
-deed-ready functions before worker (Finish name) below =
+action-ready functions before worker (Finish name) below =
     let R = IsTasked name.tenant worker in
     frame-taken R (frame_at before.frames name.serial) _ (λ frame. unless-taken R (finish_tests before worker frame) (finished before frame) tt)
 
@@ -100,12 +100,12 @@ spend-ready functions before name =
 pub pushes-ready : (functions : Functions Leaf LeafAnswer) (tenant : Tenant) (worker : ℕ) (held : Holding) (step : StepOf LeafAnswer) → AllBelow (tenant.serials + 1) tenant.frames → offered worker held ≡ Some step →
     PushesWhatIsReady functions tenant worker held step
 pushes-ready functions tenant worker Nothing step below same = absurd cc
-pushes-ready functions tenant worker (Next deed) step below same =
-    let its : step_of worker deed ≡ step = cc in
-    let F : ℕ → Type 0 = λ number. IfOk (lone_step functions tenant (step_of worker deed)) (λ outcome. IsOfAReadyFrame number (frames_in outcome.0) (task_at worker (readied outcome.1))) in
-    let ready : F (tenant_of (step_of worker deed)) = subst F (sym (tenant_of-step_of worker deed)) (deed-ready functions tenant worker deed below) in
-    subst (λ (s : StepOf LeafAnswer). PushesWhatIsReady functions tenant worker (Next deed) s) its ready
+pushes-ready functions tenant worker (Next action) step below same =
+    let its : step_of worker action ≡ step = cc in
+    let F : ℕ → Type 0 = λ number. IfOk (lone_step functions tenant (step_of worker action)) (λ outcome. IsOfAReadyFrame number (frames_in outcome.0) (task_at worker (readied outcome.1))) in
+    let ready : F (tenant_of (step_of worker action)) = subst F (sym (tenant_of-step_of worker action)) (action-ready functions tenant worker action below) in
+    subst (λ (s : StepOf LeafAnswer). PushesWhatIsReady functions tenant worker (Next action) s) its ready
 pushes-ready functions tenant worker (IsComputed frame leaf) step below same = absurd cc
-pushes-ready functions tenant worker (Short deed) step below same =
-    let its : Spend (frame_of deed) ≡ step = cc in
-    subst (λ (s : StepOf LeafAnswer). PushesWhatIsReady functions tenant worker (Short deed) s) its (spend-ready functions tenant (frame_of deed))
+pushes-ready functions tenant worker (GivingUp action) step below same =
+    let its : Spend (frame_of action) ≡ step = cc in
+    subst (λ (s : StepOf LeafAnswer). PushesWhatIsReady functions tenant worker (GivingUp action) s) its (spend-ready functions tenant (frame_of action))

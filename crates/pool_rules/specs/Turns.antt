@@ -11,36 +11,36 @@ use Rattle.sched_rules.specs.declared.step.DidOf.TheVariants.{Admitted, Admitted
 use Rattle.jamboree_rules.specs.declared.leaf.Leaf.{Leaf}
 use Rattle.jamboree_rules.specs.declared.leaf.LeafAnswer.{LeafAnswer}
 use Rattle.pool_rules.specs.declared.task.Task.{Task}
-use Rattle.pool_rules.specs.declared.turn.Deed.{Deed}
-use Rattle.pool_rules.specs.declared.turn.Deed.TheVariants.{Get, Run, Bring, TakeIn, Finish}
+use Rattle.pool_rules.specs.declared.turn.Action.{Action}
+use Rattle.pool_rules.specs.declared.turn.Action.TheVariants.{Get, Run, Bring, TakeIn, Finish}
 use Rattle.pool_rules.specs.declared.turn.Holding.{Holding}
-use Rattle.pool_rules.specs.declared.turn.Holding.TheVariants.{Nothing, Next, Computing, Short}
+use Rattle.pool_rules.specs.declared.turn.Holding.TheVariants.{Nothing, Next, Computing, GivingUp}
 use Rattle.pool_rules.specs.declared.turn.Turn.{Turn}
 
--- the frame that a deed is about
-abbrev pub frame_of : Deed → FrameId
+-- the frame that a action is about
+abbrev pub frame_of : Action → FrameId
 frame_of (Get task) = task.frame
 frame_of (Run frame) = frame
 frame_of (Bring frame answer) = frame
 frame_of (TakeIn frame) = frame
 frame_of (Finish frame) = frame
 
--- the step for a deed: a task of the worker's own is taken, another's stolen from its home; a running frame advances; an answer
+-- the step for a action: a task of the worker's own is taken, another's stolen from its home; a running frame advances; an answer
 -- is brought; a returned frame is taken in, and a returned root finished
-abbrev pub step_of : ℕ → Deed → StepOf LeafAnswer
+abbrev pub step_of : ℕ → Action → StepOf LeafAnswer
 step_of worker (Get task) = if task.home == worker then Take worker task.frame else Steal worker task.home task.frame
 step_of worker (Run frame) = Advance worker frame
 step_of worker (Bring frame answer) = Answer worker frame answer
 step_of worker (TakeIn frame) = Inlet worker frame
 step_of worker (Finish frame) = FinishRoot worker frame
 
--- what a worker offers: nothing without a frame and while it computes; the step of its deed; and after a step that was refused for
+-- what a worker offers: nothing without a frame and while it computes; the step of its action; and after a step that was refused for
 -- want of quota, to spend the frame's job
 abbrev pub offered : ℕ → Holding → Option (StepOf LeafAnswer)
 offered worker Nothing = None
-offered worker (Next deed) = Some (step_of worker deed)
+offered worker (Next action) = Some (step_of worker action)
 offered worker (Computing frame leaf) = None
-offered worker (Short deed) = Some (Spend (frame_of deed))
+offered worker (GivingUp action) = Some (Spend (frame_of action))
 
 -- what a worker holds after what a step on a frame did: a frame that it got, that went on, grew, opened a child or has its answer
 -- runs; one that waits is let go; one that computes is computed; one that has returned is taken in, or finished where it is a root;
@@ -105,13 +105,13 @@ may_go_on _ = false
 abbrev pub turn : Holding → Turn
 turn holding = record { holding = holding; task = None }
 
--- a worker's turn: what it holds after the answer to what it offered, and the task that it pushes. A deed that was refused for want
--- of something is kept while its job is offered to be spent; where that is refused, as the job may go on, the deed comes again; any
+-- a worker's turn: what it holds after the answer to what it offered, and the task that it pushes. A action that was refused for want
+-- of something is kept while its job is offered to be spent; where that is refused, as the job may go on, the action comes again; any
 -- other refusal leaves the worker without a frame
 abbrev pub turn_after : ℕ → Holding → Result (DidOf Leaf) Refusal → Turn
 turn_after worker Nothing answer = turn Nothing
-turn_after worker (Next deed) (Ok did) = record { holding = held_after (frame_of deed) did; task = task_at worker (readied did) }
-turn_after worker (Next deed) (Err refusal) = turn (if is_short refusal then Short deed else Nothing)
+turn_after worker (Next action) (Ok did) = record { holding = held_after (frame_of action) did; task = task_at worker (readied did) }
+turn_after worker (Next action) (Err refusal) = turn (if is_short refusal then GivingUp action else Nothing)
 turn_after worker (Computing frame leaf) answer = turn (Computing frame leaf)
-turn_after worker (Short deed) (Ok did) = turn Nothing
-turn_after worker (Short deed) (Err refusal) = turn (if may_go_on refusal then Next deed else Nothing)
+turn_after worker (GivingUp action) (Ok did) = turn Nothing
+turn_after worker (GivingUp action) (Err refusal) = turn (if may_go_on refusal then Next action else Nothing)

@@ -16,8 +16,8 @@
 //!
 //! ```text
 //! // worker 2's frame opened a child: the frame goes on, and the child is a task
-//! let turn = Holding::Next(Deed::Run(root)).turned(worker, Ok(DidOf::Spawned(child)));
-//! turn == Turn { holding: Holding::Next(Deed::Run(root)), task: Some(Task { frame: child, home: 2 }) }
+//! let turn = Holding::Next(Action::Run(root)).turned(worker, Ok(DidOf::Spawned(child)));
+//! turn == Turn { holding: Holding::Next(Action::Run(root)), task: Some(Task { frame: child, home: 2 }) }
 //! ```
 #![tactic(auto)]
 
@@ -32,4 +32,4 @@ mod turn;
 
 pub use count::Computations;
 pub use task::Task;
-pub use turn::{Deed, Holding, Turn};
+pub use turn::{Action, Holding, Turn};

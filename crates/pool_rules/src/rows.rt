@@ -7,8 +7,8 @@ ghost use Rattle.jamboree_rules.specs.declared.leaf.LeafAnswer.{LeafAnswer};
 ghost use Rattle.sched_rules.specs.declared.refusal.Refusal.TheVariants.{NoFrame, NotReady, NoSteps, NoSegments, NotSpent};
 ghost use Rattle.sched_rules.specs.declared.step.StepOf.TheVariants.{Take, Steal, Advance, Answer, Inlet, Finish as FinishRoot, Spend};
 ghost use Rattle.sched_rules.specs.declared.step.DidOf.TheVariants.{Took, Spawned, Waited, Computing as IsComputing, Returned, Answered, TakenIn, Finished, Spent};
-ghost use Rattle.pool_rules.specs.declared.turn.Deed.TheVariants.{Get, Run, Bring, TakeIn, Finish};
-ghost use Rattle.pool_rules.specs.declared.turn.Holding.TheVariants.{Nothing, Next, Computing, Short};
+ghost use Rattle.pool_rules.specs.declared.turn.Action.TheVariants.{Get, Run, Bring, TakeIn, Finish};
+ghost use Rattle.pool_rules.specs.declared.turn.Holding.TheVariants.{Nothing, Next, Computing, GivingUp};
 ghost use Rattle.pool_rules.specs.Turns.{offered, turn, turn_after};
 ghost use Rattle.pool_rules.specs.Rows.{root, child, task};
 
@@ -43,11 +43,11 @@ pub fn a_child_and_its_parent()
 /// A step that is refused for want of quota: the job is offered to be spent, and where that is refused
 /// the step comes again. A task whose frame is gone is dropped.
 pub fn a_step_is_refused()
-    ensures short { turn_after 1 (Next (Run child)) (Err NoSegments) ≡ turn (Short (Run child)) }
-    ensures spends { offered 1 (Short (Run child)) ≡ Some (Spend child) }
-    ensures again { turn_after 1 (Short (Run child)) (Err NotSpent) ≡ turn (Next (Run child)) }
-    ensures spent { turn_after 1 (Short (Run child)) (Ok (Spent 1)) ≡ turn Nothing }
-    ensures gone { turn_after 1 (Short (Run child)) (Err NoFrame) ≡ turn Nothing }
-    ensures no_step { turn_after 1 (Next (Get (task child 2))) (Err NoSteps) ≡ turn (Short (Get (task child 2))) }
+    ensures short { turn_after 1 (Next (Run child)) (Err NoSegments) ≡ turn (GivingUp (Run child)) }
+    ensures spends { offered 1 (GivingUp (Run child)) ≡ Some (Spend child) }
+    ensures again { turn_after 1 (GivingUp (Run child)) (Err NotSpent) ≡ turn (Next (Run child)) }
+    ensures spent { turn_after 1 (GivingUp (Run child)) (Ok (Spent 1)) ≡ turn Nothing }
+    ensures gone { turn_after 1 (GivingUp (Run child)) (Err NoFrame) ≡ turn Nothing }
+    ensures no_step { turn_after 1 (Next (Get (task child 2))) (Err NoSteps) ≡ turn (GivingUp (Get (task child 2))) }
     ensures dropped { turn_after 1 (Next (Get (task child 2))) (Err NotReady) ≡ turn Nothing }
 {}

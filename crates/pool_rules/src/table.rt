@@ -1,10 +1,10 @@
 //! The table of the worker's turn, row by row.
 ghost use Rattle.std.specs.Prelude.{◌≡◌, Ok, Err};
-ghost use Rattle.pool_rules.specs.declared.turn.Holding.TheVariants.{Next, Short};
+ghost use Rattle.pool_rules.specs.declared.turn.Holding.TheVariants.{Next, GivingUp};
 ghost use Rattle.pool_rules.specs.Turns.{held_after, readied, task_at, is_short, turn, turn_after};
 
 use crate::task::Task;
-use crate::turn::{Deed, Holding, Turn};
+use crate::turn::{Action, Holding, Turn};
 use frame_tree::FrameId;
 use jamboree_rules::Leaf;
 use sched_rules::{DidOf, Refusal, Worker};
@@ -20,31 +20,31 @@ pub(crate) fn without_task(holding: Holding) -> Turn
     }
 }
 
-/// The turn after the answer to the step of a deed.
+/// The turn after the answer to the step of a action.
 #[inline(always)]
-pub(crate) fn done(worker: Worker, deed: Deed, answer: Result<DidOf<Leaf>, Refusal>) -> Turn
-    ensures { result ≡ turn_after worker (Next deed) answer }
+pub(crate) fn done(worker: Worker, action: Action, answer: Result<DidOf<Leaf>, Refusal>) -> Turn
+    ensures { result ≡ turn_after worker (Next action) answer }
 {
     match answer {
         Ok(did) => Turn {
-            holding: held_after(deed.frame(), did),
+            holding: held_after(action.frame(), did),
             task: readied(did).map(|frame| Task {
                 frame,
                 home: worker.number(),
             }),
         },
-        Err(refusal) => without_task(refused(deed, refusal)),
+        Err(refusal) => without_task(refused(action, refusal)),
     }
 }
 
-/// What a worker holds whose deed was refused.
+/// What a worker holds whose action was refused.
 #[inline(always)]
-fn refused(deed: Deed, refusal: Refusal) -> Holding
-    ensures { turn result ≡ turn_after 0 (Next deed) (Err refusal) }
+fn refused(action: Action, refusal: Refusal) -> Holding
+    ensures { turn result ≡ turn_after 0 (Next action) (Err refusal) }
 {
     match refusal {
         Refusal::NoSegments | Refusal::NoNodes | Refusal::NoSteps | Refusal::BadAct => {
-            Holding::Short(deed)
+            Holding::GivingUp(action)
         }
         _ => Holding::Nothing,
     }
@@ -52,11 +52,11 @@ fn refused(deed: Deed, refusal: Refusal) -> Holding
 
 /// What a worker holds after the answer to its offer to spend a job.
 #[inline(always)]
-pub(crate) fn spent(deed: Deed, answer: Result<DidOf<Leaf>, Refusal>) -> Holding
-    ensures { turn result ≡ turn_after 0 (Short deed) answer }
+pub(crate) fn spent(action: Action, answer: Result<DidOf<Leaf>, Refusal>) -> Holding
+    ensures { turn result ≡ turn_after 0 (GivingUp action) answer }
 {
     match answer {
-        Err(Refusal::NotSpent) => Holding::Next(deed),
+        Err(Refusal::NotSpent) => Holding::Next(action),
         _ => Holding::Nothing,
     }
 }
@@ -68,11 +68,11 @@ fn held_after(frame: FrameId, did: DidOf<Leaf>) -> Holding
 {
     match did {
         DidOf::Took | DidOf::Went | DidOf::Grew | DidOf::Spawned(_) | DidOf::Answered => {
-            Holding::Next(Deed::Run(frame))
+            Holding::Next(Action::Run(frame))
         }
         DidOf::Computing(leaf) => Holding::Computing(frame, leaf),
-        DidOf::Returned(false) => Holding::Next(Deed::TakeIn(frame)),
-        DidOf::Returned(true) => Holding::Next(Deed::Finish(frame)),
+        DidOf::Returned(false) => Holding::Next(Action::TakeIn(frame)),
+        DidOf::Returned(true) => Holding::Next(Action::Finish(frame)),
         _ => Holding::Nothing,
     }
 }

@@ -12,7 +12,7 @@ use sched_rules::{DidOf, Refusal, StepOf, Worker};
 
 /// What a worker does next with a frame, by one step of the hall.
 #[derive(Clone, Copy, Debug, PartialEq, Eq)]
-pub enum Deed {
+pub enum Action {
     /// To get the frame of a task: it is taken where its home is the worker, else stolen.
     Get(Task),
     /// To advance the frame that it runs.
@@ -31,12 +31,12 @@ pub enum Holding {
     /// No frame.
     Nothing,
     /// A frame, and what it does with it next.
-    Next(Deed),
+    Next(Action),
     /// A frame that it computes outside the hall's lock, and what from.
     Computing(FrameId, Leaf),
     /// A frame whose step was refused for want of quota, or as its act can't be done: it offers to
     /// give its job up, and where that is refused, the step again.
-    Short(Deed),
+    GivingUp(Action),
 }
 
 /// What a worker's turn leaves.
@@ -48,7 +48,7 @@ pub struct Turn {
     pub task: Option<Task>,
 }
 
-impl Deed {
+impl Action {
     ghost use Rattle.std.specs.Prelude.{◌≡◌};
     ghost use Rattle.pool_rules.specs.Turns.{frame_of, step_of};
 
@@ -58,11 +58,11 @@ impl Deed {
         ensures { result ≡ frame_of self.now }
     {
         match self {
-            Deed::Get(task) => task.frame,
-            Deed::Run(frame) => *frame,
-            Deed::Bring(frame, _) => *frame,
-            Deed::TakeIn(frame) => *frame,
-            Deed::Finish(frame) => *frame,
+            Action::Get(task) => task.frame,
+            Action::Run(frame) => *frame,
+            Action::Bring(frame, _) => *frame,
+            Action::TakeIn(frame) => *frame,
+            Action::Finish(frame) => *frame,
         }
     }
 
@@ -72,17 +72,17 @@ impl Deed {
         ensures { result ≡ step_of worker self.now }
     {
         match self {
-            Deed::Get(task) => {
+            Action::Get(task) => {
                 if task.home == worker.number() {
                     StepOf::Take(worker, task.frame)
                 } else {
                     StepOf::Steal(worker, task.home, task.frame)
                 }
             }
-            Deed::Run(frame) => StepOf::Advance(worker, *frame),
-            Deed::Bring(frame, answer) => StepOf::Answer(worker, *frame, *answer),
-            Deed::TakeIn(frame) => StepOf::Inlet(worker, *frame),
-            Deed::Finish(frame) => StepOf::Finish(worker, *frame),
+            Action::Run(frame) => StepOf::Advance(worker, *frame),
+            Action::Bring(frame, answer) => StepOf::Answer(worker, *frame, *answer),
+            Action::TakeIn(frame) => StepOf::Inlet(worker, *frame),
+            Action::Finish(frame) => StepOf::Finish(worker, *frame),
         }
     }
 }
@@ -98,9 +98,9 @@ impl Holding {
     {
         match self {
             Holding::Nothing => None,
-            Holding::Next(deed) => Some(deed.step(worker)),
+            Holding::Next(action) => Some(action.step(worker)),
             Holding::Computing(_, _) => None,
-            Holding::Short(deed) => Some(StepOf::Spend(deed.frame())),
+            Holding::GivingUp(action) => Some(StepOf::Spend(action.frame())),
         }
     }
 
@@ -111,9 +111,9 @@ impl Holding {
     {
         match self {
             Holding::Nothing => without_task(Holding::Nothing),
-            Holding::Next(deed) => done(worker, deed, answer),
+            Holding::Next(action) => done(worker, action, answer),
             Holding::Computing(frame, leaf) => without_task(Holding::Computing(frame, leaf)),
-            Holding::Short(deed) => without_task(spent(deed, answer)),
+            Holding::GivingUp(action) => without_task(spent(action, answer)),
         }
     }
 }

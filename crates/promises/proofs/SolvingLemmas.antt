@@ -16,7 +16,7 @@ use Rattle.line_io.specs.declared.faults.LineFault.{LineFault}
 use Rattle.line_io.specs.Lines.{LineText, Whole, TooLong, lines_of}
 use Rattle.line_io.specs.Runs.{bytes_due, write_result, IsOutput}
 use Rattle.line_io.specs.Streams.{ReadAnswer, WriteAnswer}
-use Rattle.line_io.specs.Writes.{with_end, written_texts}
+use Rattle.line_io.specs.Writes.{with_newline, written_texts}
 use Rattle.solve_engine.specs.Solving.{words_question, line_question, question_answer, solved, solved_unless, solve_line, solve_line_unless, answers_unless, SolvedRun}
 use Rattle.promises.specs.Asking.{AsksFor}
 use Rattle.promises.specs.Sessions.{begins}
@@ -115,8 +115,8 @@ texts-true (flag ∷ refused) (line ∷ lines) = (true-solution flag line, texts
 texts-written : (refused : List Bool) (lines : List LineText) → answers_unless refused lines ≡ written_texts (texts_of refused lines)
 unfolding texts_of
 texts-written refused [] = refl
-texts-written [] (line ∷ lines) = ap (λ (rest : List ℕ). with_end (solve_line line) ++ rest) (texts-written [] lines)
-texts-written (flag ∷ refused) (line ∷ lines) = ap (λ (rest : List ℕ). with_end (solve_line_unless flag line) ++ rest) (texts-written refused lines)
+texts-written [] (line ∷ lines) = ap (λ (rest : List ℕ). with_newline (solve_line line) ++ rest) (texts-written [] lines)
+texts-written (flag ∷ refused) (line ∷ lines) = ap (λ (rest : List ℕ). with_newline (solve_line_unless flag line) ++ rest) (texts-written refused lines)
 
 pub solved-bytes : {S K : Type 0} (gives : S → ReadAnswer → S → Type 0) (takes : K → WriteAnswer → K → Type 0) (source : S) (sink : K) (source' : S) (sink' : K) (r : Result (Unit {0}) LineFault) →
     SolvedRun gives takes source sink source' sink' r → SolvedBytes gives takes source sink source' sink' r

@@ -5,7 +5,7 @@ use Rattle.std.proofs.lemmas.Bool.{cases_Bool, true≢false, false≢true, eq-eq
 use Rattle.cactus_stack.specs.Nodes.{Nodes, IsOpen, node_words, without, total_charge, HasAllChildren}
 use Rattle.cactus_stack.proofs.LawFacts.{charge-without}
 use Rattle.tenant_quota.specs.Accounts.{account_of, credited_by, charged_segments}
-use Rattle.tenant_quota.specs.Reservations.{Reservations, IsSoundBook, ChangesOnly, KeepsOthers as KeepsOtherAccounts, HasCharged}
+use Rattle.tenant_quota.specs.Reservations.{Reservations, IsSoundBook, ChangesOnly, KeepsOthers as KeepsOtherAccounts, HasChargedAtLeast}
 use Rattle.tenant_quota.specs.declared.account.Account.{Account}
 use Rattle.frame_tree.specs.declared.names.FrameId.{FrameId}
 use Rattle.frame_tree.specs.Frames.{Frame, frame_at, has_frame, goes_under, aborted, frames_under, values_of, IsTree, TenantTree}
@@ -65,7 +65,7 @@ pub record AreFreed (parts : Parts) (name : FrameId) (stay : Frame ℕ → Bool)
   pub more : before ≤ later
   pub few : later ≤ 65536
   pub frees : total_charge (without parts.nodes (closing parts.trees name.tenant stay)) + (later - before) ≡ total_charge parts.nodes
-  pub charged : HasCharged parts.book name.tenant (later - before)
+  pub charged : HasChargedAtLeast parts.book name.tenant (later - before)
 
 pub nodes-free : (parts : Parts) (nodes : Nodes) (name : FrameId) (stay : Frame ℕ → Bool) (before later : ℕ) → IsStored parts → IsSome (named (shared_of parts) name) → without parts.nodes (closing parts.trees name.tenant stay) ≡ nodes →
     before + total_charge parts.nodes ≡ length parts.nodes → later + total_charge nodes ≡ length nodes → AreFreed parts name stay before later

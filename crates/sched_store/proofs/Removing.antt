@@ -4,7 +4,7 @@ use Rattle.std.specs.List.{filter}
 use Rattle.std.proofs.lemmas.List.{length-set}
 use Rattle.cactus_stack.specs.Nodes.{Nodes, with_node, without, total_charge}
 use Rattle.tenant_quota.specs.Accounts.{account_of, credited_by, charged_segments}
-use Rattle.tenant_quota.specs.Reservations.{Reservations, IsSoundBook, ChangesOnly, KeepsOthers as KeepsOtherAccounts, HasCharged}
+use Rattle.tenant_quota.specs.Reservations.{Reservations, IsSoundBook, ChangesOnly, KeepsOthers as KeepsOtherAccounts, HasChargedAtLeast}
 use Rattle.tenant_quota.specs.declared.account.Account.{Account}
 use Rattle.frame_tree.specs.Frames.{Frame, AllBelow, TenantTree}
 use Rattle.frame_table.specs.Tables.{frames_of, KeepsOthers}
@@ -62,7 +62,7 @@ charge-left parts number freed keep stored account there frees =
 
 -- so the tenant is charged as much
 pub can-give-back : (parts : Parts) (number freed : ℕ) (keep : Frame ℕ → Bool) → IsStored parts → (account : Account) → account_of number parts.book.accounts ≡ Some account →
-    total_charge (without parts.nodes (closing parts.trees number keep)) + freed ≡ total_charge parts.nodes → HasCharged parts.book number freed
+    total_charge (without parts.nodes (closing parts.trees number keep)) + freed ≡ total_charge parts.nodes → HasChargedAtLeast parts.book number freed
 can-give-back parts number freed keep stored account there frees =
     let left = charge-left parts number freed keep stored account there frees in
     rw there (omega (arith, left))

@@ -7,7 +7,7 @@ use Rattle.line_io.specs.declared.faults.WriteFailed.{WriteFailed}
 use Rattle.line_io.specs.Lines.{LineText, lines_of}
 use Rattle.line_io.specs.Leads.{Answers}
 use Rattle.line_io.specs.Streams.{ReadAnswer, WriteAnswer}
-use Rattle.line_io.specs.Writes.{IsAnswered, written_texts, with_end}
+use Rattle.line_io.specs.Writes.{IsAnswered, written_texts, with_newline}
 use Rattle.line_io.specs.Runs.{Run, IsOutput, answers_to, bytes_due, write_result}
 use Rattle.line_io.proofs.ByFunction.{Run-written}
 use Rattle.solve_engine.specs.Solving.{solve_line, solve_line_unless, IsSolvedLine, answers_unless, SolvedRun}
@@ -27,7 +27,7 @@ refusals-of a (l ∷ ls) (t ∷ ts) b p =
     record {
       refused = p.1.0 ∷ more.refused;
       places = ap suc more.places;
-      are = ap (λ text. with_end text ++ written_texts ts) p.1.1 ∙ ap (λ rest. with_end (solve_line_unless p.1.0 l) ++ rest) more.are;
+      are = ap (λ text. with_newline text ++ written_texts ts) p.1.1 ∙ ap (λ rest. with_newline (solve_line_unless p.1.0 l) ++ rest) more.are;
     }
 
 -- lines behind the flags met no refused growth
@@ -37,8 +37,8 @@ answers-append [] (l ∷ ls) ms e = absurd cc
 answers-append (f ∷ fs) [] ms e = absurd cc
 answers-append (f ∷ fs) (l ∷ ls) ms e =
     let places : length fs ≡ length ls = omega (arith, e) in
-    ap (λ rest. with_end (solve_line_unless f l) ++ rest) (answers-append fs ls ms places)
-    ∙ sym (append_assoc (with_end (solve_line_unless f l)) (answers_unless fs ls) (answers_unless [] ms))
+    ap (λ rest. with_newline (solve_line_unless f l) ++ rest) (answers-append fs ls ms places)
+    ∙ sym (append_assoc (with_newline (solve_line_unless f l)) (answers_unless fs ls) (answers_unless [] ms))
 
 -- what is written of the answers, as the writes ended
 written : (r : Result (Unit {0}) WriteFailed) (pieces : List (List ℕ)) (rest : List ℕ) (texts : List (List ℕ)) (answered lines : List LineText) (refusals : AreRefusals answered texts) →
@@ -67,4 +67,4 @@ solved-run gives takes s k a s' k' a' r x =
 -- where no growth was refused, it is what `solve` writes
 pub none-refused : (lines : List LineText) → answers_unless [] lines ≡ answers_to solve_line lines
 none-refused [] = refl
-none-refused (line ∷ lines) = ap (λ rest. with_end (solve_line line) ++ rest) (none-refused lines)
+none-refused (line ∷ lines) = ap (λ rest. with_newline (solve_line line) ++ rest) (none-refused lines)

@@ -5,7 +5,7 @@ use Rattle.othello_eval.specs.Minimax.{minimax, best_choice}
 use Rattle.line_io.specs.Lines.{LineText, Whole, TooLong, lines_of}
 use Rattle.line_io.specs.declared.faults.LineFault.{LineFault}
 use Rattle.line_io.specs.Streams.{ReadAnswer, WriteAnswer}
-use Rattle.line_io.specs.Writes.{with_end}
+use Rattle.line_io.specs.Writes.{with_newline}
 use Rattle.line_io.specs.Runs.{Run, FunctionRun, answers_to}
 use Rattle.protocol.specs.declared.faults.ProtocolFault.{ProtocolFault}
 use Rattle.protocol.specs.declared.faults.ProtocolFault.TheVariants.{NoCommand, LongLine}
@@ -65,8 +65,8 @@ solve_out bytes = answers_to solve_line (lines_of bytes)
 -- the end of the list met none
 abbrev pub answers_unless : List Bool → List LineText → List ℕ
 answers_unless refused [] = []
-answers_unless [] (line ∷ lines) = with_end (solve_line line) ++ answers_unless [] lines
-answers_unless (flag ∷ refused) (line ∷ lines) = with_end (solve_line_unless flag line) ++ answers_unless refused lines
+answers_unless [] (line ∷ lines) = with_newline (solve_line line) ++ answers_unless [] lines
+answers_unless (flag ∷ refused) (line ∷ lines) = with_newline (solve_line_unless flag line) ++ answers_unless refused lines
 
 abbrev pub solve_out_unless : List Bool → List ℕ → List ℕ
 solve_out_unless refused bytes = answers_unless refused (lines_of bytes)

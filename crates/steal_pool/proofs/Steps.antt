@@ -3,15 +3,15 @@ use Rattle.std.proofs.Common.{◌≡◌, ℕ, true, false, ◌==◌, if◌then�
 use Rattle.sched_rules.specs.declared.step.StepOf.{StepOf}
 use Rattle.sched_rules.specs.declared.step.StepOf.TheVariants.{Take, Steal}
 use Rattle.task_deques.specs.jamboree_rules.declared.leaf.LeafAnswer.{LeafAnswer}
-use Rattle.task_deques.specs.pool_rules.declared.turn.Deed.{Deed}
-use Rattle.task_deques.specs.pool_rules.declared.turn.Deed.TheVariants.{Get, Run, Bring, TakeIn, Finish}
+use Rattle.task_deques.specs.pool_rules.declared.turn.Action.{Action}
+use Rattle.task_deques.specs.pool_rules.declared.turn.Action.TheVariants.{Get, Run, Bring, TakeIn, Finish}
 use Rattle.task_deques.specs.pool_rules.declared.turn.Holding.{Holding}
-use Rattle.task_deques.specs.pool_rules.declared.turn.Holding.TheVariants.{Nothing, Next, Computing, Short}
+use Rattle.task_deques.specs.pool_rules.declared.turn.Holding.TheVariants.{Nothing, Next, Computing, GivingUp}
 use Rattle.task_deques.specs.pool_rules.Turns.{step_of, offered}
 use Rattle.desk.specs.hall.Journals.{is_worker_step}
 
--- for each deed
-worker-step_of : (worker : ℕ) (deed : Deed) → is_worker_step (step_of worker deed) ≡ true
+-- for each action
+worker-step_of : (worker : ℕ) (action : Action) → is_worker_step (step_of worker action) ≡ true
 worker-step_of worker (Get task) = elim (task.home == worker) as (λ own. is_worker_step {A = LeafAnswer} (if own then Take worker task.frame else Steal worker task.home task.frame) ≡ true) [ true ↦ refl | false ↦ refl ]
 worker-step_of worker (Run frame) = refl
 worker-step_of worker (Bring frame answer) = refl
@@ -21,9 +21,9 @@ worker-step_of worker (Finish frame) = refl
 -- for all that it may hold
 worker-offered : (worker : ℕ) (holding : Holding) → IfSome (offered worker holding) (λ step. is_worker_step step ≡ true)
 worker-offered worker Nothing = tt
-worker-offered worker (Next deed) = worker-step_of worker deed
+worker-offered worker (Next action) = worker-step_of worker action
 worker-offered worker (Computing frame leaf) = tt
-worker-offered worker (Short deed) = refl
+worker-offered worker (GivingUp action) = refl
 
 -- so the step that is offered is one
 pub offers_a_worker_step : (worker : ℕ) (holding : Holding) (step : StepOf LeafAnswer) → Some step ≡ offered worker holding → is_worker_step step ≡ true

@@ -9,7 +9,7 @@ use Rattle.task_deques.specs.jamboree_rules.Leaves.{leaf_of_answer}
 use Rattle.task_deques.specs.Seats.{with_pushed}
 use Rattle.task_deques.specs.Deals.{WorkerSeats}
 use Rattle.task_deques.specs.pool_rules.declared.task.Task.{Task}
-use Rattle.task_deques.specs.pool_rules.declared.turn.Deed.TheVariants.{Bring}
+use Rattle.task_deques.specs.pool_rules.declared.turn.Action.TheVariants.{Bring}
 use Rattle.task_deques.specs.pool_rules.declared.turn.Holding.{Holding}
 use Rattle.task_deques.specs.pool_rules.declared.turn.Holding.TheVariants.{Next}
 use Rattle.task_deques.specs.pool_rules.Turns.{turn_after}

@@ -17,7 +17,7 @@ use desk::{Badge, Desk, Hands, Held};
 use frame_tree::FrameId;
 use sched_rules::{Step, Worker};
 use std::sync::Wait;
-use task_deques::pool_rules::{Deed, Holding, Task};
+use task_deques::pool_rules::{Action, Holding, Task};
 
 /// The most steps that a worker takes under one lock.
 const HELD_STEPS: u32 = 32;
@@ -74,7 +74,7 @@ fn work_off<L: Hands, G: Gate, R: Wait>(
 )
     ensures { posts tasks.new.ends ≡ posts tasks.old.ends }
 {
-    let mut holding = Holding::Next(Deed::Get(task));
+    let mut holding = Holding::Next(Action::Get(task));
     for _ in rt.forever() {
         holding = match holding {
             Holding::Nothing => break,
@@ -118,7 +118,7 @@ fn computed<G: Gate>(worker: Worker, number: u64, gate: &G, frame: FrameId, leaf
     gate.inside(worker, number);
     let answer = LeafAnswer::compute(leaf);
     gate.after(worker, number);
-    Holding::Next(Deed::Bring(frame, answer))
+    Holding::Next(Action::Bring(frame, answer))
 }
 
 /// Offers the step of what the worker holds, and pushes the task that it makes.

@@ -41,8 +41,8 @@ abbrev pub reserve_of : ℕ → Reservations → Option Quota
 reserve_of tenant b = option_map (λ a. a.reserve) (account_of tenant b.accounts)
 
 -- what isn't reserved: the places of 64 tenants less those that are there, and the totals less all reservations
-abbrev pub rest_of : Reservations → Rest
-rest_of b = record { tenants = 64 - length b.accounts; segments = b.segments - reserved_segments b.accounts; nodes = b.nodes - reserved_nodes b.accounts }
+abbrev pub unreserved_of : Reservations → Rest
+unreserved_of b = record { tenants = 64 - length b.accounts; segments = b.segments - reserved_segments b.accounts; nodes = b.nodes - reserved_nodes b.accounts }
 
 -- fewer than 64 tenants are there, and both totals allow the reservation
 pub record HasRoom (b : Reservations) (quota : Quota) : Type 0 where
@@ -93,8 +93,8 @@ abbrev pub IsOutOfSteps : Reservations → ℕ → Type 0
 IsOutOfSteps b tenant = IsSomeAnd (left_of tenant b) (λ left. left.steps ≡ 0)
 
 -- the tenant is there, and is charged at least so many segments
-abbrev pub HasCharged : Reservations → ℕ → ℕ → Type 0
-HasCharged b tenant segments = IsSomeAnd (account_of tenant b.accounts) (λ a. segments ≤ a.charged)
+abbrev pub HasChargedAtLeast : Reservations → ℕ → ℕ → Type 0
+HasChargedAtLeast b tenant segments = IsSomeAnd (account_of tenant b.accounts) (λ a. segments ≤ a.charged)
 
 -- the totals and the accounts of all tenants but one are as they were
 pub record KeepsOthers (old new : Reservations) (tenant : ℕ) : Type 0 where
@@ -115,7 +115,7 @@ pub record Admits (old new : Reservations) (tenant : ℕ) (quota : Quota) : Type
 pub record ChangesOnly (old new : Reservations) (tenant : ℕ) (f : Account → Account) : Type 0 where
   pub whole : new ≡ changed old tenant f
   pub account : account_of tenant new.accounts ≡ option_map f (account_of tenant old.accounts)
-  pub rest : rest_of new ≡ rest_of old
+  pub rest : unreserved_of new ≡ unreserved_of old
 
 -- the tenant has reserved this in the place of `now`, what it used stays, and nothing else has changed
 pub record Raises (old new : Reservations) (tenant : ℕ) (quota now : Quota) : Type 0 where

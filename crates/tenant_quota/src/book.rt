@@ -51,7 +51,7 @@ impl<A: Allocator> Model for Book<A> {
 
 impl<A: Allocator> Book<A> {
     ghost use Rattle.tenant_quota.specs.Accounts.{fresh, raised_to, charged_by, credited_by, ticked, charged_segments};
-    ghost use Rattle.tenant_quota.specs.Reservations.{empty_of, left_of, opened_of, reserve_of, rest_of, HasRoom, IsFull, CanRaise, IsTooMuch, IsLower, HasLeft, IsShort, HasStepLeft, IsOutOfSteps, HasCharged, KeepsOthers, Admits, Raises, ChangesOnly, Releases, IsSoundBook};
+    ghost use Rattle.tenant_quota.specs.Reservations.{empty_of, left_of, opened_of, reserve_of, unreserved_of, HasRoom, IsFull, CanRaise, IsTooMuch, IsLower, HasLeft, IsShort, HasStepLeft, IsOutOfSteps, HasChargedAtLeast, KeepsOthers, Admits, Raises, ChangesOnly, Releases, IsSoundBook};
 
     /// A book of so many segments (1 to 65,536) and nodes (1 to 4,194,304) in all, with no tenant.
     /// It makes the places of all 64 tenants, so no other call takes memory.
@@ -174,7 +174,7 @@ impl<A: Allocator> Book<A> {
 
     /// Gives back so many of the segments that the tenant is charged. Its nodes stay opened.
     pub fn give_back(&mut self, tenant: u64, segments: u32)
-        requires { HasCharged self.old tenant segments }
+        requires { HasChargedAtLeast self.old tenant segments }
         ensures credits { ChangesOnly self.old self.new tenant (credited_by segments) }
         ensures sum { charged_segments self.new.accounts + segments ≡ charged_segments self.old.accounts }
         ensures others { KeepsOthers self.old self.new tenant }
@@ -244,7 +244,7 @@ impl<A: Allocator> Book<A> {
 
     /// What isn't reserved yet.
     pub fn rest(&self) -> Rest
-        ensures rest { result ≡ rest_of self.now }
+        ensures rest { result ≡ unreserved_of self.now }
         ensures sound { IsSoundBook self.now }
     {
         Rest {

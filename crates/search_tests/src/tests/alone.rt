@@ -7,7 +7,7 @@ use linked_list_allocator::LocalHeap;
 use lone_search::{Searched, Way, search_within, solve_by_core};
 use othello_eval::Valued;
 use othello_moves::Choice;
-use pool_rules::{Deed, Holding, Task, Turn};
+use pool_rules::{Action, Holding, Task, Turn};
 use position_text::{Position, read};
 use sched_rules::{DidOf, Worker};
 use std::alloc::AllocError;
@@ -41,9 +41,9 @@ fn is_done_with(found: &Searched, nodes: u32, steps: u32) -> bool {
 fn a_child_is_a_task(rt: HostRuntime) -> Result<(), Fail> {
     let worker = Worker::new(2).ok_or("2 is a worker")?;
     let [root, child] = [1, 2].map(|serial| FrameId { tenant: 1, serial });
-    let turn = Holding::Next(Deed::Run(root)).turned(worker, Ok(DidOf::Spawned(child)));
+    let turn = Holding::Next(Action::Run(root)).turned(worker, Ok(DidOf::Spawned(child)));
     let wanted = Turn {
-        holding: Holding::Next(Deed::Run(root)),
+        holding: Holding::Next(Action::Run(root)),
         task: Some(Task {
             frame: child,
             home: 2,

@@ -1,6 +1,6 @@
 use Rattle.std.proofs.Common.{◌∙◌, map}
 use Rattle.jamboree_rules.specs.Frames.{may_be_child}
-use Rattle.jamboree_rules.specs.Places.{status_of, rest_of}
+use Rattle.jamboree_rules.specs.Places.{status_of, entry_rest}
 use Rattle.jamboree.specs.Views.{frame_in, frame_with}
 use Rattle.jamboree.proofs.InletLemmas.{by-told}
 use Rattle.jamboree.proofs.SightLemmas.{inlet-with}
@@ -13,4 +13,4 @@ returns-then-not-may_be_under c own below =
 pub returns : goal.returns
 returns c own below =
     by-told _ (may_be_child (frame_with c.args.frame.now own) (frame_with c.args.child.now below)) _ _ _ _ c.may_be_under.ensures c.if-not-may_be_under.false
-    (c.takes_in.ensures ∙ inlet-with (frame_in c.args.frame.now) (frame_in c.args.child.now) (map status_of own) (map rest_of own) (map status_of below) (map rest_of below))
+    (c.takes_in.ensures ∙ inlet-with (frame_in c.args.frame.now) (frame_in c.args.child.now) (map status_of own) (map entry_rest own) (map status_of below) (map entry_rest below))

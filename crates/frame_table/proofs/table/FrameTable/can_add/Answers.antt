@@ -6,7 +6,7 @@ use Rattle.frame_table.proofs.table.FrameTable.can_add.Goals.{then-may_follow, e
 pub returns-then-len-places-clause-above : goal.returns-then-len-places-clause-above
 returns-then-len-places-clause-above g c =
     let tree = rw c.as_slice.ensures.value at c.in-Some.ensures.found in
-    rw (← c.self.view_is, tree.frames) c.is_above.ensures.above
+    rw (← c.self.view_is, tree.frames) c.exceeds_all.ensures.above
 
 pub returns-then-len-places-clause-parent : goal.returns-then-len-places-clause-parent
 returns-then-len-places-clause-parent g c =
@@ -29,7 +29,7 @@ returns-then-len-places-clause-room g c =
 pub returns-then-len-places-clause-otherwise : goal.returns-then-len-places-clause-otherwise
 returns-then-len-places-clause-otherwise g c =
     let tree = rw c.as_slice.ensures.value at c.in-Some.ensures.found in
-    rw (← c.self.view_is, tree.frames, tree.places) (λ above parent room. c.is_above.ensures.otherwise above)
+    rw (← c.self.view_is, tree.frames, tree.places) (λ above parent room. c.exceeds_all.ensures.otherwise above)
 
 pub returns-else-len-places-clause-otherwise : goal.returns-else-len-places-clause-otherwise
 returns-else-len-places-clause-otherwise g c =

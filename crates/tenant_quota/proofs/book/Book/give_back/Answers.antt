@@ -2,7 +2,7 @@ use Rattle.std.proofs.Common.{◌≡◌, ℕ, ◌+◌, ◌-◌, ◌≤◌, lengt
 use Rattle.tenant_quota.specs.declared.account.Account.{Account}
 use Rattle.tenant_quota.specs.Accounts.{account_of, credited_by, charged_segments, IsWithinReserve}
 use Rattle.tenant_quota.proofs.Places.{account_place, read-rising}
-use Rattle.tenant_quota.specs.Reservations.{Reservations, HasCharged, IsSoundBook}
+use Rattle.tenant_quota.specs.Reservations.{Reservations, HasChargedAtLeast, IsSoundBook}
 use Rattle.tenant_quota.specs.Keeping.{held_by}
 use Rattle.tenant_quota.proofs.Standing.{is_some_of, and_at, place_within, stands_for, within_with, IsChange, change_by_write, sum_by_write}
 use Rattle.tenant_quota.proofs.book.Book.give_back.Goals as goal
@@ -18,7 +18,7 @@ record Credits (b : Reservations) (t i n : ℕ) (e : ℕ × Account) : Type 0 wh
   change : IsChange b (record b { accounts = set b.accounts i (e.0, credited_by n e.1) }) t (credited_by n)
   sum : charged_segments (set b.accounts i (e.0, credited_by n e.1)) + n ≡ charged_segments b.accounts
 
-credits : (b : Reservations) (t i n : ℕ) (read : List (ℕ × Account)) (e : ℕ × Account) → IsSoundBook b → HasCharged b t n → read ≡ b.accounts → i ≡ account_place t read → e ≡ get_or b.accounts i e → Credits b t i n e
+credits : (b : Reservations) (t i n : ℕ) (read : List (ℕ × Account)) (e : ℕ × Account) → IsSoundBook b → HasChargedAtLeast b t n → read ≡ b.accounts → i ≡ account_place t read → e ≡ get_or b.accounts i e → Credits b t i n e
 credits b t i n read e sound charged same is at =
     let there = is_some_of (account_of t b.accounts) _ charged in
     let stands = stands_for b t i read e sound there same is at in

@@ -6,7 +6,7 @@ use Rattle.tenant_quota.specs.Quota.{Quota, IsAbove, IsNotAbove, IsWithinLimits}
 use Rattle.tenant_quota.specs.Accounts.{account_of, raised_to}
 use Rattle.tenant_quota.specs.declared.account.Account.{Account}
 use Rattle.tenant_quota.specs.declared.book.Rest.{Rest}
-use Rattle.tenant_quota.specs.Reservations.{Reservations, reserve_of, rest_of, HasRoomFor, IsBeyond, CanRaise, IsTooMuch, IsLower, IsSoundBook}
+use Rattle.tenant_quota.specs.Reservations.{Reservations, reserve_of, unreserved_of, HasRoomFor, IsBeyond, CanRaise, IsTooMuch, IsLower, IsSoundBook}
 use Rattle.tenant_quota.specs.Keeping.{held_by}
 use Rattle.tenant_quota.proofs.Standing.{and_at, and_from, if_from, place_within, stands_for, IsRaise, raise_by_write, one_less}
 use Rattle.tenant_quota.proofs.Places.{account_place, read-rising}
@@ -61,11 +61,11 @@ refused b t quota now is above beyond = record {
   little = λ lower. not_both now quota above (and_at (reserve_of t b) (λ (q : Quota). IsNotAbove q quota) now is lower);
 }
 
-beyond_rest : (b : Reservations) (quota now : Quota) (r : Rest) (segments nodes : ℕ) → IsSoundBook b → r ≡ rest_of b → IsAbove now quota → segments ≡ quota.segments - now.segments → nodes ≡ quota.nodes - now.nodes → (r.segments < segments) ⊎ (r.nodes < nodes) → IsBeyond b now quota
+beyond_rest : (b : Reservations) (quota now : Quota) (r : Rest) (segments nodes : ℕ) → IsSoundBook b → r ≡ unreserved_of b → IsAbove now quota → segments ≡ quota.segments - now.segments → nodes ≡ quota.nodes - now.nodes → (r.segments < segments) ⊎ (r.nodes < nodes) → IsBeyond b now quota
 beyond_rest b quota now r segments nodes sound rest above segments_are nodes_are (inl less) = let e = ap (λ (x : Rest). x.segments) rest in inl (omega (arith, sound.segments_reserved, above.segments))
 beyond_rest b quota now r segments nodes sound rest above segments_are nodes_are (inr less) = let e = ap (λ (x : Rest). x.nodes) rest in inr (omega (arith, sound.nodes_reserved, above.nodes))
 
-within_rest : (b : Reservations) (quota now : Quota) (r : Rest) (segments nodes : ℕ) → IsSoundBook b → r ≡ rest_of b → IsAbove now quota → segments ≡ quota.segments - now.segments → nodes ≡ quota.nodes - now.nodes → segments ≤ r.segments → nodes ≤ r.nodes → HasRoomFor b now quota
+within_rest : (b : Reservations) (quota now : Quota) (r : Rest) (segments nodes : ℕ) → IsSoundBook b → r ≡ unreserved_of b → IsAbove now quota → segments ≡ quota.segments - now.segments → nodes ≡ quota.nodes - now.nodes → segments ≤ r.segments → nodes ≤ r.nodes → HasRoomFor b now quota
 within_rest b quota now r segments nodes sound rest above segments_are nodes_are enough many =
     let e = ap (λ (x : Rest). x.segments) rest in
     let f = ap (λ (x : Rest). x.nodes) rest in
@@ -97,13 +97,13 @@ sum_raised : (kept old new now quota more : ℕ) → new + now ≡ old + quota �
 sum_raised kept old new now quota more raises is more_is above = omega (arith, raises, is, more_is, above)
 
 -- a reservation that the rest of a total doesn't allow, and one that both allow, as the code compares them
-too_much : (b : Reservations) (t : ℕ) (quota now : Quota) (r : Rest) (s s_now n n_now : ℕ) → IsSoundBook b → reserve_of t b ≡ Some now → r ≡ rest_of b → IsAbove now quota → s ≡ quota.segments → s_now ≡ now.segments → n ≡ quota.nodes → n_now ≡ now.nodes →
+too_much : (b : Reservations) (t : ℕ) (quota now : Quota) (r : Rest) (s s_now n n_now : ℕ) → IsSoundBook b → reserve_of t b ≡ Some now → r ≡ unreserved_of b → IsAbove now quota → s ≡ quota.segments → s_now ≡ now.segments → n ≡ quota.nodes → n_now ≡ now.nodes →
     (r.segments < s - s_now) ⊎ ((s - s_now ≤ r.segments) × (r.nodes < n - n_now)) → IsRefused b t quota
 too_much b t quota now r s s_now n n_now sound is rest above s_is s_now_is n_is n_now_is less =
     refused b t quota now is above (beyond_rest b quota now r (s - s_now) (n - n_now) sound rest above (difference _ _ _ _ s_is s_now_is) (difference _ _ _ _ n_is n_now_is) (one_less _ _ _ _ less))
 
 allowed : (b : Reservations) (t i : ℕ) (read : List (ℕ × Account)) (e : ℕ × Account) (quota : Quota) (r : Rest) (s s_now n n_now : ℕ) → IsSoundBook b → IsSome (account_of t b.accounts) → read ≡ b.accounts → i ≡ account_place t read → e ≡ get_or b.accounts i e → IsWithinLimits quota →
-    r ≡ rest_of b → IsAbove e.1.reserve quota → s ≡ quota.segments → s_now ≡ e.1.reserve.segments → n ≡ quota.nodes → n_now ≡ e.1.reserve.nodes → s - s_now ≤ r.segments → n - n_now ≤ r.nodes →
+    r ≡ unreserved_of b → IsAbove e.1.reserve quota → s ≡ quota.segments → s_now ≡ e.1.reserve.segments → n ≡ quota.nodes → n_now ≡ e.1.reserve.nodes → s - s_now ≤ r.segments → n - n_now ≤ r.nodes →
     IsRaised b (record b { accounts = set b.accounts i (e.0, raised_to quota e.1) }) t quota e.1.reserve
 allowed b t i read e quota r s s_now n n_now sound there same is at limits rest above s_is s_now_is n_is n_now_is enough many =
     let own : reserve_of t b ≡ Some e.1.reserve = ap (option_map (λ (a : Account). a.reserve)) (stands_for b t i read e sound there same is at).account in

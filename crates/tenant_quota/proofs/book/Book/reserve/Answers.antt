@@ -6,14 +6,14 @@ use Rattle.tenant_quota.specs.declared.account.Account.{Account}
 use Rattle.tenant_quota.specs.declared.book.Rest.{Rest}
 use Rattle.tenant_quota.specs.Quota.{Quota, IsWithinLimits}
 use Rattle.tenant_quota.specs.Accounts.{account_of, fresh, with_new}
-use Rattle.tenant_quota.specs.Reservations.{Reservations, admitted, rest_of, HasRoom, Admits, KeepsOthers, IsSoundBook}
+use Rattle.tenant_quota.specs.Reservations.{Reservations, admitted, unreserved_of, HasRoom, Admits, KeepsOthers, IsSoundBook}
 use Rattle.tenant_quota.specs.Keeping.{held_by}
 use Rattle.tenant_quota.proofs.Places.{account_place, account_place-le-length, read-rising}
 use Rattle.tenant_quota.proofs.Edits.{insert-account_place}
 use Rattle.tenant_quota.proofs.Effects.{Admits-admitted, KeepsOthers-admitted, IsSoundBook-admitted}
 use Rattle.tenant_quota.proofs.book.Book.reserve.Goals as goal
 
-has_room : (b : Reservations) (quota : Quota) (r : Rest) (segments nodes : ℕ) → IsSoundBook b → r ≡ rest_of b → r.tenants ≢ 0 → segments ≡ quota.segments → nodes ≡ quota.nodes → segments ≤ r.segments → nodes ≤ r.nodes → HasRoom b quota
+has_room : (b : Reservations) (quota : Quota) (r : Rest) (segments nodes : ℕ) → IsSoundBook b → r ≡ unreserved_of b → r.tenants ≢ 0 → segments ≡ quota.segments → nodes ≡ quota.nodes → segments ≤ r.segments → nodes ≤ r.nodes → HasRoom b quota
 has_room b quota r segments nodes sound rest some segments_are nodes_are enough_segments enough_nodes =
     let tenants_are = ap (λ (x : Rest). x.tenants) rest in
     let segments_rest = ap (λ (x : Rest). x.segments) rest in
