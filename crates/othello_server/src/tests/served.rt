@@ -2,6 +2,7 @@
 use super::{Given, LAST, is_answered};
 use crate::running::run;
 use line_io::{FromWriter, Sink, WriteFailed};
+use solve_command::Output;
 use std::fs::{self, Files};
 use std::io::{self, Read};
 use std::net::{Net, TcpStream};
