@@ -98,6 +98,7 @@ pub fn give_chain<A: Allocator>(region: &mut Region<A>, first: Option<SegNo>, co
             region.give(segment);
             give_chain(region, next, count - 1);
         }
+        // Not reached: the chain has `count` segments (`IsChain.whole`), and `count` isn't 0.
         None => {}
     }
 }

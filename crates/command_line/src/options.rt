@@ -129,7 +129,7 @@ fn serve_of(given: &ArgMatches<'_>) -> Result<Options, Missing>
     })
 }
 
-/// The refusal of a value that is no number within the limits of its option.
+/// The refusal of words that lack a command, or a number within its limits for an option.
 fn outside(alloc: Global, missing: Missing, matches: &ArgMatches<'_>) -> WordsFault
     ensures { IsOutside result }
 {

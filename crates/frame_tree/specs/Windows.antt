@@ -6,7 +6,8 @@ pub record PlacedList (T : Type 0) : Type 0 where
   pub places : ℕ
   pub list : List T
 
--- what is true of the elements, the count of those before the start of the list, its number of places, and the room
+-- the invariant of a ListWindow (src/window.rt), whose list is what stands in items from start on: it is no longer than its places (held),
+-- which are at most 4096; all items, those before start too, are at most 2 * places + 64 (filled; 64 is SPARE), and the Vec's capacity, room, is at least that
 pub record IsWindow {T : Type 0} (items : List T) (start places room : ℕ) : Type 0 where
   pub within : start ≤ length items
   pub held : length items ≤ places + start

@@ -17,7 +17,7 @@ use Rattle.pool_rules.specs.declared.turn.Holding.{Holding}
 use Rattle.pool_rules.specs.declared.turn.Holding.TheVariants.{Nothing, Next, Computing, GivingUp}
 use Rattle.pool_rules.specs.declared.turn.Turn.{Turn}
 
--- the frame that a action is about
+-- the frame that an action is about
 abbrev pub frame_of : Action → FrameId
 frame_of (Get task) = task.frame
 frame_of (Run frame) = frame
@@ -25,7 +25,7 @@ frame_of (Bring frame answer) = frame
 frame_of (TakeIn frame) = frame
 frame_of (Finish frame) = frame
 
--- the step for a action: a task of the worker's own is taken, another's stolen from its home; a running frame advances; an answer
+-- the step for an action: a task of the worker's own is taken, another's stolen from its home; a running frame advances; an answer
 -- is brought; a returned frame is taken in, and a returned root finished
 abbrev pub step_of : ℕ → Action → StepOf LeafAnswer
 step_of worker (Get task) = if task.home == worker then Take worker task.frame else Steal worker task.home task.frame
@@ -105,7 +105,7 @@ may_go_on _ = false
 abbrev pub turn : Holding → Turn
 turn holding = record { holding = holding; task = None }
 
--- a worker's turn: what it holds after the answer to what it offered, and the task that it pushes. A action that was refused for want
+-- a worker's turn: what it holds after the answer to what it offered, and the task that it pushes. An action that was refused for want
 -- of something is kept while its job is offered to be spent; where that is refused, as the job may go on, the action comes again; any
 -- other refusal leaves the worker without a frame
 abbrev pub turn_after : ℕ → Holding → Result (DidOf Leaf) Refusal → Turn

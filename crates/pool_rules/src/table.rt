@@ -20,7 +20,7 @@ pub(crate) fn without_task(holding: Holding) -> Turn
     }
 }
 
-/// The turn after the answer to the step of a action.
+/// The turn after the answer, taken or refused, to the step of an action.
 #[inline(always)]
 pub(crate) fn done(worker: Worker, action: Action, answer: Result<DidOf<Leaf>, Refusal>) -> Turn
     ensures { result ≡ turn_after worker (Next action) answer }

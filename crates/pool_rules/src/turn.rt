@@ -104,7 +104,7 @@ impl Holding {
         }
     }
 
-    /// What a worker holds after the answer to the step that it offered, and the task that it made.
+    /// What a worker holds after the answer to the step that it offered, and the task of the frame that the step made ready. One that offers nothing keeps what it holds.
     #[inline(always)]
     pub fn turned(self, worker: Worker, answer: Result<DidOf<Leaf>, Refusal>) -> Turn
         ensures { result ≡ turn_after worker self answer }

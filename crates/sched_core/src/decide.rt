@@ -165,7 +165,8 @@ pub fn charge(words: usize) -> usize
     (words + 15) / 16
 }
 
-/// How many segments more an act that can be done needs, by a frame of so many words.
+/// How many more segments an act that can be done takes, of a frame with so many words. Whether the frame has a child
+/// doesn't matter here (only Compute asks), so the requirement has `false`.
 pub fn segments_for(words: usize, after: &Then) -> usize
     requires { is_bad_then_of words false after.now ≡ false }
     ensures { (frame : Frame (List ℕ)) → length frame.value ≡ words → result ≡ segments_for_of frame after.now }

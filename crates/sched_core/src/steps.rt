@@ -36,7 +36,8 @@ impl<P: Procedure, A: Allocator> Engine<P, A> {
         }
     }
 
-    /// Why a step would be refused, where memory isn't wanting.
+    /// Why a step would be refused now, or None where it would be taken; that an admission may lack memory is left aside.
+    /// The `false` of Answer: frames aren't assumed to fit, which changes no result.
     pub(crate) fn refusal(&self, step: &Step<P>) -> Option<Refusal>
         ensures { result ≡ shared_refusal (P.functions self.now.procedure) self.now.store step.now }
     {

@@ -1,4 +1,4 @@
--- Meaning: the tree of one tenant: what it reserved, the serials that it was given, the steps that it took, its jobs and its frames.
+-- Meaning: one tenant: what it reserved, the serials that it was given, the steps that it took, its jobs, and the tree of its frames.
 -- (Cilk 5.4 Reference Manual: cactus stack, abort.)
 use Rattle.std.specs.Prelude.{ℕ, ◌+◌, ◌-◌, Bool, false, ◌||◌, ◌==◌, nat_lt, nat_le, List, [], ◌∷◌, Option, Some, None, if◌then◌else◌, map, reverse, length, sum_by, slice_set, take}
 use Rattle.cactus_stack.specs.Nodes.{charge}
@@ -28,7 +28,7 @@ pub record Tenant : Type 0 where
 abbrev pub admitted_with : Quota → Tenant
 admitted_with quota = record { reserve = quota; serials = 0; steps = 0; jobs = []; frames = [] }
 
--- the words of the frame with this serial
+-- the words of a frame, and none where there is no frame
 abbrev pub words_of : Option (Frame (List ℕ)) → List ℕ
 words_of None = []
 words_of (Some frame) = frame.value
