@@ -1,5 +1,5 @@
 //! What a pool is asked, and what it ends with.
-ghost use Rattle.std.specs.Prelude.{◌≡◌, ◌+◌, true, length, sum_by, All, IfErr, IfOk};
+ghost use Rattle.std.specs.Prelude.{◌≡◌, ◌+◌, true, length, sum_by, All, IfErr, IfOk, None};
 ghost use Rattle.task_deques.specs.Deals.{returned, whole_deques, IsAccounted};
 ghost use Rattle.steal_pool.specs.Announced.{IsUnsaid};
 
@@ -89,7 +89,8 @@ pub struct PoolConfig {
 impl PoolConfig {
     /// As many workers as the number of the last, with the usual stacks.
     pub fn new(workers: Worker) -> PoolConfig
-        ensures { result.workers ≡ workers }
+        ensures workers { result.workers ≡ workers }
+        ensures stack { result.stack ≡ None }
     {
         PoolConfig {
             workers,

@@ -1,5 +1,5 @@
 //! The threads of a server: the pool in one, and one for each connection.
-ghost use Rattle.std.specs.Prelude.{◌≡◌, true, IfOk, Ok};
+ghost use Rattle.std.specs.Prelude.{◌≡◌, true, IfOk, None, Ok};
 
 use crate::door::Door;
 use crate::faults::ServeFault;
@@ -38,6 +38,8 @@ impl ServerConfig {
     pub fn new(sessions: u16, workers: Worker) -> ServerConfig
         ensures sessions { result.sessions.count ≡ sessions }
         ensures workers { result.pool.workers ≡ workers }
+        ensures session_stacks { result.sessions.stack ≡ None }
+        ensures pool_stacks { result.pool.stack ≡ None }
     {
         ServerConfig {
             sessions: Sessions {
