@@ -31,6 +31,7 @@ pub struct Desk<L: Hands, A: Allocator = Global> {
     lock: Mutex<Kept<L, A>>,
     ready: Condvar,
     ended: Condvar,
+    rested: Condvar,
 }
 
 // A desk goes with all its parts. A crate that holds one proves no more of that, as it would were this derived.
@@ -40,6 +41,7 @@ impl<L: Hands, A: Allocator> Drop for Desk<L, A> {
             lock: _lock,
             ready: _ready,
             ended: _ended,
+            rested: _rested,
         } = self;
     }
 }
@@ -54,18 +56,28 @@ impl<L: Hands, A: Allocator + Clone> Desk<L, A> {
             lock: Mutex::new(Kept::new(hall, blank)),
             ready: Condvar::new(),
             ended: Condvar::new(),
+            rested: Condvar::new(),
         }
     }
 
-    /// The hall, locked. A step holds the lock for less time than a sleep and a wake take, so a thread
-    /// that finds it taken looks again a few times before it sleeps.
+    /// The hall, locked.
     fn enter<R: Wait>(&self, rt: &R) -> MutexGuard<'_, Kept<L, A>> {
-        for _ in 0..LOOKS {
+        match self.lock.try_lock() {
+            Some(kept) => kept,
+            None => self.enter_late(rt),
+        }
+    }
+
+    /// The hall, locked, where the lock was taken at the first look. A step holds the lock for less time than a
+    /// sleep and a wake take, so a thread that finds it taken looks again a few times before it sleeps.
+    fn enter_late<R: Wait>(&self, rt: &R) -> MutexGuard<'_, Kept<L, A>> {
+        for _ in 1..LOOKS {
+            pause();
             if let Some(kept) = self.lock.try_lock() {
                 return kept;
             }
-            pause();
         }
+        pause();
         self.lock.lock(rt)
     }
 
@@ -182,19 +194,48 @@ impl<L: Hands, A: Allocator + Clone> Desk<L, A> {
     {
         let mut held = self.hold(rt);
         let answer = held.offer(rt, badge, step);
-        held.release();
+        let _is_to_rest = held.release();
         answer
     }
 
     /// The desk, held by one worker for steps that follow each other: until it is released all others wait.
     pub fn hold<R: Wait>(&self, rt: &R) -> Held<'_, L, A> {
+        let free = self.lock.try_lock();
+        let was_free = free.is_some();
+        let mut kept = match free {
+            Some(kept) => kept,
+            None => self.enter_late(rt),
+        };
+        let calls = kept.note(was_free);
         Held {
-            kept: self.enter(rt),
+            kept,
             ready: &self.ready,
             ended: &self.ended,
+            rested: &self.rested,
             wakes: 0,
             has_ended: false,
+            calls,
         }
+    }
+
+    /// One worker more takes its tasks here, until the desk is closed. Who never says so is not counted among those
+    /// that are awake while others rest.
+    pub fn begin_work<R: Wait>(&self, rt: &R) {
+        self.enter(rt).begin_work();
+    }
+
+    /// A worker without a frame rests where the lock is crowded and another worker is awake, until it is called or
+    /// the desk is closed; else it goes on at once. It is called where steps found the lock free for long enough.
+    pub fn rest<R: Wait>(&self, rt: &R) {
+        let mut kept = self.enter(rt);
+        if kept.is_to_rest() {
+            kept.begin_rest();
+            kept = self
+                .rested
+                .wait_while(rt, kept, |kept| kept.keeps_resting());
+            kept.end_rest();
+        }
+        drop(kept);
     }
 
     /// Some frame that is ready, with its home (a worker's number, or 0 for the hall). Waits until
@@ -215,6 +256,7 @@ impl<L: Hands, A: Allocator + Clone> Desk<L, A> {
         self.enter(rt).close();
         self.ready.notify_all();
         self.ended.notify_all();
+        self.rested.notify_all();
     }
 
     /// All steps that were taken since the hall was new.
@@ -232,6 +274,7 @@ impl<L: Hands, A: Allocator + Clone> Desk<L, A> {
             lock,
             ready: _ready,
             ended: _ended,
+            rested: _rested,
         } = self;
         lock.into_inner().closed(badge)
     }
