@@ -5,6 +5,7 @@ ghost use Rattle.hall.specs.Journals.{is_worker_step};
 ghost use Rattle.hall.specs.Halls.{count_of};
 ghost use Rattle.desk.specs.Seats.{admit_refusals, reserve_refusals, ask_refusals, cancel_refusals, stepped, seat_asked_at, IsAsked, IsShown};
 
+use crate::backoff::Backoff;
 use crate::held::Held;
 use crate::kept::Kept;
 use crate::seat::Seat;
@@ -16,22 +17,14 @@ use std::alloc::{Allocator, Global};
 use std::hint::spin_loop;
 use std::sync::ledger::Blank;
 use std::sync::{Condvar, Mutex, MutexGuard, Wait};
+use std::thread::yield_now;
 use tenant_quota::{Left, Reserve};
-
-/// How often a thread looks at the lock before it sleeps for it.
-const LOOKS: u32 = 12;
-
-/// How many pauses of the processor lie between two looks: some 4 microseconds, about twenty steps. So
-/// whoever has the lock mostly takes several steps before another looks, while what they touch is near
-/// its processor.
-const PAUSES: u32 = 256;
 
 /// The lock with the hall in it, which may have an allocator of its own.
 pub struct Desk<L: Hands, A: Allocator = Global> {
     lock: Mutex<Kept<L, A>>,
     ready: Condvar,
     ended: Condvar,
-    rested: Condvar,
 }
 
 // A desk goes with all its parts. A crate that holds one proves no more of that, as it would were this derived.
@@ -41,7 +34,6 @@ impl<L: Hands, A: Allocator> Drop for Desk<L, A> {
             lock: _lock,
             ready: _ready,
             ended: _ended,
-            rested: _rested,
         } = self;
     }
 }
@@ -56,7 +48,6 @@ impl<L: Hands, A: Allocator + Clone> Desk<L, A> {
             lock: Mutex::new(Kept::new(hall, blank)),
             ready: Condvar::new(),
             ended: Condvar::new(),
-            rested: Condvar::new(),
         }
     }
 
@@ -64,21 +55,21 @@ impl<L: Hands, A: Allocator + Clone> Desk<L, A> {
     fn enter<R: Wait>(&self, rt: &R) -> MutexGuard<'_, Kept<L, A>> {
         match self.lock.try_lock() {
             Some(kept) => kept,
-            None => self.enter_late(rt),
+            None => self.enter_late(rt, Backoff::new()),
         }
     }
 
-    /// The hall, locked, where the lock was taken at the first look. A step holds the lock for less time than a
-    /// sleep and a wake take, so a thread that finds it taken looks again a few times before it sleeps.
-    fn enter_late<R: Wait>(&self, rt: &R) -> MutexGuard<'_, Kept<L, A>> {
-        for _ in 1..LOOKS {
-            pause();
+    /// The hall, locked, where the lock was taken at the first look: looks again until it is free, and lets other
+    /// threads have the processor between two looks.
+    fn enter_late<R: Wait>(&self, rt: &R, backoff: Backoff) -> MutexGuard<'_, Kept<L, A>> {
+        for _ in rt.forever() {
+            pause(backoff);
             if let Some(kept) = self.lock.try_lock() {
                 return kept;
             }
+            yield_now();
         }
-        pause();
-        self.lock.lock(rt)
+        unreachable!()
     }
 
     /// Admits a tenant under the number after the greatest so far: its seat, whose share is 1. Refused at most as
@@ -192,56 +183,43 @@ impl<L: Hands, A: Allocator + Clone> Desk<L, A> {
         ensures share { MatchResult result (λ _. badge.new ≡ badge.old + 1) (λ _. badge.new ≡ badge.old) }
         ensures memory { result ≢ Err OutOfMemory }
     {
-        let mut held = self.hold(rt);
+        let mut held = self.hold(rt, badge);
         let answer = held.offer(rt, badge, step);
-        let _is_to_rest = held.release();
+        held.release();
         answer
     }
 
-    /// The desk, held by one worker for steps that follow each other: until it is released all others wait.
-    pub fn hold<R: Wait>(&self, rt: &R) -> Held<'_, L, A> {
-        let free = self.lock.try_lock();
-        let was_free = free.is_some();
-        let mut kept = match free {
-            Some(kept) => kept,
-            None => self.enter_late(rt),
+    /// The desk, held by the worker of this badge for steps that follow each other: until it is released all
+    /// others wait.
+    pub fn hold<R: Wait>(&self, rt: &R, badge: &mut Badge<L>) -> Held<'_, L, A>
+        ensures share { badge.new ≡ badge.old }
+    {
+        let kept = match self.lock.try_lock() {
+            Some(kept) => {
+                badge.backoff.ease();
+                kept
+            }
+            None => {
+                badge.backoff.double();
+                self.enter_late(rt, badge.backoff)
+            }
         };
-        let calls = kept.note(was_free);
         Held {
             kept,
             ready: &self.ready,
             ended: &self.ended,
-            rested: &self.rested,
             wakes: 0,
             has_ended: false,
-            calls,
         }
-    }
-
-    /// One worker more takes its tasks here, until the desk is closed. Who never says so is not counted among those
-    /// that are awake while others rest.
-    pub fn begin_work<R: Wait>(&self, rt: &R) {
-        self.enter(rt).begin_work();
-    }
-
-    /// A worker without a frame rests where the lock is crowded and another worker is awake, until it is called or
-    /// the desk is closed; else it goes on at once. It is called where steps found the lock free for long enough.
-    pub fn rest<R: Wait>(&self, rt: &R) {
-        let mut kept = self.enter(rt);
-        if kept.is_to_rest() {
-            kept.begin_rest();
-            kept = self
-                .rested
-                .wait_while(rt, kept, |kept| kept.keeps_resting());
-            kept.end_rest();
-        }
-        drop(kept);
     }
 
     /// Some frame that is ready, with its home (a worker's number, or 0 for the hall). Waits until
     /// there is one, or the desk is closed; `None` only where it is closed.
     pub fn next_ready<R: Wait>(&self, rt: &R) -> Option<(FrameId, u8)> {
-        let mut kept = self.enter(rt);
+        let mut kept = match self.lock.try_lock() {
+            Some(kept) => kept,
+            None => self.enter_late(rt, Backoff::idle()),
+        };
         if !kept.has_news() {
             kept.begin_sleep();
             kept = self.ready.wait_while(rt, kept, |kept| !kept.has_news());
@@ -256,7 +234,6 @@ impl<L: Hands, A: Allocator + Clone> Desk<L, A> {
         self.enter(rt).close();
         self.ready.notify_all();
         self.ended.notify_all();
-        self.rested.notify_all();
     }
 
     /// All steps that were taken since the hall was new.
@@ -274,15 +251,14 @@ impl<L: Hands, A: Allocator + Clone> Desk<L, A> {
             lock,
             ready: _ready,
             ended: _ended,
-            rested: _rested,
         } = self;
         lock.into_inner().closed(badge)
     }
 }
 
 /// Lets the time between two looks go by.
-fn pause() {
-    for _ in 0..PAUSES {
+fn pause(backoff: Backoff) {
+    for _ in 0..backoff.pauses() {
         spin_loop();
     }
 }

@@ -19,13 +19,10 @@ pub struct Held<'d, L: Hands, A: Allocator = Global> {
     pub(crate) kept: MutexGuard<'d, Kept<L, A>>,
     pub(crate) ready: &'d Condvar,
     pub(crate) ended: &'d Condvar,
-    pub(crate) rested: &'d Condvar,
     /// How many frames became ready while some worker slept.
     pub(crate) wakes: u32,
     /// Whether a job ended.
     pub(crate) has_ended: bool,
-    /// Whether a worker that rests is called.
-    pub(crate) calls: bool,
 }
 
 impl<'d, L: Hands, A: Allocator + Clone> Held<'d, L, A> {
@@ -57,20 +54,16 @@ impl<'d, L: Hands, A: Allocator + Clone> Held<'d, L, A> {
         answer
     }
 
-    /// Lets go of the lock, and wakes a worker for each frame that became ready while one slept, all seats
-    /// where a job ended, and a worker that rests where one is called. Answers whether the lock is crowded while
-    /// another worker is awake: who is without a frame then is to call [`crate::Desk::rest`].
-    pub fn release(self) -> bool {
+    /// Lets go of the lock, and wakes a worker for each frame that became ready while one slept, and all seats
+    /// where a job ended.
+    pub fn release(self) {
         let Held {
             kept,
             ready,
             ended,
-            rested,
             wakes,
             has_ended,
-            calls,
         } = self;
-        let is_to_rest = kept.is_to_rest();
         drop(kept);
         for _ in 0..wakes {
             ready.notify_one();
@@ -78,9 +71,5 @@ impl<'d, L: Hands, A: Allocator + Clone> Held<'d, L, A> {
         if has_ended {
             ended.notify_all();
         }
-        if calls {
-            rested.notify_one();
-        }
-        is_to_rest
     }
 }

@@ -15,7 +15,7 @@ ghost use Rattle.hall.specs.jamboree_core.Outcomes.{IsOutcomeIn};
 ghost use Rattle.desk.specs.Seats.{admit_refusals, reserve_refusals, ask_refusals, cancel_refusals, stepped, seat_asked_at, IsAsked, Shows, IsShown, IsShownOf, IsToldBy};
 ghost use Rattle.desk.specs.Counts.{IsOffered, IsLeft, IsAsOpen, IsNext, with_kept, found_or_no_tenant, waits_on, has_news};
 
-use crate::crowd::Crowd;
+use crate::backoff::Backoff;
 use crate::seat::{JOBS, Seat, SeatAsked};
 use crate::shares::{Badge, Hands, PARTS};
 use arrayvec::ArrayVec;
@@ -42,8 +42,6 @@ pub(crate) struct Kept<L: Hands, A: Allocator = Global> {
     closed: bool,
     /// How many workers sleep until a frame is ready.
     sleepers: u32,
-    /// How crowded the lock is, which decides alone who rests.
-    crowd: Crowd,
 }
 
 // Clauses see the hall, whether the desk is closed, and how many workers sleep.
@@ -82,7 +80,6 @@ impl<L: Hands, A: Allocator + Clone> Kept<L, A> {
             before,
             closed: false,
             sleepers: 0,
-            crowd: Crowd::new(),
         }
     }
 
@@ -290,48 +287,6 @@ impl<L: Hands, A: Allocator + Clone> Kept<L, A> {
         self.sleepers > 0
     }
 
-    /// One worker more.
-    pub(crate) fn begin_work(&mut self)
-        ensures { self.new ≡ self.old }
-    {
-        self.crowd.begin_work();
-    }
-
-    /// Notes that a worker holds the desk, for which it had to wait or not. Whether one that rests is called.
-    pub(crate) fn note(&mut self, was_free: bool) -> bool
-        ensures { self.new ≡ self.old }
-    {
-        self.crowd.note(was_free)
-    }
-
-    /// Whether a worker without a frame is to rest: the lock is crowded, another is awake, and the desk isn't closed.
-    pub(crate) fn is_to_rest(&self) -> bool
-        ensures { result ≡ true → self.now.closed ≡ false }
-    {
-        !self.closed && self.crowd.is_to_rest(self.sleepers)
-    }
-
-    /// One worker more rests.
-    pub(crate) fn begin_rest(&mut self)
-        ensures { self.new ≡ self.old }
-    {
-        self.crowd.begin_rest();
-    }
-
-    /// Whether a worker that rests goes on resting: nobody was called, and the desk isn't closed.
-    pub(crate) fn keeps_resting(&self) -> bool
-        ensures { result ≡ true → self.now.closed ≡ false }
-    {
-        !self.closed && self.crowd.is_uncalled()
-    }
-
-    /// One worker fewer rests.
-    pub(crate) fn end_rest(&mut self)
-        ensures { self.new ≡ self.old }
-    {
-        self.crowd.end_rest();
-    }
-
     /// Nobody waits from now on.
     pub(crate) fn close(&mut self)
         ensures { self.new ≡ record self.old { closed = true } }
@@ -376,6 +331,7 @@ impl<L: Hands, A: Allocator + Clone> Kept<L, A> {
             mine,
             steps: 0,
             parts: 1,
+            backoff: Backoff::new(),
         })
     }
 

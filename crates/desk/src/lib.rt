@@ -3,14 +3,9 @@
 //! A [`Desk`] is shared by all threads. A [`Seat`] is one tenant's: it asks for positions, shows what
 //! became of them, cancels, and leaves. A [`Badge`] is one worker's: it offers the steps of workers
 //! ([`Desk::offer`], or several by [`Desk::hold`]). Each call locks the hall, does its steps there,
-//! counts them, and lets go: nothing is computed under the lock. Who waits, waits by one of three condition
+//! counts them, and lets go: nothing is computed under the lock. Who waits, waits by one of two condition
 //! variables: a worker until some frame is ready ([`Desk::next_ready`]), a seat until its job has ended
-//! ([`Desk::wait`]), a worker that rests until it is called ([`Desk::rest`]); a step wakes only those who
-//! wait for what it changed.
-//!
-//! A worker rests where most steps have to wait for the lock, if another is awake, since many that take turns at the
-//! hall do less than few; one is called each time that the lock was free for long. So the last that is awake never
-//! rests, and the closing calls all. Who rests is decided by counts (`crowd`) that no promise speaks of.
+//! ([`Desk::wait`]); a step wakes only those who wait for what it changed.
 //!
 //! What a call did to the hall, no contract of a call that locks can say. So each call's step is the
 //! contract of the method of what lies under the lock (`kept`), and tests show that the desk calls it. What
@@ -40,8 +35,8 @@
 
 pub use hall::jamboree;
 
+mod backoff;
 mod change;
-mod crowd;
 mod desk;
 mod held;
 mod kept;

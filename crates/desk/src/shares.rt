@@ -1,6 +1,7 @@
 //! Shares of the steps that were taken.
 ghost use Rattle.std.specs.Prelude.{◌≡◌, ℕ, ◌+◌, ◌*◌, ◌<◌, ◌≤◌};
 
+use crate::backoff::Backoff;
 use std::marker::{Brand, Model};
 use std::sync::ledger::{Ledger, Share};
 
@@ -24,6 +25,8 @@ pub struct Badge<L: Hands> {
     pub(crate) mine: Share<L>,
     pub(crate) steps: u128,
     pub(crate) parts: u64,
+    /// How its worker waits for the lock.
+    pub(crate) backoff: Backoff,
 }
 
 // Clauses see the share.
@@ -52,17 +55,20 @@ impl<L: Hands> Badge<L> {
             mut mine,
             steps,
             parts,
+            backoff,
         } = self;
         let Badge {
             mine: more,
             steps: also,
             parts: others,
+            ..
         } = other;
         mine.merge(more);
         Badge {
             mine,
             steps: steps + also,
             parts: parts + others,
+            backoff,
         }
     }
 }

@@ -3,9 +3,8 @@
 //! A worker without a frame looks for a task: the newest of its own deque, else the oldest of another's,
 //! which it tries in the order of their numbers after its own, else any frame that is ready in the
 //! hall, for which it waits at the desk. It then does its turns (`pool_rules::Holding`) until it is
-//! without a frame again, and rests before it looks for the next where the desk is crowded. It sleeps
-//! only at the desk, and it ends once it finds no task and the desk is closed: what is left then in the
-//! deques of others is theirs. It holds no lock while it computes.
+//! without a frame again. It sleeps only at the desk, and it ends once it finds no task and the desk is
+//! closed: what is left then in the deques of others is theirs. It holds no lock while it computes.
 ghost use Rattle.std.specs.Prelude.{◌≡◌, Some};
 ghost use Rattle.task_deques.specs.pool_rules.Turns.{offered};
 ghost use Rattle.task_deques.specs.Deals.{posts, worker_seats};
@@ -37,15 +36,12 @@ pub fn run_worker<'s, L: Hands, G: Gate, R: Wait>(
 {
     let mut badge = badge;
     let mut tasks = tasks;
-    desk.begin_work(rt);
     for _ in rt.forever() {
         let Some(task) = next_task(rt, desk, worker, &mut tasks) else {
             break;
         };
         gate.before(worker, &task);
-        if work_off(rt, desk, worker, &mut badge, &mut tasks, gate, task) {
-            desk.rest(rt);
-        }
+        work_off(rt, desk, worker, &mut badge, &mut tasks, gate, task);
     }
     (badge, tasks)
 }
@@ -66,7 +62,7 @@ fn next_task<L: Hands, R: Wait>(
     Some(Task { frame, home })
 }
 
-/// Does a task, and what comes of it, until the worker is without a frame; whether it is to rest then.
+/// Does a task, and what comes of it, until the worker is without a frame.
 fn work_off<L: Hands, G: Gate, R: Wait>(
     rt: &R,
     desk: &Desk<L>,
@@ -75,29 +71,23 @@ fn work_off<L: Hands, G: Gate, R: Wait>(
     tasks: &mut Tasks<'_>,
     gate: &G,
     task: Task,
-) -> bool
+)
     ensures { posts tasks.new.ends ≡ posts tasks.old.ends }
 {
     let mut holding = Holding::Next(Action::Get(task));
-    let mut is_to_rest = false;
     for _ in rt.forever() {
         holding = match holding {
             Holding::Nothing => break,
             Holding::Computing(frame, leaf) => {
                 computed(worker, tasks.begin(rt), gate, frame, leaf)
             }
-            held => {
-                let (next, rests) = steps(rt, desk, worker, badge, tasks, held);
-                is_to_rest = rests;
-                next
-            }
+            held => steps(rt, desk, worker, badge, tasks, held),
         };
     }
-    is_to_rest
 }
 
 /// Takes the steps that follow each other, at most so many under one lock: until there is a leaf to
-/// compute, or the worker is without a frame. Whether it is to rest if it is without one.
+/// compute, or the worker is without a frame.
 fn steps<L: Hands, R: Wait>(
     rt: &R,
     desk: &Desk<L>,
@@ -105,10 +95,10 @@ fn steps<L: Hands, R: Wait>(
     badge: &mut Badge<L>,
     tasks: &mut Tasks<'_>,
     holding: Holding,
-) -> (Holding, bool)
+) -> Holding
     ensures { posts tasks.new.ends ≡ posts tasks.old.ends }
 {
-    let mut held = desk.hold(rt);
+    let mut held = desk.hold(rt, badge);
     let mut holding = holding;
     for _ in 0..HELD_STEPS {
         let Some(step) = holding.step(worker) else {
@@ -116,8 +106,8 @@ fn steps<L: Hands, R: Wait>(
         };
         holding = offered(rt, &mut held, worker, badge, tasks, holding, &step);
     }
-    let is_to_rest = held.release();
-    (holding, is_to_rest)
+    held.release();
+    holding
 }
 
 /// Computes a leaf, as the computation of this number: the answer is to be brought. It is handed neither

@@ -3,7 +3,6 @@ ghost use Rattle.std.specs.Prelude.{◌≡◌, ◌≤◌};
 
 mod endings;
 mod reserving;
-mod resting;
 mod waiting;
 mod wakes;
 
@@ -57,8 +56,6 @@ enum Trial {
     Crowd(Who, u64, What),
     /// Two frames become ready while one holds the desk.
     Children,
-    /// Workers rest so, and are called.
-    Rest(resting::Plan),
 }
 
 /// The segments of each desk.
@@ -121,7 +118,6 @@ where
         Trial::Seat(depth, waker) => waiting::seat_waits(rt, desk, depth, waker),
         Trial::Worker(waker) => waiting::worker_waits(rt, desk, waker),
         Trial::Children => wakes::open_children(rt, desk),
-        Trial::Rest(plan) => resting::rest(rt, desk, plan),
         Trial::Crowd(who, many, what) => wakes::come_back_there(rt, desk, who, many, what),
         _ => {}
     }

@@ -55,7 +55,7 @@ fn asked<L: Hands, R: Wait + Abort>(rt: &R, desk: &Desk<L>) -> Seat<L> {
 }
 
 /// Starts so many threads that wait; tells whether there were threads for all.
-pub(super) fn start<'s, E, L: Hands + Send + Sync, R: Wait + Abort + Sync>(
+fn start<'s, E, L: Hands + Send + Sync, R: Wait + Abort + Sync>(
     scope: &'s Scope<'s, E>,
     rt: &'s R,
     desk: &'s Desk<L>,
@@ -81,7 +81,7 @@ pub(super) fn start<'s, E, L: Hands + Send + Sync, R: Wait + Abort + Sync>(
 }
 
 /// Whether so many come back within ten seconds.
-pub(super) fn come_back<R: Clock>(rt: &R, back: &AtomicU64, many: u64) -> bool {
+fn come_back<R: Clock>(rt: &R, back: &AtomicU64, many: u64) -> bool {
     for _ in 0..10_000u32 {
         if back.load(Ordering::SeqCst) >= many {
             return true;
@@ -92,7 +92,7 @@ pub(super) fn come_back<R: Clock>(rt: &R, back: &AtomicU64, many: u64) -> bool {
 }
 
 /// Whether so many have come back, and no more.
-pub(super) fn are_back(back: &AtomicU64, many: u64) -> bool {
+fn are_back(back: &AtomicU64, many: u64) -> bool {
     back.load(Ordering::SeqCst) == many
 }
 
@@ -176,10 +176,10 @@ where
         assert!(rt; start(scope, rt, desk, back, Who::Workers, 2));
         thread::sleep(rt, Duration::from_millis(100));
         assert!(rt; are_back(back, 0), "no frame is ready");
-        let mut held = desk.hold(rt);
+        let mut held = desk.hold(rt, &mut badge);
         opens(rt, &mut held, &mut badge, one, first);
         opens(rt, &mut held, &mut badge, other, second);
-        let _is_to_rest = held.release();
+        held.release();
         assert!(rt; come_back(rt, back, 2), "each child wakes a worker");
     })
 }
