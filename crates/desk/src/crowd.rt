@@ -1,8 +1,8 @@
 //! How crowded the lock is, and how many workers rest for it.
 //!
 //! What touches the hall from several processors in turn is several times slower than from one. So where workers mostly
-//! find the lock taken, one of them rests; where the lock is mostly free, one that rests is called, and so each time
-//! that as many steps went by in calm. Nobody rests but beside another that is awake.
+//! find the lock taken, one of them rests; where the lock is mostly free, one that rests is called, and another after
+//! each further [`CALM`] holds in calm. Nobody rests unless another worker is awake.
 ghost use Rattle.std.specs.Prelude.{◌≡◌, ◌≤◌, ◌-◌, true};
 
 /// From how many holds on, which had to wait for the lock and were not made up for by holds that hadn't, it is crowded.

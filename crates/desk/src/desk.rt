@@ -34,7 +34,7 @@ pub struct Desk<L: Hands, A: Allocator = Global> {
     rested: Condvar,
 }
 
-// A desk goes with all its parts. A crate that holds one proves no more of that, as it would were this derived.
+// By hand: were it derived, each crate that holds a desk would have to prove again that all its parts are dropped.
 impl<L: Hands, A: Allocator> Drop for Desk<L, A> {
     fn drop(self) {
         let Desk {
