@@ -291,17 +291,17 @@ def ask():
             ("desk_office", "Desk::ask", ""),
         ]),
         ("under the lock", YELLOW, [
-            ("desk", "Kept::ask", "2 Position to root words; 3 to the seat's list"),
-            ("hall", "Hall::offer, the journal", "4 words to a journal entry"),
+            ("desk", "Kept::ask", "2 Position to root words; its Board is copied"),
+            ("hall", "Hall::offer, the journal", "3 words to a journal entry"),
             ("sched_core", "Submit: a root is Ready", "words copied into a node"),
         ]),
         ("a worker's turns", VIOLET, [
-            ("pool_rules", "Steal, Advance, .. Inlet", "5 words to a view, a Board each turn"),
-            ("leaf_search", "a leaf, outside the lock", "6 words to a Leaf, and back in an Answer"),
+            ("pool_rules", "Steal, Advance, .. Inlet", "4 words to a view, a Board each turn"),
+            ("leaf_search", "a leaf, outside the lock", "5 words to a Leaf, and back in an Answer"),
             ("sched_core", "Finish: the job keeps 76 words", ""),
         ]),
         ("under the lock", YELLOW, [
-            ("jamboree_core", "outcome_of, Reply::read", "7 words to a Reply"),
+            ("jamboree_core", "outcome_of, Reply::read", "6 words to a Reply"),
             ("desk", "Kept::get, shown", "its board is compared with the list's"),
         ]),
         ("session's thread", GREEN, [

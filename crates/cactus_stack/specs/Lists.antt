@@ -40,7 +40,7 @@ abbrev pub lists_from : Segments → ℕ → List ℕ → Lists
 lists_from region number [] = []
 lists_from region number (len ∷ lens) = list_in region number len ∷ lists_from region (suc number) lens
 
--- a list's segments are a chain as long as its charge, with zeros behind its words
+-- a list's segments are a chain as long as its charge, with zeros after its words
 pub record IsSoundList (region : Segments) (number len : ℕ) : Type 0 where
   pub at_most : len ≤ 128
   pub is_chain : IsChain region (segments_of region number len) (charge len)

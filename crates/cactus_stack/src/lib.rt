@@ -13,7 +13,7 @@
 //!
 //! **Why it holds.** The words of a node lie in a chain of segments of one region, each linked to the
 //! next, and its number is that of the first. Each chain is as long as its node's words take, no
-//! segment stands in two chains or twice in one, what lies behind the words is zeros, and no segment
+//! segment stands in two chains or twice in one, what lies after the words is zeros, and no segment
 //! is taken but for a chain. Each parent is open, and a child is one deeper than its parent, so the
 //! way up ends at a root.
 //!

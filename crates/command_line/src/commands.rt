@@ -122,7 +122,7 @@ fn serve_of_sessions<'a>(alloc: Global) -> Result<Command<'a>, AllocError>
 const SERVE_ABOUT: &str =
     "serves sessions of many tenants over TCP on 127.0.0.1, with one pool of workers";
 
-/// A command before it has options: its name, what is said of it, and the help behind its options.
+/// A command before it has options: its name, what is said of it, and the help after its options.
 fn bare<'a>(
     alloc: Global,
     name: &'static str,

@@ -27,7 +27,7 @@ pub struct Desk<L: Hands, A: Allocator = Global> {
     ended: Condvar,
 }
 
-// A desk goes with all its parts. A crate that holds one proves no more of that, as it would were this derived.
+// By hand: were it derived, each crate that holds a desk would have to prove again that all its parts are dropped.
 impl<L: Hands, A: Allocator> Drop for Desk<L, A> {
     fn drop(self) {
         let Desk {
@@ -60,7 +60,8 @@ impl<L: Hands, A: Allocator + Clone> Desk<L, A> {
     }
 
     /// The hall, locked, where the lock was taken at the first look: looks again until it is free, and lets other
-    /// threads have the processor between two looks.
+    /// threads have the processor between two looks. It doesn't sleep for the lock: a thread that does is handed it,
+    /// and until that thread is awake nobody else can take it.
     fn enter_late<R: Wait>(&self, rt: &R, backoff: Backoff) -> MutexGuard<'_, Kept<L, A>> {
         for _ in rt.forever() {
             pause(backoff);

@@ -83,7 +83,7 @@ impl<L: Hands, A: Allocator + Clone> Kept<L, A> {
         }
     }
 
-    /// Offers a step to the hall, and counts it for this share where it was taken.
+    /// Offers a step to the hall; this share counts it if the hall took it.
     fn take(&mut self, mine: &mut Share<L>, step: &Step<Jamboree>) -> StepAnswer
         requires search { IsSearch step.now }
         requires part { 0 < mine.old.parts }
@@ -103,7 +103,7 @@ impl<L: Hands, A: Allocator + Clone> Kept<L, A> {
         answer
     }
 
-    /// Takes a step for a seat, whose share counts it where it was taken.
+    /// Offers a step for a seat; the seat's share and its number of steps count it if the hall took it.
     fn take_for(&mut self, seat: &mut Seat<L>, step: &Step<Jamboree>) -> StepAnswer
         requires { IsSearch step.now }
         ensures share { MatchResult result (λ _. seat.new ≡ stepped seat.old) (λ _. seat.new ≡ seat.old) }

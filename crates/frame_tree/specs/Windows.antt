@@ -1,4 +1,4 @@
--- Representation: a list in reserved places, behind some that are out of use.
+-- Representation: a list in reserved places, after some that are out of use.
 use Rattle.std.specs.Prelude.{ℕ, ◌+◌, ◌*◌, ◌≤◌, List, length}
 
 -- a number of places, and a list

@@ -19,7 +19,7 @@
 //! a parent's guess that is wrong is put down anew with its next child. "Has it a child" and "how many are
 //! ready" read a count, the newest ready frame is the last of its list, and an abort is two passes over
 //! the slots from the frame on: one marks by rising serial, one removes the marked. A removal moves what
-//! stands before the frame or behind it, whichever is less. Only [`TenantFrames::new`] and
+//! stands before the frame or after it, whichever is less. Only [`TenantFrames::new`] and
 //! [`TenantFrames::raise`] take memory, from any allocator.
 //!
 //! The tree of [`rows`], which computes from the definitions what is said of it:

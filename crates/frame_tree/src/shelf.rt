@@ -79,8 +79,8 @@ impl<T: Copy, A: Allocator> Shelf<T, A> {
         })
     }
 
-    /// Makes so many places, and guesses anew in a table of their size. Where a growth is refused nothing
-    /// has changed.
+    /// Raises its places to this many, and guesses anew in a table of their size. Where a growth is refused
+    /// nothing has changed.
     pub(crate) fn raise(&mut self, alloc: A, places: usize) -> Result<(), AllocError>
         requires more { self.old.places ≤ places }
         requires few { places ≤ 4096 }
@@ -197,7 +197,7 @@ impl<T: Copy, A: Allocator> Shelf<T, A> {
         }
     }
 
-    /// Puts the slot of a ready frame behind the others, and counts one more child of its parent.
+    /// Puts the slot of a ready frame after the others, and counts one more child of its parent.
     #[inline(always)]
     pub(crate) fn push(
         &mut self,

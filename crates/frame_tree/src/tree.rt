@@ -72,7 +72,7 @@ impl<T: Copy, A: Allocator> TenantFrames<T, A> {
         })
     }
 
-    /// Makes so many places. It alone takes memory after `new`: `AllocError` only where a growth was refused.
+    /// Raises its places to this many. It alone takes memory after `new`: `AllocError` only where a growth was refused.
     pub fn raise(&mut self, alloc: A, places: usize) -> Result<(), AllocError>
         requires more { self.old.places ≤ places }
         requires few { places ≤ 4096 }

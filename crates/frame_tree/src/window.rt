@@ -1,9 +1,9 @@
 //! A list in reserved places whose removals move the shorter end.
 //!
 //! Seen as the list of its elements, and a number of places. The elements stand together in a `Vec`
-//! with room for more than twice as many: those before the start are no part of the list. So what
-//! goes near the front moves what is before it, and a push that finds no room at the end first moves
-//! the list to the front, for which at least as many removals at the front have paid.
+//! with room for more than twice as many: those before the start are no part of the list. So a removal
+//! near the front moves only what is before it, and a push that finds no room at the end first moves
+//! the list to the front, for which at least as many removals near the front have paid.
 ghost use Rattle.std.specs.Prelude.{◌≡◌, ◌<◌, ◌≤◌, ◌++◌, [], ◌∷◌, length, take, drop, set, get_or, vec_len, vec_capacity, IfOk, OnOk};
 ghost use Rattle.std.specs.List.{insert, remove};
 
@@ -153,7 +153,7 @@ impl<T: Copy, A: Allocator> ListWindow<T, A> {
         self.start += 1;
     }
 
-    /// Puts an element before the one at a place, or behind all.
+    /// Puts an element before the one at a place, or after all.
     pub(crate) fn insert(&mut self, at: usize, element: T)
         requires within { at ≤ length self.old.list }
         requires room { length self.old.list < self.old.places }
@@ -167,7 +167,7 @@ impl<T: Copy, A: Allocator> ListWindow<T, A> {
         }
     }
 
-    /// Moves the list to the front, and puts an element before the one at a place, or behind all.
+    /// Moves the list to the front, and puts an element before the one at a place, or after all.
     fn insert_from_front(&mut self, at: usize, element: T)
         requires within { at ≤ length self.old.list }
         requires room { length self.old.list < self.old.places }

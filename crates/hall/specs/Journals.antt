@@ -33,7 +33,7 @@ abbrev pub has_journal : ℕ → List JournalOf → Bool
 has_journal number [] = false
 has_journal number (journal ∷ journals) = (journal.tenant == number) || has_journal number journals
 
--- what a step reserves for its tenant, which an admission does, and one of more
+-- what a step makes of its tenant's reservation: an Admit begins it, an AdmitMore raises it, and no other step changes it
 abbrev pub reserve_in : {A : Type 0} → StepOf A → Option Quota
 reserve_in (Admit number quota) = Some quota
 reserve_in (AdmitMore number quota) = Some quota
@@ -68,7 +68,7 @@ abbrev pub raise_count : {A : Type 0} → List (StepOf A) → ℕ
 raise_count [] = 0
 raise_count (step ∷ steps) = one_for (raise_in step) + raise_count steps
 
--- the places that are reserved for a tenant: each counted step takes a node's sixteenth; a tenant is admitted once, and submits,
+-- the places that are reserved for a tenant: a node allows 16 counted steps; a tenant is admitted once and leaves once, and submits,
 -- spends and cancels at most 256 jobs each
 abbrev pub places_for : Quota → ℕ
 places_for quota = 16 * quota.nodes + 770
@@ -150,7 +150,7 @@ abbrev pub AreBegun : List JournalOf → Type 0
 AreBegun [] = Unit {0}
 AreBegun (journal ∷ journals) = IsBegun journal × AreBegun journals
 
--- a step of a journal's tenant that may be written there: it raises nothing, asks for a search where it is a Submit, and has a place
+-- a step that may be written in a journal: of its tenant, no admission or Leave, a Submit only of a search, a serial of 32 bits, a place
 pub record IsWritable (step : StepOf LeafAnswer) (journal : JournalOf) : Type 0 where
   pub own : tenant_of step ≡ journal.tenant
   pub serial : serial_in step < 2 ^ 32

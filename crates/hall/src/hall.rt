@@ -46,7 +46,7 @@ impl<A: Allocator> Model for Hall<A> {
     ghost invariant = { λ h. IsHall (record { grain = h.core.procedure.grain; shared = h.core.shared; journals = h.journals.items; gone = h.gone; kept = h.kept }) h.newest h.count };
 }
 
-// A hall goes with all its parts. A crate that holds one proves no more of that, as it would were this derived.
+// By hand: were it derived, each crate that holds a hall would have to prove again that all its parts are dropped.
 impl<A: Allocator> Drop for Hall<A> {
     fn drop(self) {
         let Hall {
@@ -105,7 +105,7 @@ impl<A: Allocator> Hall<A> {
         ensures ended { KeepsEndedJobs self.old.shared step.now self.new.shared }
     {
         let answer = self.decide(step);
-        // What a hall keeps is known from here on.
+        // This read makes the invariant of the hall known to the prover.
         let _ = &self.core;
         answer
     }
@@ -127,7 +127,7 @@ impl<A: Allocator + Clone> Hall<A> {
         ensures memory { is_admission step.now ≡ false → result ≢ Err OutOfMemory }
         ensures explained { IsExplained self.old }
     {
-        // What a hall keeps is known from here on.
+        // This read makes the invariant of the hall known to the prover.
         let _ = &self.core;
         match step {
             StepOf::Admit(_, _) | StepOf::AdmitMore(_, _) => self.admit(step),

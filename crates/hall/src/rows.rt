@@ -22,7 +22,7 @@ pub fn journals_of_two_tenants()
 {}
 
 /// An admission, a Take, a Cancel and an Advance of tenant 7: two long entries, each where its place is
-/// in the journal. Where a long entry is wanting, so is its step.
+/// in the journal. Where a long entry is missing, so is its step.
 pub fn entries_of_a_journal()
     ensures in_order { (quota : Quota) → steps_in 7 (Long ∷ Taken 1 3 ∷ Long ∷ Advanced 2 4 ∷ []) (Admitted quota ∷ Cancelled 5 ∷ [])
         ≡ Admit 7 quota ∷ Take 1 (record { tenant = 7; serial = 3 }) ∷ Cancel 7 5 ∷ Advance 2 (record { tenant = 7; serial = 4 }) ∷ [] }

@@ -61,7 +61,7 @@ frame_with v entries = frame_by v.board.own v.board.opp v.depth v.alpha v.beta v
 abbrev pub frame_in : View → Frame
 frame_in v = frame_with v []
 
--- the entries of choices in a segment of these words: in the first they stand behind the first twelve
+-- the entries of choices in a segment of these words: in the first they stand after the first twelve
 abbrev pub entries_in : List ℕ → ℕ → List ℕ
 entries_in words zero = drop 12 (take 16 words)
 entries_in words (suc number) = take 16 (drop (16 * suc number) words)

@@ -25,7 +25,7 @@ pub struct Reply {
     pub(crate) choice: Option<Choice>,
     /// How many choices have an entry.
     pub(crate) count: usize,
-    /// What is known of these, in their order. The places behind them hold anything.
+    /// What is known of these, in their order. The places after them hold anything.
     pub(crate) known: [Known; MOST],
     ghost shallow: { depth ≤ 12 },
     ghost is_value: { value ≡ minimax depth (cells board) } by { Prim.hlevel props },

@@ -1,4 +1,4 @@
-//! How the choices of a frame stand: the entries behind its first twelve words, segment by segment.
+//! How the choices of a frame stand: the entries after its first twelve words, segment by segment.
 ghost use Rattle.std.specs.Prelude.{◌≡◌, ◌≤◌, ◌==◌, ◌&&◌, nat_lt, drop, length, map, slice_index};
 ghost use Rattle.jamboree_rules.specs.Places.{status_of, are_entries};
 ghost use Rattle.jamboree_rules.specs.Acts.{first_open};
@@ -21,7 +21,7 @@ fn all_are_entries(entries: &[u64]) -> bool
     true
 }
 
-/// Whether each word behind the first twelve of a frame is an entry.
+/// Whether each word after the first twelve of a frame is an entry.
 pub(crate) fn are_entries(words: &Words) -> bool
     requires { 12 ≤ length words.now }
     ensures { result ≡ are_entries (drop 12 words.now) }

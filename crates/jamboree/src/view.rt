@@ -28,7 +28,7 @@ use othello_board::Board;
 use othello_moves::choice_count;
 use position_text::Position;
 
-/// The size of a new frame in words, behind which the entries of its choices stand.
+/// The size of a new frame in words, after which the entries of its choices stand.
 pub(crate) const SIZE: usize = 12;
 
 /// The first twelve words of a frame, by name.
@@ -111,7 +111,7 @@ fn read_head(words: &Words) -> Head
     head_in(words.segment(0))
 }
 
-/// The entries of choices in a segment: in the first they stand behind the twelve words.
+/// The entries of choices in a segment: in the first they stand after the twelve words.
 pub(crate) fn entries<'a>(words: &Words<'a>, number: usize) -> &'a [u64]
     requires { 12 ≤ length words.now }
     ensures { result.now ≡ entries_in words.now number }
@@ -211,7 +211,7 @@ impl Head {
             && self.is_in_phase()
     }
 
-    /// The frame of these first words, behind which so many entries stand.
+    /// The frame of these first words, after which so many entries stand.
     #[inline(always)]
     fn view(self, count: usize) -> View
         requires form { is_frame (frame_from self []) ≡ true }
@@ -377,7 +377,7 @@ pub(crate) fn read_kept(words: &[u64]) -> KeptRoot
     }
 }
 
-/// The entries that a job keeps of its returned root, which stand behind the twelve words.
+/// The entries that a job keeps of its returned root, which stand after the twelve words.
 pub(crate) fn kept_entries(words: &[u64]) -> &[u64]
     requires { 12 ≤ length words.now }
     ensures { result.now ≡ entries_of words.now }

@@ -15,7 +15,7 @@ pub fn a_thing_is_found()
 {}
 
 /// What one change leaves: the first thing of the number is another or gone, and every other is as it was; a new one comes
-/// behind those of lower numbers.
+/// after those of lower numbers.
 pub fn a_list_is_changed()
     ensures changed { with_thing number_in 5 raised four_things ≡ (2, 20) ∷ (5, 51) ∷ (5, 51) ∷ (9, 90) ∷ [] }
     ensures unchanged { with_thing number_in 6 raised four_things ≡ four_things }

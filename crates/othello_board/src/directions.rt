@@ -89,8 +89,9 @@ impl Direction {
         RAYS[square as usize][self.number()]
     }
 
-    /// A word moved by as many bits as a step in this direction is, as if the rows were one line: what
-    /// stands at a side of the board comes round to the other side.
+    /// All squares of a word moved one step in this direction, by one shift. The rows count as one line:
+    /// a square that leaves the board on the left or the right comes in on the other side, so a caller masks
+    /// those columns. One that leaves it at the top or the bottom is gone.
     #[inline(always)]
     pub fn slide(self, squares: u64) -> u64
         ensures { (t : ℕ) → t < 64 → bit_at result t ≡ bit_there squares (slid_from self t) }

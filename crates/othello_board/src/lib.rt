@@ -6,10 +6,10 @@
 //! true is that the two words share no bit. What a move flips is said over the list of cells by
 //! `specs/Rules.antt`, with the rules of the World Othello Federation and no bit in sight.
 //!
-//! All squares of a word slide one step in a direction by one shift and one mask ([`Direction::slide`]).
-//! [`Board::flips`] reads the ray of a square from a table of words: the run ends at the nearest square of
-//! the ray that isn't opposing, which is one count of zeros, and what lies before it is flipped where that
-//! square is the mover's.
+//! All squares of a word slide one step in a direction by one shift ([`Direction::slide`]), across the
+//! sides of the board too: callers mask the columns where that matters. [`Board::flips`] reads the ray of
+//! a square from a table of words: the run ends at the nearest square of the ray that isn't opposing,
+//! which is one count of zeros, and what lies before it is flipped where that square is the mover's.
 //!
 //! ```text
 //! // the opening, with Black to move: d3 (square 19) flips d4 (square 27)

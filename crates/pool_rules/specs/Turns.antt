@@ -88,7 +88,7 @@ abbrev pub task_at : ℕ → Option FrameId → Option Task
 task_at worker None = None
 task_at worker (Some frame) = Some (record { frame = frame; home = worker })
 
--- whether a refusal says that something is wanting: segments, nodes, steps, or an act that can be done
+-- whether a refusal says that segments, nodes or steps ran out, or that the next act can't be done
 abbrev pub is_short : Refusal → Bool
 is_short NoSegments = true
 is_short NoNodes = true

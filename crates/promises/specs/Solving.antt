@@ -27,7 +27,7 @@ pub record IsQuestion (line : LineText) (depth : ℕ) (position : Position) : Ty
   pub asks : AsksFor word text depth position
 
 -- a text that doesn't begin with ERR is the solution of what its line asks for; and a line that asks for a position to a depth is answered
--- by its solution, or by ERR 19 where memory is wanting
+-- by its solution, or by ERR 19 where memory ran out
 pub record IsTrueSolution (line : LineText) (text : List ℕ) : Type 0 where
   pub solved : begins text (codes "ERR ") ≡ false → (depth : ℕ) × (position : Position) × IsQuestion line depth position × (text ≡ solution depth position)
   pub answered : (depth : ℕ) (position : Position) → IsQuestion line depth position → (text ≡ solution depth position) ⊎ (text ≡ error_text 19)

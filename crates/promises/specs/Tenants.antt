@@ -39,7 +39,7 @@ AreSame None (Some other) = ⊥
 AreSame (Some one) None = ⊥
 AreSame (Some one) (Some other) = IsSameTenant one other
 
--- each admission in a list was taken: there was room, and memory wasn't wanting
+-- each admission in a list was taken: there was room, and memory didn't run out
 abbrev pub AreAdmissionsTaken : List SearchStep → List SearchAnswer → Type 0
 AreAdmissionsTaken [] answers = Unit {0}
 AreAdmissionsTaken (step ∷ steps) [] = Unit {0}

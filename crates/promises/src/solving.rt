@@ -8,7 +8,7 @@ use std::alloc::Allocator;
 /// Answers each line of an input by a line. One that doesn't begin with `ERR` is `value move`: its line is
 /// `depth position`, and value and move are the minimax value and the best choice of the position that
 /// the text spells, to that depth; and each line `depth position` is answered so, or by `ERR 19` where
-/// memory was wanting.
+/// memory ran out.
 pub fn solve<A, S, K>(alloc: A, source: &mut S, sink: &mut K, grain: u8) -> Result<(), LineFault>
 where
     A: Allocator + Copy,

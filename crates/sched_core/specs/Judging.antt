@@ -15,7 +15,7 @@ pub record IsJudged {I A : Type 0} (functions : Functions I A) (before : Shared)
   pub told : answer ≡ answer_of (judged functions before step)
   pub left : after ≡ shared_after before step (judged functions before step)
 
--- an admission is judged so, or memory is wanting where it would be taken, and then nothing changes
+-- an admission is judged so, or memory runs out where it would be taken, and then nothing changes
 abbrev pub IsAdmitted : {I A : Type 0} → Functions I A → Shared → StepOf A → Result (DidOf I) Refusal → Shared → Type 0
 IsAdmitted functions before step answer after =
     IsJudged functions before step answer after

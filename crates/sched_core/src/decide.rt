@@ -59,7 +59,7 @@ pub fn is_frame_size(words: &[u64], size: usize) -> bool
     1 <= size && size <= MOST_WORDS && words.len() <= size
 }
 
-/// Whether some store is at a place that the words haven't.
+/// Whether some store is at a place beyond the words.
 #[inline(always)]
 pub fn is_outside(stores: &[(usize, u64)], words: &Words) -> bool
     ensures { result ≡ is_outside_of stores.now words.now }

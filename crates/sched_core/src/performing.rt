@@ -1,4 +1,7 @@
 //! Advance, Answer and Inlet, done: what a procedure makes of a frame is stored, and the frame goes on.
+//!
+//! `fitting` says that all frames are known to fit, so that the procedure need not test their words
+//! (`Procedure::next_of`); the answers are the same either way.
 ghost use Rattle.std.specs.Prelude.{◌≡◌, ◌||◌, ◌&&◌, not, true, ℕ, List, Some};
 ghost use Rattle.frame_tree.specs.Frames.{Frame, frame_at};
 ghost use Rattle.sched_rules.specs.Trees.{Tenant, has_child as has_child_in, is_root as is_root_path};
@@ -21,7 +24,8 @@ use sched_store::Store;
 use std::alloc::Allocator;
 
 impl<P: Procedure, A: Allocator> Engine<P, A> {
-    /// The worker brings the answer that its frame computes, and runs the frame again.
+    /// The worker brings the answer to what its frame asked to have computed: the frame stores what the
+    /// procedure makes of it, and runs again.
     pub(crate) fn answer(
         &mut self,
         worker: Worker,

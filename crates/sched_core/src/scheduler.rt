@@ -82,7 +82,7 @@ impl<P: Procedure, A: Allocator> Core<P, A> {
         self.engine.step(step, fitting)
     }
 
-    /// Why a step would be refused, where memory isn't wanting; it takes no step and no memory.
+    /// Why a step would be refused, where memory doesn't run out; it takes no step and no memory.
     pub fn refusal(&self, step: &Step<P>) -> Option<Refusal>
         ensures { result ≡ shared_refusal (P.functions self.now.procedure) self.now.shared step.now }
     {
@@ -107,7 +107,7 @@ impl<P: Procedure, A: Allocator> Core<P, A> {
         ensures untried { OnErr result ((self.new.shared ≡ self.old.shared) × (answers.new.items ≡ answers.old.items)) }
         ensures procedure { self.new.procedure ≡ self.old.procedure }
     {
-        // What a core keeps is known from here on.
+        // This read makes the invariant of the core known to the prover.
         let _ = &self.engine;
         answers.reserve(steps.len())?;
         for step in steps {

@@ -116,7 +116,7 @@ abbrev pub step_among : {I A : Type 0} → Functions I A → Shared → StepOf A
 step_among functions shared step =
     unless_busy (meets_busy step shared.tenants) (lone functions (tenant_in shared.tenants (tenant_of step)) step)
 
--- one step among several tenants, where memory isn't wanting: what its tenant comes to with what it did, or one refusal
+-- one step among several tenants, where memory doesn't run out: what its tenant comes to with what it did, or one refusal
 abbrev pub judged : {I A : Type 0} → Functions I A → Shared → StepOf A → Result (Outcome I) Refusal
 judged functions shared (Admit number quota) = unless (admit_tests shared number quota) (Some (admitted_with quota), Admitted)
 judged functions shared (AdmitMore number quota) =
@@ -149,6 +149,6 @@ abbrev pub charged_in : List (ℕ × Tenant) → ℕ
 charged_in [] = 0
 charged_in (entry ∷ entries) = charged_for entry.1.frames + charged_in entries
 
--- why a step among several tenants is refused, if it is, where memory isn't wanting
+-- why a step among several tenants is refused, if it is, where memory doesn't run out
 abbrev pub shared_refusal : {I A : Type 0} → Functions I A → Shared → StepOf A → Option Refusal
 shared_refusal functions shared step = refusal_in (judged functions shared step)

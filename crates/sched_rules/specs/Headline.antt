@@ -35,7 +35,7 @@ pub record IsAnswerToStep {I A : Type 0} (functions : Functions I A) (before : S
   pub else_taken : IsElseTaken functions before step answer
 
 -- an admission stands apart: it is refused by OldTenant, else by Full, where these apply (one of more by NoTenant, Lower, Full), and
--- else it is taken, or memory is wanting
+-- else it is taken, or memory ran out
 pub record IsAnswerToAdmit {I A : Type 0} (functions : Functions I A) (before : Shared) (step : StepOf A) (answer : Result (DidOf I) Refusal) : Type 0 where
   pub refused : (refusal : Refusal) → shared_refusal functions before step ≡ Some refusal → answer ≡ Err refusal
   pub else_taken : shared_refusal functions before step ≡ None → (answer ≡ answer_of (judged functions before step)) ⊎ (answer ≡ Err OutOfMemory)

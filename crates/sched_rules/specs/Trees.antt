@@ -63,7 +63,7 @@ abbrev pub stored : List (ℕ × ℕ) → List ℕ → List ℕ
 stored [] words = words
 stored (store ∷ stores) words = stored stores (slice_set words store.0 store.1)
 
--- whether some store is at a place that the words haven't
+-- whether some store is at a place beyond the words
 abbrev pub is_outside : List (ℕ × ℕ) → List ℕ → Bool
 is_outside [] words = false
 is_outside (store ∷ stores) words = nat_le (length words) store.0 || is_outside stores words

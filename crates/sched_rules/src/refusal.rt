@@ -41,7 +41,7 @@ pub enum Refusal {
     NoJob,
     /// 18: the tenant's number is 0, over 2^62, or not above every number so far.
     OldTenant,
-    /// 19: a growth was refused. It comes of the two admissions alone.
+    /// 19: a growth was refused. Only the two admissions are refused so.
     OutOfMemory,
     /// 20: a further reservation is below what is reserved now, or not above it.
     Lower,

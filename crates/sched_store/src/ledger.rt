@@ -98,7 +98,7 @@ impl<A: Allocator> Ledger<A> {
         self.jobs.push_reserved(Job::Live(root));
     }
 
-    /// Ends the job that lives under this root, if there is one, so.
+    /// Ends the job that lives under this root, if there is one: it becomes `ended`.
     pub(crate) fn end(&mut self, root: u64, ended: Job)
         requires { is_live ended ≡ false }
         ensures { self.new ≡ (self.old.0, with_ended root ended self.old.1) }

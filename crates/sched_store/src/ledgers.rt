@@ -97,7 +97,7 @@ impl<A: Allocator> Ledgers<A> {
         }
     }
 
-    /// One more job of a tenant that is there, which lives under this root.
+    /// Adds a job of a tenant that is there: it lives under the root of this serial.
     pub(crate) fn begin(&mut self, number: u64, root: u64)
         requires there { is_there number self.old ≡ true }
         requires room { length (jobs_of self.old number) < 256 }
@@ -109,7 +109,7 @@ impl<A: Allocator> Ledgers<A> {
         ledger.begin(root);
     }
 
-    /// Ends the job of a tenant that is there which lives under this root, if there is one, so.
+    /// Of a tenant that is there, ends the job that lives under this root, if there is one: it becomes `ended`.
     pub(crate) fn end(&mut self, number: u64, root: u64, ended: Job)
         requires there { is_there number self.old ≡ true }
         requires ended { is_live ended ≡ false }

@@ -48,7 +48,7 @@ impl<A: Allocator> Model for Store<A> {
     ghost invariant = { λ s. IsStored (parts_of s) };
 }
 
-// A store goes with all its parts. A crate that holds one proves no more of that, as it would were this derived.
+// By hand: were it derived, each crate that holds a store would have to prove again that all its parts are dropped.
 impl<A: Allocator> Drop for Store<A> {
     fn drop(self) {
         let Store {

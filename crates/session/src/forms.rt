@@ -30,7 +30,7 @@ pub(crate) enum Form<'a> {
     Bye,
 }
 
-/// A line of one word.
+/// What a line of one word says; none where the word is another.
 fn bare_form<'a>(word: &[u8]) -> Option<Form<'a>>
     ensures { option_map form_seen result ≡ bare_form word.now }
 {
@@ -45,7 +45,7 @@ fn bare_form<'a>(word: &[u8]) -> Option<Form<'a>>
     }
 }
 
-/// A line of two words.
+/// What a line of two words says.
 fn form_of_one<'a>(word: &[u8], argument: &[u8]) -> Option<Form<'a>>
     ensures { option_map form_seen result ≡ form_of_one word.now argument.now }
 {
@@ -62,7 +62,7 @@ fn form_of_one<'a>(word: &[u8], argument: &[u8]) -> Option<Form<'a>>
     }
 }
 
-/// A line of three words or more.
+/// What a line of three words or more says: the second argument is all that follows the second space.
 fn form_of_two<'a>(word: &[u8], first: &'a [u8], second: &'a [u8]) -> Option<Form<'a>>
     ensures { option_map form_seen result ≡ form_of_two word.now first.now second.now }
 {

@@ -61,7 +61,7 @@ IsSolvedLine line text = (refused : Bool) × (text ≡ solve_line_unless refused
 abbrev pub solve_out : List ℕ → List ℕ
 solve_out bytes = answers_to solve_line (lines_of bytes)
 
--- the same for lines of which some met a refused growth: true stands for each line that did, in order, and a line behind
+-- the same for lines of which some met a refused growth: true stands for each line that did, in order, and a line after
 -- the end of the list met none
 abbrev pub answers_unless : List Bool → List LineText → List ℕ
 answers_unless refused [] = []

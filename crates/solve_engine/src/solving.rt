@@ -121,7 +121,7 @@ pub fn solve<A: Allocator + Copy, S: Source, K: Sink>(
 }
 
 /// `solve` over std's readers and writers: where the bytes to be read are known, and what the writer holds, it
-/// then holds the answers to the bytes behind that.
+/// then holds the answers to the bytes after that.
 pub fn solve_bytes<A: Allocator + Copy, R: Read, W: Write>(
     alloc: A,
     source: &mut FromReader<R>,

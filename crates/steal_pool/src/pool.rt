@@ -41,13 +41,13 @@ impl PoolFault {
     }
 }
 
-/// Why a pool of which something is said didn't run. The desk is closed then, and what was started has ended.
+/// Why a pool that was to be announced didn't run. The desk is closed then, and what was started has ended.
 #[derive(Clone, Copy, Debug, PartialEq, Eq, Error)]
 pub enum BeginFault {
-    /// It couldn't begin: nothing was said.
+    /// It couldn't begin, so nothing was announced.
     #[error("no pool")]
     Pool(PoolFault),
-    /// It had begun, and that couldn't be said.
+    /// It had begun, and that couldn't be announced.
     #[error("it could not be said")]
     Unsaid,
 }
@@ -80,7 +80,7 @@ pub(crate) struct NotRun {
 /// What a pool is given.
 #[derive(Clone, Copy, Debug, PartialEq, Eq)]
 pub struct PoolConfig {
-    /// The number of its last worker: it has as many.
+    /// The number of its last worker, which is how many it has: they are numbered from 1.
     pub workers: Worker,
     /// The size of a worker's stack in bytes, or else the usual one.
     pub stack: Option<usize>,
@@ -125,8 +125,8 @@ pub fn run_pool<L: Hands + Send + Sync, G: Gate + Sync, R: Threads + Wait + Sync
     }
 }
 
-/// The same, and says that the pool has begun once all its workers were started, in the thread that called. Where it
-/// can't begin nothing is said; where that can't be said, the desk is closed and the workers end.
+/// The same, and announces that the pool has begun once all its workers were started, in the thread that called.
+/// Where it can't begin nothing is announced; where that can't be announced, the desk is closed and the workers end.
 pub fn run_pool_announced<
     L: Hands + Send + Sync,
     G: Gate + Sync,
@@ -159,16 +159,16 @@ pub fn run_pool_announced<
     }
 }
 
-/// How much a pool takes at its start.
+/// How much a pool takes at its start. Tests ask for more than can be had, one field at a time.
 #[derive(Clone, Copy, Debug)]
 pub(crate) struct Sizes {
     /// The number of the last worker: there are as many.
     pub(crate) workers: Worker,
     /// How many tasks there is room for in each deque.
     pub(crate) room: usize,
-    /// For how many more ends than those of the workers there is room when they come back.
+    /// For how many more ends of deques than the workers' there is room when they come back: 0 but in tests.
     pub(crate) more_ends: usize,
-    /// For how many more threads than the workers' there is room.
+    /// For how many more threads than the workers' there is room: 0 but in tests.
     pub(crate) more_threads: usize,
     /// From which worker on the stacks have another size than the usual one, and which, in bytes.
     pub(crate) stack: Option<(u8, usize)>,

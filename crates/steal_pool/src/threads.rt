@@ -1,7 +1,7 @@
 //! Workers in threads: the ends of the deques are dealt to them, and come back.
 //!
 //! What comes from another thread is known by its type alone. So each thread is started with a promise,
-//! [`SameEnds`]: the ends that it brings back are at the deques at which those were that it got. Once all
+//! [`SameEnds`]: the ends that it brings back are at the same deques as those that it was given. Once all
 //! threads are joined, all seats of all deques are there, and what was pushed on each is what was taken
 //! from it and what is left.
 ghost use Rattle.std.specs.Prelude.{◌≡◌, ◌≤◌, [], true, length, map, vec_len, vec_capacity, IfErr, IfOk, Ok, OnOk};
@@ -126,7 +126,7 @@ pub(crate) fn run_all<
     }
 }
 
-/// Says that the pool has begun, where its workers were started.
+/// Announces that the pool has begun, if its workers were started.
 fn announced<A: Announce>(started: Result<(), PoolFault>, call: &mut A) -> Result<(), BeginFault>
     ensures after { IfOk result (λ _. started ≡ Ok tt) }
     ensures said { IfOk result (λ _. A.says call.old true call.new) }

@@ -74,9 +74,9 @@ pub fn serve<L: Hands + Send + Sync, G: Gate + Sync, R: Net + Threads + Wait + S
     }
 }
 
-/// The same, and says that the server has begun once all workers of the pool were started, in the thread that called:
-/// so nothing is said where the pool can't begin. `Unsaid` where that can't be said: no more connections are taken
-/// then.
+/// The same, and announces that the server has begun once all workers of the pool were started, in the thread that
+/// called: so nothing is announced where the pool can't begin. `Unsaid` where that can't be announced: no more
+/// connections are taken then.
 pub fn serve_announced<
     L: Hands + Send + Sync,
     G: Gate + Sync,

@@ -23,7 +23,7 @@ impl<A: Allocator> Store<A> {
         requires inside { is_outside stores.now (words_under self.old name) ≡ false }
         ensures { self.new ≡ on_tenant name.tenant (holding name.serial (stored stores.now (words_under self.old name))) self.old }
     {
-        // What a store keeps is known from here on.
+        // This read makes the invariant of the store known to the prover.
         let _ = &self.table;
         if stores.is_empty() {
             return;
