@@ -4,8 +4,9 @@ use Rattle.sched_rules.specs.declared.act.Act.{Act}
 use Rattle.sched_rules.specs.declared.act.InletAct.{InletAct}
 use Rattle.sched_rules.specs.declared.act.Then.{Then}
 use Rattle.sched_rules.specs.declared.act.Then.TheVariants.{Grow, Spawn, Go, Wait, Compute, Return}
+use Rattle.core_tests.specs.declared.reader.ReaderAnswer.{ReaderAnswer}
 use Rattle.sched_rules.specs.Functions.{Functions}
-use Rattle.sched_toys.specs.Toys.{nearest, word_at}
+use Rattle.sched_toys.specs.Toys.{word_at, toy}
 
 -- an act
 abbrev pub act_of : List (ℕ × ℕ) → Then → Act
@@ -40,14 +41,10 @@ reader_inlet own child =
       wake = word_at own 3 == 2;
     }
 
--- Reader: a frame is computed from the acts that it has left; answers ask for themselves, and go into word 2
-abbrev pub reader : Functions ℕ ℕ
-reader =
-    record {
-      next = λ sight. reader_act (word_at (nearest sight) 0) (word_at (nearest sight) 1);
-      inlet = reader_inlet;
-      input = λ own. word_at own 0;
-      asked = λ answer. answer;
-      accept = λ own answer. (2, answer) ∷ [];
-      same = λ one other. one == other;
-    }
+-- what a frame stores of an answer: it goes into word 2
+abbrev pub reader_stored : ReaderAnswer → List (ℕ × ℕ)
+reader_stored answer = (2, answer.0) ∷ []
+
+-- Reader, whose answers ask for themselves
+abbrev pub reader : Functions ℕ ReaderAnswer
+reader = toy reader_act reader_inlet (λ answer. answer.0) reader_stored

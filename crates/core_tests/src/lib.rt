@@ -32,7 +32,7 @@
 mod reader;
 pub mod rows;
 
-pub use reader::Reader;
+pub use reader::{Reader, ReaderAnswer, ReaderPlay};
 
 #[cfg(test)]
 mod tests;

@@ -15,6 +15,19 @@ nearest sight = unwrap_or (slice_get sight 0) []
 abbrev pub word_at : List ℕ → ℕ → ℕ
 word_at words place = unwrap_or (slice_get words place) 0
 
+-- a toy procedure: the next act of a frame is a function of its words 0 and 1, it is computed from its word 0, and what it
+-- stores of an answer is a function of the answer
+abbrev pub toy : {A : Type 0} → (ℕ → ℕ → Act) → (List ℕ → List ℕ → InletAct) → (A → ℕ) → (A → List (ℕ × ℕ)) → Functions ℕ A
+toy act inlet asked stored =
+    record {
+      next = λ sight. act (word_at (nearest sight) 0) (word_at (nearest sight) 1);
+      inlet = inlet;
+      input = λ own. word_at own 0;
+      asked = asked;
+      accept = λ own answer. stored answer;
+      same = λ one other. one == other;
+    }
+
 -- a line of Fan's table: at this kind and this count, this is the new count, and this comes then
 pub record Line : Type 0 where
   pub kind : ℕ
@@ -48,10 +61,6 @@ fan_act (line ∷ lines) kind count =
     then record { stores = (1, line.next_count) ∷ []; after = line.after }
     else fan_act lines kind count
 
--- the next act of a frame of Fan
-abbrev pub fan_next : List (List ℕ) → Act
-fan_next sight = fan_act fan_table (word_at (nearest sight) 0) (word_at (nearest sight) 1)
-
 -- what a parent in Fan does about a returned child: one of kind 0 counts it in word 2 (0 after the greatest word) and aborts
 abbrev pub fan_inlet : List ℕ → List ℕ → InletAct
 fan_inlet own child =
@@ -60,20 +69,19 @@ fan_inlet own child =
     else record { stores = []; abort = false; wake = false }
 
 -- what a frame of Fan stores of an answer: count 2, and the value in word 2
-abbrev pub fan_accept : List ℕ → FanAnswer → List (ℕ × ℕ)
-fan_accept own answer = (1, 2) ∷ (2, answer.value) ∷ []
+abbrev pub fan_stored : FanAnswer → List (ℕ × ℕ)
+fan_stored answer = (1, 2) ∷ (2, answer.value) ∷ []
 
 -- Fan
 abbrev pub fan : Functions ℕ FanAnswer
-fan = record { next = fan_next; inlet = fan_inlet; input = λ own. word_at own 0; asked = λ answer. answer.asked; accept = fan_accept; same = λ one other. one == other }
+fan = toy (fan_act fan_table) fan_inlet (λ answer. answer.asked) fan_stored
 
 -- the next act of a frame of Chain: at count 0 it returns; else it opens a child of one less, waits, and returns
-abbrev pub chain_next : List (List ℕ) → Act
-chain_next sight =
-    let own = nearest sight in
-    if word_at own 0 == 0 then record { stores = []; after = Return }
-    else if word_at own 1 == 0 then record { stores = (1, 1) ∷ []; after = Spawn ((word_at own 0 - 1) ∷ 0 ∷ []) 20 }
-    else if word_at own 1 == 1 then record { stores = (1, 2) ∷ []; after = Wait }
+abbrev pub chain_act : ℕ → ℕ → Act
+chain_act count stage =
+    if count == 0 then record { stores = []; after = Return }
+    else if stage == 0 then record { stores = (1, 1) ∷ []; after = Spawn ((count - 1) ∷ 0 ∷ []) 20 }
+    else if stage == 1 then record { stores = (1, 2) ∷ []; after = Wait }
     else record { stores = []; after = Return }
 
 -- what a parent in Chain does about a returned child: it stores the child's count in word 2
@@ -82,16 +90,10 @@ chain_inlet own child = record { stores = (2, word_at child 0) ∷ []; abort = f
 
 -- Chain, whose answers ask for themselves and store nothing
 abbrev pub chain : Functions ℕ ℕ
-chain = record { next = chain_next; inlet = chain_inlet; input = λ own. word_at own 0; asked = λ answer. answer; accept = λ own answer. []; same = λ one other. one == other }
+chain = toy chain_act chain_inlet (λ answer. answer) (λ answer. [])
 
 -- Spin: a frame of one word goes on for ever, without a store; answers ask for themselves and store nothing
 abbrev pub spin : Functions ℕ ℕ
 spin =
-    record {
-      next = λ sight. record { stores = []; after = Go };
-      inlet = λ own child. record { stores = []; abort = false; wake = false };
-      input = λ own. word_at own 0;
-      asked = λ answer. answer;
-      accept = λ own answer. [];
-      same = λ one other. one == other;
-    }
+    toy (λ count stage. record { stores = []; after = Go }) (λ own child. record { stores = []; abort = false; wake = false })
+    (λ answer. answer) (λ answer. [])

@@ -13,7 +13,7 @@
 //! ```text
 //! // a root of Fan that has opened three children waits next
 //! let node = stack.open(None, &[0, 3], 4)?;
-//! let act = Fan.next(&stack.sight(node));
+//! let act = Fan::new().next(&stack.sight(node));
 //! act.stores.as_slice() == [(1, 4)];
 //! matches!(act.after, Then::Wait);
 //! ```
@@ -27,8 +27,11 @@ pub mod law_rows;
 pub mod refusal_rows;
 pub mod rows;
 mod spin;
+mod toy;
 mod view;
 
-pub use chain::Chain;
-pub use fan::{Fan, FanAnswer};
-pub use spin::Spin;
+pub use chain::{Chain, ChainPlay};
+pub use fan::{Fan, FanAnswer, FanPlay};
+pub use spin::{Spin, SpinPlay};
+pub use toy::{Play, Toy, ToyAnswer};
+pub use view::word;

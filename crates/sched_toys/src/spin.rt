@@ -1,61 +1,34 @@
 //! The toy procedure Spin: a frame that goes on for ever.
 use crate::acts::{idle_inlet, plain};
-use crate::view::word;
-use cactus_stack::{Sight, Words};
-use sched_rules::{Act, InletAct, Procedure, Stores, Then};
+use crate::toy::{Play, Toy};
+use cactus_stack::Words;
+use sched_rules::{Act, InletAct, Then};
 
 /// The procedure Spin. A frame has one word. It never opens a child, computes or returns, so that each
 /// of its steps does nothing but count.
+pub type Spin = Toy<SpinPlay>;
+
+/// What Spin's frames do.
 #[derive(Clone, Copy, Debug)]
-pub struct Spin;
+pub struct SpinPlay;
 
-impl Procedure for Spin {
-    ghost use Rattle.std.specs.Prelude.{refl};
-    ghost use Rattle.sched_toys.specs.Toys.{spin};
-    ghost use Rattle.sched_toys.specs.ToyLaws.{AlwaysFits, AlwaysRooted, same-number, next-keeps as spin_next_keeps, inlet-keeps as spin_inlet_keeps, accept-keeps as spin_accept_keeps};
-
-    type Input = u64;
+impl Play for SpinPlay {
+    ghost use Rattle.std.specs.Prelude.{[], false};
+    ghost use Rattle.sched_rules.specs.declared.act.Then.TheVariants.{Go};
 
     type Answer = u64;
 
-    ghost functions = { λ procedure. spin };
+    ghost acts = { λ count stage. record { stores = []; after = Go } };
 
-    ghost fits = { λ procedure. AlwaysFits };
-
-    ghost rooted = { λ procedure. AlwaysRooted };
+    ghost takes_in = { λ own child. record { stores = []; abort = false; wake = false } };
 
     /// The frame goes on, without a store.
-    fn next(&self, _sight: &Sight) -> Act {
+    fn act(_count: u64, _stage: u64) -> Act {
         plain(Then::Go)
     }
 
     /// Nothing is stored, nothing is aborted, and nobody is woken.
-    fn inlet(&self, _own: &Words, _child: &Words) -> InletAct {
+    fn inlet(_own: &Words, _child: &Words) -> InletAct {
         idle_inlet()
     }
-
-    /// The frame's word.
-    fn input(&self, own: &Words) -> u64 {
-        word(own, 0)
-    }
-
-    /// The answer itself.
-    fn asked(&self, answer: &u64) -> u64 {
-        *answer
-    }
-
-    /// Nothing.
-    fn accept(&self, _own: &Words, _answer: &u64) -> Stores {
-        Stores::new()
-    }
-
-    ghost compares = { λ procedure. refl };
-
-    ghost same_is_equal = { λ procedure one other same. same-number one other same };
-
-    ghost next_keeps = { λ procedure. spin_next_keeps spin };
-
-    ghost inlet_keeps = { λ procedure. spin_inlet_keeps spin };
-
-    ghost accept_keeps = { λ procedure. spin_accept_keeps spin };
 }

@@ -5,7 +5,7 @@ ghost use Rattle.sched_toys.specs.Toys.{nearest, word_at};
 use cactus_stack::{Sight, Words};
 
 /// The word at a place, and 0 where there is none.
-pub(crate) fn word(words: &Words, place: usize) -> u64
+pub fn word(words: &Words, place: usize) -> u64
     ensures { result ≡ word_at words.now place }
 {
     words.get(place).unwrap_or(0)

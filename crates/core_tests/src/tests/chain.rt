@@ -57,7 +57,7 @@ fn chain_with_enough(rt: HostRuntime) -> Result<(), Miss> {
         rt.alloc(),
         32,
         64,
-        Chain,
+        Chain::new(),
         &[&ENOUGH, &BEGINS, &GOES_ON, &ENDS, &DONE],
     )
 }
@@ -82,7 +82,7 @@ fn chain_with_too_few_segments(rt: HostRuntime) -> Result<(), Miss> {
         rt.alloc(),
         32,
         64,
-        Chain,
+        Chain::new(),
         &[&FIVE_SEGMENTS, &BEGINS, &SPENT_OF_FIVE],
     )
 }
@@ -104,7 +104,7 @@ fn chain_with_too_few_nodes(rt: HostRuntime) -> Result<(), Miss> {
         rt.alloc(),
         32,
         64,
-        Chain,
+        Chain::new(),
         &[&TWO_NODES, &BEGINS, &SPENT_OF_TWO],
     )
 }

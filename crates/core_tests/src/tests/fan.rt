@@ -71,7 +71,7 @@ fn fan_takes_in_and_aborts(rt: HostRuntime) -> Result<(), Miss> {
         rt.alloc(),
         32,
         32,
-        Fan,
+        Fan::new(),
         &[&ADMITTED, &OPENS, &OPENS_FIVE, &ANSWERS, &ABORTS, &FREE],
     )
 }
@@ -98,7 +98,7 @@ fn fan_goes_on(rt: HostRuntime) -> Result<(), Miss> {
         rt.alloc(),
         32,
         32,
-        Fan,
+        Fan::new(),
         &[&ADMITTED, &OPENS, &OPENS_FIVE, &ANSWERS, &ABORTS, &GOES_ON],
     )
 }
@@ -125,7 +125,7 @@ fn fan_beside_another_tenant(rt: HostRuntime) -> Result<(), Miss> {
         rt.alloc(),
         32,
         32,
-        Fan,
+        Fan::new(),
         &[
             &ADMITTED,
             &OPENS,
@@ -167,7 +167,7 @@ fn fan_in_a_full_core(rt: HostRuntime) -> Result<(), Miss> {
         rt.alloc(),
         8,
         32,
-        Fan,
+        Fan::new(),
         &[&FILLED, &OPENS, &OPENS_FIVE, &USED],
     )
 }
@@ -211,7 +211,7 @@ fn fan_reserves_more(rt: HostRuntime) -> Result<(), Miss> {
         rt.alloc(),
         16,
         32,
-        Fan,
+        Fan::new(),
         &[&HALF, &OPENS, &OPENS_FIVE, &RESERVES_MORE],
     )
 }
@@ -237,8 +237,8 @@ job 1 spent
 /// What is reserved before a job is given up lets it go on, and what is reserved after that doesn't.
 #[test]
 fn fan_reserves_more_in_time(rt: HostRuntime) -> Result<(), Miss> {
-    run_tables(rt.alloc(), 32, 64, Fan, &[&NARROW, &IN_TIME])?;
-    run_tables(rt.alloc(), 32, 64, Fan, &[&NARROW, &TOO_LATE])
+    run_tables(rt.alloc(), 32, 64, Fan::new(), &[&NARROW, &IN_TIME])?;
+    run_tables(rt.alloc(), 32, 64, Fan::new(), &[&NARROW, &TOO_LATE])
 }
 
 /// Frames that aren't there to be had: at another home, by their own worker, running, or where the
@@ -261,7 +261,7 @@ fn steals_and_takes_refused(rt: HostRuntime) -> Result<(), Miss> {
         rt.alloc(),
         32,
         32,
-        Fan,
+        Fan::new(),
         &[&ADMITTED, &OPENS, &OPENS_FIVE, &ANSWERS, &NOT_TO_BE_HAD],
     )
 }
@@ -298,5 +298,5 @@ frame 4 under 1 Ready(1) 1 0 0 0
 /// With three segments the third child is refused, until an abort has given one back.
 #[test]
 fn fan_with_three_segments(rt: HostRuntime) -> Result<(), Miss> {
-    run_tables(rt.alloc(), 32, 64, Fan, &[&NARROW, &WIDER])
+    run_tables(rt.alloc(), 32, 64, Fan::new(), &[&NARROW, &WIDER])
 }

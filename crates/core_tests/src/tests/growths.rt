@@ -223,11 +223,11 @@ fn wanting_with<A: Allocator + Copy>(
     config: Config,
     plan: &Plan,
 ) -> Wanting {
-    match made(alloc, config, Fan) {
+    match made(alloc, config, Fan::new()) {
         Ok(mut core) => wanting_of_core(rt, alloc, ballast, &mut core, plan),
         Err(AllocError) => {
             drop(ballast);
-            assert!(rt; made(alloc, config, Fan).is_ok());
+            assert!(rt; made(alloc, config, Fan::new()).is_ok());
             Wanting::Core
         }
     }
@@ -382,7 +382,7 @@ fn sizes_of(segments: u32, nodes: u32) -> Option<(Config, Reserve, Reserve)> {
 /// Makes a core, and admits tenants that reserve as much of it as a tenant may.
 fn is_made(rt: &impl Abort, alloc: Global, segments: u32, nodes: u32) {
     let (config, least, reserve) = sizes_of(segments, nodes).expect(rt, "within the limits");
-    let mut core = made(alloc, config, Fan).expect(rt, "there is room");
+    let mut core = made(alloc, config, Fan::new()).expect(rt, "there is room");
     is_used(rt, &mut core, least, reserve, segments);
 }
 
@@ -417,6 +417,6 @@ fn the_greatest_core_is_full(rt: HostRuntime) {
         &rt,
         "within the limits",
     );
-    let mut core = made(rt.alloc(), config, Fan).expect(&rt, "there is room");
+    let mut core = made(rt.alloc(), config, Fan::new()).expect(&rt, "there is room");
     admit_sixteen(&rt, &mut core, reserve);
 }

@@ -43,7 +43,7 @@ const ONE_JOB_MORE: [Row; 7] = [
 /// A tenant has 256 jobs.
 #[test]
 fn no_more_than_256_jobs(rt: HostRuntime) -> Result<(), Miss> {
-    let mut core = core_of(rt.alloc(), 300, 300, Fan)?;
+    let mut core = core_of(rt.alloc(), 300, 300, Fan::new())?;
     with_all_jobs(rt.alloc(), &mut core)
 }
 
@@ -105,7 +105,7 @@ fn next_tenants(alloc: Global, core: &mut Core<Fan>) -> Result<(), Miss> {
 /// There are 64 tenants at once, and once all have left, 64 more.
 #[test]
 fn no_more_than_64_tenants(rt: HostRuntime) -> Result<(), Miss> {
-    let mut core = core_of(rt.alloc(), 159, 159, Fan)?;
+    let mut core = core_of(rt.alloc(), 159, 159, Fan::new())?;
     first_tenants(rt.alloc(), &mut core)?;
     next_tenants(rt.alloc(), &mut core)
 }
@@ -121,5 +121,5 @@ const LAST: [Row; 4] = [
 /// The greatest number of a tenant can be taken, and then no other.
 #[test]
 fn the_last_tenant(rt: HostRuntime) -> Result<(), Miss> {
-    run_tables(rt.alloc(), 8, 8, Fan, &[&LAST])
+    run_tables(rt.alloc(), 8, 8, Fan::new(), &[&LAST])
 }

@@ -101,7 +101,7 @@ pub const NODES: u32 = 375;
 
 /// A core with just that room.
 pub fn new_core(alloc: Global) -> Result<Core<Reader>, Miss> {
-    core_of(alloc, SEGMENTS, NODES, Reader)
+    core_of(alloc, SEGMENTS, NODES, Reader::new())
 }
 
 /// Which refusals were met, by number: that of number n in the place of 2 to the n.

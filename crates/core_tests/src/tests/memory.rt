@@ -67,7 +67,7 @@ fn take_all<A: Allocator + Clone>(
 fn take_counted(alloc: Global, played: &Played) -> Result<(), Miss> {
     let counted = Counted::new(alloc);
     let config = Config::new(SEGMENTS, NODES).ok_or(Miss::Totals)?;
-    let mut core = made(&counted, config, Reader)?;
+    let mut core = made(&counted, config, Reader::new())?;
     take_all(&counted, &mut core, played)
 }
 

@@ -1,4 +1,5 @@
 //! Steps in plain numbers, as tables write them.
+use crate::ReaderAnswer;
 use frame_tree::FrameId;
 use sched_core::{GivenWords, StepOf, Worker};
 use sched_toys::FanAnswer;
@@ -48,6 +49,12 @@ impl HasNumbers for u64 {
     /// An answer that asks for itself has no value beside it.
     fn of_numbers(asked: u64, _value: u64) -> u64 {
         asked
+    }
+}
+
+impl HasNumbers for ReaderAnswer {
+    fn of_numbers(asked: u64, _value: u64) -> ReaderAnswer {
+        ReaderAnswer(asked)
     }
 }
 

@@ -30,5 +30,5 @@ const A_CHILD: [Row; 14] = [
 /// The example of the crate's root file.
 #[test]
 fn a_root_opens_a_child(rt: HostRuntime) -> Result<(), Miss> {
-    run_tables(rt.alloc(), 4, 4, Reader, &[&A_CHILD])
+    run_tables(rt.alloc(), 4, 4, Reader::new(), &[&A_CHILD])
 }

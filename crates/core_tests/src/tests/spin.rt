@@ -33,7 +33,7 @@ fn spin_until_no_step_is_left(rt: HostRuntime) -> Result<(), Miss> {
         rt.alloc(),
         1,
         1,
-        Spin,
+        Spin::new(),
         &[&BEGINS, &GOES_ON, &GOES_ON, &GOES_ON, &ENDS],
     )
 }

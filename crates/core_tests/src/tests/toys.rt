@@ -158,7 +158,14 @@ fn fan_acts_by_its_table(rt: HostRuntime) -> Result<(), Fail> {
         (2, 1, Seen::Waits),
     ] {
         let stores = [(1, count + 1)];
-        acts(&rt, rt.alloc(), &Fan, &[kind, count, 77], &stores, after)?;
+        acts(
+            &rt,
+            rt.alloc(),
+            &Fan::new(),
+            &[kind, count, 77],
+            &stores,
+            after,
+        )?;
     }
     Ok(())
 }
@@ -175,7 +182,14 @@ fn fan_returns_elsewhere(rt: HostRuntime) -> Result<(), Fail> {
         (0, u64::MAX),
         (u64::MAX, 0),
     ] {
-        acts(&rt, rt.alloc(), &Fan, &[kind, count], &[], Seen::Returns)?;
+        acts(
+            &rt,
+            rt.alloc(),
+            &Fan::new(),
+            &[kind, count],
+            &[],
+            Seen::Returns,
+        )?;
     }
     Ok(())
 }
@@ -188,7 +202,7 @@ fn fan_takes_in(rt: HostRuntime) -> Result<(), Fail> {
         takes_in(
             &rt,
             rt.alloc(),
-            &Fan,
+            &Fan::new(),
             &[0, 1, had],
             &child,
             &[(2, has)],
@@ -196,7 +210,15 @@ fn fan_takes_in(rt: HostRuntime) -> Result<(), Fail> {
         )?;
     }
     for kind in [1, 2] {
-        takes_in(&rt, rt.alloc(), &Fan, &[kind, 1, 6], &child, &[], false)?;
+        takes_in(
+            &rt,
+            rt.alloc(),
+            &Fan::new(),
+            &[kind, 1, 6],
+            &child,
+            &[],
+            false,
+        )?;
     }
     Ok(())
 }
@@ -205,12 +227,12 @@ fn fan_takes_in(rt: HostRuntime) -> Result<(), Fail> {
 #[test]
 fn fan_computes(rt: HostRuntime) -> Result<(), Fail> {
     let answer = FanAnswer { asked: 1, value: 7 };
-    assert_eq!(rt; input_of(&rt, rt.alloc(), &Fan, &[1, 1, 0])?, 1);
-    assert_eq!(rt; Fan.asked(&answer), 1);
+    assert_eq!(rt; input_of(&rt, rt.alloc(), &Fan::new(), &[1, 1, 0])?, 1);
+    assert_eq!(rt; Fan::new().asked(&answer), 1);
     accepts(
         &rt,
         rt.alloc(),
-        &Fan,
+        &Fan::new(),
         &[1, 1, 0],
         &answer,
         &[(1, 2), (2, 7)],
@@ -226,10 +248,24 @@ fn chain_acts(rt: HostRuntime) -> Result<(), Fail> {
         (2, 1, Seen::Waits),
     ] {
         let stores = [(1, stage + 1)];
-        acts(&rt, rt.alloc(), &Chain, &[count, stage], &stores, after)?;
+        acts(
+            &rt,
+            rt.alloc(),
+            &Chain::new(),
+            &[count, stage],
+            &stores,
+            after,
+        )?;
     }
     for (count, stage) in [(2, 2), (0, 0), (0, 1)] {
-        acts(&rt, rt.alloc(), &Chain, &[count, stage], &[], Seen::Returns)?;
+        acts(
+            &rt,
+            rt.alloc(),
+            &Chain::new(),
+            &[count, stage],
+            &[],
+            Seen::Returns,
+        )?;
     }
     Ok(())
 }
@@ -237,18 +273,26 @@ fn chain_acts(rt: HostRuntime) -> Result<(), Fail> {
 /// Chain stores a child's count in word 2, and neither aborts nor wakes; answers ask for themselves.
 #[test]
 fn chain_takes_in_and_accepts(rt: HostRuntime) -> Result<(), Fail> {
-    takes_in(&rt, rt.alloc(), &Chain, &[5, 2], &[4, 2], &[(2, 4)], false)?;
-    assert_eq!(rt; input_of(&rt, rt.alloc(), &Chain, &[5, 2])?, 5);
-    assert_eq!(rt; Chain.asked(&9), 9);
-    accepts(&rt, rt.alloc(), &Chain, &[5, 2], &9, &[])
+    takes_in(
+        &rt,
+        rt.alloc(),
+        &Chain::new(),
+        &[5, 2],
+        &[4, 2],
+        &[(2, 4)],
+        false,
+    )?;
+    assert_eq!(rt; input_of(&rt, rt.alloc(), &Chain::new(), &[5, 2])?, 5);
+    assert_eq!(rt; Chain::new().asked(&9), 9);
+    accepts(&rt, rt.alloc(), &Chain::new(), &[5, 2], &9, &[])
 }
 
 /// A frame of Spin with this word goes on; it stores, aborts and wakes nothing.
 fn spins(rt: &impl Abort, alloc: Global, seed: u64) -> Result<(), Fail> {
-    acts(rt, alloc, &Spin, &[seed], &[], Seen::Goes)?;
-    takes_in(rt, alloc, &Spin, &[seed], &[7], &[], false)?;
-    assert_eq!(rt; input_of(rt, alloc, &Spin, &[seed])?, seed);
-    accepts(rt, alloc, &Spin, &[seed], &9, &[])
+    acts(rt, alloc, &Spin::new(), &[seed], &[], Seen::Goes)?;
+    takes_in(rt, alloc, &Spin::new(), &[seed], &[7], &[], false)?;
+    assert_eq!(rt; input_of(rt, alloc, &Spin::new(), &[seed])?, seed);
+    accepts(rt, alloc, &Spin::new(), &[seed], &9, &[])
 }
 
 /// Spin goes on, whatever its word.
@@ -257,6 +301,6 @@ fn spin_goes_on(rt: HostRuntime) -> Result<(), Fail> {
     for seed in [0, 1, u64::MAX] {
         spins(&rt, rt.alloc(), seed)?;
     }
-    assert_eq!(rt; Spin.asked(&9), 9);
+    assert_eq!(rt; Spin::new().asked(&9), 9);
     Ok(())
 }
