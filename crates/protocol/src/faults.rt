@@ -1,4 +1,7 @@
 //! Why a line asks for nothing.
+ghost use Rattle.std.specs.Prelude.{◌≡◌};
+ghost use Rattle.protocol.specs.Faults.{fault_number, position_fault};
+
 use position_text::TextFault;
 use thiserror::Error;
 
@@ -9,7 +12,7 @@ pub enum ProtocolFault {
     /// 21: in a line of `solve` there is no space; in one of a session the word is unknown, or has another number of
     /// arguments.
     #[error("no such command")]
-    NoCommand,
+    NoCommand = 21,
     /// 22: the line has more than 128 bytes.
     #[error("the line is too long")]
     LongLine,
@@ -37,31 +40,15 @@ pub enum ProtocolFault {
 }
 
 impl ProtocolFault {
-    ghost use Rattle.std.specs.Prelude.{◌≡◌};
-    ghost use Rattle.protocol.specs.Faults.{fault_number};
-
     /// The number of the fault, 21 to 29.
     pub fn number(self) -> u8
         ensures { result ≡ fault_number self }
     {
-        match self {
-            ProtocolFault::NoCommand => 21,
-            ProtocolFault::LongLine => 22,
-            ProtocolFault::NoNumber => 23,
-            ProtocolFault::PositionLength => 24,
-            ProtocolFault::PositionCell => 25,
-            ProtocolFault::PositionSide => 26,
-            ProtocolFault::TooDeep => 27,
-            ProtocolFault::NoHello => 28,
-            ProtocolFault::HelloAgain => 29,
-        }
+        self as u8
     }
 }
 
 impl From<TextFault> for ProtocolFault {
-    ghost use Rattle.std.specs.Prelude.{◌≡◌};
-    ghost use Rattle.protocol.specs.Faults.{position_fault};
-
     ghost from_gives = { λ text fault. fault ≡ position_fault text };
 
     fn from(fault: TextFault) -> ProtocolFault {

@@ -13,8 +13,7 @@ pub fn push_number<const ROOM: usize>(text: &mut ArrayVec<u8, ROOM>, number: u64
     ensures text { text.new.items ≡ text.old.items ++ decimal number }
     ensures short { length text.new.items ≤ length text.old.items + 20 }
 {
-    let mut buffer = Buffer::new();
-    push_digits(text, buffer.format(number));
+    push_digits(text, Buffer::new().format(number));
 }
 
 /// Appends a value in decimal, with `-` where it is negative: at most 11 bytes.
@@ -23,8 +22,7 @@ pub fn push_value<const ROOM: usize>(text: &mut ArrayVec<u8, ROOM>, value: i32)
     ensures text { text.new.items ≡ text.old.items ++ signed_decimal value }
     ensures short { length text.new.items ≤ length text.old.items + 11 }
 {
-    let mut buffer = Buffer::new();
-    push_digits(text, buffer.format(value));
+    push_digits(text, Buffer::new().format(value));
 }
 
 /// Appends digits, as they are.
@@ -57,7 +55,6 @@ pub fn push_error<const ROOM: usize>(text: &mut ArrayVec<u8, ROOM>, fault: u8)
     ensures text { text.new.items ≡ text.old.items ++ error_text fault }
     ensures short { length text.new.items ≤ length text.old.items + 7 }
 {
-    let mut buffer = Buffer::new();
     text.try_extend_from_slice(b"ERR ").unwrap();
-    push_digits(text, buffer.format(fault));
+    push_digits(text, Buffer::new().format(fault));
 }

@@ -1,4 +1,7 @@
 //! Why a step is refused.
+ghost use Rattle.std.specs.Prelude.{◌≡◌};
+ghost use Rattle.sched_rules.specs.Refusals.{refusal_number};
+
 use std::fmt;
 use thiserror::Error;
 
@@ -6,7 +9,7 @@ use thiserror::Error;
 #[derive(Clone, Copy, Debug, PartialEq, Eq, Error)]
 pub enum Refusal {
     /// 1: the tenant isn't there.
-    NoTenant,
+    NoTenant = 1,
     /// 2: the frame isn't there.
     NoFrame,
     /// 3: the frame isn't ready.
@@ -48,35 +51,11 @@ pub enum Refusal {
 }
 
 impl Refusal {
-    ghost use Rattle.std.specs.Prelude.{◌≡◌};
-    ghost use Rattle.sched_rules.specs.Refusals.{refusal_number};
-
     /// The number of the refusal, 1 to 20.
     pub fn number(&self) -> u8
         ensures { result ≡ refusal_number self.now }
     {
-        match self {
-            Refusal::NoTenant => 1,
-            Refusal::NoFrame => 2,
-            Refusal::NotReady => 3,
-            Refusal::NotHere => 4,
-            Refusal::Busy => 5,
-            Refusal::NotRunning => 6,
-            Refusal::NotComputing => 7,
-            Refusal::Mismatch => 8,
-            Refusal::NotReturned => 9,
-            Refusal::NoSegments => 10,
-            Refusal::NoNodes => 11,
-            Refusal::NoSteps => 12,
-            Refusal::NoJobsLeft => 13,
-            Refusal::Full => 14,
-            Refusal::BadAct => 15,
-            Refusal::NotSpent => 16,
-            Refusal::NoJob => 17,
-            Refusal::OldTenant => 18,
-            Refusal::OutOfMemory => 19,
-            Refusal::Lower => 20,
-        }
+        *self as u8
     }
 
     /// Why, in words.

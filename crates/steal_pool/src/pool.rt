@@ -2,6 +2,7 @@
 ghost use Rattle.std.specs.Prelude.{◌≡◌, ◌+◌, true, length, sum_by, All, IfErr, IfOk, None};
 ghost use Rattle.task_deques.specs.Deals.{returned, whole_deques, IsAccounted};
 ghost use Rattle.steal_pool.specs.Announced.{IsUnsaid};
+ghost use Rattle.steal_pool.specs.Faults.{pool_fault_number};
 
 use crate::announce::{Announce, Quiet};
 use crate::gate::Gate;
@@ -20,24 +21,18 @@ use thiserror::Error;
 pub enum PoolFault {
     /// 1: there was no memory for the tasks.
     #[error("out of memory")]
-    OutOfMemory,
+    OutOfMemory = 1,
     /// 2: a thread or a badge couldn't be had.
     #[error("no thread")]
     NoThread,
 }
 
 impl PoolFault {
-    ghost use Rattle.std.specs.Prelude.{◌≡◌};
-    ghost use Rattle.steal_pool.specs.Faults.{pool_fault_number};
-
     /// The number of the fault, 1 or 2.
     pub fn number(&self) -> u8
         ensures { result ≡ pool_fault_number self.now }
     {
-        match self {
-            PoolFault::OutOfMemory => 1,
-            PoolFault::NoThread => 2,
-        }
+        *self as u8
     }
 }
 

@@ -5,7 +5,7 @@ use thiserror::Error;
 pub enum Refusal {
     /// A total doesn't allow the reservation, or 64 tenants are there and it is of another.
     #[error("the book has no room for the reservation")]
-    Full,
+    Full = 1,
     /// The tenant hasn't as much left as is asked for.
     #[error("the tenant hasn't as much left")]
     Short,
@@ -22,10 +22,6 @@ impl Refusal {
     pub fn number(&self) -> u8
         ensures { result ≡ quota_refusal_number self.now }
     {
-        match self {
-            Refusal::Full => 1,
-            Refusal::Short => 2,
-            Refusal::Lower => 3,
-        }
+        *self as u8
     }
 }
