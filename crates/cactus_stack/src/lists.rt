@@ -32,15 +32,11 @@ impl<A: Allocator> Model for Lists<A> {
 }
 
 impl<A: Allocator> Lists<A> {
-    /// Room for lists of so many segments, 1 to 65,536.
-    pub fn new(alloc: A, segments: usize) -> Result<Lists<A>, AllocError>
-    where
-        A: Clone,
-        requires some { 1 ≤ segments }
-        requires in_limits { segments ≤ 65536 }
+    /// No list yet, in a region of so many segments, all free.
+    pub fn of(region: Region<A>, segments: usize, alloc: A) -> Result<Lists<A>, AllocError>
+        requires { region ≡ replicate segments None }
         ensures { IfOk result (λ lists. lists ≡ replicate segments None) }
     {
-        let region = Region::new(alloc.clone()?, segments)?;
         let lens = vec![in alloc; 0; segments]?;
         Ok(Lists { region, lens })
     }

@@ -7,6 +7,7 @@ use crate::node::{NoSegment, NodeNo};
 use crate::sight::Sight;
 use crate::view::StackView;
 use crate::words::Words;
+use segment_region::Region;
 use std::alloc::{AllocError, Allocator, Global};
 use std::marker::Model;
 
@@ -46,7 +47,8 @@ impl<A: Allocator> Stack<A> {
         requires in_limits { segments ≤ 65536 }
         ensures { IfOk result (λ stack. stack ≡ replicate segments None) }
     {
-        let lists = Lists::new(alloc.clone()?, segments)?;
+        let region = Region::new(alloc.clone()?, segments)?;
+        let lists = Lists::of(region, segments, alloc.clone()?)?;
         let nowhere = Above {
             parent: None,
             depth: 0,

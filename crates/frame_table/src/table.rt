@@ -119,7 +119,7 @@ impl<T: Copy, A: Allocator> FrameTable<T, A> {
     {
         match guessed_tree(self.trees.as_slice(), &self.index, f.tenant) {
             Some(tree) => tree.find(f.serial),
-            None => search_frame(self.trees.as_slice(), &self.index, f.tenant, f.serial),
+            None => self.search_tree(f.tenant)?.find(f.serial),
         }
     }
 
@@ -173,8 +173,21 @@ impl<T: Copy, A: Allocator> FrameTable<T, A> {
     {
         match guessed_tree(self.trees.as_slice(), &self.index, f.tenant) {
             Some(tree) => tree.has_child(f.serial),
-            None => search_child(self.trees.as_slice(), &self.index, f.tenant, f.serial),
+            None => match self.search_tree(f.tenant) {
+                Some(tree) => tree.has_child(f.serial),
+                None => false,
+            },
         }
+    }
+
+    /// A tenant's tree, wherever it was guessed: off the way of a step.
+    #[cold]
+    #[inline(never)]
+    fn search_tree(&self, tenant: u64) -> Option<&TenantFrames<T, A>>
+        ensures found { IfSome result (λ tree. IsTreeOf self.now tenant tree.now) }
+        ensures none { IfNone result (HasNoTree self.now tenant) }
+    {
+        find_tree(self.trees.as_slice(), &self.index, tenant)
     }
 
     /// The names of a frame's children, by rising serial.
@@ -440,7 +453,7 @@ fn find_tree<'a, T: Copy, A: Allocator>(
 }
 
 /// A tenant's tree, if it stands where it is guessed to. A step asks by this, and leaves the search to
-/// functions that are called: else what a search finds is tested a second time on its way.
+/// a function that is called: else what a search finds is tested a second time on its way.
 #[inline(always)]
 fn guessed_tree<'a, T: Copy, A: Allocator>(
     trees: &'a [TenantFrames<T, A>],
@@ -453,44 +466,6 @@ fn guessed_tree<'a, T: Copy, A: Allocator>(
     match index.guessed(trees, tenant) {
         Some(at) => Some(&trees[at]),
         None => None,
-    }
-}
-
-/// What is known of a frame, wherever its tenant's tree was guessed.
-#[cold]
-#[inline(never)]
-fn search_frame<T: Copy, A: Allocator>(
-    trees: &[TenantFrames<T, A>],
-    index: &TenantIndex,
-    tenant: u64,
-    serial: u64,
-) -> Option<Entry<T>>
-    requires { AreRising owner_of trees.now }
-    ensures entry { result ≡ entry_of tenant (frame_at (frames_of trees.now tenant) serial) }
-    ensures tree { IsTree (frames_of trees.now tenant) }
-{
-    match find_tree(trees, index, tenant) {
-        Some(tree) => tree.find(serial),
-        None => None,
-    }
-}
-
-/// Whether a frame has a child, wherever its tenant's tree was guessed.
-#[cold]
-#[inline(never)]
-fn search_child<T: Copy, A: Allocator>(
-    trees: &[TenantFrames<T, A>],
-    index: &TenantIndex,
-    tenant: u64,
-    serial: u64,
-) -> bool
-    requires { AreRising owner_of trees.now }
-    ensures child { IsTrue result ↔ (0 < length (children_of (frames_of trees.now tenant) serial)) }
-    ensures leaf { result ≡ false → children_of (frames_of trees.now tenant) serial ≡ [] }
-{
-    match find_tree(trees, index, tenant) {
-        Some(tree) => tree.has_child(serial),
-        None => false,
     }
 }
 

@@ -10,14 +10,5 @@ returns-in-Some-clause-leaf g c =
     let tree = rw c.as_slice.ensures.value at c.in-Some.ensures in
     rw (← c.self.view_is, tree.frames) c.has_child.ensures.leaf
 
-pub returns-in-None-clause-child : goal.returns-in-None-clause-child
-returns-in-None-clause-child g c = rw (← c.self.view_is, ← c.as_slice-in-None.ensures.value) c.search_child.ensures.child
-
-pub returns-in-None-clause-leaf : goal.returns-in-None-clause-leaf
-returns-in-None-clause-leaf g c = rw (← c.self.view_is, ← c.as_slice-in-None.ensures.value) c.search_child.ensures.leaf
-
 pub guessed_tree-requires : goal.guessed_tree-requires
 guessed_tree-requires g c = rw c.as_slice.ensures.value c.self.invariant.0.rise
-
-pub search_child-requires : goal.search_child-requires
-search_child-requires g c = rw c.as_slice-in-None.ensures.value c.self.invariant.0.rise
