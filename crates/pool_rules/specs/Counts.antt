@@ -1,5 +1,10 @@
--- Representation: where a count stays.
+-- Meaning: the count of computations of a pool, and where it stays.
 use Rattle.std.specs.Prelude.{ℕ}
+use Rattle.pool_rules.specs.declared.count.Computations.{Computations}
+
+-- how many were begun
+abbrev pub begun : Computations → ℕ
+begun computations = computations.begun
 
 -- the greatest u64
 abbrev pub greatest_count : ℕ

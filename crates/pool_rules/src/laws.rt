@@ -7,8 +7,8 @@ ghost use Rattle.sched_rules.specs.Trees.{Tenant};
 ghost use Rattle.jamboree_rules.specs.declared.leaf.Leaf.{Leaf};
 ghost use Rattle.jamboree_rules.specs.declared.leaf.LeafAnswer.{LeafAnswer};
 ghost use Rattle.pool_rules.specs.declared.turn.Holding.{Holding};
-ghost use Rattle.pool_rules.specs.Turns.{offered};
 ghost use Rattle.pool_rules.specs.Readied.{PushesWhatItReadied, PushesWhatIsReady};
+ghost use Rattle.pool_rules.specs.Turns.{offered};
 
 /// No ready frame is forgotten: each frame that becomes ready by the step that a worker offers is the
 /// task of that worker's turn, at its home. So where the pushes find room, every ready frame of a root
