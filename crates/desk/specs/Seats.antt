@@ -21,20 +21,20 @@ stepped seat = record { tenant = seat.tenant; share = seat.share + 1; asked = se
 abbrev pub with_asked : SeatAsked → SeatOf → SeatOf
 with_asked asked seat = record { tenant = seat.tenant; share = seat.share + 1; asked = seat.asked ++ asked ∷ [] }
 
--- as what an admission can be refused: 64 tenants are there or too little is left, all 2^62 numbers were given, no memory
+-- the refusals of an admission: 64 tenants are there or too little is left, all 2^62 numbers were given, no memory
 abbrev pub admit_refusals : List Refusal
 admit_refusals = Full ∷ OldTenant ∷ OutOfMemory ∷ []
 
--- as what a seat that asks for more can be refused: its tenant isn't there, it is no more than that reserves, a total doesn't allow
--- it, no memory
+-- the refusals of a raise of what a seat's tenant reserves: the tenant isn't there, the raise isn't above what it reserves, a total
+-- doesn't allow it, no memory
 abbrev pub reserve_refusals : List Refusal
 reserve_refusals = NoTenant ∷ Lower ∷ Full ∷ OutOfMemory ∷ []
 
--- as what an ask can be refused
+-- the refusals of an ask
 abbrev pub ask_refusals : List Refusal
 ask_refusals = NoTenant ∷ NoJobsLeft ∷ NoNodes ∷ NoSegments ∷ []
 
--- as what a cancel can be refused
+-- the refusals of a cancel
 abbrev pub cancel_refusals : List Refusal
 cancel_refusals = NoTenant ∷ NoJob ∷ []
 

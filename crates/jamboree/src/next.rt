@@ -161,7 +161,7 @@ pub(crate) fn later(frame: &View, words: &Words) -> Plan
     }
 }
 
-/// What a root does next in these words. Whatever the grain, it is computed outside only at depth 0 and
+/// What a root does next in these words. Whatever the grain, it is computed outside only at depth 0 or
 /// where the game is over: else it has an entry for each choice.
 #[inline(always)]
 pub(crate) fn of_root(grain: u8, frame: &View, words: &Words) -> Plan

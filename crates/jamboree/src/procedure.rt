@@ -27,7 +27,7 @@ use jamboree_rules::{Leaf, LeafAnswer};
 use othello_moves::choice_count;
 
 /// Jamboree search: frames of a remaining depth of at most `grain` are searched serially by one
-/// worker; a root only at depth 0 and in a finished game, so that each of its choices has an entry.
+/// worker; a root only at depth 0 or in a finished game, so that else each of its choices has an entry.
 #[derive(Clone, Copy, Debug, PartialEq, Eq)]
 pub struct Jamboree {
     /// The greatest depth that one worker searches by itself, 0 to 6.

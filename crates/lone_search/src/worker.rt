@@ -79,7 +79,8 @@ impl<A: Allocator + Clone> Searcher<A> {
         Some(Task { frame, home })
     }
 
-    /// Offers the step of what the worker holds, and goes on to where its next step is known.
+    /// Offers the step of what the worker holds, and does what follows up to its next step, which it returns; None where
+    /// the job has ended or can't go on.
     #[inline(always)]
     fn offer_on(&mut self, held: Holding) -> Option<Ahead>
         ensures { Keeps self.old.core self.new.core }
@@ -88,8 +89,8 @@ impl<A: Allocator + Clone> Searcher<A> {
         self.go_on(next)
     }
 
-    /// What the worker does with what it holds now: it computes a leaf at once, and ends the job. No holding is handed
-    /// on from here.
+    /// What the worker's next step is with what it holds now. A leaf is computed and its answer brought at once; a job
+    /// whose root has returned is ended, and one that is given up is spent.
     #[inline(always)]
     fn go_on(&mut self, held: Holding) -> Option<Ahead>
         ensures { Keeps self.old.core self.new.core }

@@ -85,7 +85,7 @@ impl<P: Procedure, A: Allocator> Engine<P, A> {
         }
     }
 
-    /// A tenant reserves more. This takes memory, and nothing else than this and `admit` does.
+    /// A tenant's reservation becomes this, if it is above what it was. Of the steps only this and `admit` take memory.
     pub(crate) fn admit_more(&mut self, number: u64, reserve: Reserve) -> Result<Did<P>, Refusal>
     where
         A: Clone,

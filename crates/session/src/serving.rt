@@ -15,7 +15,8 @@ use std::sync::Wait;
 /// Ends each answer.
 const LF: u8 = 10;
 
-/// Answers the lines of one session, and knows whether its tenant is there. Its text is the one place of all answers.
+/// Answers the lines of one session, and knows whether its tenant is there. Its text is the last answer, over which the
+/// next one is written.
 struct Clerk<'a, O: Office> {
     office: &'a mut O,
     seated: bool,

@@ -5,7 +5,8 @@ use lib.ListN.{get_elem?}
 use Rattle.pool_rules.specs.declared.task.Task.{Task}
 use Rattle.task_deques.specs.declared.rule.Tally.{Tally}
 
--- a seat with so many parts of the right to know the whole, which has pushed and taken these tasks
+-- what a seat knows: how many of the 64 parts of the right to know the whole deque it has, and the tasks that it pushed and took; where
+-- it has all 64, the other seats have pushed and taken nothing
 abbrev pub tally : ℕ → List Task → List Task → Tally
 tally parts pushed taken = record { parts = parts; pushed = pushed; taken = taken }
 

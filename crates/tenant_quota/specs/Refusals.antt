@@ -1,4 +1,4 @@
--- Meaning: the numbers of the book's refusals.
+-- Meaning: the numbers of the book's refusals; a client is told those of `sched_rules`.
 use Rattle.std.specs.Prelude.{ℕ}
 use Rattle.tenant_quota.specs.declared.refusal.Refusal.{Refusal}
 use Rattle.tenant_quota.specs.declared.refusal.Refusal.TheVariants.{Full, Short, Lower}
