@@ -194,7 +194,7 @@ impl<T: Copy, A: Allocator> FrameTable<T, A> {
     pub fn children(&self, f: FrameId) -> Children<'_, T, A>
         ensures { result ≡ names_of f.tenant (children_of (frames_of self.now f.tenant) f.serial) }
     {
-        Children::of(f, find_tree(self.trees.as_slice(), &self.index, f.tenant))
+        Children::of_parent(f, find_tree(self.trees.as_slice(), &self.index, f.tenant))
     }
 
     /// The names of a tenant's frames, by rising serial.

@@ -8,7 +8,7 @@ use Rattle.frame_tree.specs.declared.names.State.TheVariants.{Ready, Running, Co
 use Rattle.frame_tree.specs.declared.names.Entry.{Entry}
 use Rattle.frame_tree.specs.declared.slot.Slot.{Slot}
 use Rattle.frame_tree.specs.Frames.{Frame, frame_at, has_frame, path_in, path_under, root_of, parent_of, is_one_more, children_under, children_of, entry_of, name_of, names_of, ready_frames, is_ready, newest_ready_of, first_of_two, ready_name, has_parent, IsReadyAt, IsTreeAfter}
-use Rattle.frame_tree.specs.Slots.{frame_of_slot, frames_from, IsLinked, has_slot, serials_of, AllAbove, is_serial, child_slots, names_in, ready_slots, newest_in, has_parent_slot, root_at, root_under}
+use Rattle.frame_tree.specs.Slots.{frame_of_slot, frames_from, IsLinked, has_slot, serials_of, AllAbove, is_serial, child_slots, slots_of, names_in, ready_slots, newest_in, has_parent_slot, root_at, root_under}
 use Rattle.frame_tree.proofs.Forest.{path_in-left, EndsIn, EndsIn-path_in, EndsIn-path_under, parent_of-append, AllEnd, AllEnd-next, AllEnd-frames_from, has_frame-frames_from, linked_rises}
 use Rattle.frame_tree.proofs.Search.{above_at}
 use Rattle.frame_tree.proofs.Cuts.{all_next}
@@ -292,6 +292,6 @@ IsTree-linked frames (x ∷ xs) ends l =
     (record { above = l.0.above; parent = rw parent l.0.parent; path = rw parent refl }, IsTree-linked (frames ++ frame_of_slot frames x ∷ []) xs (AllEnd-next frames x ends) l.1)
 
 -- the names of frames are those of their slots
-pub names_of-slots : {T : Type 0} (tenant : ℕ) (frames : List (Frame T)) (xs : List (Slot T)) → names_of tenant (frames_from frames xs) ≡ names_in tenant xs
+pub names_of-slots : {T : Type 0} (tenant : ℕ) (frames : List (Frame T)) (xs : List (Slot T)) → names_of tenant (frames_from frames xs) ≡ names_in tenant (slots_of None xs)
 names_of-slots tenant frames [] = refl
 names_of-slots tenant frames (x ∷ xs) = ap (λ ns. record { tenant = tenant; serial = x.serial } ∷ ns) (names_of-slots tenant (frames ++ frame_of_slot frames x ∷ []) xs)

@@ -34,6 +34,15 @@ is_serial serial (Some parent) = parent == serial
 abbrev pub child_slots : {T : Type 0} → ℕ → List (Slot T) → List (Slot T)
 child_slots serial slots = filter (λ slot. is_serial serial slot.parent) slots
 
+-- whether this is the parent's serial, if one is named
+abbrev pub is_of_parent : Option ℕ → Option ℕ → Bool
+is_of_parent None parent = true
+is_of_parent (Some serial) parent = is_serial serial parent
+
+-- the slots of this parent, and all where none is named
+abbrev pub slots_of : {T : Type 0} → Option ℕ → List (Slot T) → List (Slot T)
+slots_of parent slots = filter (λ slot. is_of_parent parent slot.parent) slots
+
 -- each slot has this count of children, by its serial
 abbrev pub CountsAre : {T : Type 0} → (ℕ → ℕ) → List (Slot T) → Type 0
 CountsAre count [] = Unit {0}
@@ -136,7 +145,7 @@ abbrev pub newest_in : {T : Type 0} → ℕ → List (Slot T) → Option (FrameI
 newest_in tenant [] = None
 newest_in tenant (slot ∷ slots) = first_of_two (newest_in tenant slots) (ready_name tenant slot.serial slot.state)
 
--- the names of the child slots are the one found, if there is one, and those of the rest
-abbrev pub SplitsChild : {T : Type 0} → ℕ → List (Slot T) → Option ℕ → List (Slot T) → Type 0
-SplitsChild parent slots None rest = (child_slots parent slots ≡ []) × (child_slots parent rest ≡ [])
-SplitsChild parent slots (Some serial) rest = (tenant : ℕ) → names_in tenant (child_slots parent slots) ≡ record { tenant = tenant; serial = serial } ∷ names_in tenant (child_slots parent rest)
+-- the names of the slots of this parent are the one found, if there is one, and those of the rest
+abbrev pub SplitsFirst : {T : Type 0} → Option ℕ → List (Slot T) → Option ℕ → List (Slot T) → Type 0
+SplitsFirst parent slots None rest = (slots_of parent slots ≡ []) × (slots_of parent rest ≡ [])
+SplitsFirst parent slots (Some serial) rest = (tenant : ℕ) → names_in tenant (slots_of parent slots) ≡ record { tenant = tenant; serial = serial } ∷ names_in tenant (slots_of parent rest)

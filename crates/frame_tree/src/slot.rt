@@ -16,6 +16,7 @@ pub(crate) struct Slot<T> {
 impl<T: Copy> Slot<T> {
     ghost use Rattle.std.specs.Prelude.{◌≡◌};
     ghost use Rattle.frame_tree.specs.Frames.{name_of};
+    ghost use Rattle.frame_tree.specs.Slots.{is_of_parent};
 
     /// What `find` tells of the slot's frame.
     pub(crate) fn entry(&self, tenant: u64) -> Entry<T>
@@ -25,6 +26,16 @@ impl<T: Copy> Slot<T> {
             parent: self.parent.map(|serial| FrameId { tenant, serial }),
             state: self.state,
             value: self.value,
+        }
+    }
+
+    /// Whether this is its parent, if one is named.
+    pub(crate) fn is_of(&self, parent: Option<u64>) -> bool
+        ensures { result ≡ is_of_parent parent self.now.parent }
+    {
+        match parent {
+            Some(_) => self.parent == parent,
+            None => true,
         }
     }
 }

@@ -1,9 +1,0 @@
-use Rattle.std.proofs.Common.{◌≡◌, ◌-◌, length, drop}
-use Rattle.frame_tree.specs.Slots.{child_slots}
-use Rattle.frame_tree.proofs.walk.next_child.Given as goal
-
-abbrev pub invariant-loop-at : goal.invariant-loop-at
-invariant-loop-at g l = child_slots l.parent (drop l.from l.shelf.slots) ≡ child_slots l.parent (drop l.at l.shelf.slots)
-
-abbrev pub decreases-loop-at : goal.decreases-loop-at
-decreases-loop-at g l = length l.shelf.slots - l.at

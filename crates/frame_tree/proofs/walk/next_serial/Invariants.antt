@@ -1,0 +1,9 @@
+use Rattle.std.proofs.Common.{◌≡◌, ◌-◌, length, drop}
+use Rattle.frame_tree.specs.Slots.{slots_of}
+use Rattle.frame_tree.proofs.walk.next_serial.Given as goal
+
+abbrev pub invariant-loop-at : goal.invariant-loop-at
+invariant-loop-at g l = slots_of l.parent (drop l.from l.shelf.slots) ≡ slots_of l.parent (drop l.at l.shelf.slots)
+
+abbrev pub decreases-loop-at : goal.decreases-loop-at
+decreases-loop-at g l = length l.shelf.slots - l.at
