@@ -1,20 +1,23 @@
 -- A step that is taken: what it comes to, and one change of its tenant after another.
-use Rattle.std.proofs.Common.{◌≡◌, ℕ, ◌==◌, Bool, true, false, List, [], ◌∷◌, Option, Some, None, Result, Ok, Err, refl, sym, ◌∙◌, ap, arith}
+use Rattle.std.proofs.Common.{◌≡◌, ℕ, ◌==◌, Bool, true, false, List, [], ◌∷◌, Option, Some, None, Result, Ok, Err, inl, inr, refl, sym, ◌∙◌, ap, arith}
+use Rattle.std.specs.Prelude.{MatchResult, OnOk, OnErr}
 use Rattle.std.proofs.lemmas.Bool.Decides.{nat_tests}
 use Rattle.frame_tree.specs.declared.names.FrameId.{FrameId}
+use Rattle.frame_tree.specs.declared.names.State.{State}
+use Rattle.frame_tree.specs.declared.names.State.TheVariants.{Running}
 use Rattle.frame_tree.specs.Frames.{Frame, frame_at}
 use Rattle.sched_rules.specs.declared.refusal.Refusal.{Refusal}
-use Rattle.sched_rules.specs.declared.refusal.Refusal.TheVariants.{NoTenant}
+use Rattle.sched_rules.specs.declared.refusal.Refusal.TheVariants.{NoTenant, OutOfMemory}
 use Rattle.sched_rules.specs.declared.step.StepOf.{StepOf}
 use Rattle.sched_rules.specs.declared.step.StepOf.TheVariants.{Take, Steal}
 use Rattle.sched_rules.specs.declared.step.DidOf.{DidOf}
 use Rattle.sched_rules.specs.Functions.{Functions}
 use Rattle.sched_rules.specs.Trees.{Tenant, left}
-use Rattle.sched_rules.specs.Lone.{Outcome, unless, lone, refusal_in, at_frame, take_tests, steal_tests, taken_by}
+use Rattle.sched_rules.specs.Lone.{Outcome, unless, lone, refusal_in, at_frame, take_tests, steal_tests, taken_by, in_state, counted}
 use Rattle.sched_rules.specs.Changes.{on_tenant, with_change}
 use Rattle.sched_rules.specs.Cores.{Shared, tenant_in, with_tenant, unless_busy, judged, shared_refusal, shared_with}
 use Rattle.sched_store.specs.Reads.{HasStepLeft}
-use Rattle.sched_core.specs.Judging.{IsJudged}
+use Rattle.sched_core.specs.Judging.{IsJudged, IsAdmitted}
 use Rattle.sched_core.proofs.Changing.{with_change-there}
 use Rattle.sched_core.proofs.Deciding.{some-is}
 
@@ -31,6 +34,13 @@ judged-refused functions before step answer after told refusal is same right sta
 pub judged-taken : {I A : Type 0} (functions : Functions I A) (before : Shared) (step : StepOf A) (outcome : Outcome I) (answer : Result (DidOf I) Refusal) (after : Shared) →
     judged functions before step ≡ Ok outcome → answer ≡ Ok outcome.1 → after ≡ shared_with before step outcome.0 → IsJudged functions before step answer after
 judged-taken functions before step outcome answer after at is stays = record { told = rw at is; left = rw at stays }
+
+-- an admission that isn't refused, as its memory was there or not
+pub judged-admission : {I A M E Done : Type 0} (functions : Functions I A) (before after : Shared) (step : StepOf A) (did : DidOf I) (answer : Result (DidOf I) Refusal) (taken : Result M E) →
+    None ≡ shared_refusal functions before step → MatchResult taken (λ _. answer ≡ Ok did) (λ _. answer ≡ Err OutOfMemory) → OnOk taken Done → OnErr taken (after ≡ before) →
+    (Done → IsJudged functions before step (Ok did) after) → IsAdmitted functions before step answer after
+judged-admission functions before after step did answer (Ok memory) none told done stays judged = inl (rw told (judged done))
+judged-admission functions before after step did answer (Err refused) none told done stays judged = inr (sym none, told, stays)
 
 -- no test of a list applies
 abbrev pub AllPass : List (Bool × Refusal) → Type 0
@@ -110,9 +120,24 @@ then-changed before number tenant now next change is at =
       there = rw (at, there) (tenant_in-with_tenant number (change tenant) now.tenants);
     }
 
+-- and a worker that runs its frame, which is counted
+pub then-run : (before : Shared) (number serial worker : ℕ) (tenant : Tenant) (now next : Shared) → IsWith before number tenant now → next ≡ on_tenant number counted (on_tenant number (in_state serial (Running worker)) now) →
+    IsWith before number (counted (in_state serial (Running worker) tenant)) next
+then-run before number serial worker tenant now next is ran = then-changed _ _ _ _ next counted (then-changed _ _ _ now _ (in_state serial (Running worker)) is refl) ran
+
 -- a step is left to it
 pub step-left : (before : Shared) (number : ℕ) (tenant : Tenant) (now : Shared) → IsWith before number tenant now → ((left tenant).steps == 0) ≡ false → HasStepLeft now number
 step-left before number tenant now is some = rw is.there (grind (arith, nat_tests, some))
+
+-- and still is where a frame of it has another state
+pub left-still : (shared : Shared) (number serial : ℕ) (state : State) (next : Shared) → HasStepLeft shared number → next ≡ on_tenant number (in_state serial state) shared → HasStepLeft next number
+left-still shared number serial state next left is = by-owner (tenant_in shared.tenants number) refl
+  where
+    by-owner : (owner : Option Tenant) → tenant_in shared.tenants number ≡ owner → HasStepLeft next number
+    by-owner None lost = absurd (rw lost at left)
+    by-owner (Some tenant) owner =
+        let w = then-changed _ _ _ shared next (in_state serial state) (begins shared number tenant owner) is in
+        rw w.there (rw owner at left)
 
 -- Take and Steal
 pub take-going : {I A : Type 0} (functions : Functions I A) (shared : Shared) (worker : ℕ) (name : FrameId) → None ≡ shared_refusal functions shared (Take worker name) →

@@ -1,5 +1,6 @@
 //! Admit, AdmitMore and Submit: a tenant comes, reserves more, and has a job.
-ghost use Rattle.std.specs.Prelude.{◌≡◌};
+ghost use Rattle.std.specs.Prelude.{◌≡◌, Ok, Err, MatchResult};
+ghost use Rattle.sched_rules.specs.declared.refusal.Refusal.TheVariants.{OutOfMemory};
 ghost use Rattle.sched_rules.specs.Cores.{shared_refusal};
 ghost use Rattle.sched_rules.specs.Headline.{IsKnown};
 ghost use Rattle.sched_rules.specs.Lone.{refusal_in};
@@ -9,8 +10,9 @@ ghost use Rattle.sched_core.specs.Judging.{IsJudged, IsAdmitted};
 
 use crate::decide::{charge, first_of, is_frame_size};
 use crate::engine::Engine;
-use sched_rules::{Did, DidOf, Procedure, Refusal};
-use std::alloc::Allocator;
+use crate::steps::StepAnswer;
+use sched_rules::{DidOf, Procedure, Refusal};
+use std::alloc::{AllocError, Allocator};
 use tenant_quota::Reserve;
 
 /// The greatest number of a tenant.
@@ -71,41 +73,8 @@ impl<P: Procedure, A: Allocator> Engine<P, A> {
         ])
     }
 
-    /// A tenant comes. This takes memory.
-    pub(crate) fn admit(&mut self, number: u64, reserve: Reserve) -> Result<Did<P>, Refusal>
-    where
-        A: Clone,
-        ensures admitted { IsAdmitted (P.functions self.old.procedure) self.old.store (AdmitStep number reserve) result self.new.store }
-        ensures procedure { self.new.procedure ≡ self.old.procedure }
-    {
-        self.may_admit(number, reserve)?;
-        match self.store.admit(number, reserve) {
-            Ok(()) => Ok(DidOf::Admitted),
-            Err(_) => Err(Refusal::OutOfMemory),
-        }
-    }
-
-    /// A tenant's reservation becomes this, if it is above what it was. Of the steps only this and `admit` take memory.
-    pub(crate) fn admit_more(&mut self, number: u64, reserve: Reserve) -> Result<Did<P>, Refusal>
-    where
-        A: Clone,
-        ensures admitted { IsAdmitted (P.functions self.old.procedure) self.old.store (AdmitMoreStep number reserve) result self.new.store }
-        ensures procedure { self.new.procedure ≡ self.old.procedure }
-    {
-        self.may_admit_more(number, reserve)?;
-        match self.store.raise(number, reserve) {
-            Ok(()) => Ok(DidOf::AdmittedMore),
-            Err(_) => Err(Refusal::OutOfMemory),
-        }
-    }
-
     /// A new job of a tenant.
-    pub(crate) fn submit(
-        &mut self,
-        number: u64,
-        words: &[u64],
-        size: usize,
-    ) -> Result<Did<P>, Refusal>
+    pub(crate) fn submit(&mut self, number: u64, words: &[u64], size: usize) -> StepAnswer<P>
         requires { AreShaped self.old.store.tenants }
         ensures judged { IsJudged (P.functions self.old.procedure) self.old.store (SubmitStep number words.now size) result self.new.store }
         ensures procedure { self.new.procedure ≡ self.old.procedure }
@@ -115,5 +84,39 @@ impl<P: Procedure, A: Allocator> Engine<P, A> {
         let root = self.store.open(number, None, words, size, 0);
         self.store.begin_job(number, root.serial);
         Ok(DidOf::Submitted(job, root))
+    }
+}
+
+// The admissions: these two steps alone take memory.
+impl<P: Procedure, A: Allocator + Clone> Engine<P, A> {
+    /// A tenant comes.
+    pub(crate) fn admit(&mut self, number: u64, reserve: Reserve) -> StepAnswer<P>
+        ensures admitted { IsAdmitted (P.functions self.old.procedure) self.old.store (AdmitStep number reserve) result self.new.store }
+        ensures procedure { self.new.procedure ≡ self.old.procedure }
+    {
+        self.may_admit(number, reserve)?;
+        as_memory_allows(self.store.admit(number, reserve), DidOf::Admitted)
+    }
+
+    /// A tenant's reservation becomes this, if it is above what it was.
+    pub(crate) fn admit_more(&mut self, number: u64, reserve: Reserve) -> StepAnswer<P>
+        ensures admitted { IsAdmitted (P.functions self.old.procedure) self.old.store (AdmitMoreStep number reserve) result self.new.store }
+        ensures procedure { self.new.procedure ≡ self.old.procedure }
+    {
+        self.may_admit_more(number, reserve)?;
+        as_memory_allows(self.store.raise(number, reserve), DidOf::AdmittedMore)
+    }
+}
+
+/// What an admission answers: that it was done, or that its memory was refused.
+fn as_memory_allows<I: Copy>(
+    taken: Result<(), AllocError>,
+    done: DidOf<I>,
+) -> Result<DidOf<I>, Refusal>
+    ensures { MatchResult taken (λ memory. result ≡ Ok done) (λ refused. result ≡ Err OutOfMemory) }
+{
+    match taken {
+        Ok(()) => Ok(done),
+        Err(_) => Err(Refusal::OutOfMemory),
     }
 }

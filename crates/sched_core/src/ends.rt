@@ -12,8 +12,9 @@ ghost use Rattle.sched_core.specs.Judging.{IsJudged};
 
 use crate::decide::{first_of, is_unfinished};
 use crate::engine::{Engine, look, own};
+use crate::steps::StepAnswer;
 use frame_tree::FrameId;
-use sched_rules::{Did, DidOf, Job, JobWords, Procedure, Refusal, Worker};
+use sched_rules::{DidOf, Job, JobWords, Procedure, Refusal, Worker};
 use sched_store::Store;
 use std::alloc::Allocator;
 
@@ -73,7 +74,7 @@ impl<P: Procedure, A: Allocator> Engine<P, A> {
     }
 
     /// The job of a returned root is done, with the root's words.
-    pub(crate) fn finish(&mut self, worker: Worker, name: FrameId) -> Result<Did<P>, Refusal>
+    pub(crate) fn finish(&mut self, worker: Worker, name: FrameId) -> StepAnswer<P>
         requires { AreShaped self.old.store.tenants }
         ensures judged { IsJudged (P.functions self.old.procedure) self.old.store (FinishStep worker name) result self.new.store }
         ensures procedure { self.new.procedure ≡ self.old.procedure }
@@ -87,7 +88,7 @@ impl<P: Procedure, A: Allocator> Engine<P, A> {
     }
 
     /// A frame's job is given up.
-    pub(crate) fn spend(&mut self, name: FrameId) -> Result<Did<P>, Refusal>
+    pub(crate) fn spend(&mut self, name: FrameId) -> StepAnswer<P>
         requires { AreShaped self.old.store.tenants }
         ensures judged { IsJudged (P.functions self.old.procedure) self.old.store (SpendStep name) result self.new.store }
         ensures procedure { self.new.procedure ≡ self.old.procedure }
@@ -100,7 +101,7 @@ impl<P: Procedure, A: Allocator> Engine<P, A> {
     }
 
     /// A tenant's job is cancelled.
-    pub(crate) fn cancel(&mut self, number: u64, job: u64) -> Result<Did<P>, Refusal>
+    pub(crate) fn cancel(&mut self, number: u64, job: u64) -> StepAnswer<P>
         requires { AreShaped self.old.store.tenants }
         ensures judged { IsJudged (P.functions self.old.procedure) self.old.store (CancelStep number job) result self.new.store }
         ensures procedure { self.new.procedure ≡ self.old.procedure }
@@ -115,7 +116,7 @@ impl<P: Procedure, A: Allocator> Engine<P, A> {
     }
 
     /// A tenant is gone.
-    pub(crate) fn leave(&mut self, number: u64) -> Result<Did<P>, Refusal>
+    pub(crate) fn leave(&mut self, number: u64) -> StepAnswer<P>
         ensures judged { IsJudged (P.functions self.old.procedure) self.old.store (LeaveStep number) result self.new.store }
         ensures procedure { self.new.procedure ≡ self.old.procedure }
     {

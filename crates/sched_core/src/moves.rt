@@ -1,15 +1,19 @@
 //! Take and Steal: a worker runs a ready frame.
-ghost use Rattle.std.specs.Prelude.{◌≡◌, false, IfOk};
+ghost use Rattle.std.specs.Prelude.{◌≡◌, true, false, IfOk, IsSome};
+ghost use Rattle.frame_tree.specs.declared.names.State.TheVariants.{Running};
+ghost use Rattle.sched_rules.specs.Changes.{on_tenant};
 ghost use Rattle.sched_rules.specs.Cores.{shared_refusal};
-ghost use Rattle.sched_rules.specs.Lone.{refusal_in};
+ghost use Rattle.sched_rules.specs.Lone.{refusal_in, in_state, counted};
+ghost use Rattle.sched_rules.specs.Views.{named};
 ghost use Rattle.sched_rules.specs.declared.step.StepOf.TheVariants.{Take as TakeStep, Steal as StealStep};
-ghost use Rattle.sched_store.specs.Reads.{is_busy_among};
+ghost use Rattle.sched_store.specs.Reads.{is_busy_among, may_hold, HasStepLeft};
 ghost use Rattle.sched_core.specs.Judging.{IsJudged};
 
 use crate::decide::{first_of_four, is_out_of_reach, is_ready_at};
 use crate::engine::{Engine, look};
-use frame_tree::FrameId;
-use sched_rules::{Did, DidOf, Procedure, Refusal, Worker};
+use crate::steps::StepAnswer;
+use frame_tree::{FrameId, State};
+use sched_rules::{DidOf, Procedure, Refusal, Worker};
 use std::alloc::Allocator;
 
 impl<P: Procedure, A: Allocator> Engine<P, A> {
@@ -45,29 +49,36 @@ impl<P: Procedure, A: Allocator> Engine<P, A> {
     }
 
     /// The worker runs a ready frame of its own.
-    pub(crate) fn take(&mut self, worker: Worker, name: FrameId) -> Result<Did<P>, Refusal>
+    pub(crate) fn take(&mut self, worker: Worker, name: FrameId) -> StepAnswer<P>
         ensures judged { IsJudged (P.functions self.old.procedure) self.old.store (TakeStep worker name) result self.new.store }
         ensures procedure { self.new.procedure ≡ self.old.procedure }
     {
         self.may_take(worker, name)?;
-        self.store.run(worker, name);
-        self.store.count_step(name.tenant);
+        self.run(worker, name);
         Ok(DidOf::Took)
     }
 
     /// The worker runs a ready frame whose home is another's.
-    pub(crate) fn steal(
-        &mut self,
-        worker: Worker,
-        from: u8,
-        name: FrameId,
-    ) -> Result<Did<P>, Refusal>
+    pub(crate) fn steal(&mut self, worker: Worker, from: u8, name: FrameId) -> StepAnswer<P>
         ensures judged { IsJudged (P.functions self.old.procedure) self.old.store (StealStep worker from name) result self.new.store }
         ensures procedure { self.new.procedure ≡ self.old.procedure }
     {
         self.may_steal(worker, from, name)?;
-        self.store.run(worker, name);
-        self.store.count_step(name.tenant);
+        self.run(worker, name);
         Ok(DidOf::Took)
+    }
+
+    /// The worker runs the frame, which it held, or it held none; and the step is counted.
+    #[inline(always)]
+    pub(crate) fn run(&mut self, worker: Worker, name: FrameId)
+        requires there { IsSome (named self.old.store name) }
+        requires free { may_hold self.old.store worker name ≡ true }
+        requires left { HasStepLeft self.old.store name.tenant }
+        ensures ran { self.new.store ≡ on_tenant name.tenant counted (on_tenant name.tenant (in_state name.serial (Running worker)) self.old.store) }
+        ensures procedure { self.new.procedure ≡ self.old.procedure }
+    {
+        self.store
+            .hold(worker, name, State::Running(worker.number()));
+        self.store.count_step(name.tenant);
     }
 }

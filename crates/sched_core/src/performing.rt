@@ -9,17 +9,17 @@ ghost use Rattle.sched_rules.specs.Lone.{does_wait, then_done, aborted_beside};
 ghost use Rattle.sched_rules.specs.Cores.{tenant_in};
 ghost use Rattle.sched_rules.specs.Changes.{on_tenant};
 ghost use Rattle.sched_rules.specs.declared.step.StepOf.TheVariants.{Advance as AdvanceStep, Answer as AnswerStep, Inlet as InletStep};
-ghost use Rattle.sched_laws.specs.Shapes.{AreShaped};
 ghost use Rattle.sched_store.specs.Reads.{frames_in};
-ghost use Rattle.sched_core.specs.Keeping.{IsFitting};
+ghost use Rattle.sched_core.specs.Keeping.{IsFitting, IsKeptFitting};
 ghost use Rattle.sched_core.specs.Seeing.{GoesOn, MayBeTakenIn};
 ghost use Rattle.sched_core.specs.Judging.{IsJudged, IsCome, staying_with};
 
 use crate::acts::{may_do, may_take_in};
 use crate::decide::is_waiting;
 use crate::engine::{Engine, Found, known, own};
+use crate::steps::StepAnswer;
 use frame_tree::{FrameId, State};
-use sched_rules::{Did, DidOf, InletAct, Procedure, Refusal, Then, Worker};
+use sched_rules::{Did, DidOf, InletAct, Procedure, Then, Worker};
 use sched_store::Store;
 use std::alloc::Allocator;
 
@@ -32,27 +32,20 @@ impl<P: Procedure, A: Allocator> Engine<P, A> {
         name: FrameId,
         answer: &P::Answer,
         fitting: bool,
-    ) -> Result<Did<P>, Refusal>
+    ) -> StepAnswer<P>
         requires { fitting ≡ true → IsFitting (P.fits self.old.procedure) (P.rooted self.old.procedure) self.old.store }
         ensures judged { IsJudged (P.functions self.old.procedure) self.old.store (AnswerStep worker name answer.now) result self.new.store }
         ensures procedure { self.new.procedure ≡ self.old.procedure }
     {
         let stores = self.accepted(worker, name, answer, fitting)?;
         self.store.store_all(name, stores.as_slice());
-        self.store.run(worker, name);
-        self.store.count_step(name.tenant);
+        self.run(worker, name);
         Ok(DidOf::Answered)
     }
 
     /// A running frame does its next act.
-    pub(crate) fn advance(
-        &mut self,
-        worker: Worker,
-        name: FrameId,
-        fitting: bool,
-    ) -> Result<Did<P>, Refusal>
-        requires shaped { AreShaped self.old.store.tenants }
-        requires fits { fitting ≡ true → IsFitting (P.fits self.old.procedure) (P.rooted self.old.procedure) self.old.store }
+    pub(crate) fn advance(&mut self, worker: Worker, name: FrameId, fitting: bool) -> StepAnswer<P>
+        requires { IsKeptFitting (P.fits self.old.procedure) (P.rooted self.old.procedure) fitting self.old.store }
         ensures judged { IsJudged (P.functions self.old.procedure) self.old.store (AdvanceStep worker name) result self.new.store }
         ensures procedure { self.new.procedure ≡ self.old.procedure }
     {
@@ -97,7 +90,8 @@ impl<P: Procedure, A: Allocator> Engine<P, A> {
             }
             Then::Compute => {
                 let input = self.procedure.input(&own(&self.store, name));
-                self.store.compute(worker, name);
+                self.store
+                    .hold(worker, name, State::Computing(worker.number()));
                 DidOf::Computing(input)
             }
             Then::Return => {
@@ -112,14 +106,8 @@ impl<P: Procedure, A: Allocator> Engine<P, A> {
     }
 
     /// A returned frame is taken in by its parent, which is woken if it waits for that.
-    pub(crate) fn inlet(
-        &mut self,
-        worker: Worker,
-        name: FrameId,
-        fitting: bool,
-    ) -> Result<Did<P>, Refusal>
-        requires shaped { AreShaped self.old.store.tenants }
-        requires fits { fitting ≡ true → IsFitting (P.fits self.old.procedure) (P.rooted self.old.procedure) self.old.store }
+    pub(crate) fn inlet(&mut self, worker: Worker, name: FrameId, fitting: bool) -> StepAnswer<P>
+        requires { IsKeptFitting (P.fits self.old.procedure) (P.rooted self.old.procedure) fitting self.old.store }
         ensures judged { IsJudged (P.functions self.old.procedure) self.old.store (InletStep worker name) result self.new.store }
         ensures procedure { self.new.procedure ≡ self.old.procedure }
     {

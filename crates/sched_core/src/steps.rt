@@ -1,22 +1,23 @@
 //! Any step: each kind goes to its own function.
-ghost use Rattle.std.specs.Prelude.{◌≡◌, Some, true};
+ghost use Rattle.std.specs.Prelude.{◌≡◌};
 ghost use Rattle.sched_rules.specs.Cores.{shared_refusal};
 ghost use Rattle.sched_rules.specs.Headline.{IsOneStep};
-ghost use Rattle.sched_laws.specs.Shapes.{AreShaped};
-ghost use Rattle.sched_core.specs.Keeping.{IsFitting};
+ghost use Rattle.sched_core.specs.Keeping.{IsKeptFitting};
 
 use crate::engine::Engine;
 use sched_rules::{Did, Procedure, Refusal, Step, StepOf};
 use std::alloc::Allocator;
 
+/// What a step did, or why it is refused.
+pub(crate) type StepAnswer<P> = Result<Did<P>, Refusal>;
+
 impl<P: Procedure, A: Allocator> Engine<P, A> {
     /// Takes a step, or refuses it, where all frames may be known to fit.
     #[inline(always)]
-    pub(crate) fn step(&mut self, step: &Step<P>, fitting: bool) -> Result<Did<P>, Refusal>
+    pub(crate) fn step(&mut self, step: &Step<P>, fitting: bool) -> StepAnswer<P>
     where
         A: Clone,
-        requires shaped { AreShaped self.old.store.tenants }
-        requires fits { fitting ≡ true → IsFitting (P.fits self.old.procedure) (P.rooted self.old.procedure) self.old.store }
+        requires { IsKeptFitting (P.fits self.old.procedure) (P.rooted self.old.procedure) fitting self.old.store }
         ensures one { IsOneStep (P.functions self.old.procedure) self.old.store step.now result self.new.store }
         ensures procedure { self.new.procedure ≡ self.old.procedure }
     {

@@ -6,6 +6,19 @@ use arrayvec::ArrayVec;
 use cactus_stack::Words;
 use std::marker::Model;
 
+/// A job of a tenant. A tenant's jobs are numbered from 1 in the order in which they were submitted.
+#[derive(Drop)]
+pub enum Job {
+    /// It has frames, under the root of this serial.
+    Live(u64),
+    /// It is done, with the words of its root.
+    Done(JobWords),
+    /// It was given up for want of quota, or as its frame couldn't go on.
+    Spent,
+    /// It was cancelled.
+    Cancelled,
+}
+
 /// How many words of its root a finished job keeps, or all where it has fewer.
 const KEPT: usize = 76;
 
@@ -45,17 +58,4 @@ impl JobWords {
     {
         self.words.as_slice()
     }
-}
-
-/// A job of a tenant. A tenant's jobs are numbered from 1 in the order in which they were submitted.
-#[derive(Drop)]
-pub enum Job {
-    /// It has frames, under the root of this serial.
-    Live(u64),
-    /// It is done, with the words of its root.
-    Done(JobWords),
-    /// It was given up for want of quota, or as its frame couldn't go on.
-    Spent,
-    /// It was cancelled.
-    Cancelled,
 }

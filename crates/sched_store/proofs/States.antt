@@ -3,7 +3,7 @@ use Rattle.std.proofs.Common.{◌≡◌, ℕ, ◌≤◌, ◌+◌, true, false, e
 use Rattle.std.proofs.Math.ListN.{set}
 use Rattle.std.proofs.lemmas.List.{length-set}
 use Rattle.std.proofs.lemmas.List.Sums.{sum_by-cons}
-use Rattle.std.proofs.lemmas.Bool.{cases_Bool, cases_eq, false≢true}
+use Rattle.std.proofs.lemmas.Bool.{cases_Bool, cases_eq, eqb-true, false≢true}
 use Rattle.cactus_stack.specs.Nodes.{Nodes, node_words, node_parent, charge}
 use Rattle.tenant_quota.specs.Accounts.{account_of}
 use Rattle.tenant_quota.specs.Reservations.{Reservations}
@@ -213,17 +213,24 @@ let-go-set old trees worker name state frame stored sets there holds nobody =
         let h : is_held_by other state ≡ true = ap (λ (x : Frame ℕ). is_held_by other x.state) e ∙ held in
         false≢true (sym nobody ∙ held-is-held other state h)
 
--- a state that names the worker
+-- a state that names the worker, and no other
+
+named-once : (worker other : ℕ) (state : State) → is_held_by worker state ≡ true → is_held_by other state ≡ true → other ≡ worker
+named-once worker other (Ready home) names held = absurd (false≢true names)
+named-once worker other (Running holder) names held = sym (eqb-true holder other held) ∙ eqb-true holder worker names
+named-once worker other (Computing holder) names held = sym (eqb-true holder other held) ∙ eqb-true holder worker names
+named-once worker other Waiting names held = absurd (false≢true names)
+named-once worker other Returned names held = absurd (false≢true names)
 
 pub held-set : (old : Parts) (trees : List (TenantTree ℕ)) (worker : ℕ) (name : FrameId) (state : State) (frame : Frame ℕ) → IsStored old → SetsState old.trees trees name state → frame_in old.trees name.tenant name.serial ≡ Some frame →
-    1 ≤ worker → worker ≤ 32 → may_hold (shared_of old) worker name ≡ true → ((other : ℕ) → is_held_by other state ≡ true → other ≡ worker) → StateSet old trees (set old.places worker (Some name)) name state
-held-set old trees worker name state frame stored sets there some most may only =
+    1 ≤ worker → worker ≤ 32 → may_hold (shared_of old) worker name ≡ true → is_held_by worker state ≡ true → StateSet old trees (set old.places worker (Some name)) name state
+held-set old trees worker name state frame stored sets there some most may names =
     state-set old trees (set old.places worker (Some name)) name state frame stored sets there (length-set old.places worker (Some name) ∙ stored.workers) (λ other number serial f is held.
     elim (state-cases old.trees trees name state sets number serial) [
       | inl (m, s) ↦
           (let now : frame_in trees name.tenant name.serial ≡ Some f = rw (← m, ← s) is in
           let e : record frame { state = state } ≡ f = cc (state-here old.trees trees name state frame sets there, now) in
-          let w : other ≡ worker = only other (ap (λ (x : Frame ℕ). is_held_by other x.state) e ∙ held) in
+          let w : other ≡ worker = named-once worker other state names (ap (λ (x : Frame ℕ). is_held_by other x.state) e ∙ held) in
           let place : get_or (set old.places worker (Some name)) worker None ≡ Some name = get_or-set_same old.places worker (Some name) None (omega (arith, stored.workers)) in
           rw (w, m, s) (some, most, place))
       | inr same ↦
@@ -240,7 +247,7 @@ held-set old trees worker name state frame stored sets there some most may only 
 
 -- a worker takes a frame of the core that the parts show
 pub takes-set : (old : Parts) (trees : List (TenantTree ℕ)) (worker : ℕ) (name : FrameId) (state : State) {core : Shared} → IsStored old → shared_of old ≡ core → SetsState old.trees trees name state → IsSome (named core name) →
-    1 ≤ worker → worker ≤ 32 → may_hold core worker name ≡ true → ((other : ℕ) → is_held_by other state ≡ true → other ≡ worker) → StateSet old trees (set old.places worker (Some name)) name state
-takes-set old trees worker name state stored is sets there some most may only =
+    1 ≤ worker → worker ≤ 32 → may_hold core worker name ≡ true → is_held_by worker state ≡ true → StateSet old trees (set old.places worker (Some name)) name state
+takes-set old trees worker name state stored is sets there some most may names =
     let own = there-frame old stored name (subst (λ (s : Shared). IsSome (named s name)) (sym is) there) in
-    held-set old trees worker name state own.0 stored sets own.1 some most (subst (λ (s : Shared). may_hold s worker name ≡ true) (sym is) may) only
+    held-set old trees worker name state own.0 stored sets own.1 some most (subst (λ (s : Shared). may_hold s worker name ≡ true) (sym is) may) names

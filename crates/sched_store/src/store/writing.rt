@@ -1,8 +1,7 @@
 //! Frames are written, made longer, and put into other states.
 ghost use Rattle.std.specs.Prelude.{◌≡◌, ◌+◌, ◌≤◌, ◌++◌, ℕ, true, false, length, replicate, IsSome};
 ghost use Rattle.cactus_stack.specs.Nodes.{IsOpen, node_words, with_words, growth_charge as growth_of_words};
-ghost use Rattle.frame_tree.specs.declared.names.State.TheVariants.{Running, Computing};
-ghost use Rattle.sched_rules.specs.Trees.{stored, is_outside};
+ghost use Rattle.sched_rules.specs.Trees.{stored, is_outside, is_held_by};
 ghost use Rattle.sched_rules.specs.Lone.{holding, in_state};
 ghost use Rattle.sched_rules.specs.Changes.{on_tenant};
 ghost use Rattle.sched_rules.specs.Views.{named};
@@ -80,28 +79,18 @@ impl<A: Allocator> Store<A> {
         table.set_state(name, state);
     }
 
-    /// The worker runs the frame. It held none before, or this one.
+    /// The worker holds the frame, in a state that names it: it runs the frame, or computes for it. It
+    /// held none before, or this one.
     #[inline(always)]
-    pub fn run(&mut self, worker: Worker, name: FrameId)
+    pub fn hold(&mut self, worker: Worker, name: FrameId, state: State)
         requires there { IsSome (named self.old name) }
         requires free { may_hold self.old worker name ≡ true }
-        ensures { self.new ≡ on_tenant name.tenant (in_state name.serial (Running worker)) self.old }
+        requires names { is_held_by worker state ≡ true }
+        ensures { self.new ≡ on_tenant name.tenant (in_state name.serial state) self.old }
     {
         let number = worker.number();
         self.places[number as usize] = Some(name);
-        self.table.set_state(name, State::Running(number));
-    }
-
-    /// The worker computes for the frame. It held none before, or this one.
-    #[inline(always)]
-    pub fn compute(&mut self, worker: Worker, name: FrameId)
-        requires there { IsSome (named self.old name) }
-        requires free { may_hold self.old worker name ≡ true }
-        ensures { self.new ≡ on_tenant name.tenant (in_state name.serial (Computing worker)) self.old }
-    {
-        let number = worker.number();
-        self.places[number as usize] = Some(name);
-        self.table.set_state(name, State::Computing(number));
+        self.table.set_state(name, state);
     }
 }
 

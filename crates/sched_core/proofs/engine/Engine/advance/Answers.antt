@@ -13,7 +13,7 @@ pub next_of-act-requires : goal.next_of-act-requires
 next_of-act-requires g c so =
     let s = c.in_ok-seen.ensures.frame in
     let procedure = c.args.self.now.procedure in
-    rw c.in_ok-seen.ensures.sight (seen-fits (g.P.Procedure.fits procedure) (g.P.Procedure.rooted procedure) c.args.self.now.store c.args.name s.0 s.1 c.in_ok-seen.field-0.seen (c.requires.fits so) s.2.seen_so)
+    rw c.in_ok-seen.ensures.sight (seen-fits (g.P.Procedure.fits procedure) (g.P.Procedure.rooted procedure) c.args.self.now.store c.args.name s.0 s.1 c.in_ok-seen.field-0.seen (c.requires.fit so) s.2.seen_so)
 
 -- the act may be done
 set : (g : Over) (c : In_ok-may_do g) →
@@ -39,10 +39,10 @@ pub store_all-requires-clause-inside : goal.store_all-requires-clause-inside
 store_all-requires-clause-inside g c = rw c.as_slice.ensures (counted-inside (set g (goal.at.store_all-requires-clause-inside g c).In_ok-may_do) c.count_step.ensures)
 
 pub go_on-requires : goal.go_on-requires
-go_on-requires g c = (_, _, goes-on (set g (goal.at.go_on-requires g c).In_ok-may_do) c.count_step.ensures (rw c.as_slice.ensures at c.store_all.ensures) c.requires.shaped)
+go_on-requires g c = (_, _, goes-on (set g (goal.at.go_on-requires g c).In_ok-may_do) c.count_step.ensures (rw c.as_slice.ensures at c.store_all.ensures) c.requires.kept.shaped)
 
 pub returns-clause-judged : goal.returns-clause-judged
 returns-clause-judged g c =
     let s = c.in_ok-seen.ensures.frame in
-    judged-advance (set g (goal.at.returns-clause-judged g c).In_ok-may_do) c.count_step.ensures (rw c.as_slice.ensures at c.store_all.ensures) c.requires.shaped
+    judged-advance (set g (goal.at.returns-clause-judged g c).In_ok-may_do) c.count_step.ensures (rw c.as_slice.ensures at c.store_all.ensures) c.requires.kept.shaped
     (root-is c.is_none-is_root.result c.in_ok-seen.field-0.seen s.1.path c.is_none-is_root.ensures s.2.seen_so.root) c.go_on.ensures.came

@@ -1,9 +1,7 @@
 use Rattle.std.proofs.Common.{refl}
-use Rattle.frame_tree.specs.declared.names.State.TheVariants.{Running}
 use Rattle.sched_rules.specs.declared.step.StepOf.TheVariants.{Answer}
-use Rattle.sched_rules.specs.Lone.{in_state, counted}
 use Rattle.sched_core.proofs.Deciding.{seen-serial}
-use Rattle.sched_core.proofs.Going.{judged-taken, then-changed, step-left}
+use Rattle.sched_core.proofs.Going.{judged-taken, then-run, step-left}
 use Rattle.sched_core.proofs.Ending.{with-named}
 use Rattle.sched_core.proofs.Acting.{IsAnswered, is-answered, not-false, computes-holds, may-hold}
 use Rattle.sched_core.proofs.engine.Engine.answer.Given.{Over}
@@ -24,15 +22,13 @@ run-requires-clause-free g c =
     let a = accepted g (goal.at.run-requires-clause-free g c).After-store_all in
     may-hold c.store_all.new.self c.args.worker c.args.name _ _ a.has_words.there a.has_frame (computes-holds c.args.worker a.going.frame.state (not-false _ a.going.passes.0))
 
-pub count_step-requires : goal.count_step-requires
-count_step-requires g c =
-    let a = accepted g (goal.at.count_step-requires g c).After-store_all in
-    step-left _ _ _ _ (then-changed _ _ _ _ c.run.new.self (in_state c.args.name.serial (Running c.args.worker)) a.has_words c.run.ensures) a.going.passes.1.1.0
+pub run-requires-clause-left : goal.run-requires-clause-left
+run-requires-clause-left g c =
+    let a = accepted g (goal.at.run-requires-clause-left g c).After-store_all in
+    step-left _ _ _ _ a.has_words a.going.passes.1.1.0
 
 pub returns-clause-judged : goal.returns-clause-judged
 returns-clause-judged g c =
     let a = accepted g (goal.at.returns-clause-judged g c).After-store_all in
-    let ran = then-changed _ _ _ _ c.run.new.self (in_state c.args.name.serial (Running c.args.worker)) a.has_words c.run.ensures in
-    let done = then-changed _ _ _ _ c.count_step.new.self counted ran c.count_step.ensures in
     judged-taken (g.P.Procedure.functions c.args.self.now.procedure) c.args.self.now.store (Answer c.args.worker c.args.name c.args.answer.now) _ _ _ a.going.among refl
-    (rw (seen-serial a.going.tenant.frames c.args.name.serial a.going.frame a.going.found) done.is)
+    (rw (seen-serial a.going.tenant.frames c.args.name.serial a.going.frame a.going.found) (then-run _ _ _ _ _ _ _ a.has_words c.run.ensures.ran).is)

@@ -22,7 +22,7 @@ returns-in-Spawn-clause-came g c tenant frame on root =
 
 pub returns-in-Compute-clause-came : goal.returns-in-Compute-clause-came
 returns-in-Compute-clause-came g c tenant frame on root =
-    compute-came (g.P.Procedure.functions c.args.self.now.procedure) c.args.self.now.store c.compute.new.self c.args.worker c.args.name tenant frame c.args.after.now c.input-input.result c.in-Compute.is on.owner on.found c.compute.ensures
+    compute-came (g.P.Procedure.functions c.args.self.now.procedure) c.args.self.now.store c.hold.new.self c.args.worker c.args.name tenant frame c.args.after.now c.input-input.result c.in-Compute.is on.owner on.found (rw c.number-in-Compute.ensures.value at c.hold.ensures)
     (rw (← c.own.ensures) c.input-input.ensures)
 
 pub returns-then-not-has_child-clause-came : goal.returns-then-not-has_child-clause-came

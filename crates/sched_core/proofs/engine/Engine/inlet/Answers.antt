@@ -13,7 +13,7 @@ pub inlet_of-act-requires : goal.inlet_of-act-requires
 inlet_of-act-requires g c so =
     let s = c.in_ok-own.ensures.frame in
     let procedure = c.args.self.now.procedure in
-    rw (c.in_ok-own.ensures.words, c.known-state.ensures.words) (parent-fits (g.P.Procedure.fits procedure) (g.P.Procedure.rooted procedure) c.args.self.now.store c.args.name c.in_ok-own.parent s.0 s.1 _ (c.requires.fits so) s.3)
+    rw (c.in_ok-own.ensures.words, c.known-state.ensures.words) (parent-fits (g.P.Procedure.fits procedure) (g.P.Procedure.rooted procedure) c.args.self.now.store c.args.name c.in_ok-own.parent s.0 s.1 _ (c.requires.fit so) s.3)
 
 pub known-state-requires : goal.known-state-requires
 known-state-requires g c =
@@ -29,7 +29,7 @@ out : (g : Over) (c : After-as_slice g) →
     IsTakenOut (g.P.Procedure.functions c.args.self.now.procedure) c.args.self.now.store c.args.worker c.args.name c.in_ok-own.parent c.in_ok-own.ensures.frame.0 c.in_ok-own.ensures.frame.1 c.inlet_of-act.result c.take_out-aborted.new.store
 out g c =
     let s = c.in_ok-own.ensures.frame in
-    takes-out _ _ _ _ _ s.0 s.1 _ _ _ c.requires.shaped s.3 c.known-state.ensures.rising (acts g (goal.at.store_all-requires-clause-there g c).After-may_take_in)
+    takes-out _ _ _ _ _ s.0 s.1 _ _ _ c.requires.kept.shaped s.3 c.known-state.ensures.rising (acts g (goal.at.store_all-requires-clause-there g c).After-may_take_in)
     (rw c.known-state.ensures.words at c.in_ok-may_take_in.ensures) c.take_out-aborted.ensures.left
 
 pub returns-in_err-may_take_in-clause-judged : goal.returns-in_err-may_take_in-clause-judged
@@ -43,7 +43,7 @@ pub take_out-aborted-requires : goal.take_out-aborted-requires
 take_out-aborted-requires g c =
     let told = rw c.known-state.ensures.words at c.in_ok-may_take_in.ensures in
     let s = c.in_ok-own.ensures.frame in
-    (_, _, may-be-taken-in (takes-in (g.P.Procedure.functions c.args.self.now.procedure) _ _ _ _ s.0 s.1 _ _ s.3 c.known-state.ensures.rising (acts g (goal.at.take_out-aborted-requires g c).After-may_take_in) told) c.requires.shaped)
+    (_, _, may-be-taken-in (takes-in (g.P.Procedure.functions c.args.self.now.procedure) _ _ _ _ s.0 s.1 _ _ s.3 c.known-state.ensures.rising (acts g (goal.at.take_out-aborted-requires g c).After-may_take_in) told) c.requires.kept.shaped)
 
 pub store_all-requires-clause-there : goal.store_all-requires-clause-there
 store_all-requires-clause-there g c = still-there (out g (goal.at.store_all-requires-clause-there g c).After-as_slice)

@@ -75,28 +75,22 @@ pub returns-in-Leave-clause-procedure : goal.returns-in-Leave-clause-procedure
 returns-in-Leave-clause-procedure g c = c.leave.ensures.procedure
 
 pub submit-requires : goal.submit-requires
-submit-requires g c = c.requires.shaped
+submit-requires g c = c.requires.kept.shaped
 
 pub finish-requires : goal.finish-requires
-finish-requires g c = c.requires.shaped
+finish-requires g c = c.requires.kept.shaped
 
 pub spend-requires : goal.spend-requires
-spend-requires g c = c.requires.shaped
+spend-requires g c = c.requires.kept.shaped
 
 pub cancel-requires : goal.cancel-requires
-cancel-requires g c = c.requires.shaped
+cancel-requires g c = c.requires.kept.shaped
 
 pub answer-requires : goal.answer-requires
-answer-requires g c = c.requires.fits
+answer-requires g c = c.requires.fit
 
-pub advance-requires-clause-shaped : goal.advance-requires-clause-shaped
-advance-requires-clause-shaped g c = c.requires.shaped
+pub advance-requires : goal.advance-requires
+advance-requires g c = c.requires
 
-pub advance-requires-clause-fits : goal.advance-requires-clause-fits
-advance-requires-clause-fits g c = c.requires.fits
-
-pub inlet-requires-clause-shaped : goal.inlet-requires-clause-shaped
-inlet-requires-clause-shaped g c = c.requires.shaped
-
-pub inlet-requires-clause-fits : goal.inlet-requires-clause-fits
-inlet-requires-clause-fits g c = c.requires.fits
+pub inlet-requires : goal.inlet-requires
+inlet-requires g c = c.requires

@@ -28,11 +28,8 @@ returns-clause-kept g c = kept-still _ _ _ _ _ c.self.invariant.kept c.step.ensu
 pub returns-clause-kept_before : goal.returns-clause-kept_before
 returns-clause-kept_before g c = rw (← c.self.view_is) c.self.invariant.kept
 
-pub step-requires-clause-shaped : goal.step-requires-clause-shaped
-step-requires-clause-shaped g c = c.self.invariant.kept.shaped
-
-pub step-requires-clause-fits : goal.step-requires-clause-fits
-step-requires-clause-fits g c = c.self.invariant.fit
+pub step-requires : goal.step-requires
+step-requires g c = c.self.invariant
 
 pub returns-clause-one : goal.returns-clause-one
 returns-clause-one g c = rw (← c.self.view_is) c.step.ensures.one
