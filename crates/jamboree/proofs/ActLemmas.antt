@@ -30,15 +30,19 @@ pub floor-wide : (r s : ℤ) → IsScore (pos 200000) r s → to_z w32 (of_z w32
 floor-wide r s floor = omega (arith, ints)
 
 -- and its beta
-pub beta-wide : (v : View) → to_z w32 (of_z w32 v.beta) ≡ v.beta
+pub beta-wide : (v : View) → to_z w32 (of_z w32 v.goal.beta) ≡ v.goal.beta
 beta-wide v = omega (arith, ints)
 
+-- and its best score
+pub best-wide : (v : View) → to_z w32 (of_z w32 v.best) ≡ v.best
+best-wide v = omega (arith, ints)
+
 -- minus a frame's alpha, in 32 bits
-pub negated-alpha : (v : View) → to_z w32 (of_z w32 (pos 0 -ℤ to_z w32 (of_z w32 v.alpha))) ≡ neg_ℤ v.alpha
+pub negated-alpha : (v : View) → to_z w32 (of_z w32 (pos 0 -ℤ to_z w32 (of_z w32 v.goal.alpha))) ≡ neg_ℤ v.goal.alpha
 negated-alpha v = omega (arith, ints)
 
 -- minus its beta
-pub negated-beta : (v : View) → to_z w32 (of_z w32 (pos 0 -ℤ to_z w32 (of_z w32 v.beta))) ≡ neg_ℤ v.beta
+pub negated-beta : (v : View) → to_z w32 (of_z w32 (pos 0 -ℤ to_z w32 (of_z w32 v.goal.beta))) ≡ neg_ℤ v.goal.beta
 negated-beta v = omega (arith, ints)
 
 -- minus its floor

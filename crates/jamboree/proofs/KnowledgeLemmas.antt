@@ -1,5 +1,5 @@
 -- What is known of choices, from the rests of their entries.
-use Rattle.std.specs.Prelude.{◌≡◌, ℕ, zero, suc, ◌+◌, ◌<◌, ◌≤◌, nat_le, true, List, [], ◌∷◌, ◌++◌, map, take, drop, length, slice_index, slice_index_or, slice_get, Some, All, refl}
+use Rattle.std.specs.Prelude.{◌≡◌, ℕ, zero, suc, ◌<◌, ◌≤◌, nat_le, true, List, [], ◌∷◌, map, take, drop, length, slice_index, slice_index_or, slice_get, Some, All, refl}
 use Rattle.std.proofs.Common.{sym, ◌∙◌, ap, subst, arith}
 use Rattle.std.proofs.lemmas.Bool.{and_parts}
 use Rattle.std.proofs.lemmas.List.{length-map, length-take}

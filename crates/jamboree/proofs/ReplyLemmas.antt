@@ -1,12 +1,10 @@
 -- What a job keeps of a returned root.
-use Rattle.std.specs.Prelude.{◌≡◌, ℕ, zero, suc, ◌<◌, ◌≤◌, ◌==◌, Bool, true, false, ℤ, List, [], ◌∷◌, length, drop, slice_index, Option, Some, None, find, All, IfSome, cond, if◌then◌else◌, bit_and, refl}
-use Rattle.std.proofs.Common.{to_z, of_z, w32, sym, ◌∙◌, ap, subst, arith}
-use Rattle.std.proofs.lemmas.Int.{ints}
+use Rattle.std.specs.Prelude.{◌≡◌, ℕ, zero, suc, ◌<◌, ◌≤◌, ◌==◌, Bool, true, false, List, [], ◌∷◌, length, drop, Option, Some, None, find, All, IfSome, cond, if◌then◌else◌, refl}
+use Rattle.std.proofs.Common.{sym, ◌∙◌, ap, subst, arith}
 use Rattle.std.proofs.lemmas.Bool.{lt-ltb}
 use Rattle.std.proofs.lemmas.List.{length-map, length-drop, take_all}
 use Rattle.std.proofs.lemmas.List.Elements.{All-head, All-tail}
 use Rattle.othello_board.specs.declared.cells.Cell.{Cell}
-use Rattle.othello_board.specs.Words.{cells_of}
 use Rattle.othello_moves.specs.declared.choices.Choice.{Choice}
 use Rattle.othello_moves.specs.declared.choices.Choice.TheVariants.{Square, Pass}
 use Rattle.othello_moves.specs.Choices.{choices, IsAllowed}
@@ -16,7 +14,7 @@ use Rattle.jamboree_rules.proofs.EvalLemmas.MinimaxLemmas.{best_choice-leaf, bes
 use Rattle.jamboree_rules.specs.sched_rules.Laws.{HasReturned}
 use Rattle.jamboree_rules.specs.othello_eval.Tables.{entered, IsTable}
 use Rattle.jamboree_rules.specs.Frames.{Frame, board, coded}
-use Rattle.jamboree_rules.specs.Places.{score_of, entry_rest, frame_of, are_entries}
+use Rattle.jamboree_rules.specs.Places.{entry_rest, frame_of, are_entries, is_formed}
 use Rattle.jamboree_rules.specs.Entries.{bounds_of}
 use Rattle.jamboree_rules.specs.Fits.{AreFitting, IsRoot, IsKeptRoot}
 use Rattle.jamboree_rules.proofs.Forms.{IsFormed, formed-told}
@@ -24,7 +22,6 @@ use Rattle.jamboree_rules.proofs.Answers.{root-value}
 use Rattle.jamboree_rules.proofs.Rooted.{root-whole}
 use Rattle.jamboree_rules.proofs.Codes.{few-choices}
 use Rattle.jamboree.specs.Codes.{decoded}
-use Rattle.jamboree.proofs.ViewLemmas.{word-high}
 
 found-by : (b : List Cell) (passes : Bool) (c : Choice) (more : Option Choice) → IsAllowed b c → IfSome more (IsAllowed b) → IfSome (cond passes (Some c) more) (IsAllowed b)
 found-by b true c more here rest = here
@@ -52,16 +49,14 @@ best-allowed (suc depth) b =
 
 -- what the kept words hold
 pub record AreKept (words : List ℕ) : Type 0 where
-  pub long : 12 ≤ length words
+  pub formed : is_formed words ≡ true
   pub few : length words ≤ 76
-  pub disjoint : bit_and (slice_index words 0) (slice_index words 1) ≡ 0
-  pub shallow : slice_index words 2 ≤ 12
-  pub small : slice_index words 8 ≤ 1200000
-  pub value : score_of (slice_index words 8) ≡ minimax (slice_index words 2) (cells_of (slice_index words 0) (slice_index words 1))
-  pub choice : decoded (slice_index words 9) ≡ best_choice (slice_index words 2) (cells_of (slice_index words 0) (slice_index words 1))
+  pub shallow : (frame_of words).depth ≤ 12
+  pub value : (frame_of words).best ≡ minimax (frame_of words).depth (board (frame_of words))
+  pub choice : decoded (frame_of words).choice ≡ best_choice (frame_of words).depth (board (frame_of words))
   pub entries : are_entries (drop 12 words) ≡ true
-  pub counted : length (drop 12 words) ≡ length (entered (slice_index words 2) (cells_of (slice_index words 0) (slice_index words 1)))
-  pub table : IsTable (slice_index words 2) (cells_of (slice_index words 0) (slice_index words 1)) (bounds_of (frame_of words))
+  pub counted : length (drop 12 words) ≡ length (entered (frame_of words).depth (board (frame_of words)))
+  pub table : IsTable (frame_of words).depth (board (frame_of words)) (bounds_of (frame_of words))
 
 few-entered : (depth : ℕ) (b : List Cell) → length (entered depth b) ≤ 64
 few-entered zero b = omega arith
@@ -72,17 +67,13 @@ whole-held : (origin whole : List ℕ) → AreFitting whole [] HasReturned → I
 whole-held origin whole fits root =
     let f : Frame = frame_of whole in
     let form : IsFormed whole = formed-told whole fits.formed in
-    let phase : f.phase ≡ 4 = fits.frame.marked in
-    let late = form.frame.late (omega arith) in
     let holds = root-value origin whole fits root in
     let table = root-whole origin whole fits root in
     let counted : length (drop 12 whole) ≡ length (entered f.depth (board f)) = sym (length-map (drop 12 whole) entry_rest) ∙ table.0 in
     record {
-      long = omega (arith, form.places);
+      formed = fits.formed;
       few = omega (arith, form.places, counted, length-drop 12 whole, few-entered f.depth (board f));
-      disjoint = form.frame.leaf.disjoint;
       shallow = form.frame.leaf.shallow;
-      small = word-high (slice_index whole 8) late.1;
       value = holds.0;
       choice = ap decoded holds.1 ∙ decoded-coded (board f) (best_choice f.depth (board f)) (best-allowed f.depth (board f));
       entries = form.entries;
@@ -94,7 +85,3 @@ pub kept-root : (words : List ℕ) → IsKeptRoot words → AreKept words
 kept-root words k =
     let whole : AreKept k.whole = whole-held k.origin k.whole k.fits k.rooted in
     subst AreKept (sym (take_all 76 k.whole whole.few) ∙ k.kept) whole
-
--- a value in 32 bits
-pub kept-value : (w : ℕ) (s v : ℤ) → s ≡ score_of w → w ≤ 1200000 → score_of w ≡ v → to_z w32 (of_z w32 s) ≡ v
-kept-value w s v e small is = let same : to_z w32 (of_z w32 s) ≡ score_of w = omega (arith, ints) in same ∙ is

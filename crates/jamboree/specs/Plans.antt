@@ -12,7 +12,7 @@ use Rattle.jamboree.specs.Numbers.{role_number}
 
 -- the opening of a child
 abbrev pub spawn_of : NewChild → Then
-spawn_of c = Spawn (given_words c.depth c.alpha c.beta (role_number c.role) c.number) frame_size
+spawn_of c = Spawn (given_words c.goal.depth c.goal.alpha c.goal.beta (role_number c.role) c.number) frame_size
 
 -- the act of a plan
 abbrev pub act_for : Plan → Act

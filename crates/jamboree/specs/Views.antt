@@ -55,7 +55,7 @@ rests_in words = map entry_rest (entries_of words)
 
 -- the frame that a view shows, of choices with these entries
 abbrev pub frame_with : View → List ℕ → Frame
-frame_with v entries = frame_by v.board.own v.board.opp v.depth v.alpha v.beta v.role v.number v.phase v.best v.choice v.count v.spawned (map status_of entries) (map entry_rest entries)
+frame_with v entries = frame_by v.board.own v.board.opp v.goal.depth v.goal.alpha v.goal.beta v.role v.number v.phase v.best v.choice v.count v.spawned (map status_of entries) (map entry_rest entries)
 
 -- the same where nothing asks for the entries
 abbrev pub frame_in : View → Frame

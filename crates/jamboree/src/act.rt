@@ -1,6 +1,7 @@
 //! The act of a plan, and the inlet of an intake.
 ghost use Rattle.std.specs.Prelude.{◌≡◌, ◌≤◌, ◌++◌, ◌∷◌, [], length};
-ghost use Rattle.jamboree_rules.specs.Places.{OwnBits, OppBits, pairs_of};
+ghost use Rattle.jamboree_rules.specs.Places.{OwnBits, OppBits, Status as ToStatus, pairs_of};
+ghost use Rattle.jamboree.specs.Numbers.{status_number};
 ghost use Rattle.jamboree.specs.Intakes.{inlet_for, rest_said, settled, stores_for};
 ghost use Rattle.jamboree.specs.Plans.{act_for, spawn_of};
 
@@ -15,12 +16,15 @@ use jamboree_rules::sched_rules::{Act, InletAct, Stores, Then};
 use othello_board::Board;
 
 impl NewChild {
-    /// To open it.
+    /// To open it, and that its choice stands so then, after these stores.
     #[inline(always)]
-    fn spawn(&self) -> Then
-        ensures { result ≡ spawn_of self.now }
+    fn open(&self, stores: &mut Stores, status: Status, rest: EntryRest) -> Then
+        requires { length stores.old ≤ 7 }
+        ensures stores { stores.new ≡ stores.old ++ pairs_of (ToStatus self.now.number (status_number status) rest.word ∷ []) }
+        ensures after { result ≡ spawn_of self.now }
     {
-        spawn(self.depth, self.alpha, self.beta, self.role, self.number)
+        set(stores, Change::Status(self.number, status, rest));
+        spawn(self)
     }
 }
 
@@ -67,25 +71,13 @@ impl Plan {
             Plan::Starts(child, rest) => {
                 let mut stores = Stores::new();
                 set(&mut stores, Change::Spawned(child.number + 1));
-                set(
-                    &mut stores,
-                    Change::Status(child.number, Status::Runs, rest),
-                );
-                return Act {
-                    stores,
-                    after: child.spawn(),
-                };
+                let after = child.open(&mut stores, Status::Runs, rest);
+                return Act { stores, after };
             }
             Plan::Again(child, rest) => {
                 let mut stores = Stores::new();
-                set(
-                    &mut stores,
-                    Change::Status(child.number, Status::RunsAgain, rest),
-                );
-                return Act {
-                    stores,
-                    after: child.spawn(),
-                };
+                let after = child.open(&mut stores, Status::RunsAgain, rest);
+                return Act { stores, after };
             }
         }
     }

@@ -42,13 +42,13 @@ fn seen(child: &View) -> i32
 /// end the value is no more, at least its upper end no less, and between the two it is the score.
 #[inline(always)]
 fn kind_of(child: &View) -> BoundKind
-    ensures { result ≡ kind_of (neg_ℤ child.now.beta) (neg_ℤ child.now.alpha) (seen (frame_in child.now)) }
+    ensures { result ≡ kind_of (neg_ℤ child.now.goal.beta) (neg_ℤ child.now.goal.alpha) (seen (frame_in child.now)) }
 {
     let score = seen(child);
-    if score <= -child.beta {
+    if score <= -child.goal.beta {
         return BoundKind::Low;
     }
-    if -child.alpha <= score {
+    if -child.goal.alpha <= score {
         return BoundKind::High;
     }
     BoundKind::Exact
@@ -84,7 +84,7 @@ pub(crate) fn takes_in(frame: &View, child: &View) -> Intake
 {
     Intake {
         verdict: verdict_of(frame, child),
-        abort: frame.beta <= seen(child),
+        abort: frame.goal.beta <= seen(child),
     }
 }
 
@@ -95,12 +95,12 @@ fn verdict_of(frame: &View, child: &View) -> Verdict
     ensures { stores_for result ≡ pairs_of (changes_of (frame_in frame.now) (frame_in child.now)) }
 {
     let score = seen(child);
-    if frame.beta <= score {
+    if frame.goal.beta <= score {
         return ended(frame, child);
     }
     match child.role {
         Role::Test => {
-            if score <= -child.beta {
+            if score <= -child.goal.beta {
                 low(frame, child)
             } else {
                 failed(frame, child)

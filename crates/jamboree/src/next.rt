@@ -9,7 +9,7 @@ ghost use Rattle.jamboree.specs.Plans.{act_for, spawn_of};
 ghost use Rattle.jamboree.specs.Views.{frame_in, frame_with, entries_of, statuses_in};
 
 use crate::entry::EntryRest;
-use crate::frame::View;
+use crate::frame::{Goal, View};
 use crate::phases::{Phase, Role};
 use crate::plan::{NewChild, Plan};
 use crate::statuses::{first_open, has_failed, rest_at};
@@ -23,7 +23,7 @@ use othello_moves::{after, choice, choice_count, plies};
 pub(crate) fn opening(grain: u8, frame: &View, board: Board) -> Plan
     ensures { act_for result ≡ opening_on grain (frame_in frame.now) board.own board.opp }
 {
-    if frame.depth <= grain {
+    if frame.goal.depth <= grain {
         return Plan::Computed(board);
     }
     match choice_count(board) {
@@ -39,7 +39,7 @@ pub(crate) fn floor(frame: &View) -> i32
     ensures low { negsuc 199999 ≤ℤ result }
     ensures high { result ≤ℤ pos 200000 }
 {
-    frame.alpha.max(frame.best)
+    frame.goal.alpha.max(frame.best)
 }
 
 /// The plies of the choice of this number. A pass is the one choice of its board, so where there are more
@@ -60,7 +60,7 @@ fn plies_of(frame: &View, number: usize) -> u8
 /// A child for the choice of this number, in this role and with this window.
 #[inline(always)]
 fn child(frame: &View, role: Role, number: usize, alpha: i32, beta: i32) -> NewChild
-    requires deep { 0 < frame.now.depth }
+    requires deep { 0 < frame.now.goal.depth }
     requires choices { frame.now.count ≡ length (choices (cells frame.now.board)) }
     requires inside { number < frame.now.count }
     requires few { number ≤ 128 }
@@ -72,9 +72,11 @@ fn child(frame: &View, role: Role, number: usize, alpha: i32, beta: i32) -> NewC
     ensures number { result.number ≡ number }
 {
     NewChild {
-        depth: frame.depth - plies_of(frame, number),
-        alpha,
-        beta,
+        goal: Goal {
+            depth: frame.goal.depth - plies_of(frame, number),
+            alpha,
+            beta,
+        },
         role,
         number,
     }
@@ -84,7 +86,7 @@ fn child(frame: &View, role: Role, number: usize, alpha: i32, beta: i32) -> NewC
 /// awaited.
 #[inline(always)]
 fn first_search(frame: &View, words: &Words) -> Plan
-    requires deep { 0 < frame.now.depth }
+    requires deep { 0 < frame.now.goal.depth }
     requires choices { frame.now.count ≡ length (choices (cells frame.now.board)) }
     requires some { 0 < frame.now.count }
     ensures { act_for result ≡ first_search (frame.now.spawned == 0) (frame_with frame.now (entries_of words.now)) }
@@ -92,7 +94,13 @@ fn first_search(frame: &View, words: &Words) -> Plan
     if frame.spawned != 0 {
         return Plan::Waits;
     }
-    let child = child(frame, Role::FirstChild, 0, -frame.beta, -frame.alpha);
+    let child = child(
+        frame,
+        Role::FirstChild,
+        0,
+        -frame.goal.beta,
+        -frame.goal.alpha,
+    );
     Plan::Starts(child, rest_at(words, 0))
 }
 
@@ -100,7 +108,7 @@ fn first_search(frame: &View, words: &Words) -> Plan
 /// where its test has failed; else the next one is tested; else the frame is done, or waits.
 #[inline(always)]
 fn tests(frame: &View, words: &Words) -> Plan
-    requires deep { 0 < frame.now.depth }
+    requires deep { 0 < frame.now.goal.depth }
     requires choices { frame.now.count ≡ length (choices (cells frame.now.board)) }
     requires entries { length words.now ≡ 12 + frame.now.count }
     ensures { act_for result ≡ tests_from (frame_with frame.now (entries_of words.now)) (first_open (statuses_in words.now)) }
@@ -122,12 +130,12 @@ fn tests(frame: &View, words: &Words) -> Plan
 /// stays.
 #[inline(always)]
 fn search_again(frame: &View, number: usize, rest: EntryRest) -> Plan
-    requires deep { 0 < frame.now.depth }
+    requires deep { 0 < frame.now.goal.depth }
     requires choices { frame.now.count ≡ length (choices (cells frame.now.board)) }
     requires inside { number < frame.now.count }
     ensures { (more all : Bool) (entries : List ℕ) → rest.word ≡ rest_at (frame_with frame.now entries) number → act_for result ≡ tests true more all (frame_with frame.now entries) number }
 {
-    let child = child(frame, Role::Again, number, -frame.beta, -floor(frame));
+    let child = child(frame, Role::Again, number, -frame.goal.beta, -floor(frame));
     Plan::Again(child, rest)
 }
 
@@ -135,7 +143,7 @@ fn search_again(frame: &View, number: usize, rest: EntryRest) -> Plan
 /// stays.
 #[inline(always)]
 fn test(frame: &View, number: usize, rest: EntryRest) -> Plan
-    requires deep { 0 < frame.now.depth }
+    requires deep { 0 < frame.now.goal.depth }
     requires choices { frame.now.count ≡ length (choices (cells frame.now.board)) }
     requires next { number ≡ (frame_in frame.now).spawned }
     requires inside { number < frame.now.count }

@@ -4,25 +4,23 @@
 ghost use Rattle.std.specs.Prelude.{◌≤◌, ◌≤ℤ◌, pos, negsuc};
 
 use crate::entry::EntryRest;
+use crate::frame::Goal;
 use crate::phases::Role;
 use othello_board::Board;
 
 /// A child to open.
 #[derive(Drop)]
 pub(crate) struct NewChild {
-    /// The depth left.
-    pub(crate) depth: u8,
-    /// The window.
-    pub(crate) alpha: i32,
-    pub(crate) beta: i32,
+    /// How it is searched.
+    pub(crate) goal: Goal,
     /// What it is to its parent.
     pub(crate) role: Role,
     /// The number of its choice.
     pub(crate) number: usize,
-    ghost low: { negsuc 999999 ≤ℤ alpha },
-    ghost high: { alpha ≤ℤ pos 1000000 },
-    ghost low_too: { negsuc 999999 ≤ℤ beta },
-    ghost high_too: { beta ≤ℤ pos 1000000 },
+    ghost low: { negsuc 999999 ≤ℤ goal.alpha },
+    ghost high: { goal.alpha ≤ℤ pos 1000000 },
+    ghost low_too: { negsuc 999999 ≤ℤ goal.beta },
+    ghost high_too: { goal.beta ≤ℤ pos 1000000 },
     ghost few: { number ≤ 128 },
 }
 

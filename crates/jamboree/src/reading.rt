@@ -7,8 +7,7 @@ ghost use Rattle.jamboree.specs.Knowledge.{known_of, bound_by};
 use crate::codes::decoded;
 use crate::entry::{EntryRest, Known};
 use crate::reply::{MOST, Reply};
-use crate::score::score_of_word;
-use crate::view::{kept_entries, read_kept};
+use crate::view::{kept_entries, kept_view};
 use jamboree_rules::othello_eval::{Bound, BoundKind};
 use othello_board::Board;
 use othello_moves::{Choice, choice};
@@ -59,16 +58,13 @@ impl Reply {
         ensures depth { depth_of result ≡ slice_index words.now 2 }
         ensures table { table_of result ≡ bounds_of (frame_of words.now) }
     {
-        let kept = read_kept(words);
+        let root = kept_view(words);
         let entries = kept_entries(words);
         Reply {
-            board: Board {
-                own: kept.own,
-                opp: kept.opp,
-            },
-            depth: kept.depth as u8,
-            value: score_of_word(kept.best),
-            choice: decoded(kept.choice),
+            board: root.board,
+            depth: root.goal.depth,
+            value: root.best,
+            choice: decoded(root.choice),
             count: entries.len(),
             known: known_in(entries),
         }

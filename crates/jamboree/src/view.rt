@@ -5,19 +5,19 @@
 //! frame in words that have it.
 ghost use Rattle.std.specs.Prelude.{◌≡◌, ◌<◌, ◌≤◌, ◌+◌, ◌++◌, ◌∷◌, [], ◌↔◌, ◌==◌, ◌&&◌, true, IsSome, IfSome, List, ℕ, ◌*◌, ◌-◌, bit_and, drop, length, map, slice_get, slice_index, ◌≤ℤ◌, pos, negsuc};
 ghost use Rattle.jamboree_rules.specs.Frames.{is_leaf, is_frame, is_in_phase, counts_choices, least, greatest};
-ghost use Rattle.jamboree_rules.specs.Places.{score_of, frame_of, is_formed, pair_of, given_words, root_words, frame_size};
+ghost use Rattle.jamboree_rules.specs.Places.{score_of, frame_of, is_formed, pair_of, root_words, frame_size};
 ghost use Rattle.jamboree_rules.specs.Fits.{AreFitting, IsRoot};
 ghost use Rattle.cactus_stack.specs.Nodes.{padded};
 ghost use Rattle.jamboree_rules.specs.sched_rules.Laws.{Neither};
-ghost use Rattle.jamboree_rules.specs.sched_rules.declared.act.Then.TheVariants.{Spawn};
 ghost use Rattle.jamboree_rules.specs.Leaves.{any_leaf, leaf_in, leaf_from};
-ghost use Rattle.jamboree.specs.Numbers.{role_number};
+ghost use Rattle.jamboree.specs.Plans.{spawn_of};
 ghost use Rattle.jamboree.specs.Changes.{store_of, score_set, number_set};
 ghost use Rattle.jamboree.specs.Views.{head_of, frame_from, frame_with, entries_of, entries_in};
 
 use crate::entry::EntryRest;
-use crate::frame::View;
+use crate::frame::{Goal, View};
 use crate::phases::{Phase, Role, Status};
+use crate::plan::NewChild;
 use crate::score::{score_of_word, word_of_score};
 use crate::statuses::are_entries;
 use cactus_stack::Words;
@@ -33,19 +33,19 @@ pub(crate) const SIZE: usize = 12;
 
 /// The first twelve words of a frame, by name.
 #[derive(Clone, Copy)]
-pub(crate) struct Head {
-    pub(crate) own: u64,
-    pub(crate) opp: u64,
-    pub(crate) depth: u64,
-    pub(crate) alpha: u64,
-    pub(crate) beta: u64,
-    pub(crate) role: u64,
-    pub(crate) number: u64,
-    pub(crate) phase: u64,
-    pub(crate) best: u64,
-    pub(crate) choice: u64,
-    pub(crate) count: u64,
-    pub(crate) spawned: u64,
+struct Head {
+    own: u64,
+    opp: u64,
+    depth: u64,
+    alpha: u64,
+    beta: u64,
+    role: u64,
+    number: u64,
+    phase: u64,
+    best: u64,
+    choice: u64,
+    count: u64,
+    spawned: u64,
 }
 
 /// The word at a place, and 0 where there is none.
@@ -225,9 +225,11 @@ impl Head {
                 own: self.own,
                 opp: self.opp,
             },
-            depth: self.depth as u8,
-            alpha: score_of_word(self.alpha),
-            beta: score_of_word(self.beta),
+            goal: Goal {
+                depth: self.depth as u8,
+                alpha: score_of_word(self.alpha),
+                beta: score_of_word(self.beta),
+            },
             role: Role::of(self.role),
             number: self.number,
             phase: Phase::of(self.phase),
@@ -331,50 +333,33 @@ pub(crate) fn set(stores: &mut Stores, change: Change)
     }
 }
 
-/// A new child of this depth, with this window, in this role, for the choice of this number.
+/// To open this child.
 #[inline(always)]
-pub(crate) fn spawn(depth: u8, alpha: i32, beta: i32, role: Role, number: usize) -> Then
-    requires low { negsuc 999999 ≤ℤ alpha }
-    requires high { alpha ≤ℤ pos 1000000 }
-    requires low_too { negsuc 999999 ≤ℤ beta }
-    requires high_too { beta ≤ℤ pos 1000000 }
-    ensures { result ≡ Spawn (given_words depth alpha beta (role_number role) number) frame_size }
+pub(crate) fn spawn(child: &NewChild) -> Then
+    ensures { result ≡ spawn_of child.now }
 {
     let words = [
         0,
         0,
-        u64::from(depth),
-        word_of_score(alpha),
-        word_of_score(beta),
-        role.number(),
-        number as u64,
+        u64::from(child.goal.depth),
+        word_of_score(child.goal.alpha),
+        word_of_score(child.goal.beta),
+        child.role.number(),
+        child.number as u64,
         0,
     ];
     Then::Spawn(GivenWords::eight(words), SIZE)
 }
 
-/// What a job keeps of its returned root, by name: of the first twelve words.
-#[derive(Clone, Copy)]
-pub(crate) struct KeptRoot {
-    pub(crate) own: u64,
-    pub(crate) opp: u64,
-    pub(crate) depth: u64,
-    pub(crate) best: u64,
-    pub(crate) choice: u64,
-}
-
-/// What a job keeps of the first twelve words of its returned root.
-pub(crate) fn read_kept(words: &[u64]) -> KeptRoot
-    requires { 12 ≤ length words.now }
-    ensures { result ≡ record { own = slice_index words.now 0; opp = slice_index words.now 1; depth = slice_index words.now 2; best = slice_index words.now 8; choice = slice_index words.now 9 } }
+/// The frame in the words that a job keeps of its returned root.
+pub(crate) fn kept_view(words: &[u64]) -> View
+    requires form { is_formed words.now ≡ true }
+    requires few { length words.now ≤ 128 }
+    ensures frame { frame_with result (entries_of words.now) ≡ frame_of words.now }
+    ensures entries { length words.now ≡ 12 + result.count }
 {
-    KeptRoot {
-        own: words[0],
-        opp: words[1],
-        depth: words[2],
-        best: words[8],
-        choice: words[9],
-    }
+    let count = words.len() - SIZE;
+    head_in(words).view(count)
 }
 
 /// The entries that a job keeps of its returned root, which stand after the twelve words.

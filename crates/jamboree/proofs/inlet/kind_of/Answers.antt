@@ -7,14 +7,14 @@ use Rattle.jamboree.proofs.inlet.kind_of.Goals as goal
 pub returns-then-score-child : goal.returns-then-score-child
 returns-then-score-child c =
     let w = c.args.child.now in
-    kind-low (neg_ℤ w.beta) (neg_ℤ w.alpha) (seen (frame_in w)) (is-low w c.seen-score.result _ _ c.seen-score.ensures c.if-score-child.true)
+    kind-low (neg_ℤ w.goal.beta) (neg_ℤ w.goal.alpha) (seen (frame_in w)) (is-low w c.seen-score.result _ _ c.seen-score.ensures c.if-score-child.true)
 
 pub returns-then-child-score : goal.returns-then-child-score
 returns-then-child-score c =
     let w = c.args.child.now in
-    kind-other (neg_ℤ w.beta) (neg_ℤ w.alpha) (seen (frame_in w)) _ (is-low w c.seen-score.result _ _ c.seen-score.ensures c.if-score-child.false) (is-high w c.seen-score.result _ _ c.seen-score.ensures c.if-child-score.true)
+    kind-other (neg_ℤ w.goal.beta) (neg_ℤ w.goal.alpha) (seen (frame_in w)) _ (is-low w c.seen-score.result _ _ c.seen-score.ensures c.if-score-child.false) (is-high w c.seen-score.result _ _ c.seen-score.ensures c.if-child-score.true)
 
 pub returns : goal.returns
 returns c =
     let w = c.args.child.now in
-    kind-other (neg_ℤ w.beta) (neg_ℤ w.alpha) (seen (frame_in w)) _ (is-low w c.seen-score.result _ _ c.seen-score.ensures c.if-score-child.false) (is-high w c.seen-score.result _ _ c.seen-score.ensures c.if-child-score.false)
+    kind-other (neg_ℤ w.goal.beta) (neg_ℤ w.goal.alpha) (seen (frame_in w)) _ (is-low w c.seen-score.result _ _ c.seen-score.ensures c.if-score-child.false) (is-high w c.seen-score.result _ _ c.seen-score.ensures c.if-child-score.false)

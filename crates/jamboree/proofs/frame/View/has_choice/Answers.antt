@@ -1,0 +1,12 @@
+use Rattle.std.proofs.Common.{inl, inr, ⊎_elim, ap, arith}
+use Rattle.std.proofs.lemmas.Bool.Decides.{nat_tests}
+use Rattle.jamboree_rules.proofs.Forms.{frame-told}
+use Rattle.jamboree.specs.Numbers.{phase_number}
+use Rattle.jamboree.specs.Views.{frame_in}
+use Rattle.jamboree.proofs.frame.View.has_choice.Goals as goal
+
+pub returns-in-First : goal.returns-in-First
+returns-in-First c =
+    let v = c.args.self.now in
+    let told = (frame-told (frame_in v) v.form).counts (⊎_elim (λ first. inl (ap phase_number first)) (λ tests. inr (ap phase_number tests)) c.in-First.is) in
+    grind (arith, nat_tests, told.2, c.if-self-number.false)
