@@ -117,7 +117,7 @@ impl<T: Copy, A: Allocator> FrameTable<T, A> {
         ensures entry { result ≡ entry_of f.tenant (frame_at (frames_of self.now f.tenant) f.serial) }
         ensures tree { IsTree (frames_of self.now f.tenant) }
     {
-        match guessed_tree(self.trees.as_slice(), &self.index, f.tenant) {
+        match self.guessed_tree(f.tenant) {
             Some(tree) => tree.find(f.serial),
             None => self.search_tree(f.tenant)?.find(f.serial),
         }
@@ -171,7 +171,7 @@ impl<T: Copy, A: Allocator> FrameTable<T, A> {
         ensures child { IsTrue result ↔ (0 < length (children_of (frames_of self.now f.tenant) f.serial)) }
         ensures leaf { result ≡ false → children_of (frames_of self.now f.tenant) f.serial ≡ [] }
     {
-        match guessed_tree(self.trees.as_slice(), &self.index, f.tenant) {
+        match self.guessed_tree(f.tenant) {
             Some(tree) => tree.has_child(f.serial),
             None => match self.search_tree(f.tenant) {
                 Some(tree) => tree.has_child(f.serial),
@@ -180,7 +180,20 @@ impl<T: Copy, A: Allocator> FrameTable<T, A> {
         }
     }
 
-    /// A tenant's tree, wherever it was guessed: off the way of a step.
+    /// A tenant's tree, if it stands where it is guessed to. A step asks by this, and leaves the search to
+    /// a function that is called: else what a search finds is tested a second time on its way.
+    #[inline(always)]
+    fn guessed_tree(&self, tenant: u64) -> Option<&TenantFrames<T, A>>
+        ensures { IfSome result (λ tree. IsTreeOf self.now tenant tree.now) }
+    {
+        let trees = self.trees.as_slice();
+        match self.index.guessed(trees, tenant) {
+            Some(at) => Some(&trees[at]),
+            None => None,
+        }
+    }
+
+    /// A tenant's tree, wherever it was guessed.
     #[cold]
     #[inline(never)]
     fn search_tree(&self, tenant: u64) -> Option<&TenantFrames<T, A>>
@@ -450,23 +463,6 @@ fn find_tree<'a, T: Copy, A: Allocator>(
     ensures none { IfNone result (HasNoTree trees.now tenant) }
 {
     index.find(trees, tenant)
-}
-
-/// A tenant's tree, if it stands where it is guessed to. A step asks by this, and leaves the search to
-/// a function that is called: else what a search finds is tested a second time on its way.
-#[inline(always)]
-fn guessed_tree<'a, T: Copy, A: Allocator>(
-    trees: &'a [TenantFrames<T, A>],
-    index: &TenantIndex,
-    tenant: u64,
-) -> Option<&'a TenantFrames<T, A>>
-    requires { AreRising owner_of trees.now }
-    ensures { IfSome result (λ tree. IsTreeOf trees.now tenant tree.now) }
-{
-    match index.guessed(trees, tenant) {
-        Some(at) => Some(&trees[at]),
-        None => None,
-    }
 }
 
 /// Where the tree of a tenant stands that has places.
