@@ -68,7 +68,7 @@ impl<P: Procedure, A: Allocator> Engine<P, A> {
         Ok(DidOf::Took)
     }
 
-    /// The worker runs the frame, which it held, or it held none; and the step is counted.
+    /// The worker runs the frame, and this step is counted. It held none before, or this one.
     #[inline(always)]
     pub(crate) fn run(&mut self, worker: Worker, name: FrameId)
         requires there { IsSome (named self.old.store name) }

@@ -79,8 +79,8 @@ impl<A: Allocator> Store<A> {
         table.set_state(name, state);
     }
 
-    /// The worker holds the frame, in a state that names it: it runs the frame, or computes for it. It
-    /// held none before, or this one.
+    /// The worker holds the frame, in a state that names the worker: Running or Computing. It held none
+    /// before, or this one.
     #[inline(always)]
     pub fn hold(&mut self, worker: Worker, name: FrameId, state: State)
         requires there { IsSome (named self.old name) }
