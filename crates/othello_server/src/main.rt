@@ -19,23 +19,14 @@ mod running;
 mod service;
 mod serving;
 
-use line_io::{FromReader, FromWriter};
+use solve_command::Streams;
 use std::process::ExitCode;
 use std::{env, io};
 
 fn main(rt: HostRuntime) -> io::Result<ExitCode> {
     let words: Vec<String> = env::args(&rt)?.collect(rt.alloc())?;
-    let mut source = FromReader { reader: rt.stdin() };
-    let mut sink = FromWriter::new(rt.stdout());
-    let mut errors = FromWriter::new(rt.stderr());
-    let status = running::run(
-        &rt,
-        rt.alloc(),
-        words.as_slice(),
-        &mut source,
-        &mut sink,
-        &mut errors,
-    );
+    let mut streams = Streams::standard(&rt);
+    let status = running::run(&rt, rt.alloc(), words.as_slice(), &mut streams);
     Ok(ExitCode::from(status))
 }
 

@@ -9,7 +9,7 @@ use crate::service::Service;
 use crate::serving::serve_as_asked;
 use command_line::Options;
 use line_io::Sink;
-use solve_command::{Input, Output, answer, refuse};
+use solve_command::{Input, Output, Streams, answer, refuse};
 use std::alloc::Global;
 use std::convert::AsStr;
 use std::marker::Brand;
@@ -26,24 +26,21 @@ pub fn run<R, T: AsStr, S: Input, K: Output, E: Sink>(
     rt: &R,
     alloc: Global,
     words: &[T],
-    source: &mut S,
-    sink: &mut K,
-    errors: &mut E,
+    streams: &mut Streams<S, K, E>,
 ) -> u8
 where
     R: Net<Listener = TcpListener, Stream = TcpStream> + Threads + Wait + Sync,
     ensures { (asked : Result Options WordsFault) × IsReadOf (map T.text words.now) asked
-        × IsFollowed S.gives K.takes source.old sink.old source.new sink.new asked result }
+        × IsFollowed S.gives K.takes streams.old.source streams.old.sink streams.new.source streams.new.sink asked result }
 {
     match Options::read(alloc, words) {
-        Ok(Options::Solve { grain, visited }) => {
-            answer(alloc, grain, visited, source, sink, errors)
-        }
+        Ok(Options::Solve { grain, visited }) => answer(alloc, grain, visited, streams),
         Ok(options) => {
             let asked = Service::of(options).unwrap();
             let blank = Blank::new(PARTS);
+            let Streams { sink, errors, .. } = streams;
             serve_as_asked::<Brand, R, K, E>(rt, alloc, blank, asked, sink, errors)
         }
-        Err(fault) => refuse(&fault, sink, errors),
+        Err(fault) => refuse(&fault, &mut streams.sink, &mut streams.errors),
     }
 }

@@ -4,7 +4,7 @@ mod served;
 use crate::running::run;
 use command_line::{Options, WordsFault};
 use line_io::{FromWriter, ReadFailed, Sink, Source, WriteFailed};
-use solve_command::{Input, Output};
+use solve_command::{Input, Output, Streams};
 use std::io::{self, Read, Write};
 use std::net::{Net, TcpListener, TcpStream};
 use std::sync::Arc;
@@ -101,10 +101,13 @@ fn each_text_has_its_place_and_status(rt: HostRuntime) -> Result<(), Fail> {
         (&["othello", "serve"], 2, "", "error: "),
         (&["othello", "serve", "--help"], 0, "serves sessions", ""),
     ] {
-        let mut sink = FromWriter::new(Vec::new(alloc));
-        let mut errors = FromWriter::new(Vec::new(alloc));
-        let mut source = Given::new(LINE);
-        let found = run(&rt, alloc, words, &mut source, &mut sink, &mut errors);
+        let mut streams = Streams {
+            source: Given::new(LINE),
+            sink: FromWriter::new(Vec::new(alloc)),
+            errors: FromWriter::new(Vec::new(alloc)),
+        };
+        let found = run(&rt, alloc, words, &mut streams);
+        let Streams { sink, errors, .. } = streams;
         let (output, error) = (output.as_bytes(), error.as_bytes());
         assert_eq!(rt; found, status, "{words:?}");
         assert!(rt; sink.writer.as_slice().starts_with(output), "{words:?}");
@@ -146,14 +149,17 @@ fn streams_that_fail(rt: HostRuntime) -> Result<(), Fail> {
         ),
         (&["othello", "--help"], false, false, false, 0, ""),
     ] {
-        let mut sink = Full { closed };
-        let mut errors = FromWriter::new(Vec::new(alloc));
-        let mut source = Given {
-            bytes: LINE,
-            fails,
-            typed,
+        let mut streams = Streams {
+            source: Given {
+                bytes: LINE,
+                fails,
+                typed,
+            },
+            sink: Full { closed },
+            errors: FromWriter::new(Vec::new(alloc)),
         };
-        let found = run(&rt, alloc, words, &mut source, &mut sink, &mut errors);
+        let found = run(&rt, alloc, words, &mut streams);
+        let Streams { errors, .. } = streams;
         assert_eq!(rt; found, status, "{words:?}");
         assert!(rt;
             errors.writer.as_slice().starts_with(error.as_bytes()),
@@ -162,16 +168,12 @@ fn streams_that_fail(rt: HostRuntime) -> Result<(), Fail> {
         assert_eq!(rt; errors.writer.is_empty(), error.is_empty(), "{words:?}");
     }
     let words = ["othello", "solved"];
-    let mut full = Full { closed: false };
-    let mut errors = Full { closed: false };
-    let found = run(
-        &rt,
-        alloc,
-        words.as_slice(),
-        &mut Given::new(LINE),
-        &mut full,
-        &mut errors,
-    );
+    let mut full = Streams {
+        source: Given::new(LINE),
+        sink: Full { closed: false },
+        errors: Full { closed: false },
+    };
+    let found = run(&rt, alloc, words.as_slice(), &mut full);
     assert_eq!(rt; found, 2, "refused words that can't be explained");
     Ok(())
 }
@@ -277,13 +279,15 @@ impl<R: Net<Stream = TcpStream> + Threads> Output for Visitor<'_, R> {
 #[test]
 fn a_server_says_where_it_listens_and_serves_as_asked(rt: HostRuntime) -> Result<(), Fail> {
     let alloc = rt.alloc();
-    let mut source = Given::new(b"");
-    let mut errors = FromWriter::new(Vec::new(alloc));
-    let mut sink = Visitor {
-        rt: &rt,
-        told: Vec::new(alloc),
-        is_over: Arc::new(alloc, AtomicBool::new(false))?,
-        client: None,
+    let mut streams = Streams {
+        source: Given::new(b""),
+        sink: Visitor {
+            rt: &rt,
+            told: Vec::new(alloc),
+            is_over: Arc::new(alloc, AtomicBool::new(false))?,
+            client: None,
+        },
+        errors: FromWriter::new(Vec::new(alloc)),
     };
     let words = [
         "othello",
@@ -297,14 +301,8 @@ fn a_server_says_where_it_listens_and_serves_as_asked(rt: HostRuntime) -> Result
         "--nodes",
         "1",
     ];
-    let found = run(
-        &rt,
-        alloc,
-        words.as_slice(),
-        &mut source,
-        &mut sink,
-        &mut errors,
-    );
+    let found = run(&rt, alloc, words.as_slice(), &mut streams);
+    let Streams { sink, errors, .. } = streams;
     let Visitor { told, client, .. } = sink;
     let Some(client) = client else {
         panic!(rt; "no client came");
@@ -330,17 +328,13 @@ fn a_port_that_is_taken_is_told(rt: HostRuntime) -> Result<(), Fail> {
         "--port",
         port.as_str(),
     ];
-    let mut source = Given::new(b"");
-    let mut sink = FromWriter::new(Vec::new(alloc));
-    let mut errors = FromWriter::new(Vec::new(alloc));
-    let found = run(
-        &rt,
-        alloc,
-        words.as_slice(),
-        &mut source,
-        &mut sink,
-        &mut errors,
-    );
+    let mut streams = Streams {
+        source: Given::new(b""),
+        sink: FromWriter::new(Vec::new(alloc)),
+        errors: FromWriter::new(Vec::new(alloc)),
+    };
+    let found = run(&rt, alloc, words.as_slice(), &mut streams);
+    let Streams { sink, errors, .. } = streams;
     assert_eq!(rt; found, 1);
     assert!(rt; sink.writer.is_empty());
     let told = format!(in alloc; "othello: port {port}: ")?;

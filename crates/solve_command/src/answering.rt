@@ -6,7 +6,7 @@ ghost use Rattle.command_line.specs.declared.faults.WordsFault.{WordsFault};
 ghost use Rattle.solve_command.specs.Answering.{IsAnsweredRun, IsReadOf, IsSolvedAsAsked, status_of_run};
 
 use crate::saying::{refuse, say};
-use crate::streams::{Input, Output};
+use crate::streams::{Input, Output, Streams};
 use crate::{EXIT_FAILED, EXIT_OK};
 use command_line::Options;
 use line_io::{LineFault, Sink};
@@ -30,22 +30,18 @@ const NO_SERVER: &str = "this program has the command `solve` alone";
 pub fn run_solve<T: AsStr, S: Input, K: Output, E: Sink>(
     alloc: Global,
     words: &[T],
-    source: &mut S,
-    sink: &mut K,
-    errors: &mut E,
+    streams: &mut Streams<S, K, E>,
 ) -> u8
     ensures { (asked : Result Options WordsFault) × IsReadOf (map T.text words.now) asked
-        × IsSolvedAsAsked S.gives K.takes source.old sink.old source.new sink.new asked result }
+        × IsSolvedAsAsked S.gives K.takes streams.old.source streams.old.sink streams.new.source streams.new.sink asked result }
 {
     match Options::read(alloc, words) {
-        Ok(Options::Solve { grain, visited }) => {
-            answer(alloc, grain, visited, source, sink, errors)
-        }
+        Ok(Options::Solve { grain, visited }) => answer(alloc, grain, visited, streams),
         Ok(Options::Serve { .. }) => {
-            say(errors, NO_SERVER);
+            say(&mut streams.errors, NO_SERVER);
             EXIT_FAILED
         }
-        Err(fault) => refuse(&fault, sink, errors),
+        Err(fault) => refuse(&fault, &mut streams.sink, &mut streams.errors),
     }
 }
 
@@ -55,27 +51,26 @@ pub fn answer<S: Input, K: Output, E: Sink>(
     alloc: Global,
     grain: u8,
     visited: bool,
-    source: &mut S,
-    sink: &mut K,
-    errors: &mut E,
+    streams: &mut Streams<S, K, E>,
 ) -> u8
     requires { grain ≤ 6 }
-    ensures { (r : Result (Unit {0}) LineFault) × IsAnsweredRun S.gives K.takes source.old sink.old source.new sink.new visited r × (result ≡ status_of_run r) }
+    ensures { (r : Result (Unit {0}) LineFault) × IsAnsweredRun S.gives K.takes streams.old.source streams.old.sink streams.new.source streams.new.sink visited r
+        × (result ≡ status_of_run r) }
 {
-    if source.is_typed() {
-        say(errors, HINT);
+    if streams.source.is_typed() {
+        say(&mut streams.errors, HINT);
     }
     let result = if visited {
-        solve_visited(source, sink)
+        solve_visited(&mut streams.source, &mut streams.sink)
     } else {
         keep_memory(alloc);
-        solve(alloc, source, sink, grain)
+        solve(alloc, &mut streams.source, &mut streams.sink, grain)
     };
     match result {
         Ok(()) => EXIT_OK,
-        Err(LineFault::Write) if sink.is_closed() => EXIT_FAILED,
+        Err(LineFault::Write) if streams.sink.is_closed() => EXIT_FAILED,
         Err(fault) => {
-            say(errors, fault);
+            say(&mut streams.errors, fault);
             EXIT_FAILED
         }
     }

@@ -5,8 +5,8 @@
 //! the lines of `solve`, [`refuse`] for refused words, [`say`] for what the program has to say of itself.
 //!
 //! ```text
-//! run_solve(alloc, &["othello", "solve", "--visited"], &mut source, &mut sink, &mut errors)  // "-4 d3 15\n", and status 0
-//! run_solve(alloc, &["othello", "solved"], &mut source, &mut sink, &mut errors)              // status 2: no such command
+//! run_solve(alloc, &["othello", "solve", "--visited"], &mut streams)  // "-4 d3 15\n", and status 0
+//! run_solve(alloc, &["othello", "solved"], &mut streams)              // status 2: no such command
 //! ```
 #![tactic(auto)]
 
@@ -16,7 +16,7 @@ mod streams;
 
 pub use answering::{answer, run_solve};
 pub use saying::{refuse, say};
-pub use streams::{Input, Output};
+pub use streams::{Input, Output, Streams};
 
 /// The exit status where all went well.
 pub const EXIT_OK: u8 = 0;

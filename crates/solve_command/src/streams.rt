@@ -1,6 +1,29 @@
-//! What a program has to know of its streams beside their bytes.
+//! The streams of a program, and what it has to know of them beside their bytes.
 use line_io::{FromReader, FromWriter, Sink, Source};
 use std::io::{ErrorKind, IsTerminal, Read, Write};
+use std::rt::{HostRuntime, Stderr, Stdin, Stdout};
+
+/// The three streams of a program.
+#[derive(Drop)]
+pub struct Streams<S, K, E> {
+    /// Its input.
+    pub source: S,
+    /// Its output.
+    pub sink: K,
+    /// Where it says what is no answer.
+    pub errors: E,
+}
+
+impl Streams<FromReader<Stdin>, FromWriter<Stdout>, FromWriter<Stderr>> {
+    /// The standard streams of the process.
+    pub fn standard(rt: &HostRuntime) -> Self {
+        Streams {
+            source: FromReader { reader: rt.stdin() },
+            sink: FromWriter::new(rt.stdout()),
+            errors: FromWriter::new(rt.stderr()),
+        }
+    }
+}
 
 /// An input of the program.
 pub trait Input: Source {

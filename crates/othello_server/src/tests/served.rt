@@ -2,7 +2,7 @@
 use super::{Given, LAST, is_answered};
 use crate::running::run;
 use line_io::{FromWriter, Sink, WriteFailed};
-use solve_command::Output;
+use solve_command::{Output, Streams};
 use std::fs::{self, Files};
 use std::io::{self, Read};
 use std::net::{Net, TcpStream};
@@ -82,28 +82,23 @@ fn is_visited<R: Net<Stream = TcpStream>>(rt: &R, address: &str) -> io::Result<b
 fn a_thousand_sessions_and_five_workers(rt: HostRuntime) -> Result<(), Fail> {
     let alloc = rt.alloc();
     let words = ["othello", "serve", "--sessions", "1000", "--workers", "5"];
-    let mut source = Given::new(b"");
-    let mut errors = FromWriter::new(Vec::new(alloc));
-    let mut sink = Guest {
-        rt: &rt,
-        told: Vec::new(alloc),
-        threads: None,
-        answered: None,
+    let mut streams = Streams {
+        source: Given::new(b""),
+        sink: Guest {
+            rt: &rt,
+            told: Vec::new(alloc),
+            threads: None,
+            answered: None,
+        },
+        errors: FromWriter::new(Vec::new(alloc)),
     };
-    let found = run(
-        &rt,
-        alloc,
-        words.as_slice(),
-        &mut source,
-        &mut sink,
-        &mut errors,
-    );
+    let found = run(&rt, alloc, words.as_slice(), &mut streams);
     let Guest {
         told,
         threads,
         answered,
         ..
-    } = sink;
+    } = streams.sink;
     assert_eq!(rt; (found, threads, answered), (0, Some(7), Some(SESSIONS)));
     assert!(rt; told.as_slice().ends_with(b"\nended 1000\n"));
     Ok(())
