@@ -41,11 +41,11 @@ pub record IsWithinReserve (a : Account) : Type 0 where
   pub opened_within : a.opened ≤ a.reserve.nodes
   pub ticks_within : a.ticks ≤ 16 * a.reserve.nodes
 
--- whose account it is
+-- the tenant whose account an entry is
 abbrev pub owner_of : ℕ × Account → ℕ
 owner_of entry = entry.0
 
--- the tenant's account, if the tenant is there
+-- the account of a tenant; None where the tenant isn't there
 abbrev pub account_of : ℕ → List (ℕ × Account) → Option Account
 account_of tenant es = said_of owner_of (λ e. Some e.1) None tenant es
 
@@ -57,11 +57,11 @@ with_new tenant a es = inserted owner_of (tenant, a) es
 abbrev pub with_changed : ℕ → (Account → Account) → List (ℕ × Account) → List (ℕ × Account)
 with_changed tenant f es = with_thing owner_of tenant (λ e. (e.0, f e.1)) es
 
--- the accounts without the tenant's
+-- the accounts without that of the tenant
 abbrev pub without : ℕ → List (ℕ × Account) → List (ℕ × Account)
 without tenant es = without_thing owner_of tenant es
 
--- each entry has P
+-- P holds of each entry
 abbrev pub AllEntries : (ℕ × Account → Type 0) → List (ℕ × Account) → Type 0
 AllEntries P es = AllByRecursion P es
 

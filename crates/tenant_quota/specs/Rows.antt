@@ -26,18 +26,18 @@ two_tenants = admitted (admitted (empty_of 8 32) 2 (quota 3 8)) 1 (quota 5 8)
 abbrev pub after_charge : Reservations
 after_charge = changed two_tenants 1 (charged_by 5 1)
 
--- it takes a step
+-- tenant 1 then takes a step
 abbrev pub after_tick : Reservations
 after_tick = changed after_charge 1 ticked
 
--- it gives the 5 segments back
+-- tenant 1 then gives the 5 segments back
 abbrev pub after_credit : Reservations
 after_credit = changed after_tick 1 (credited_by 5)
 
--- and tenant 2 is released
+-- tenant 2 is then released
 abbrev pub after_release : Reservations
 after_release = released after_credit 2
 
--- tenant 1 raises what it has reserved to 8 segments and 24 nodes, all that the others leave
+-- tenant 1 then raises what it has reserved to 8 segments, which is the total, and 24 nodes
 abbrev pub after_raise : Reservations
 after_raise = changed after_release 1 (raised_to (quota 8 24))

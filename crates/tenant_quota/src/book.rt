@@ -28,8 +28,10 @@ pub struct Rest {
 /// alone, and only [`Book::reserve`] and [`Book::raise`] look at the totals. A refused call changes nothing.
 #[derive(Debug, Drop)]
 pub struct Book<A: Allocator = Global> {
+    // The totals.
     segments: u32,
     nodes: u32,
+    // What all tenants together have reserved.
     reserved_segments: u32,
     reserved_nodes: u32,
     accounts: Vec<(u64, Account), A>,
@@ -103,9 +105,9 @@ impl<A: Allocator> Book<A> {
 
     /// Raises what the tenant has reserved to this. What it has used stays.
     ///
-    /// Refused as `Lower` exactly where an amount is below what is reserved, or neither is above it;
-    /// else as `Full` exactly where a total doesn't allow it in the place of what is reserved. That 64
-    /// tenants are there is no reason.
+    /// Refused as `Lower` exactly where an amount is below what is reserved, or neither is above it; else as `Full`
+    /// exactly where a total doesn't allow it in the place of what is reserved. How many tenants are there doesn't
+    /// matter.
     pub fn raise(&mut self, tenant: u64, reserve: Reserve) -> Result<(), Refusal>
         requires { IsSome (account_of tenant self.old.accounts) }
         ensures ok { IsOk result ↔ CanRaise self.old tenant reserve }
@@ -153,8 +155,7 @@ impl<A: Allocator> Book<A> {
         Ok(())
     }
 
-    /// Charges the tenant so many segments for a newly opened node, and answers how many nodes it had
-    /// opened before.
+    /// Charges the tenant so many segments for a newly opened node, and returns how many nodes it had opened before.
     ///
     /// Refused as `Short` exactly where the tenant hasn't as many segments left, or no node.
     pub fn open(&mut self, tenant: u64, segments: u32) -> Result<u32, Refusal>
@@ -224,7 +225,7 @@ impl<A: Allocator> Book<A> {
     pub fn left(&self, tenant: u64) -> Option<Left>
         ensures left { result ≡ left_of tenant self.now }
 
-        // What the tenant has left is there, whatever others are charged.
+        // The segments that a tenant has left are free, whatever others are charged.
         ensures there { IfSome result (λ left.
             charged_segments self.now.accounts + left.segments ≤ self.now.segments) }
         ensures sound { IsSoundBook self.now }
@@ -254,8 +255,8 @@ impl<A: Allocator> Book<A> {
         }
     }
 
-    /// Charges the tenant so many segments, counts so many newly opened nodes, and answers how many it
-    /// had opened before.
+    /// Charges the tenant so many segments, counts so many newly opened nodes, and returns how many it had opened
+    /// before. Refused as `Short` exactly where the tenant hasn't as many segments or nodes left.
     fn charge_nodes(&mut self, tenant: u64, segments: u32, nodes: u32) -> Result<u32, Refusal>
         requires { IsSome (account_of tenant self.old.accounts) }
         ensures ok { IsOk result ↔ HasLeft self.old tenant segments nodes }

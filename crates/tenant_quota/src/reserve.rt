@@ -2,8 +2,8 @@ ghost use Rattle.std.specs.Prelude.{◌≡◌, ◌≤◌, ◌↔◌, IsTrue, IsS
 
 use std::marker::Model;
 
-/// What a tenant reserves when it is admitted: 1 to 4,096 segments and 1 to 65,536 nodes.
-/// A segment is 16 words of 64 bits, a node is one frame opened.
+/// What a tenant reserves: 1 to 4,096 segments and 1 to 65,536 nodes. A segment is 16 words of 64 bits, a node is one
+/// frame opened.
 #[derive(Clone, Copy, Debug, PartialEq, Eq)]
 pub struct Reserve {
     segments: u32,
@@ -59,7 +59,7 @@ impl Reserve {
         self.nodes
     }
 
-    /// Whether it is below `now` in neither amount, and above it in one.
+    /// Whether this is at least `now` in both amounts, and more in one or both.
     pub fn is_above(&self, now: &Reserve) -> bool
         ensures { IsTrue result ↔ IsAbove now.now self.now }
     {
