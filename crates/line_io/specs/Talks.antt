@@ -12,7 +12,7 @@ use Rattle.line_io.specs.Streams.{ReadAnswer, Gave, Ended, Failed, WriteAnswer}
 use Rattle.line_io.specs.Writes.{LinesAnswered}
 use Rattle.line_io.specs.Runs.{bytes_due, write_result}
 
--- the lines up to the first that ends the talk, with it; all of them where none does
+-- the lines up to and including the first that ends the talk; all of them where none does
 abbrev pub upto : (LineText → Bool) → List LineText → List LineText
 upto ends [] = []
 upto ends (l ∷ ls) = if ends l then l ∷ [] else l ∷ upto ends ls
@@ -43,7 +43,7 @@ IsTalkEnd ends (Err Read) bytes last = (last ≡ Failed ∷ []) × (none_ends en
 IsTalkEnd ends (Err Write) bytes last = (last ≡ []) ⊎ (last ≡ Ended ∷ [])
 IsTalkEnd ends (Err TooMuch) bytes last = ⊥
 
--- a whole talk: blocks were read, and the lines in them were answered, up to the one that ends the talk, with it
+-- a whole talk: blocks were read, and the lines in them were answered, up to and including the one that ends the talk
 pub record Talk {S K A : Type 0} (gives : S → ReadAnswer → S → Type 0) (takes : K → WriteAnswer → K → Type 0) (answers : A → LineText → List ℕ → A → Type 0) (ends : LineText → Bool) (source : S) (sink : K) (answerer : A) (source' : S) (sink' : K) (answerer' : A) (r : Result TalkEnd LineFault) : Type 0 where
   pub blocks : List (List ℕ)
   pub last : List ReadAnswer

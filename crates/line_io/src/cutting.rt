@@ -27,10 +27,10 @@ pub enum Line<'a> {
 /// What came after the 128 bytes that a cutter has kept.
 #[derive(Clone, Copy)]
 enum Beyond {
-    /// One CR, which isn't part of the line if an LF comes next.
     Nothing,
-    /// More than that: the line is too long.
+    /// One CR, which isn't part of the line if an LF comes next.
     Return,
+    /// Another byte than one CR, or several: the line is too long.
     More,
 }
 

@@ -25,7 +25,7 @@ pub trait Source {
 /// a failure, and consumes no byte.
 #[derive(Drop)]
 pub struct FromReader<R> {
-    /// The reader, which has given the bytes that `fill` gave.
+    /// The reader that `fill` reads from.
     pub reader: R,
 }
 
