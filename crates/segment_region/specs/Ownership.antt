@@ -11,7 +11,7 @@ use denote.Sharing.{nothing, said, beside}
 use denote.RawPtr.{Ptr, block_ptr, null_ptr}
 
 module _ (R : RattleType) where
-  -- a place at a byte of a block of memory: its value, or room for one
+  -- owning the place at a byte of a block of memory: its value, or room for one
   abbrev pub place_owned : ℕ → ℕ → Option R.Denot → Fml
   place_owned block byte (Some value) = part_at R full_share value block byte
   place_owned block byte None = froom (raw (lone R.mir)) block byte

@@ -50,7 +50,7 @@ impl Link {
         }
     }
 
-    /// The block after this one; None where there is none.
+    /// The block that this link word leads to; None where it leads to none.
     pub(crate) fn next(self) -> Option<SegNo>
         ensures { result ≡ next_of self }
     {
@@ -83,7 +83,7 @@ impl<W> Block<W> {
     }
 }
 
-/// Sixteen zeros and this link word.
+/// A block of sixteen zeros with this link word.
 pub(crate) fn zeros(link: Link) -> WordBlock
     ensures { result ≡ record { words = replicate 16 0; link = link } }
 {

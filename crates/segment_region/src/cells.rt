@@ -72,7 +72,7 @@ impl<T, A: Allocator> Model for Title<T, A> {
 
 unsafe impl<T, A: Allocator + Send> Send for Title<T, A> {}
 
-// A `&` to it is no right at all.
+// A `&` to it gives no right to anything.
 unsafe impl<T, A: Allocator> Sync for Title<T, A> {}
 
 /// Takes memory for so many places, all empty. Err where the allocator refuses.
