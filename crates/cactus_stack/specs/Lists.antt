@@ -40,7 +40,8 @@ abbrev pub lists_from : Segments → ℕ → List ℕ → Lists
 lists_from region number [] = []
 lists_from region number (len ∷ lens) = list_in region number len ∷ lists_from region (suc number) lens
 
--- the segments of the list of this number and length are a chain as long as its charge, with zeros after its words
+-- the list of this number and length is sound: it has at most 128 words, and its segments are a chain as long as its
+-- charge, with zeros after the words
 pub record IsSoundList (region : Segments) (number len : ℕ) : Type 0 where
   pub at_most : len ≤ 128
   pub is_chain : IsChain region (segments_of region number len) (charge len)

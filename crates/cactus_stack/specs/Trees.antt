@@ -23,14 +23,14 @@ nowhere = record { parent = None; depth = 0 }
 abbrev pub above_at : List Above → ℕ → Above
 above_at above number = slice_index_or above number nowhere
 
--- what is asked of a node with this parent and this depth: a root is at depth 1, and a child one deeper than its
--- parent, which is open
+-- a node with this parent may be at this depth: a root is at depth 1, and a child one deeper than its parent, which is
+-- open
 abbrev pub IsUnder : Lists → List Above → Option ℕ → ℕ → Type 0
 IsUnder lists above None depth = depth ≡ 1
 IsUnder lists above (Some parent) depth = IsSome (list_at lists parent) × (depth ≡ (above_at above parent).depth + 1)
 
--- the invariant of a stack: there is a place in the tree for each number, and each open node is at the depth that its
--- parent asks for
+-- the invariant of a stack: there is a place in the tree for each number, and each open node is a root at depth 1, or
+-- one deeper than its parent, which is open too
 pub record IsTree (lists : Lists) (above : List Above) : Type 0 where
   pub places : length above ≡ length lists
   pub under : (n : ℕ) → IsSome (list_at lists n) → IsUnder lists above (above_at above n).parent (above_at above n).depth

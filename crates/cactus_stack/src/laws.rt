@@ -17,8 +17,8 @@ pub fn nodes_are_apart()
         node_words (with_words nodes n words) n ≡ words }
 {}
 
-/// The total charge changes by what the entry that is put takes more or less than the one before, and is 0 at first.
-/// Where the nodes of a list are closed, each once, it falls by all that they took.
+/// Putting an entry changes the total charge by the difference of its charge and that of the entry before; a new stack
+/// has the total 0. Closing the nodes of a list, each once, lowers the total by all that they took.
 pub fn charges_are_counted()
     ensures changed { (nodes : Nodes) (n : ℕ) (entry : Option Node) → n < segment_count nodes →
         total_charge (with_node nodes n entry) + charge_of (node_at nodes n) ≡ total_charge nodes + charge_of entry }
@@ -27,7 +27,7 @@ pub fn charges_are_counted()
         total_charge (without nodes numbers) + sum_by (λ n. charge_of (node_at nodes n)) numbers ≡ total_charge nodes }
 {}
 
-/// Without the nodes of a list, just these are gone, and every other node is as it was.
+/// A stack without the nodes of a list has none of these, and every other node as it was.
 pub fn listed_nodes_are_gone()
     ensures gone { (nodes : Nodes) (numbers : List ℕ) (n : ℕ) → Contains numbers n → node_at (without nodes numbers) n ≡ None }
     ensures kept { (nodes : Nodes) (numbers : List ℕ) (n : ℕ) → ¬ Contains numbers n →
