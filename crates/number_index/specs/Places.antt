@@ -3,8 +3,8 @@ use Rattle.std.specs.Prelude.{◌≡◌, ◌≢◌, ℕ, ◌<◌, ◌==◌, ◌|
 use Rattle.std.specs.List.{AllByRecursion}
 use Prim.Native.Nat.{zero, suc}
 
--- how many things at the front have a number below this one: in a list that rises, how many have. That is
--- the place of the thing of this number, or the one where it would stand
+-- how many things at the front of a list have a number below this one. In a list that rises these are all that have
+-- one: it is the place of the thing of this number, or the one where it would stand
 abbrev pub count_below : {X : Type 0} → (X → ℕ) → ℕ → List X → ℕ
 count_below number_of n [] = 0
 count_below number_of n (x ∷ xs) = if nat_lt (number_of x) n then suc (count_below number_of n xs) else 0

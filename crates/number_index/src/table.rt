@@ -55,8 +55,8 @@ impl<A: Allocator> Guesses<A> {
         self.places[(number & self.mask) as usize] as usize
     }
 
-    /// Puts down where a number stands. Of a place from 2^32 on only the lowest 32 bits are kept, which is a wrong
-    /// guess.
+    /// Puts down where a number stands. Of a place from 2^32 on only the lowest 32 bits are kept, and the guess is
+    /// wrong then.
     pub fn put(&mut self, number: u64, place: usize)
         ensures put { self.new ≡ with_guess self.old number place }
         ensures found { place < 2 ^ 32 → guess_of self.new number ≡ place }
