@@ -24,8 +24,8 @@ pub struct Rest {
 
 /// A book of reservations of segments (of 16 words) and nodes, with places for 64 tenants.
 ///
-/// A tenant is named by any number. What a call asks of a tenant is decided by its own account
-/// alone, and only [`Book::reserve`] and [`Book::raise`] look at the totals. A refused call changes nothing.
+/// A tenant is named by any number. Whether a call for a tenant is refused depends on its own account alone; only
+/// [`Book::reserve`] and [`Book::raise`] look at the totals too. A refused call changes nothing.
 #[derive(Debug, Drop)]
 pub struct Book<A: Allocator = Global> {
     // The totals.
@@ -55,8 +55,8 @@ impl<A: Allocator> Book<A> {
     ghost use Rattle.tenant_quota.specs.Accounts.{fresh, raised_to, charged_by, credited_by, ticked, charged_segments};
     ghost use Rattle.tenant_quota.specs.Reservations.{empty_of, left_of, opened_of, reserve_of, unreserved_of, HasRoom, IsFull, CanRaise, IsTooMuch, IsLower, HasLeft, IsShort, HasStepLeft, IsOutOfSteps, HasChargedAtLeast, KeepsOthers, Admits, Raises, ChangesOnly, Releases, IsSoundBook};
 
-    /// A book of so many segments (1 to 65,536) and nodes (1 to 4,194,304) in all, with no tenant.
-    /// It makes the places of all 64 tenants, so no other call takes memory.
+    /// A book of so many segments (1 to 65,536) and nodes (1 to 4,194,304) in all, with no tenant. It takes memory for
+    /// the accounts of 64 tenants, and no other call takes any. Err where the allocator refuses it.
     pub fn new(alloc: A, segments: u32, nodes: u32) -> Result<Book<A>, AllocError>
         requires some_segments { 1 ≤ segments }
         requires segments_within { segments ≤ 65536 }
