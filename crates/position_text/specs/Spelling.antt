@@ -34,7 +34,7 @@ abbrev pub other_side : Side → Side
 other_side Black = White
 other_side White = Black
 
--- the mark that stands on a cell which this side sees so: an own disc has its colour, an opposing one the other
+-- the mark of a cell as this side sees it: an own disc has the colour of this side, an opposing one that of the other
 abbrev pub mark_of : Side → Cell → Mark
 mark_of side Own = Disc side
 mark_of side Opp = Disc (other_side side)

@@ -57,7 +57,7 @@ fn other_side(side: Side) -> Side
     }
 }
 
-/// The mark that stands on a cell which this side sees so: an own disc is this side's, an opposing one the other's.
+/// The mark of a cell as this side sees it: an own disc has this side's colour, an opposing one that of the other.
 pub fn mark_of(side: Side, cell: Cell) -> Mark
     ensures { result ≡ mark_of side cell }
 {
