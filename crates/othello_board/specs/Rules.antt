@@ -102,6 +102,7 @@ is_nil (s ∷ more) = false
 abbrev pub is_legal : List Cell → ℕ → Bool
 is_legal board s = is_empty_cell (cell_at board s) && not (is_nil (flips board s))
 
+-- whether s is in a list of squares
 abbrev pub is_among : ℕ → List ℕ → Bool
 is_among s discs = list_any (λ t. t == s) discs
 
