@@ -15,7 +15,7 @@ use crate::output::{Sink, write_text};
 /// The bytes that one read asks for at most.
 pub(crate) const BLOCK_BYTES: usize = 4096;
 
-/// A run that has read so many bytes reads no more.
+/// The number of bytes read after which a run reads no more.
 const MOST_BYTES: u64 = 1 << 62;
 
 /// Answers lines, one after another, and keeps the last answer until the next. An array of the answerer's own holds
