@@ -8,22 +8,27 @@ use Rattle.command_line.specs.declared.options.Options.{Options}
 use Rattle.command_line.specs.declared.options.Options.TheVariants.{Serve, Solve}
 use Rattle.command_line.specs.Settings.{NumberOption, number_rule, value_asked}
 
--- the options with a number: word, least and greatest value, default
+-- the option `--grain`: 0 to 6, 2 where it isn't given
 abbrev pub grain_option : NumberOption
 grain_option = record { name = codes "grain"; least = 0; most = 6; default = Some 2 }
 
+-- the option `--sessions`: 1 to 1000, and it has to be given
 abbrev pub sessions_option : NumberOption
 sessions_option = record { name = codes "sessions"; least = 1; most = 1000; default = None }
 
+-- the option `--port`: 0 to 65535, 0 where it isn't given
 abbrev pub port_option : NumberOption
 port_option = record { name = codes "port"; least = 0; most = 65535; default = Some 0 }
 
+-- the option `--workers`: 1 to 32, 4 where it isn't given
 abbrev pub workers_option : NumberOption
 workers_option = record { name = codes "workers"; least = 1; most = 32; default = Some 4 }
 
+-- the option `--segments`: 1 to 65536, 4096 where it isn't given
 abbrev pub segments_option : NumberOption
 segments_option = record { name = codes "segments"; least = 1; most = 65536; default = Some 4096 }
 
+-- the option `--nodes`: 1 to 4194304, 65536 where it isn't given
 abbrev pub nodes_option : NumberOption
 nodes_option = record { name = codes "nodes"; least = 1; most = 4194304; default = Some 65536 }
 

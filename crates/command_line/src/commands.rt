@@ -151,7 +151,7 @@ fn with_number<'a>(
 /// The program's version.
 const VERSION: &str = "0.1.0";
 
-/// What a line of `solve` is, and what answers it.
+/// What help says of the lines of `solve` and of their answers.
 const SOLVE_HELP: &str = "A line is `depth position`, and is answered as soon as it is complete.
   depth     a number from 0 to 12, in plies
   position  64 cells from a1 to h8, row by row from the top, a space, and the side to move;
@@ -169,7 +169,7 @@ A faulty line is answered by ERR and the number of its first fault.
   19  no memory for the search
 ";
 
-/// What a session is, and what answers its lines.
+/// What help says of a session, of its lines and of their answers.
 const SERVE_HELP: &str =
     "The program writes `listening 127.0.0.1:port` first, and `ended k` when k sessions have ended.
 A connection is a session. Each line is answered by one line, in order:

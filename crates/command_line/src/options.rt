@@ -67,7 +67,8 @@ impl Options {
     }
 }
 
-/// What a command, and what was given to it, ask for. It is refused where an option has no value within its limits.
+/// What the command that the words name asks for. Err where they name none, or an option has no value within its
+/// limits.
 fn options_of(matches: &ArgMatches<'_>) -> Result<Options, Missing>
     ensures asked { IfOk result (λ options. asked_of (subcommand_rows_of matches.now) ≡ Some options) }
     ensures within { IfOk result IsWithinLimits }
