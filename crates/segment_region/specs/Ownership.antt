@@ -45,6 +45,6 @@ module _ (R : RattleType) where
   places_lent (block_ptr block byte) places = beside (said (fits places)) (row_lent block byte places)
   places_lent null_ptr places = said ffalse
 
-  -- the allocator's token for so many places
+  -- owning the allocator's token for an allocation of `count` places
   abbrev pub title_owned : (Ty → Ptr → Fml) → Ptr → ℕ → Fml
   title_owned token at count = token (raw (ty_array (lone R.mir) count)) at
