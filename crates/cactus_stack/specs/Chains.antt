@@ -38,7 +38,7 @@ abbrev pub AllFree : Segments → List ℕ → Type 0
 AllFree region [] = Unit {0}
 AllFree region (segment ∷ segments) = IsFree region segment × AllFree region segments
 
--- both regions have the same under each of the numbers
+-- both regions have the same entry under each number of the list
 abbrev pub AgreesOn : Segments → Segments → List ℕ → Type 0
 AgreesOn old new [] = Unit {0}
 AgreesOn old new (segment ∷ segments) = (segment_at new segment ≡ segment_at old segment) × AgreesOn old new segments

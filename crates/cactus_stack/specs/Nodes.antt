@@ -14,7 +14,7 @@ Nodes = List (Option Node)
 abbrev pub segment_count : Nodes → ℕ
 segment_count nodes = length nodes
 
--- the segments of 16 words that so many words take: a sixteenth of their number, rounded up
+-- how many segments of 16 words hold this many words: a sixteenth of them, rounded up
 abbrev pub charge : ℕ → ℕ
 charge words = (words + 15) / 16
 

@@ -35,13 +35,13 @@ pub record IsTree (lists : Lists) (above : List Above) : Type 0 where
   pub places : length above ≡ length lists
   pub under : (n : ℕ) → IsSome (list_at lists n) → IsUnder lists above (above_at above n).parent (above_at above n).depth
 
--- the words of a node and of its ancestors, nearest first, at most so many levels
+-- the words of a node and of its ancestors, nearest first, for at most `levels` levels
 abbrev pub sight_within : ℕ → Nodes → Option ℕ → List (List ℕ)
 sight_within zero nodes from = []
 sight_within (suc levels) nodes None = []
 sight_within (suc levels) nodes (Some number) = node_words nodes number ∷ sight_within levels nodes (node_parent nodes number)
 
--- what the node sees has exactly so many levels
+-- what the node sees has exactly `levels` levels
 pub record IsWholeSight (nodes : Nodes) (node levels : ℕ) : Type 0 where
   pub is_sight : IsSight nodes (Some node) (sight_within levels nodes (Some node))
   pub all_levels : length (sight_within levels nodes (Some node)) ≡ levels

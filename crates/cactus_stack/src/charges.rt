@@ -2,7 +2,7 @@
 ghost use Rattle.std.specs.Prelude.{◌≡◌, ◌+◌, ◌≤◌};
 ghost use Rattle.cactus_stack.specs.Nodes.{charge as charge_of_words, growth_charge as growth_of_words};
 
-/// The segments of 16 words that so many words take: a sixteenth, rounded up.
+/// How many segments of 16 words hold this many words: a sixteenth of them, rounded up.
 pub fn charge(words: usize) -> usize
     requires { words ≤ 65536 }
     ensures { result ≡ charge_of_words words }
