@@ -31,8 +31,8 @@ impl<A: Allocator> Model for Guesses<A> {
 }
 
 impl<A: Allocator> Guesses<A> {
-    /// A table whose guesses are all 0, with so many places, rounded up to a power of two. Takes memory: Err only
-    /// where the allocator refused it.
+    /// A table whose guesses are all 0, with `size` places, rounded up to a power of two. Takes memory: Err only where
+    /// the allocator refused it.
     pub fn new(alloc: A, size: usize) -> Result<Self, AllocError>
         requires { size ≤ MOST }
         ensures places { IfOk result (λ g. IsNextPowerOfTwo size (length g)) }
