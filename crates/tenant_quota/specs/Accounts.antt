@@ -10,11 +10,11 @@ use Rattle.tenant_quota.specs.declared.account.Left.{Left}
 abbrev pub fresh : Quota → Account
 fresh quota = record { reserve = quota; charged = 0; opened = 0; ticks = 0 }
 
--- the account after a charge of so many segments, for so many newly opened nodes
+-- the account after it was charged `segments` segments more, and opened `nodes` nodes more
 abbrev pub charged_by : ℕ → ℕ → Account → Account
 charged_by segments nodes a = record a { charged = a.charged + segments; opened = a.opened + nodes }
 
--- the account after so many charged segments were given back; the nodes stay opened
+-- the account after `segments` of the charged segments were given back; the nodes stay opened
 abbrev pub credited_by : ℕ → Account → Account
 credited_by segments a = record a { charged = a.charged - segments }
 

@@ -1,7 +1,7 @@
 -- Meaning: an amount of segments and nodes, and the limits of what one tenant may reserve.
 use Rattle.std.specs.Prelude.{◌≡◌, ℕ, ◌<◌, ◌≤◌, ◌⊎◌}
 
--- so many segments and so many nodes
+-- an amount of segments and an amount of nodes
 pub record Quota : Type 0 where
   pub segments : ℕ
   pub nodes : ℕ

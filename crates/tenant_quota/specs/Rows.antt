@@ -6,15 +6,15 @@ use Rattle.tenant_quota.specs.declared.book.Rest.{Rest}
 use Rattle.tenant_quota.specs.Accounts.{raised_to, charged_by, credited_by, ticked}
 use Rattle.tenant_quota.specs.Reservations.{Reservations, empty_of, admitted, changed, released}
 
--- so many segments and nodes, as reserved
+-- a reservation of these amounts
 abbrev pub quota : ℕ → ℕ → Quota
 quota segments nodes = record { segments = segments; nodes = nodes }
 
--- so many segments, nodes and steps, as left to a tenant
+-- what a tenant has left, in these amounts
 abbrev pub left : ℕ → ℕ → ℕ → Left
 left segments nodes steps = record { segments = segments; nodes = nodes; steps = steps }
 
--- so many places, segments and nodes, as not reserved
+-- what isn't reserved, in these amounts
 abbrev pub rest : ℕ → ℕ → ℕ → Rest
 rest tenants segments nodes = record { tenants = tenants; segments = segments; nodes = nodes }
 

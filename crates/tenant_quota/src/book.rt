@@ -55,8 +55,8 @@ impl<A: Allocator> Book<A> {
     ghost use Rattle.tenant_quota.specs.Accounts.{fresh, raised_to, charged_by, credited_by, ticked, charged_segments};
     ghost use Rattle.tenant_quota.specs.Reservations.{empty_of, left_of, opened_of, reserve_of, unreserved_of, HasRoom, IsFull, CanRaise, IsTooMuch, IsLower, HasLeft, IsShort, HasStepLeft, IsOutOfSteps, HasChargedAtLeast, KeepsOthers, Admits, Raises, ChangesOnly, Releases, IsSoundBook};
 
-    /// A book of so many segments (1 to 65,536) and nodes (1 to 4,194,304) in all, with no tenant. It takes memory for
-    /// the accounts of 64 tenants, and no other call takes any. Err where the allocator refuses it.
+    /// A book of `segments` segments (1 to 65,536) and `nodes` nodes (1 to 4,194,304) in all, with no tenant. It takes
+    /// memory for the accounts of 64 tenants, and no other call takes any. Err where the allocator refuses it.
     pub fn new(alloc: A, segments: u32, nodes: u32) -> Result<Book<A>, AllocError>
         requires some_segments { 1 ≤ segments }
         requires segments_within { segments ≤ 65536 }
@@ -137,7 +137,7 @@ impl<A: Allocator> Book<A> {
         Ok(())
     }
 
-    /// Charges the tenant so many segments, and counts so many newly opened nodes.
+    /// Charges the tenant `segments` segments, and counts `nodes` newly opened nodes.
     ///
     /// Refused as `Short` exactly where the tenant hasn't as many segments or nodes left.
     pub fn charge(&mut self, tenant: u64, segments: u32, nodes: u32) -> Result<(), Refusal>
@@ -155,7 +155,8 @@ impl<A: Allocator> Book<A> {
         Ok(())
     }
 
-    /// Charges the tenant so many segments for a newly opened node, and returns how many nodes it had opened before.
+    /// Charges the tenant `segments` segments for a newly opened node, and returns how many nodes it had opened
+    /// before.
     ///
     /// Refused as `Short` exactly where the tenant hasn't as many segments left, or no node.
     pub fn open(&mut self, tenant: u64, segments: u32) -> Result<u32, Refusal>
@@ -173,7 +174,7 @@ impl<A: Allocator> Book<A> {
         self.charge_nodes(tenant, segments, 1)
     }
 
-    /// Gives back so many of the segments that the tenant is charged. Its nodes stay opened.
+    /// Gives back `segments` of the segments that the tenant is charged. Its nodes stay opened.
     pub fn give_back(&mut self, tenant: u64, segments: u32)
         requires { HasChargedAtLeast self.old tenant segments }
         ensures credits { ChangesOnly self.old self.new tenant (credited_by segments) }
@@ -255,7 +256,7 @@ impl<A: Allocator> Book<A> {
         }
     }
 
-    /// Charges the tenant so many segments, counts so many newly opened nodes, and returns how many it had opened
+    /// Charges the tenant `segments` segments, counts `nodes` newly opened nodes, and returns how many it had opened
     /// before. Refused as `Short` exactly where the tenant hasn't as many segments or nodes left.
     fn charge_nodes(&mut self, tenant: u64, segments: u32, nodes: u32) -> Result<u32, Refusal>
         requires { IsSome (account_of tenant self.old.accounts) }

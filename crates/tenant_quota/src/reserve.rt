@@ -32,7 +32,7 @@ impl Reserve {
     /// The most nodes that one tenant may reserve.
     pub const MAX_NODES: u32 = 65536;
 
-    /// The reservation of so many segments and nodes, or None outside the limits.
+    /// The reservation of these amounts; None where one of them is outside its limits.
     pub fn new(segments: u32, nodes: u32) -> Option<Reserve>
         ensures within { IsSome result ↔ IsWithinLimits (record { segments = segments; nodes = nodes }) }
         ensures value { IfSome result (λ r. r ≡ record { segments = segments; nodes = nodes }) }
