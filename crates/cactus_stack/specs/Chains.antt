@@ -2,7 +2,7 @@
 use Rattle.std.specs.Prelude.{◌≡◌, ◌≢◌, ℕ, zero, suc, ◌+◌, ◌-◌, ◌*◌, List, [], ◌∷◌, ◌++◌, length, Option, Some, None, replicate}
 use Rattle.segment_region.specs.Segments.{Segment, Segments, segment_at, words_at, link_at, IsTaken, IsFree, taken_count}
 
--- the segments from one on, each the link of the one before, at most so many
+-- the segments that the links lead through from `head` on, at most `count` of them
 abbrev pub chain : ℕ → Segments → Option ℕ → List ℕ
 chain zero region head = []
 chain (suc count) region None = []
@@ -38,22 +38,23 @@ abbrev pub AllFree : Segments → List ℕ → Type 0
 AllFree region [] = Unit {0}
 AllFree region (segment ∷ segments) = IsFree region segment × AllFree region segments
 
--- both regions have the same under each of the numbers
+-- both regions have the same entry under each number of the list
 abbrev pub AgreesOn : Segments → Segments → List ℕ → Type 0
 AgreesOn old new [] = Unit {0}
 AgreesOn old new (segment ∷ segments) = (segment_at new segment ≡ segment_at old segment) × AgreesOn old new segments
 
--- so many segments, taken and each once
+-- the segments of the list are `count` in number, each once, all taken, and have sixteen words each
 pub record IsChain (region : Segments) (segments : List ℕ) (count : ℕ) : Type 0 where
   pub blocks : AllBlocks region segments
   pub whole : length segments ≡ count
   pub once : IsOnce segments
 
--- a segment with these words, then zeros
+-- a segment with this link, and with these words, then zeros
 abbrev pub filled : List ℕ → Option ℕ → Segment
 filled words link = record { words = words ++ replicate (16 - length words) 0; link = link }
 
--- a chain of segments that were free holds the words, then zeros, and all that was taken stays
+-- from `old` to `new` a chain of `count` segments was taken, which were free; it holds the words, then zeros, and what
+-- was taken before stays
 pub record IsFreshChain (old new : Segments) (segments : List ℕ) (words : List ℕ) (count : ℕ) : Type 0 where
   pub same_count : length new ≡ length old
   pub counted : taken_count new ≡ taken_count old + count
@@ -62,7 +63,8 @@ pub record IsFreshChain (old new : Segments) (segments : List ℕ) (words : List
   pub were_free : AllFree old segments
   pub holds : content new segments ≡ words ++ replicate (16 * count - length words) 0
 
--- a chain goes on with segments that were free and hold zeros; what was taken elsewhere stays
+-- from `old` to `new` the chain `before` was made longer, to `after`, by `more` segments that were free and now hold
+-- zeros; what else was taken stays
 pub record IsGrownChain (old new : Segments) (before after : List ℕ) (more : ℕ) : Type 0 where
   pub same_count : length new ≡ length old
   pub counted : taken_count new ≡ taken_count old + more
@@ -73,7 +75,7 @@ pub record IsGrownChain (old new : Segments) (before after : List ℕ) (more : �
   pub is_chain : IsChain new after (length before + more)
   pub holds : content new after ≡ content old before ++ replicate (16 * more) 0
 
--- the segments are free again, and all others stay
+-- from `old` to `new` the segments of the list were given back, and all others stay
 pub record IsGivenBack (old new : Segments) (segments : List ℕ) : Type 0 where
   pub same_count : length new ≡ length old
   pub counted : taken_count new + length segments ≡ taken_count old

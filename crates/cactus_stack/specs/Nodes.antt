@@ -14,11 +14,11 @@ Nodes = List (Option Node)
 abbrev pub segment_count : Nodes → ℕ
 segment_count nodes = length nodes
 
--- the segments that a number of words takes: a sixteenth, rounded up
+-- how many segments of 16 words hold this many words: a sixteenth of them, rounded up
 abbrev pub charge : ℕ → ℕ
 charge words = (words + 15) / 16
 
--- the segments that an entry takes
+-- the segments that an entry takes: 0 where no node is open
 abbrev pub charge_of : Option Node → ℕ
 charge_of None = 0
 charge_of (Some node) = charge (length node.words)
@@ -31,7 +31,7 @@ total_charge nodes = sum_by charge_of nodes
 abbrev pub free_segments : Nodes → ℕ
 free_segments nodes = segment_count nodes - total_charge nodes
 
--- the segments that a growth takes: those of all the words, less those that are there
+-- the further segments that a node of `words` words takes to become longer by `more`
 abbrev pub growth_charge : ℕ → ℕ → ℕ
 growth_charge words more = charge (words + more) - charge words
 
@@ -47,21 +47,21 @@ IsOpen nodes number = IsSome (node_at nodes number)
 abbrev pub IsUnused : Nodes → ℕ → Type 0
 IsUnused nodes number = (number < length nodes) × (node_at nodes number ≡ None)
 
--- the words of an entry, and none where no node is open
+-- the words of an entry; [] where no node is open
 abbrev pub words_of : Option Node → List ℕ
 words_of None = []
 words_of (Some node) = node.words
 
--- the parent of an entry, and none where no node is open
+-- the parent of an entry; None for a root, and where no node is open
 abbrev pub parent_of : Option Node → Option ℕ
 parent_of None = None
 parent_of (Some node) = node.parent
 
--- the words under a number
+-- the words of the node of a number; [] where none is open
 abbrev pub node_words : Nodes → ℕ → List ℕ
 node_words nodes number = words_of (node_at nodes number)
 
--- the parent under a number
+-- the parent of the node of a number; None for a root, and where no node is open
 abbrev pub node_parent : Nodes → ℕ → Option ℕ
 node_parent nodes number = parent_of (node_at nodes number)
 
@@ -73,7 +73,7 @@ with_node nodes number entry = slice_set nodes number entry
 abbrev pub with_words : Nodes → ℕ → List ℕ → Nodes
 with_words nodes number words = with_node nodes number (Some (record { parent = node_parent nodes number; words = words }))
 
--- the words that a new node holds: those that are given, then zeros
+-- the words that a new node of this size holds: those that are given, then zeros
 abbrev pub padded : List ℕ → ℕ → List ℕ
 padded words size = words ++ replicate (size - length words) 0
 
@@ -81,23 +81,24 @@ padded words size = words ++ replicate (size - length words) 0
 abbrev pub HasNoChild : Nodes → ℕ → Type 0
 HasNoChild nodes number = (child : ℕ) → node_parent nodes child ≢ Some number
 
--- the stack without the nodes of a list
+-- the stack with the nodes of a list closed
 abbrev pub without : Nodes → List ℕ → Nodes
 without nodes [] = nodes
 without nodes (number ∷ numbers) = without (with_node nodes number None) numbers
 
--- each open child of a node of the list is in the list too
+-- the list has, with each of its nodes, all open children of that node
 abbrev pub HasAllChildren : Nodes → List ℕ → Type 0
 HasAllChildren nodes numbers = (child parent : ℕ) → node_parent nodes child ≡ Some parent → Contains numbers parent → Contains numbers child
 
--- what a node sees (Cilk 5.4: a procedure sees its own storage, its parent's and on to more distant ancestors): its own words, and then what its parent sees; where there is no node, nothing
+-- what a node sees (Cilk 5.4: a procedure sees its own storage, its parent's and on to more distant ancestors), as a
+-- list of levels: its own words, and then what its parent sees; without a node, no level
 abbrev pub IsSight : Nodes → Option ℕ → List (List ℕ) → Type 0
 IsSight nodes None [] = Unit {0}
 IsSight nodes None (words ∷ levels) = ⊥
 IsSight nodes (Some number) [] = ⊥
 IsSight nodes (Some number) (words ∷ levels) = IsOpen nodes number × (node_words nodes number ≡ words) × IsSight nodes (node_parent nodes number) levels
 
--- the numbers of a node and of its ancestors, nearest first; none where there is no node
+-- the path of a node: its number and those of its ancestors, nearest first; without a node, []
 abbrev pub IsPath : Nodes → Option ℕ → List ℕ → Type 0
 IsPath nodes None [] = Unit {0}
 IsPath nodes None (number ∷ path) = ⊥

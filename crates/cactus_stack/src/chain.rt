@@ -16,7 +16,7 @@ fn fill(block: &mut [u64; 16], words: &[u64])
     }
 }
 
-/// Takes a segment for these words and then zeros, linked to the segment given.
+/// Takes a segment that holds these words, then zeros, and links it to the segment given, or to none.
 fn fresh_segment<A: Allocator>(region: &mut Region<A>, words: &[u64], link: Option<SegNo>) -> SegNo
     requires short { length words.now ≤ 16 }
     requires some_free { taken_count region.old < segment_count region.old }
@@ -33,7 +33,8 @@ fn fresh_segment<A: Allocator>(region: &mut Region<A>, words: &[u64], link: Opti
     }
 }
 
-/// Takes so many segments for these words and then zeros, and answers the first.
+/// Takes a chain of `count` segments that holds these words, then zeros, and returns the first; None where `count` is
+/// 0.
 pub fn fresh_chain<A: Allocator>(
     region: &mut Region<A>,
     words: &[u64],
@@ -55,7 +56,7 @@ pub fn fresh_chain<A: Allocator>(
     Some(fresh_segment(region, front, rest))
 }
 
-/// The segment that so many links lead to.
+/// The segment to which `links` links lead from `first`.
 pub fn segment_after(region: &RegionView<'_>, first: SegNo, links: usize) -> SegNo
     requires { IsChain region.now (chain (suc links) region.now (Some first)) (suc links) }
     ensures { result ≡ slice_index (chain (suc links) region.now (Some first)) links }

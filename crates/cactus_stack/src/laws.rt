@@ -17,8 +17,8 @@ pub fn nodes_are_apart()
         node_words (with_words nodes n words) n ≡ words }
 {}
 
-/// What is charged changes by what the entry takes, and at first nothing is. Of a list of nodes
-/// that are closed, each once, all that they took comes back.
+/// Putting an entry changes the total charge by the difference of its charge and that of the entry before; a new stack
+/// has the total 0. Closing the nodes of a list, each once, lowers the total by all that they took.
 pub fn charges_are_counted()
     ensures changed { (nodes : Nodes) (n : ℕ) (entry : Option Node) → n < segment_count nodes →
         total_charge (with_node nodes n entry) + charge_of (node_at nodes n) ≡ total_charge nodes + charge_of entry }
@@ -27,15 +27,15 @@ pub fn charges_are_counted()
         total_charge (without nodes numbers) + sum_by (λ n. charge_of (node_at nodes n)) numbers ≡ total_charge nodes }
 {}
 
-/// Of a list of nodes all are gone, and no other.
+/// A stack without the nodes of a list has none of these, and every other node as it was.
 pub fn listed_nodes_are_gone()
     ensures gone { (nodes : Nodes) (numbers : List ℕ) (n : ℕ) → Contains numbers n → node_at (without nodes numbers) n ≡ None }
     ensures kept { (nodes : Nodes) (numbers : List ℕ) (n : ℕ) → ¬ Contains numbers n →
         node_at (without nodes numbers) n ≡ node_at nodes n }
 {}
 
-/// A node has one sight: the words along its path. What is done to a node beside the path, as to
-/// a sibling, is never seen.
+/// A node has one sight: the words along its path. What is done to a node that isn't on the path, as to a sibling,
+/// changes nothing in it.
 pub fn sights_follow_paths()
     ensures one { (nodes : Nodes) (node : Option ℕ) (these those : List (List ℕ)) →
         IsSight nodes node these → IsSight nodes node those → these ≡ those }
@@ -56,8 +56,8 @@ pub fn worked_charges()
     ensures across { growth_charge 16 1 ≡ 1 }
 {}
 
-/// Of four segments a root of 20 words takes two and its child of 17 words two. The child sees its
-/// own words and the root's, and not those of its sibling. Without it two are free.
+/// Of four segments a root of 20 words takes two and its child of 17 words two. The child sees its own words and the
+/// root's, and not those of its sibling. With the child closed, two are free.
 pub fn worked_tree()
     ensures root { free_segments (with_node (replicate 4 None) 3 (Some (record { parent = None; words = padded (1 ∷ 2 ∷ []) 20 }))) ≡ 2 }
     ensures given_then_zeros { padded (1 ∷ 2 ∷ []) 5 ≡ 1 ∷ 2 ∷ 0 ∷ 0 ∷ 0 ∷ [] }

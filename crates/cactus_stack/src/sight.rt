@@ -29,7 +29,7 @@ impl<'a> Model for Sight<'a> {
 }
 
 impl<'a> Sight<'a> {
-    /// The sight of a node that has so many levels.
+    /// The sight of a node that has exactly this many levels.
     pub(crate) fn of(stack: StackView<'a>, node: NodeNo, levels: usize) -> Sight<'a>
         requires { IsWholeSight stack node levels }
         ensures { result ≡ sight_within levels stack.entry (Some node) }

@@ -10,7 +10,7 @@ use crate::words::Words;
 use segment_region::RegionView;
 use std::marker::Model;
 
-/// The lists of words. Contracts see the same as of the lists themselves.
+/// The lists of words, borrowed for reading only. Contracts see them as they see `Lists`.
 #[derive(Drop)]
 pub struct ListsView<'a> {
     region: RegionView<'a>,
@@ -50,7 +50,7 @@ impl<'a> ListsView<'a> {
     }
 }
 
-/// The nodes of a stack. Contracts see the same as of the stack itself.
+/// The nodes of a stack, borrowed for reading only. Contracts see them as they see `Stack`.
 #[derive(Drop)]
 pub struct StackView<'a> {
     lists: ListsView<'a>,
@@ -86,7 +86,7 @@ impl<'a> StackView<'a> {
         self.lists.own(node)
     }
 
-    /// The node that a node was opened under, if there is one.
+    /// The node that a node was opened under; None for a root.
     pub fn parent(&self, node: NodeNo) -> Option<NodeNo>
         requires { IsOpen self.now node }
         ensures { result ≡ node_parent self.now node }

@@ -8,22 +8,27 @@ use Rattle.command_line.specs.declared.options.Options.{Options}
 use Rattle.command_line.specs.declared.options.Options.TheVariants.{Serve, Solve}
 use Rattle.command_line.specs.Settings.{NumberOption, number_rule, value_asked}
 
--- the options with a number: word, least and greatest value, default
+-- the option `--grain`: 0 to 6, 2 where it isn't given
 abbrev pub grain_option : NumberOption
 grain_option = record { name = codes "grain"; least = 0; most = 6; default = Some 2 }
 
+-- the option `--sessions`: 1 to 1000, and it has to be given
 abbrev pub sessions_option : NumberOption
 sessions_option = record { name = codes "sessions"; least = 1; most = 1000; default = None }
 
+-- the option `--port`: 0 to 65535, 0 where it isn't given
 abbrev pub port_option : NumberOption
 port_option = record { name = codes "port"; least = 0; most = 65535; default = Some 0 }
 
+-- the option `--workers`: 1 to 32, 4 where it isn't given
 abbrev pub workers_option : NumberOption
 workers_option = record { name = codes "workers"; least = 1; most = 32; default = Some 4 }
 
+-- the option `--segments`: 1 to 65536, 4096 where it isn't given
 abbrev pub segments_option : NumberOption
 segments_option = record { name = codes "segments"; least = 1; most = 65536; default = Some 4096 }
 
+-- the option `--nodes`: 1 to 4194304, 65536 where it isn't given
 abbrev pub nodes_option : NumberOption
 nodes_option = record { name = codes "nodes"; least = 1; most = 4194304; default = Some 65536 }
 
@@ -35,7 +40,7 @@ visited_rule = record (new_rule (codes "visited")) { long = Some (codes "visited
 abbrev pub solve_shape : Shape
 solve_shape = (with_rule (with_rule (new_app (codes "solve")) (number_rule (codes "grain") false)) visited_rule).top
 
--- a command with one more option that has a number and a default
+-- a command with one more option, which has a number and needn't be given
 abbrev pub with_number : App → Text → App
 with_number app name = with_rule app (number_rule name false)
 
@@ -47,7 +52,7 @@ serve_of_sessions = with_number (with_number (with_rule (new_app (codes "serve")
 abbrev pub serve_shape : Shape
 serve_shape = (with_number (with_number (with_number serve_of_sessions (codes "segments")) (codes "nodes")) (codes "grain")).top
 
--- the program before it has commands: it tells its version, and one of its commands has to be named
+-- the program `othello` without its commands: it has a version, and the words have to name a command
 abbrev pub bare_program : App
 bare_program = record (new_app (codes "othello")) {
   top = record (new_app (codes "othello")).top { has_version = true; subcommand_required = true };
@@ -57,16 +62,16 @@ bare_program = record (new_app (codes "othello")) {
 abbrev pub program : App
 program = with_subcommand (with_subcommand bare_program solve_shape) serve_shape
 
--- a flag is set where the words give it, and else not
+-- whether the words set a flag: then its value is `true`
 abbrev pub is_set : Text → List Row → Bool
 is_set flag rows = option_map_or (λ value. bytes_eq value (codes "true")) (first_of flag rows) false
 
--- `solve` with its options, where each has a value
+-- the options of `solve`; None where the grain has no value
 abbrev pub solve_with : Option ℕ → Bool → Option Options
 solve_with None visited = None
 solve_with (Some grain) visited = Some (Solve grain visited)
 
--- `serve` with its options, where each has a value
+-- the options of `serve`; None where one of them has no value
 abbrev pub serve_with : Option ℕ → Option ℕ → Option ℕ → Option ℕ → Option ℕ → Option ℕ → Option Options
 serve_with None p w s n g = None
 serve_with (Some k) None w s n g = None
@@ -76,22 +81,26 @@ serve_with (Some k) (Some p) (Some w) (Some s) None g = None
 serve_with (Some k) (Some p) (Some w) (Some s) (Some n) None = None
 serve_with (Some k) (Some p) (Some w) (Some s) (Some n) (Some g) = Some (Serve k p w s n g)
 
--- what a command and what was given to it ask for
+-- what the words given to `solve` ask for; None where an option has no value within its limits
 abbrev pub solve_asked : List Row → Option Options
 solve_asked rows = solve_with (value_asked grain_option rows) (is_set (codes "visited") rows)
 
+-- what the words given to `serve` ask for; None where an option has no value within its limits
 abbrev pub serve_asked : List Row → Option Options
 serve_asked rows = serve_with (value_asked sessions_option rows) (value_asked port_option rows) (value_asked workers_option rows) (value_asked segments_option rows) (value_asked nodes_option rows) (value_asked grain_option rows)
 
+-- what a command with this name and the words given to it asks for; None for another name, or a value outside its
+-- limits
 abbrev pub command_asked : Text × List Row → Option Options
 command_asked named = if bytes_eq named.0 (codes "solve") then solve_asked named.1 else (if bytes_eq named.0 (codes "serve") then serve_asked named.1 else None)
 
+-- what the command that the words name asks for; None where they name none
 abbrev pub asked_of : Option (Text × List Row) → Option Options
 asked_of None = None
 asked_of (Some named) = command_asked named
 
--- what the words ask for, the program's name first; nothing where an option has no value within its limits. Which
--- values words give is `subcommand_of`, clap's own definition
+-- what the words ask for, the program's name first; None where an option has no value within its limits.
+-- `subcommand_of` is clap's own definition of which command and which values the words give
 abbrev pub options_asked : List Text → Option Options
 options_asked words = asked_of (subcommand_of program words)
 

@@ -16,18 +16,18 @@ abbrev pub IsRefusal : List Text → WordsFault → Type 0
 IsRefusal words OutOfMemory = Unit {0}
 IsRefusal words (Refused error) = IsFaultOf words (kind_of error)
 
--- a value is refused, or there was no memory
+-- a value is refused, as an error of the kind `ValueValidation`, or there was no memory
 abbrev pub IsOutside : WordsFault → Type 0
 IsOutside OutOfMemory = Unit {0}
 IsOutside (Refused error) = kind_of error ≡ ValueValidation
 
--- 0 where help or the version is asked for, and else 2
+-- the exit status for an error of this kind: 0 where help or the version is asked for, else 2
 abbrev pub status_of_kind : ErrorKind → ℕ
 status_of_kind DisplayHelp = 0
 status_of_kind DisplayVersion = 0
 status_of_kind _ = 2
 
--- 1 for want of memory
+-- the exit status for a fault of the words: 1 for want of memory, else that of the error's kind
 abbrev pub status_of : WordsFault → ℕ
 status_of OutOfMemory = 1
 status_of (Refused error) = status_of_kind (kind_of error)

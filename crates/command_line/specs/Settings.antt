@@ -12,23 +12,24 @@ pub record NumberOption : Type 0 where
   pub most : ℕ
   pub default : Option ℕ
 
--- what the program keeps of one
+-- an option of the code as one of the specs, without its letter and its help
 abbrev pub setting_of : Setting → NumberOption
 setting_of s = record { name = s.name.now; least = s.least; most = s.most; default = s.default }
 
--- the number, where it is within the limits
+-- the number where it is within the option's limits, else None
 abbrev pub within : NumberOption → ℕ → Option ℕ
 within option n = if nat_le option.least n && nat_le n option.most then Some n else None
 
--- the number that the words give an option, or its default
+-- the number that the words give an option, or the default where they don't name it; None where they give no number of
+-- 1 to 8 digits, or there is no default
 abbrev pub number_asked : NumberOption → List Row → Option ℕ
 number_asked option rows = option_map_or word_number (first_of option.name rows) option.default
 
--- the same, where it is within the limits
+-- the number that the words give an option, or its default, where it is within the limits; else None
 abbrev pub value_asked : NumberOption → List Row → Option ℕ
 value_asked option rows = option_and_then (within option) (number_asked option rows)
 
--- what is said of a value outside its limits
+-- the error message for a value outside its limits
 abbrev pub limits_text : NumberOption → Text
 limits_text option = codes "--" ++ (option.name ++ (codes " takes a number from " ++ (decimal option.least ++ (codes " to " ++ decimal option.most))))
 

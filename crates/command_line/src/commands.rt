@@ -19,7 +19,7 @@ pub(crate) fn flag_in(given: &ArgMatches<'_>, flag: &str) -> bool
     }
 }
 
-/// The program's commands.
+/// The program `othello` with its commands `solve` and `serve`.
 pub(crate) fn othello_command<'a>(alloc: Global) -> Result<Command<'a>, AllocError>
     ensures { IfOk result (λ command. app_of command ≡ program) }
 {
@@ -27,7 +27,7 @@ pub(crate) fn othello_command<'a>(alloc: Global) -> Result<Command<'a>, AllocErr
     with_solve(alloc)?.subcommand(serve)
 }
 
-/// The program with the command `solve`.
+/// The program with just the command `solve`.
 fn with_solve<'a>(alloc: Global) -> Result<Command<'a>, AllocError>
     ensures { IfOk result (λ command. app_of command ≡ with_subcommand bare_program solve_shape) }
 {
@@ -47,7 +47,7 @@ fn bare_othello<'a>(alloc: Global) -> Command<'a>
         .subcommand_required(true)
 }
 
-/// The command of this name by itself, for the usage that is told of it; the program's where there is none.
+/// The command of this name, for the usage in an error message; the whole program where there is no such command.
 pub(crate) fn command_of<'a>(alloc: Global, name: &str) -> Result<Command<'a>, AllocError> {
     if name == "solve" {
         solve_command(alloc)?.bin_name("othello solve")
@@ -58,7 +58,7 @@ pub(crate) fn command_of<'a>(alloc: Global, name: &str) -> Result<Command<'a>, A
     }
 }
 
-/// The option under its word.
+/// The option of a setting, as `clap` has it: required where the setting has no default.
 fn number_arg<'a>(alloc: Global, setting: Setting) -> Arg<'a>
     ensures rule { rule_of result ≡ number_rule setting.name.now (is_none setting.default) }
     ensures local { result.global ≡ false }
@@ -79,7 +79,7 @@ fn solve_command<'a>(alloc: Global) -> Result<Command<'a>, AllocError>
     command.arg(visited_arg(alloc))
 }
 
-/// What is said of `solve`.
+/// What `solve` does, for help.
 const SOLVE_ABOUT: &str =
     "answers lines `depth position` from standard input by lines `value move`";
 
@@ -118,11 +118,11 @@ fn serve_of_sessions<'a>(alloc: Global) -> Result<Command<'a>, AllocError>
     with_number(alloc, command, WORKERS)
 }
 
-/// What is said of `serve`.
+/// What `serve` does, for help.
 const SERVE_ABOUT: &str =
     "serves sessions of many tenants over TCP on 127.0.0.1, with one pool of workers";
 
-/// A command before it has options: its name, what is said of it, and the help after its options.
+/// A command without options: its name, what it does, and the help that follows its options.
 fn bare<'a>(
     alloc: Global,
     name: &'static str,
@@ -151,7 +151,7 @@ fn with_number<'a>(
 /// The program's version.
 const VERSION: &str = "0.1.0";
 
-/// What a line of `solve` is, and what answers it.
+/// What help says of the lines of `solve` and of their answers.
 const SOLVE_HELP: &str = "A line is `depth position`, and is answered as soon as it is complete.
   depth     a number from 0 to 12, in plies
   position  64 cells from a1 to h8, row by row from the top, a space, and the side to move;
@@ -169,7 +169,7 @@ A faulty line is answered by ERR and the number of its first fault.
   19  no memory for the search
 ";
 
-/// What a session is, and what answers its lines.
+/// What help says of a session, of its lines and of their answers.
 const SERVE_HELP: &str =
     "The program writes `listening 127.0.0.1:port` first, and `ended k` when k sessions have ended.
 A connection is a session. Each line is answered by one line, in order:

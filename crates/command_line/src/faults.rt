@@ -9,7 +9,7 @@ use clap::Error;
 pub enum WordsFault {
     /// There was no memory to read them.
     OutOfMemory,
-    /// They were refused, or they ask for help or the version: what to print, and where.
+    /// They were refused, or they ask for help or the version: the error says what to print, and where.
     Refused(Error),
 }
 

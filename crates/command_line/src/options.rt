@@ -67,7 +67,8 @@ impl Options {
     }
 }
 
-/// What a command, and what was given to it, ask for. It is refused where an option has no value within its limits.
+/// What the command that the words name asks for. Err where they name none, or an option has no value within its
+/// limits.
 fn options_of(matches: &ArgMatches<'_>) -> Result<Options, Missing>
     ensures asked { IfOk result (λ options. asked_of (subcommand_rows_of matches.now) ≡ Some options) }
     ensures within { IfOk result IsWithinLimits }
@@ -79,7 +80,8 @@ fn options_of(matches: &ArgMatches<'_>) -> Result<Options, Missing>
     }
 }
 
-/// What the command of this name asks for.
+/// What the command of this name asks for. Err where there is no such command, or an option has no value within its
+/// limits.
 fn options_given(name: &str, given: &ArgMatches<'_>) -> Result<Options, Missing>
     ensures asked { IfOk result (λ options. command_asked (name.now, rows_of (found_of given.now)) ≡ Some options) }
     ensures within { IfOk result IsWithinLimits }
@@ -139,7 +141,7 @@ fn outside(alloc: Global, missing: Missing, matches: &ArgMatches<'_>) -> WordsFa
     }
 }
 
-/// What is said of it, with the usage of the command that the words name.
+/// The error of `clap` for what is missing: a message, and the usage of the command that the words name.
 fn outside_error(
     alloc: Global,
     missing: Missing,
@@ -152,7 +154,7 @@ fn outside_error(
     command.error(ErrorKind::ValueValidation, text.as_str())
 }
 
-/// What is lacking, in words.
+/// The error message for what is missing.
 fn text_of(alloc: Global, missing: Missing) -> Result<String, AllocError> {
     match missing {
         Missing::Value(setting) => format!(in alloc; "{setting}"),

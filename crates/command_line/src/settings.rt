@@ -23,7 +23,7 @@ pub(crate) struct Setting {
     pub help: &'static str,
 }
 
-/// What is said of a value outside its limits.
+/// The error message for a value outside its limits.
 impl Display for Setting {
     ghost use Rattle.std.specs.Prelude.{Some};
     ghost use Rattle.command_line.specs.Settings.{limits_text, setting_of};
@@ -39,7 +39,7 @@ impl Display for Setting {
     }
 }
 
-/// What the words lack.
+/// What the words lack, where they are refused.
 #[derive(Clone, Copy)]
 pub(crate) enum Missing {
     /// A command.
@@ -51,8 +51,8 @@ pub(crate) enum Missing {
 impl Setting {
     ghost use Rattle.command_line.specs.Settings.{number_asked, setting_of, value_asked};
 
-    /// The value that the words of a command give it, or its default. It is refused where it is no number of 1 to 8
-    /// digits within the limits, or where there is none.
+    /// The value that the words of a command give this option, or its default. Err where that is no number of 1 to 8
+    /// digits within the limits, or where neither is there.
     pub fn value_in(&self, given: &ArgMatches<'_>) -> Result<u32, Missing>
         ensures value { IfOk result (λ n. value_asked (setting_of self.now) (rows_of (found_of given.now)) ≡ Some n) }
         ensures none { OnErr result (value_asked (setting_of self.now) (rows_of (found_of given.now)) ≡ None) }
@@ -66,7 +66,8 @@ impl Setting {
         }
     }
 
-    /// The number that the words of a command give it, or its default, within the limits or not.
+    /// The number that the words of a command give this option, or its default, within the limits or not. None where
+    /// the words give no number of 1 to 8 digits, or give nothing and there is no default.
     fn number_in(&self, given: &ArgMatches<'_>) -> Option<u32>
         ensures { result ≡ number_asked (setting_of self.now) (rows_of (found_of given.now)) }
     {

@@ -1,8 +1,8 @@
 -- Meaning: what a search through a window promises of a value.
 use Rattle.std.specs.Prelude.{◌≡◌, ℤ, ◌<ℤ◌, ◌≤ℤ◌}
 
--- a score s that was got with the window from a to z speaks of the value m: at most a, it is an upper
--- bound of m; at least z, a lower bound; between the two it is m (the fail-soft alpha-beta of Fishburn)
+-- what a score s that a search with the window from a to z gave says of the value m: at most a, it is an upper bound
+-- of m; at least z, a lower bound; strictly between the two, m itself (the fail-soft alpha-beta of Fishburn)
 pub record IsBound (a z s m : ℤ) : Type 0 where
   pub upper : s ≤ℤ a → m ≤ℤ s
   pub lower : z ≤ℤ s → s ≤ℤ m

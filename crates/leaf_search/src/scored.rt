@@ -12,13 +12,13 @@ pub struct Scored {
     /// A choice of the board, or none: the best choice where the score lies inside the window, so none at
     /// depth 0 and in a finished game. Outside it no more is promised than that it is one of the board's.
     pub choice: Option<Choice>,
-    /// How many positions were entered, the first included; it stays at the greatest `u64`. Tests compare
-    /// it; no contract of a search speaks of it.
+    /// How many positions were entered, the first included; the count stops at the greatest `u64`. Tests compare it;
+    /// no contract of a search speaks of it.
     pub visited: u64,
 }
 
 impl Scored {
-    /// One position, entered and given this score, with no choice.
+    /// The result of entering one position: this score, no choice, and one position visited.
     pub(crate) fn entered(score: i32) -> Scored
         ensures { result ≡ record { score = score; choice = None; visited = 1 } }
     {
@@ -29,8 +29,8 @@ impl Scored {
         }
     }
 
-    /// Takes in what a search gave of the position after a choice, seen by the opponent: its score is
-    /// negated, and it is taken with the choice where it is better.
+    /// Adds the result of searching the position after `choice`, seen by the opponent. Where its negated score is
+    /// above the score here, that and the choice replace the ones here. The counts of positions are added.
     pub(crate) fn take_in(&mut self, choice: Choice, child: Scored)
         requires { IsWithin 128000 child.score }
         ensures better { self.old.score <ℤ neg_ℤ child.score → (self.new.score ≡ neg_ℤ child.score) × (self.new.choice ≡ Some choice) }

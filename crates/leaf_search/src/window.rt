@@ -8,7 +8,8 @@ use super::scored::Scored;
 /// A bound that no score reaches: the window from `-INF` to `INF` is the full one.
 pub const INF: i32 = 200_000;
 
-/// A window. A value between its ends is found exactly; of any other, a bound is.
+/// A search window. A value strictly between `alpha` and `beta` is found exactly; of any other value the search finds
+/// a bound.
 #[derive(Clone, Copy)]
 pub(crate) struct Window {
     pub alpha: i32,
@@ -19,8 +20,8 @@ pub(crate) struct Window {
 }
 
 impl Window {
-    /// The window for the position after the next choice, seen by the opponent, where this is the best
-    /// so far: only a score above it, and above `alpha`, still counts.
+    /// The window in which to search the position after the next choice, seen by the opponent, where `best` is the
+    /// best result so far: from `-beta` to `-max(alpha, best.score)`, since only a score above both still counts.
     pub(crate) fn of_child(self, best: &Scored) -> Window
         requires { best.now.score <ℤ self.beta }
         ensures alpha { result.alpha ≡ neg_ℤ self.beta }

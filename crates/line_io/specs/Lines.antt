@@ -17,7 +17,7 @@ line_text bytes = if nat_le (length bytes) 128 then Whole bytes else TooLong
 abbrev pub lines_of : List ℕ → List LineText
 lines_of bytes = map line_text (lines bytes)
 
--- the bytes up to the last LF, that one too: what comes after it is left out
+-- the bytes up to and including the last LF; [] where there is none
 abbrev pub up_to_last_end : List ℕ → List ℕ
 up_to_last_end [] = []
 up_to_last_end (b ∷ bs) = if list_any (λ c. c == 10) (b ∷ bs) then b ∷ up_to_last_end bs else []

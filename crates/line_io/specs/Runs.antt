@@ -16,7 +16,7 @@ bytes_due (Err Read) bytes = up_to_last_end bytes
 bytes_due (Err Write) bytes = bytes
 bytes_due (Err TooMuch) bytes = up_to_last_end bytes
 
--- how the writes ended: by a failure at fault 2 alone
+-- how the writes of a run with this result ended: with a failure at fault 2 (`Write`), else well
 abbrev pub write_result : {X : Type 0} → Result X LineFault → Result (Unit {0}) WriteFailed
 write_result (Ok _) = Ok tt
 write_result (Err Read) = Ok tt
@@ -31,7 +31,7 @@ IsEnding (Err Read) bytes last = last ≡ Failed ∷ []
 IsEnding (Err Write) bytes last = (last ≡ []) ⊎ (last ≡ Ended ∷ [])
 IsEnding (Err TooMuch) bytes last = (last ≡ []) × (2 ^ 62 ≤ length bytes)
 
--- these blocks were read, and the lines in them answered
+-- a whole run: blocks were read, and the lines in them that were due (`bytes_due`) were answered
 pub record Run {S K A : Type 0} (gives : S → ReadAnswer → S → Type 0) (takes : K → WriteAnswer → K → Type 0) (answers : A → LineText → List ℕ → A → Type 0) (source : S) (sink : K) (answerer : A) (source' : S) (sink' : K) (answerer' : A) (r : Result (Unit {0}) LineFault) : Type 0 where
   pub blocks : List (List ℕ)
   pub last : List ReadAnswer
@@ -39,21 +39,21 @@ pub record Run {S K A : Type 0} (gives : S → ReadAnswer → S → Type 0) (tak
   pub ends : IsEnding r (concat blocks) last
   pub lines : LinesAnswered takes answers sink answerer (lines_of (bytes_due r (concat blocks))) sink' answerer' (write_result r)
 
--- these lines, each answered by this function, with LF after each answer
+-- what is written for these lines where each is answered by this function: each answer, followed by LF
 abbrev pub answers_to : (LineText → List ℕ) → List LineText → List ℕ
 answers_to answer lines = flat_map (λ line. with_newline (answer line)) lines
 
--- a beginning of what was due, of which something is left
+-- `written` is a beginning of `due`, but not all of it
 abbrev pub IsBegun : List ℕ → List ℕ → Type 0
 IsBegun written due = (rest : List ℕ) × (written ++ rest ≡ due) × (0 < length rest)
 
--- all that was due is written, and after a failed write a beginning of it
+-- what was written of what was due: at Ok all of it, and where a write failed a beginning of it, but not all
 abbrev pub IsOutput : Result (Unit {0}) WriteFailed → List ℕ → List ℕ → Type 0
 IsOutput (Ok _) written due = written ≡ due
 IsOutput (Err _) written due = IsBegun written due
 
--- these blocks were read and these pieces written: what this function gives for the bytes whose lines are due,
--- and at fault 2 a beginning of it
+-- a run that answers by a function, as its reads and writes tell it: blocks were read and pieces written, and the
+-- pieces together are what `out` gives for the bytes whose lines are due (`bytes_due`), at fault 2 a beginning of that
 pub record FunctionRun {S K : Type 0} (gives : S → ReadAnswer → S → Type 0) (takes : K → WriteAnswer → K → Type 0) (out : List ℕ → List ℕ) (source : S) (sink : K) (source' : S) (sink' : K) (r : Result (Unit {0}) LineFault) : Type 0 where
   pub blocks : List (List ℕ)
   pub last : List ReadAnswer

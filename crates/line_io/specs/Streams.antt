@@ -25,13 +25,14 @@ abbrev pub write_answer : Result ℕ WriteFailed → List ℕ → WriteAnswer
 write_answer (Ok n) bytes = Took (take n bytes)
 write_answer (Err _) bytes = Refused
 
--- a read of known bytes gives the first of them, and the end where none is left
+-- what a read does to the bytes that are left, where they are known (Some): it gives the first of them, and the end
+-- only where none is left; where it fails, all are left
 abbrev pub ReadsKnown : Option (List ℕ) → ReadAnswer → Option (List ℕ) → Type 0
 ReadsKnown old (Gave bytes) new = Consumes old new bytes
 ReadsKnown old Ended new = Consumes old new [] × IsAtEnd new
 ReadsKnown old Failed new = Keeps old new
 
--- a write to known contents appends what it took
+-- what a write does to the contents, where they are known (Some): what it took is appended; where it fails, they stay
 abbrev pub WritesKnown : Option (List ℕ) → WriteAnswer → Option (List ℕ) → Type 0
 WritesKnown old (Took bytes) new = Appends old new bytes
 WritesKnown old Refused new = Keeps old new

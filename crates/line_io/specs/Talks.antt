@@ -12,7 +12,7 @@ use Rattle.line_io.specs.Streams.{ReadAnswer, Gave, Ended, Failed, WriteAnswer}
 use Rattle.line_io.specs.Writes.{LinesAnswered}
 use Rattle.line_io.specs.Runs.{bytes_due, write_result}
 
--- the lines up to the first that ends the talk, that one too
+-- the lines up to and including the first that ends the talk; all of them where none does
 abbrev pub upto : (LineText → Bool) → List LineText → List LineText
 upto ends [] = []
 upto ends (l ∷ ls) = if ends l then l ∷ [] else l ∷ upto ends ls
@@ -22,19 +22,20 @@ abbrev pub none_ends : (LineText → Bool) → List LineText → Bool
 none_ends ends [] = true
 none_ends ends (l ∷ ls) = not (ends l) && none_ends ends ls
 
--- how a talk ended, where all its lines were read
+-- how a talk ended, by whether none of its lines ends it: by the end of the input (true) or by a line (false)
 abbrev pub end_of : Bool → TalkEnd
 end_of true = by_input
 end_of false = by_line
 
--- whether the writes succeeded
+-- a result without its value: whether the writes succeeded
 abbrev pub written : {X : Type 0} → Result X WriteFailed → Result (Unit {0}) WriteFailed
 written (Ok _) = Ok tt
 written (Err e) = Err e
 
--- the read after those that gave bytes, and whether a line ended the talk. By a line the talk ends exactly where one of
--- the lines ends it, by the input where the input's end was read and none did. At fault 1 the read failed, and no line before
--- ended the talk. Fault 3 never comes
+-- how a talk with this result ended, by the reads after those that gave bytes (`last`) and by the lines. By a line:
+-- one of the lines ends the talk. By the input: the end of the input was read, and no line ends the talk. At fault 1
+-- the read failed, and none of the lines that an LF ended ends the talk. At fault 2 a write failed. Fault 3 never
+-- comes
 abbrev pub IsTalkEnd : (LineText → Bool) → Result TalkEnd LineFault → List ℕ → List ReadAnswer → Type 0
 IsTalkEnd ends (Ok by_line) bytes last = ((last ≡ []) ⊎ (last ≡ Ended ∷ [])) × (none_ends ends (lines_of bytes) ≡ false)
 IsTalkEnd ends (Ok by_input) bytes last = (last ≡ Ended ∷ []) × (none_ends ends (lines_of bytes) ≡ true)
@@ -42,7 +43,7 @@ IsTalkEnd ends (Err Read) bytes last = (last ≡ Failed ∷ []) × (none_ends en
 IsTalkEnd ends (Err Write) bytes last = (last ≡ []) ⊎ (last ≡ Ended ∷ [])
 IsTalkEnd ends (Err TooMuch) bytes last = ⊥
 
--- these blocks were read, and of the lines in them those up to the one that ends the talk answered
+-- a whole talk: blocks were read, and the lines in them were answered, up to and including the one that ends the talk
 pub record Talk {S K A : Type 0} (gives : S → ReadAnswer → S → Type 0) (takes : K → WriteAnswer → K → Type 0) (answers : A → LineText → List ℕ → A → Type 0) (ends : LineText → Bool) (source : S) (sink : K) (answerer : A) (source' : S) (sink' : K) (answerer' : A) (r : Result TalkEnd LineFault) : Type 0 where
   pub blocks : List (List ℕ)
   pub last : List ReadAnswer

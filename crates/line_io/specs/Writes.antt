@@ -14,17 +14,18 @@ with_newline text = text ++ 10 ∷ []
 abbrev pub written_texts : List (List ℕ) → List ℕ
 written_texts texts = flat_map with_newline texts
 
--- the writes: each took one of these pieces, and at an error one more failed
+-- what the writes of these pieces did: each took its piece, and where the result is an error one more write failed
 abbrev pub writes_of : List (List ℕ) → Result (Unit {0}) WriteFailed → List WriteAnswer
 writes_of pieces (Ok _) = map Took pieces
 writes_of pieces (Err _) = map Took pieces ++ Refused ∷ []
 
--- at Ok nothing is left, and at an error something is
+-- what is left to be written when the writes ended: nothing at Ok, something at an error
 abbrev pub IsRest : Result (Unit {0}) WriteFailed → List ℕ → Type 0
 IsRest (Ok _) rest = rest ≡ []
 IsRest (Err _) rest = 0 < length rest
 
--- these bytes were written: in some pieces, one after another, up to a rest
+-- these bytes were written in pieces, one after another, and `rest` is what is left of them: nothing at Ok, something
+-- at an error
 pub record IsWritten {K : Type 0} (takes : K → WriteAnswer → K → Type 0) (from : K) (bytes : List ℕ) (to : K) (r : Result (Unit {0}) WriteFailed) : Type 0 where
   pub pieces : List (List ℕ)
   pub rest : List ℕ
@@ -32,7 +33,8 @@ pub record IsWritten {K : Type 0} (takes : K → WriteAnswer → K → Type 0) (
   pub taken : concat pieces ++ rest ≡ bytes
   pub ends : IsRest r rest
 
--- the write that failed was one of the last text, whose rest this is: the texts before it were taken
+-- the last of the texts was cut short: `rest`, not [], is what is left of it and its LF, and the texts before it were
+-- written whole
 pub record IsCutShort (texts : List (List ℕ)) (rest : List ℕ) : Type 0 where
   pub before : List (List ℕ)
   pub last : List ℕ
@@ -41,12 +43,14 @@ pub record IsCutShort (texts : List (List ℕ)) (rest : List ℕ) : Type 0 where
   pub last_is : begun ++ rest ≡ with_newline last
   pub left : 0 < length rest
 
--- at Ok all of these lines are answered and all answers taken; at an error the answer to the last of the first lines isn't
+-- at Ok all of the lines were answered and the answers written whole; at an error the first of the lines were answered
+-- (`answered`), and `rest` is what is left of the last answer
 abbrev pub IsAnswered : Result (Unit {0}) WriteFailed → List LineText → List LineText → List (List ℕ) → List ℕ → Type 0
 IsAnswered (Ok _) lines answered texts rest = (answered ≡ lines) × (rest ≡ [])
 IsAnswered (Err _) lines answered texts rest = IsPrefixOf answered lines × IsCutShort texts rest
 
--- some of these lines, from the first on, were answered by these texts, which were written in these pieces up to a rest
+-- lines were answered, from the first on, by these texts, which were written with an LF each in these pieces, up to a
+-- rest: at Ok all lines and no rest, at an error some of the lines and a rest of the last answer
 pub record LinesAnswered {K A : Type 0} (takes : K → WriteAnswer → K → Type 0) (answers : A → LineText → List ℕ → A → Type 0) (sink : K) (answerer : A) (lines : List LineText) (sink' : K) (answerer' : A) (r : Result (Unit {0}) WriteFailed) : Type 0 where
   pub answered : List LineText
   pub texts : List (List ℕ)

@@ -15,7 +15,7 @@ use crate::output::{Sink, write_text};
 /// The bytes that one read asks for at most.
 pub(crate) const BLOCK_BYTES: usize = 4096;
 
-/// A run that has read so many bytes reads no more.
+/// The number of bytes read after which a run reads no more.
 const MOST_BYTES: u64 = 1 << 62;
 
 /// Answers lines, one after another, and keeps the last answer until the next. An array of the answerer's own holds
@@ -48,7 +48,7 @@ pub(crate) fn answer_line<K: Sink, A: Answer>(
     write_text(sink, answerer.text())
 }
 
-/// Answers each line that ends in this block.
+/// Cuts this block into lines, and answers each line that an LF ends in it. Err at the first write that fails.
 fn answer_block<K: Sink, A: Answer>(
     sink: &mut K,
     answerer: &mut A,
@@ -69,7 +69,7 @@ fn answer_block<K: Sink, A: Answer>(
     Ok(())
 }
 
-/// Answers the line that the end of the input ends, if there is one.
+/// Answers the line that the end of the input ends; does nothing where no byte came since the last LF.
 pub(crate) fn answer_last<K: Sink, A: Answer>(
     sink: &mut K,
     answerer: &mut A,

@@ -9,10 +9,10 @@ use std::marker::Model;
 /// The most bytes that a line has without its end.
 const LINE_BYTES: usize = 128;
 
-/// Ends a line.
+/// The byte that ends a line.
 pub(crate) const LF: u8 = 10;
 
-/// Is dropped directly before an LF.
+/// The byte that is left out where it stands directly before an LF.
 const CR: u8 = 13;
 
 /// A line without its end.
@@ -28,7 +28,9 @@ pub enum Line<'a> {
 #[derive(Clone, Copy)]
 enum Beyond {
     Nothing,
+    /// One CR, which isn't part of the line if an LF comes next.
     Return,
+    /// Another byte than one CR, or several: the line is too long.
     More,
 }
 
@@ -101,7 +103,7 @@ impl LineCutter {
         }
     }
 
-    /// The line, where the end of the input ends it now. There is none where no byte came.
+    /// The line, where the end of the input ends it now; None where no byte came since the last LF.
     pub fn last(&self) -> Option<Line<'_>>
         ensures { option_map text_of result ≡ last_line self.now }
     {

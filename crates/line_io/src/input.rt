@@ -13,19 +13,19 @@ pub trait Source {
     /// What one call of `fill` may do, and the states before and after it.
     ghost gives: { Self → ReadAnswer → Self → Type 0 };
 
-    /// Puts the next bytes of the input at the start of the block, and gives their number. It is 0 at
-    /// the end of the input alone. It is refused where the input fails.
+    /// Puts the next bytes of the input at the start of the block, and returns how many they are: 0 only at the end of
+    /// the input. Err where the input fails.
     fn fill(&mut self, block: &mut [u8]) -> Result<usize, ReadFailed>
         requires { 0 < length block.old }
         ensures bound { IfOk result (λ n. n ≤ length block.new) }
         ensures answer { gives self.old (read_answer result block.new) self.new };
 }
 
-/// A reader of std as a source. A read that a signal interrupts is made again, up to 65,536 times; each other
-/// error is a failure, and leaves the bytes that are known to be left.
+/// A reader of std as a source. A read that a signal interrupts is made again, up to 65,536 times; any other error is
+/// a failure, and consumes no byte.
 #[derive(Drop)]
 pub struct FromReader<R> {
-    /// The reader, whose position is that of the last `fill`.
+    /// The reader that `fill` reads from.
     pub reader: R,
 }
 

@@ -14,8 +14,7 @@ pub trait Sink {
     /// What one call of `put` may do, and the states before and after it.
     ghost takes: { Self → WriteAnswer → Self → Type 0 };
 
-    /// Takes the first of these bytes, at least one, and gives their number. It is refused where the output
-    /// fails.
+    /// Takes the first of these bytes, at least one, and returns how many it took. Err where the output fails.
     fn put(&mut self, bytes: &[u8]) -> Result<usize, WriteFailed>
         requires { 0 < length bytes.now }
         ensures some { IfOk result (λ n. 0 < n) }
@@ -29,7 +28,7 @@ pub trait Sink {
 pub struct FromWriter<W> {
     /// The writer, which has what `put` took.
     pub writer: W,
-    /// Why the last of the writes that have failed did, where one has.
+    /// The error of the last write that failed; None where none has failed.
     pub failure: Option<ErrorKind>,
 }
 
@@ -44,7 +43,7 @@ impl<W> FromWriter<W> {
         }
     }
 
-    /// Notes why a write has failed.
+    /// Notes why a write has failed, and returns `WriteFailed`.
     fn fail(&mut self, failure: ErrorKind) -> Result<usize, WriteFailed>
         ensures failed { OnOk result ⊥ }
         ensures kept { self.new.writer ≡ self.old.writer }
@@ -70,8 +69,8 @@ impl<W: Write> Sink for FromWriter<W> {
     }
 }
 
-/// Writes all of these bytes: the first call offers them all, and each further one what is left. It is refused
-/// at the first write that fails, and a beginning of the bytes is written then.
+/// Writes all of these bytes: the first call offers them all, and each further one what is left. Err at the first
+/// write that fails; then only a beginning of the bytes is written.
 pub fn write_text<K: Sink>(sink: &mut K, bytes: &[u8]) -> Result<(), WriteFailed>
     ensures { IsWritten K.takes sink.old bytes.now sink.new result }
 {

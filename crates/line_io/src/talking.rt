@@ -14,12 +14,12 @@ use crate::input::Source;
 use crate::output::Sink;
 use std::sync::Wait;
 
-/// Knows the lines that end a talk.
+/// Tells which lines end a talk.
 pub trait Ends {
-    /// Which lines do.
+    /// Which lines end a talk.
     ghost ends: { LineText → Bool };
 
-    /// Whether this line does.
+    /// Whether this line ends the talk.
     fn is_last(&self, line: Line<'_>) -> bool
         ensures { result ≡ ends (text_of line.entry) };
 }

@@ -3,13 +3,13 @@ use Rattle.std.specs.Prelude.{◌≡◌, ◌≢◌, ℕ, ◌<◌, ◌==◌, ◌|
 use Rattle.std.specs.List.{AllByRecursion}
 use Prim.Native.Nat.{zero, suc}
 
--- how many things at the front have a number below this one: in a list that rises, how many have. That is
--- the place of the thing of this number, or the one where it would stand
+-- how many things at the front of a list have a number below this one. In a list that rises these are all that have
+-- one: it is the place of the thing of this number, or the one where it would stand
 abbrev pub count_below : {X : Type 0} → (X → ℕ) → ℕ → List X → ℕ
 count_below number_of n [] = 0
 count_below number_of n (x ∷ xs) = if nat_lt (number_of x) n then suc (count_below number_of n xs) else 0
 
--- the first thing of this number, if there is one
+-- the first thing of this number; None where there is none
 abbrev pub thing_of : {X : Type 0} → (X → ℕ) → ℕ → List X → Option X
 thing_of number_of n [] = None
 thing_of number_of n (x ∷ xs) = if number_of x == n then Some x else thing_of number_of n xs
@@ -19,22 +19,22 @@ abbrev pub has_thing : {X : Type 0} → (X → ℕ) → ℕ → List X → Bool
 has_thing number_of n [] = false
 has_thing number_of n (x ∷ xs) = (number_of x == n) || has_thing number_of n xs
 
--- what is said of the first thing of this number; where there is none, of none
+-- what `say` gives for the first thing of this number; `none` where there is no such thing
 abbrev pub said_of : {X Y : Type 0} → (X → ℕ) → (X → Y) → Y → ℕ → List X → Y
 said_of number_of say none n [] = none
 said_of number_of say none n (x ∷ xs) = if number_of x == n then say x else said_of number_of say none n xs
 
--- the things, the first one of this number changed so
+-- the list with the first thing of this number changed by `change`; the list itself where there is none
 abbrev pub with_thing : {X : Type 0} → (X → ℕ) → ℕ → (X → X) → List X → List X
 with_thing number_of n change [] = []
 with_thing number_of n change (x ∷ xs) = if number_of x == n then change x ∷ xs else x ∷ with_thing number_of n change xs
 
--- the things without the first one of this number
+-- the list without the first thing of this number; the list itself where there is none
 abbrev pub without_thing : {X : Type 0} → (X → ℕ) → ℕ → List X → List X
 without_thing number_of n [] = []
 without_thing number_of n (x ∷ xs) = if number_of x == n then xs else x ∷ without_thing number_of n xs
 
--- the things with one more, in front of the first whose number isn't below its own
+-- the list with one more thing, in front of the first whose number isn't below its own; at the end where there is none
 abbrev pub inserted : {X : Type 0} → (X → ℕ) → X → List X → List X
 inserted number_of new [] = new ∷ []
 inserted number_of new (x ∷ xs) = if nat_lt (number_of x) (number_of new) then x ∷ inserted number_of new xs else new ∷ x ∷ xs

@@ -5,7 +5,7 @@ use Rattle.std.specs.Prelude.{ℕ, ◌+◌, List, [], ◌∷◌}
 abbrev pub number_in : ℕ × ℕ → ℕ
 number_in pair = pair.0
 
--- what stands under it
+-- what stands under the number of a thing
 abbrev pub kept_in : ℕ × ℕ → ℕ
 kept_in pair = pair.1
 
@@ -13,6 +13,6 @@ kept_in pair = pair.1
 abbrev pub four_things : List (ℕ × ℕ)
 four_things = (2, 20) ∷ (5, 50) ∷ (5, 51) ∷ (9, 90) ∷ []
 
--- a thing with 1 more under it
+-- the thing with 1 added to what stands under its number
 abbrev pub raised : ℕ × ℕ → ℕ × ℕ
 raised pair = (pair.0, pair.1 + 1)

@@ -8,14 +8,14 @@ ghost use Rattle.number_index.specs.Places.{count_below, thing_of, AreRising};
 use crate::numbered::Numbered;
 use std::marker::Model;
 
-/// How many things a list is meant to have. Those of a longer one from place 64 on are searched for.
+/// The length up to which an index guesses the places of a list. Things from place 64 on are found by binary search.
 const THINGS: usize = 64;
 
 /// The number of guesses, a power of two.
 const GUESSES: u64 = 256;
 
-/// Where the things of a list may stand that rises by their numbers: the guess of a number is what its
-/// remainder by the count of guesses has.
+/// Guesses where things stand in a list that rises by their numbers: for each remainder by 256, the place of a thing
+/// whose number has it. A guess may be wrong; then the thing is searched for.
 #[derive(Debug, Drop)]
 pub struct TenantIndex {
     guesses: [u8; GUESSES as usize],
@@ -42,7 +42,8 @@ impl TenantIndex {
         }
     }
 
-    /// The place of the thing of this number, if it stands where it is guessed to.
+    /// The place of the thing of this number, if the guess is right; None where another thing or none stands there,
+    /// even if a thing of this number stands elsewhere.
     #[inline(always)]
     pub fn guessed<T: Numbered>(&self, things: &[T], number: u64) -> Option<usize>
         requires { AreRising T.number_of things.now }
@@ -57,8 +58,8 @@ impl TenantIndex {
         None
     }
 
-    /// How many of these things have a number below this one: the place of the thing of this number, or
-    /// that where it would stand. The guess is looked at first.
+    /// How many of these things have a number below this one: the place of the thing of this number, or the one where
+    /// it would stand. Fast where the guess is right, else a binary search.
     #[inline(always)]
     pub fn place_of<T: Numbered>(&self, things: &[T], number: u64) -> usize
         requires { AreRising T.number_of things.now }
@@ -70,7 +71,7 @@ impl TenantIndex {
         }
     }
 
-    /// The thing of this number, if there is one. The guess is looked at first.
+    /// The thing of this number; None where there is none. Fast where the guess is right, else a binary search.
     #[inline(always)]
     pub fn find<'a, T: Numbered>(&self, things: &'a [T], number: u64) -> Option<&'a T>
         requires { AreRising T.number_of things.now }
@@ -82,8 +83,8 @@ impl TenantIndex {
         }
     }
 
-    /// Puts down where each of these things stands, or a later one that shares its guess: for after an
-    /// insertion or a removal.
+    /// Puts down anew where each of these things stands, as after an insertion or a removal. Of things that share a
+    /// guess, the place of the last is kept.
     pub fn guess_anew<T: Numbered>(&mut self, things: &[T])
         ensures { self.new ≡ with_places T.number_of things.now 0 self.old }
     {
@@ -94,7 +95,7 @@ impl TenantIndex {
     }
 }
 
-/// How many of these things have a number below this one, found by halves.
+/// How many of these things have a number below this one, found by binary search.
 #[cold]
 #[inline(never)]
 fn search<T: Numbered>(things: &[T], number: u64) -> usize
@@ -108,7 +109,7 @@ fn search<T: Numbered>(things: &[T], number: u64) -> usize
     )
 }
 
-/// The thing of this number, if there is one, found by halves.
+/// The thing of this number, found by binary search; None where there is none.
 #[cold]
 #[inline(never)]
 fn look_up<T: Numbered>(things: &[T], number: u64) -> Option<&T>

@@ -1,7 +1,7 @@
 //! Things that have a number.
 ghost use Rattle.std.specs.Prelude.{◌≡◌, ℕ};
 
-/// A thing that has a number, by which it stands in a list.
+/// A thing with a number, by which lists of such things are ordered.
 pub trait Numbered {
     ghost number_of: { Self → ℕ };
 

@@ -9,7 +9,7 @@ ghost use Rattle.number_index.specs.Guesses.{guess_of, with_guess};
 use std::alloc::{AllocError, Allocator, Global};
 use std::marker::Model;
 
-/// How many places a table can be asked for.
+/// The most places that a table can be asked for.
 pub const MOST: usize = 1 << 16;
 
 /// A table of guesses of where numbers stand.
@@ -31,8 +31,8 @@ impl<A: Allocator> Model for Guesses<A> {
 }
 
 impl<A: Allocator> Guesses<A> {
-    /// A table whose guesses are all 0, with so many places, rounded up to a power of two. Takes
-    /// memory: `AllocError` only where a growth was refused.
+    /// A table whose guesses are all 0, with `size` places, rounded up to a power of two. Takes memory: Err only where
+    /// the allocator refused it.
     pub fn new(alloc: A, size: usize) -> Result<Self, AllocError>
         requires { size ≤ MOST }
         ensures places { IfOk result (λ g. IsNextPowerOfTwo size (length g)) }
@@ -46,8 +46,8 @@ impl<A: Allocator> Guesses<A> {
         })
     }
 
-    /// Where a number may stand: 0 where none was put down, and maybe that of another number that
-    /// shares its place.
+    /// Where a number may stand: the place that was put down last for it, or for another number that shares its entry;
+    /// 0 where none was.
     #[inline(always)]
     pub fn guess(&self, number: u64) -> usize
         ensures { result ≡ guess_of self.now number }
@@ -55,8 +55,8 @@ impl<A: Allocator> Guesses<A> {
         self.places[(number & self.mask) as usize] as usize
     }
 
-    /// Puts down where a number stands. A place from 2^32 on is put down as its lowest 32 bits, and
-    /// so is a wrong guess.
+    /// Puts down where a number stands. Of a place from 2^32 on only the lowest 32 bits are kept, and the guess is
+    /// wrong then.
     pub fn put(&mut self, number: u64, place: usize)
         ensures put { self.new ≡ with_guess self.old number place }
         ensures found { place < 2 ^ 32 → guess_of self.new number ≡ place }

@@ -15,24 +15,27 @@ use Rattle.othello_board.specs.declared.directions.Direction.TheVariants.{North,
 unfoldable pub squares : List ℕ
 squares = range_with_len 0 64
 
--- the cell of a square, which is empty for a number that is no square
+-- the cell on square s of a board; Empty where s is no square of it
 abbrev pub cell_at : List Cell → ℕ → Cell
 cell_at board s = slice_index_or board s Empty
 
--- the square above, below, to the left and to the right, where there is one
+-- the square one row up, towards row 1; None for a square of row 1
 abbrev pub above : ℕ → Option ℕ
 above s = if nat_lt s 8 then None else Some (s - 8)
 
+-- the square one row down, towards row 8; None for a square of row 8
 abbrev pub below : ℕ → Option ℕ
 below s = if nat_lt s 56 then Some (s + 8) else None
 
+-- the square one column to the left, towards column a; None for a square of column a
 abbrev pub left_of : ℕ → Option ℕ
 left_of s = if s % 8 == 0 then None else Some (s - 1)
 
+-- the square one column to the right, towards column h; None for a square of column h
 abbrev pub right_of : ℕ → Option ℕ
 right_of s = if s % 8 == 7 then None else Some (s + 1)
 
--- the next square in a direction, where the board goes on there
+-- the next square in a direction; None where the board ends there
 abbrev pub step : Direction → ℕ → Option ℕ
 step North s = above s
 step NorthEast s = option_and_then right_of (above s)
@@ -47,30 +50,31 @@ step NorthWest s = option_and_then left_of (above s)
 abbrev pub directions : List Direction
 directions = North ∷ NorthEast ∷ East ∷ SouthEast ∷ South ∷ SouthWest ∷ West ∷ NorthWest ∷ []
 
--- the first n squares beside s in a direction, or all of them up to the edge if they are fewer
+-- the next n squares from s in a direction, nearest first, s left out; fewer where the edge comes before
 unfoldable pub squares_beside : ℕ → Direction → ℕ → List ℕ
 squares_beside zero d s = []
 squares_beside (suc n) d s = unwrap_or (option_map (λ t. t ∷ squares_beside n d t) (step d s)) []
 
--- all squares beside s in a direction up to the edge, which are at most 7
+-- all squares from s to the edge in a direction, nearest first, s left out: at most 7
 abbrev pub ray : Direction → ℕ → List ℕ
 ray d s = squares_beside 7 d s
 
--- one more square in front of a run: an own disc ends the run, an opposing disc is part of it where
--- the run is ended beyond, and an empty square breaks it
+-- one step of `outflanked`: what is outflanked from square s on, which holds this cell, where `beyond` is what is
+-- outflanked from the next square on. An own disc ends the run, an opposing disc is added to it, and at an empty
+-- square there is none
 abbrev pub led_by : Cell → ℕ → Option (List ℕ) → Option (List ℕ)
 led_by Own s beyond = Some []
 led_by Opp s beyond = option_map (λ run. s ∷ run) beyond
 led_by Empty s beyond = None
 
--- along these squares: the opposing discs before the first own disc, where nothing else stands
--- before it; none where the squares end first
+-- the squares of the opposing discs along these squares up to the first own disc; None where an empty square, or the
+-- end of the squares, comes before an own disc
 abbrev pub outflanked : List Cell → List ℕ → Option (List ℕ)
 outflanked board [] = None
 outflanked board (s ∷ beyond) = led_by (cell_at board s) s (outflanked board beyond)
 
--- the unbroken straight run of opposing discs that starts beside s in a direction, if a disc of the
--- mover follows it; else nothing
+-- the squares of the unbroken straight run of opposing discs that starts beside s in a direction, if a disc of the
+-- mover ends it; else []
 abbrev pub run : List Cell → ℕ → Direction → List ℕ
 run board s d = unwrap_or (outflanked board (ray d s)) []
 
@@ -98,24 +102,25 @@ is_nil (s ∷ more) = false
 abbrev pub is_legal : List Cell → ℕ → Bool
 is_legal board s = is_empty_cell (cell_at board s) && not (is_nil (flips board s))
 
+-- whether s is in a list of squares
 abbrev pub is_among : ℕ → List ℕ → Bool
 is_among s discs = list_any (λ t. t == s) discs
 
--- the board with these squares made own
+-- the board with an own disc on each of these squares, and every other cell as it was
 abbrev pub made_own : List ℕ → List Cell → List Cell
 made_own discs board = map (λ s. if is_among s discs then Own else cell_at board s) squares
 
--- the same cell, seen by the other player
+-- the cell as the other player sees it: own and opposing discs exchanged
 abbrev pub exchanged_cell : Cell → Cell
 exchanged_cell Empty = Empty
 exchanged_cell Own = Opp
 exchanged_cell Opp = Own
 
--- the same board, seen by the other player
+-- the board as the other player sees it: own and opposing discs exchanged
 abbrev pub exchanged : List Cell → List Cell
 exchanged board = map exchanged_cell board
 
--- the board after a disc of the mover was set on s, seen by the other player: the disc and all
--- that it outflanks are the mover's then, and what is flipped outflanks nothing further
+-- the board after the mover's move to s, seen by the other player: the new disc and all discs that it outflanks are
+-- the mover's, and a flipped disc outflanks nothing further
 abbrev pub played : List Cell → ℕ → List Cell
 played board s = exchanged (made_own (s ∷ flips board s) board)

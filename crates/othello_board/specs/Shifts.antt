@@ -4,7 +4,7 @@ use Rattle.std.specs.Int.{bit_at}
 use Rattle.othello_board.specs.declared.directions.Direction.{Direction}
 use Rattle.othello_board.specs.declared.directions.Direction.TheVariants.{North, NorthEast, East, SouthEast, South, SouthWest, West, NorthWest}
 
--- the other way
+-- the opposite direction
 abbrev pub opposite : Direction → Direction
 opposite North = South
 opposite NorthEast = SouthWest
@@ -26,7 +26,7 @@ number_of SouthWest = 5
 number_of West = 6
 number_of NorthWest = 7
 
--- the bit of a square, or 0 where there is no square
+-- bit s of a word for Some s, and 0 for None
 abbrev pub bit_there : ℕ → Option ℕ → ℕ
 bit_there word None = 0
 bit_there word (Some s) = bit_at word s
@@ -39,14 +39,17 @@ rises South = true
 rises SouthWest = true
 rises _ = false
 
--- the number that is k less, and the one that is k more, where it is one of the 64
+-- t - k, or None where t is less than k
 abbrev pub less_by : ℕ → ℕ → Option ℕ
 less_by k t = if nat_lt t k then None else Some (t - k)
 
+-- t + k, or None where that is over 63
 abbrev pub more_by : ℕ → ℕ → Option ℕ
 more_by k t = if nat_lt (t + k) 64 then Some (t + k) else None
 
--- where a disc comes from that a word's shift by one step moves to square t: the rows count as one line
+-- the square whose bit a shift of a word by one step in a direction moves to square t; None where the shift brings in
+-- a 0. The shift ignores the left and the right edge: a step beyond column h comes in at column a, and the other way
+-- round
 abbrev pub slid_from : Direction → ℕ → Option ℕ
 slid_from North t = more_by 8 t
 slid_from NorthEast t = more_by 7 t

@@ -6,7 +6,7 @@ use Rattle.othello_board.specs.declared.cells.Cell.TheVariants.{Empty, Own, Opp}
 use Rattle.othello_board.specs.declared.boards.Board.{Board}
 use Rattle.othello_board.specs.Rules.{squares}
 
--- bit s of each word is square s: own, else opposing, else empty
+-- the cell of square s: Own where bit s of `own` is 1, else Opp where bit s of `opp` is 1, else Empty
 abbrev pub cell_of : ℕ → ℕ → ℕ → Cell
 cell_of own opp s = if bit_at own s == 1 then Own else (if bit_at opp s == 1 then Opp else Empty)
 

@@ -18,7 +18,7 @@ impl Board {
     ghost use Rattle.othello_board.specs.Rules.{cell_at, exchanged, run, flips, is_legal, played, is_own_cell, is_opp_cell};
     ghost use Rattle.othello_board.specs.Words.{cells, bits_of};
 
-    /// The board of these discs, or none where a square has two.
+    /// The board of these discs; None where some bit is set in both words.
     pub fn new(own: u64, opp: u64) -> Option<Board>
         ensures disjoint { IsSome result ↔ (bit_and own opp ≡ 0) }
         ensures words { IfSome result (λ b. (b.own ≡ own) × (b.opp ≡ opp)) }
@@ -44,7 +44,7 @@ impl Board {
         }
     }
 
-    /// The same board, seen by the other player.
+    /// The board as the other player sees it: own and opposing discs exchanged.
     pub fn swap(self) -> Board
         ensures words { (result.own ≡ self.opp) × (result.opp ≡ self.own) }
         ensures cells { cells result ≡ exchanged (cells self) }
@@ -63,9 +63,9 @@ impl Board {
         (self.own.count_ones(), self.opp.count_ones())
     }
 
-    /// The discs that a disc of the mover on this square outflanks in one direction, as bits: those of
-    /// the ray before the first square that isn't opposing, if an own disc stands there. It is the
-    /// lowest such square where the ray rises, else the highest.
+    /// The discs that a disc of the mover on this square outflanks in one direction, as bits: those of the ray before
+    /// its nearest square that isn't opposing, if an own disc stands there; else 0. That nearest square has the lowest
+    /// bit where the ray rises in number, else the highest.
     #[inline(always)]
     fn run(self, square: u8, direction: Direction) -> u64
         requires { square < 64 }
@@ -97,7 +97,7 @@ impl Board {
             | self.run(square, Direction::NorthWest)
     }
 
-    /// The board after the mover's disc on this square, seen by the opponent.
+    /// The board after the mover sets a disc on this square, where that is legal, seen by the opponent.
     pub fn play(self, square: u8) -> Board
         requires on_board { square < 64 }
         requires legal { IsTrue (is_legal (cells self) square) }

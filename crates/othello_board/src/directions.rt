@@ -41,7 +41,7 @@ impl Direction {
         }
     }
 
-    /// The other way.
+    /// The opposite direction.
     #[inline(always)]
     pub fn opposite(self) -> Direction
         ensures { result ≡ opposite self }
@@ -80,7 +80,7 @@ impl Direction {
         self as usize
     }
 
-    /// All squares beside a square in this direction up to the edge, as bits.
+    /// All squares from this one to the edge in this direction, this one left out, as bits.
     #[inline(always)]
     pub(crate) fn ray(self, square: u8) -> u64
         requires { square < 64 }

@@ -8,12 +8,12 @@ use Rattle.othello_moves.specs.declared.choices.Choice.TheVariants.{Square, Pass
 use Rattle.othello_moves.specs.Choices.{choices, legal_squares, after, plies}
 use Rattle.othello_eval.specs.Values.{eval, final_value}
 
--- the greatest of these numbers, of which x is one
+-- the greatest of x and the numbers of a list
 abbrev pub greatest : ℤ → List ℤ → ℤ
 greatest x [] = x
 greatest x (y ∷ more) = int_max x (greatest y more)
 
--- the greatest of these numbers, or another where there is none
+-- the greatest number of a list, or `other` where the list is empty
 abbrev pub greatest_or : ℤ → List ℤ → ℤ
 greatest_or other [] = other
 greatest_or other (x ∷ more) = greatest x more
@@ -23,20 +23,21 @@ abbrev pub leaf_value : List Cell → List Choice → ℤ
 leaf_value board [] = final_value board
 leaf_value board (c ∷ more) = eval board
 
--- the greatest of what the moves to these squares are worth to the mover, where `below` is the value of a
--- board with one ply less
+-- the greatest of what the moves to these squares are worth to the mover, where `below` gives the value of a board
+-- with one ply less; the final value where the list is empty
 abbrev pub over_squares : (List Cell → ℤ) → List Cell → List ℕ → ℤ
 over_squares below board squares = greatest_or (final_value board) (map (λ s. neg_ℤ (below (played board s))) squares)
 
--- the value of the board after a choice, where `below` is the value of a board with one ply less: a square
--- uses that ply; a pass uses none, and the other side, which has a legal square then, uses it
+-- the value of the board after a choice, seen by the other side, where `below` gives the value of a board with one ply
+-- less. A square uses that ply. A pass uses none: the ply is used by the other side's moves to its legal squares, of
+-- which it has one after a pass
 abbrev pub value_after : (List Cell → ℤ) → List Cell → Choice → ℤ
 value_after below board (Square s) = below (played board s)
 value_after below board Pass = over_squares below (exchanged board) (legal_squares (exchanged board))
 
--- the minimax value of a board to a depth: the value of the finished game where there is no choice, else
--- at depth 0 the evaluation, else the greatest of what the choices are worth to the mover (`choice_value`:
--- `values_by_choices` of the laws)
+-- the minimax value of a board to a depth, seen by the player to move: the value of the finished game where there is
+-- no choice, else at depth 0 the evaluation, else the greatest of what the choices are worth to the mover. The law
+-- `values_by_choices` says this by `choice_value`
 unfoldable pub minimax : ℕ → List Cell → ℤ
 minimax zero board = leaf_value board (choices board)
 minimax (suc depth) board = greatest_or (final_value board) (map (λ c. neg_ℤ (value_after (minimax depth) board c)) (choices board))
@@ -46,7 +47,7 @@ minimax (suc depth) board = greatest_or (final_value board) (map (λ c. neg_ℤ 
 abbrev pub choice_value : ℕ → List Cell → Choice → ℤ
 choice_value depth board c = neg_ℤ (minimax (depth - plies c) (after board c))
 
--- whether two numbers are the same
+-- whether two integers are equal
 abbrev pub int_equal : ℤ → ℤ → Bool
 int_equal x y = int_le x y && int_le y x
 

@@ -21,7 +21,7 @@ no_discs = replicate 64 Empty
 abbrev pub corner_or_edge : List Cell
 corner_or_edge = first_row (Empty ∷ Opp ∷ Own ∷ Opp ∷ Empty ∷ Empty ∷ Empty ∷ Empty ∷ [])
 
--- an entry
+-- the entry of a root table: a choice, a score, and what the score says of the choice's value
 abbrev pub entry : Choice → BoundKind → ℤ → Bound
 entry choice kind score = record { choice = choice; score = score; kind = kind }
 
@@ -30,10 +30,10 @@ entry choice kind score = record { choice = choice; score = score; kind = kind }
 abbrev pub equal_moves : List Bound
 equal_moves = entry (Square 19) Exact (negsuc 2) ∷ entry (Square 26) Low (negsuc 2) ∷ entry (Square 37) Low (negsuc 2) ∷ entry (Square 44) Low (negsuc 2) ∷ []
 
--- of `corner_or_edge`: a1 is worth 89, and e1 at most 40
+-- the root table of `corner_or_edge`: a1 is worth exactly 89, and e1 at most 40
 abbrev pub corner_and_edge : List Bound
 corner_and_edge = entry (Square 0) Exact (pos 89) ∷ entry (Square 4) Low (pos 40) ∷ []
 
--- to pass is worth -6000
+-- a root table with one entry: to pass is worth exactly -6000
 abbrev pub to_pass : List Bound
 to_pass = entry Pass Exact (negsuc 5999) ∷ []

@@ -14,7 +14,7 @@ Says Low score value = value ≤ℤ score
 Says High score value = score ≤ℤ value
 Says Exact score value = value ≡ score
 
--- what an entry says of its choice is true, at a board that is looked at to this depth
+-- an entry is true of a board that is looked at to this depth: what its score says of its choice's value holds
 abbrev pub IsTrueBound : ℕ → List Cell → Bound → Type 0
 IsTrueBound depth board b = Says b.kind b.score (choice_value depth board b.choice)
 

@@ -18,7 +18,7 @@ const WEIGHTS: [(i32, u64); 7] = [
     (-50, 0x0042_0000_0000_4200),
 ];
 
-/// How many discs the mover has more than the opponent on these squares.
+/// How many more discs the mover has than the opponent on these squares.
 fn disc_difference(board: Board, squares: u64) -> i32
     ensures value { result ≡ disc_difference board.own board.opp squares }
     ensures within { IsWithin 64 result }
@@ -26,7 +26,7 @@ fn disc_difference(board: Board, squares: u64) -> i32
     (board.own & squares).count_ones() as i32 - (board.opp & squares).count_ones() as i32
 }
 
-/// The same, at this weight for each disc.
+/// `weight` for each disc that the mover has more than the opponent on these squares.
 fn weighed(board: Board, weight: i32, squares: u64) -> i32
     requires { IsWithin 100 weight }
     ensures value { result ≡ weight *ℤ disc_difference board.own board.opp squares }

@@ -15,7 +15,7 @@ corners = 0 ∷ 7 ∷ 56 ∷ 63 ∷ []
 unfoldable pub in_order : List ℕ
 in_order = corners ++ filter (λ s. not (is_among s corners)) squares
 
--- the legal squares in that order
+-- the legal squares of a board: corners first, then the others by rising index
 abbrev pub legal_squares : List Cell → List ℕ
 legal_squares board = filter (is_legal board) in_order
 
@@ -33,7 +33,8 @@ abbrev pub after : List Cell → Choice → List Cell
 after board (Square s) = played board s
 after board Pass = exchanged board
 
--- what the rules ask of a choice by itself: a square is on the board and legal
+-- a choice is allowed on a board by itself: a square has to be on the board and legal; a pass always is, whether or
+-- not it is one of the board's choices
 abbrev pub IsAllowed : List Cell → Choice → Type 0
 IsAllowed board (Square s) = (s < 64) × IsTrue (is_legal board s)
 IsAllowed board Pass = Unit {0}

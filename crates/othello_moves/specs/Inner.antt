@@ -7,11 +7,12 @@ use Rattle.othello_board.specs.declared.directions.Direction.TheVariants.{North,
 abbrev pub bit_of : Bool → ℕ
 bit_of test = if test then 1 else 0
 
--- a square of columns b to g
+-- whether a square lies in columns b to g
 abbrev pub has_both_sides : ℕ → Bool
 has_both_sides s = not (s % 8 == 0) && not (s % 8 == 7)
 
--- a square that may stand inside a run in a direction: with a step that changes the column, one of columns b to g
+-- whether an opposing disc on this square is counted as inside a run in this direction: on any square for north and
+-- south, else only in columns b to g, so that no shift of a word leads around the left or the right edge
 abbrev pub is_inner : Direction → ℕ → Bool
 is_inner North s = true
 is_inner NorthEast s = has_both_sides s

@@ -8,7 +8,7 @@ use Rattle.othello_board.specs.Rows.{first_row}
 abbrev pub two_discs : List Cell
 two_discs = first_row (Own ∷ Opp ∷ Empty ∷ Empty ∷ Empty ∷ Empty ∷ Empty ∷ Empty ∷ [])
 
--- the same board, seen by the other player, who can't move
+-- `two_discs` seen by the other player, who can't move
 abbrev pub two_discs_from_there : List Cell
 two_discs_from_there = first_row (Opp ∷ Own ∷ Empty ∷ Empty ∷ Empty ∷ Empty ∷ Empty ∷ Empty ∷ [])
 

@@ -9,10 +9,11 @@ use Rattle.othello_moves.specs.declared.choices.Choice.TheVariants.{Square, Pass
 abbrev pub squares_of : ℕ → List ℕ
 squares_of word = filter (λ s. bit_at word s == 1) squares
 
--- a pass, where there is one
+-- a list of just a pass where `passes` is true, else the empty list
 abbrev pub pass_if : Bool → List Choice
 pass_if passes = if passes then Pass ∷ [] else []
 
--- the squares of one word, then those of another, then a pass where there is one
+-- the choices that are left: the squares set in the first word, then those set in the second, each by rising index,
+-- then a pass where `passes` is true
 abbrev pub sequence : ℕ → ℕ → Bool → List Choice
 sequence first second passes = map Square (squares_of first ++ squares_of second) ++ pass_if passes

@@ -22,7 +22,7 @@ pub fn choice_count(board: Board) -> usize
     Choices::new(board).len()
 }
 
-/// The choice at a place of the order, from 0.
+/// The choice at this place in the order of the board's choices, counted from 0.
 pub fn choice(board: Board, index: usize) -> Choice
     requires { index < length (choices (cells board)) }
     ensures value { slice_get (choices (cells board)) index ≡ Some result }

@@ -11,8 +11,8 @@ use othello_board::{Board, Direction};
 /// The squares of columns b to g.
 const INNER_COLUMNS: u64 = 0x7e7e_7e7e_7e7e_7e7e;
 
-/// The squares that opposing discs may stand on inside a run in a direction or the other way: all, or
-/// where a step changes the column, those that have a square on each side.
+/// The squares on which an opposing disc may be inside a run in this direction or in its opposite, as bits: all for
+/// north and south, else columns b to g, so that no shift leads around the left or the right edge.
 #[inline(always)]
 fn inner(direction: Direction) -> u64
     ensures { (t : ℕ) → t < 64 → bit_at result t ≡ bit_of (is_inner direction t) }
@@ -23,9 +23,9 @@ fn inner(direction: Direction) -> u64
     }
 }
 
-/// The squares from which a run begins in a direction, whatever stands on them: the squares before an
-/// opposing disc that leads on, over opposing discs, to a disc of the mover. Those discs are found for runs
-/// of 1 and of 2, and then by twos for runs of 4 and of 6, the longest there is.
+/// The squares from which the run in this direction isn't empty, as bits, whatever stands on them. They are found
+/// backwards from the mover's discs: `one`, `two`, `four` and `six` are the opposing discs that begin an unbroken line
+/// of at most so many opposing discs with an own disc at its end. No run is longer than 6.
 #[inline(always)]
 fn starts(board: Board, direction: Direction) -> u64
     ensures { (t : ℕ) → t < 64 → bit_at result t ≡ bit_of (not (is_nil (run (cells board) t direction))) }

@@ -14,14 +14,14 @@ pub struct Mobility {
     pub board: Board,
     /// The squares that are legal for the mover, as bits.
     pub own: u64,
-    /// The squares that were legal for the opponent, were it to move.
+    /// The squares that would be legal for the opponent if it were to move, as bits.
     pub opp: u64,
     ghost own_legal: { own ≡ bits_of (filter (is_legal (cells board)) squares) },
     ghost opp_legal: { opp ≡ bits_of (filter (is_legal (exchanged (cells board))) squares) },
 }
 
 impl Mobility {
-    /// The legal squares of a board.
+    /// Finds the legal squares of both players on a board.
     #[inline(always)]
     pub fn of(board: Board) -> Mobility
         ensures { result.board ≡ board }

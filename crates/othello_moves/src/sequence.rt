@@ -71,7 +71,7 @@ impl Choices {
         self.len() == 0
     }
 
-    /// Takes the first choice that is left, where there is one.
+    /// Takes the first choice that is left; None where none is left.
     pub fn pop_first(&mut self) -> Option<Choice>
         ensures first { result ≡ slice_get self.old 0 }
         ensures rest { self.new ≡ drop 1 self.old }

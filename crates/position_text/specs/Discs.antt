@@ -6,12 +6,13 @@ use Rattle.position_text.specs.declared.marks.Mark.{Mark}
 use Rattle.position_text.specs.declared.marks.Mark.TheVariants.{Disc, Blank}
 use Rattle.position_text.specs.Spelling.{spelled}
 
--- bit s of each word is square s: black, else white, else blank
+-- the mark of square s: a black disc where bit s of `black` is 1, else a white one where bit s of `white` is 1, else
+-- blank
 abbrev pub mark_at : ℕ → ℕ → ℕ → Mark
 mark_at black white s =
     if bit_at black s == 1 then Disc Black else (if bit_at white s == 1 then Disc White else Blank)
 
--- the words hold what the first n bytes spell, and nothing beyond
+-- the two words hold the marks that the first n bytes of the text spell, and no disc from square n on
 pub record HoldsFirst (black white : ℕ) (text : List ℕ) (n : ℕ) : Type 0 where
   pub marks : (s : ℕ) → s < n → spelled (slice_index text s) ≡ Some (mark_at black white s)
   pub no_black : (s : ℕ) → n ≤ s → bit_at black s ≡ 0

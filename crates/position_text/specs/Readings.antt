@@ -11,21 +11,22 @@ use Rattle.position_text.specs.declared.marks.Mark.{Mark}
 use Rattle.position_text.specs.declared.marks.Mark.TheVariants.{Disc, Blank}
 use Rattle.position_text.specs.Spelling.{spelled, side_spelled}
 
--- the values of all these, if each has one
+-- the values of a list of options, in order; None where one of them is None
 abbrev pub all_of : {X : Type 0} → List (Option X) → Option (List X)
 all_of [] = Some []
 all_of (None ∷ more) = None
 all_of (Some x ∷ more) = option_map (λ xs. x ∷ xs) (all_of more)
 
--- what the first 64 bytes of a text spell, if each spells a cell
+-- the marks that the first 64 bytes of a text spell; None where one of them spells no cell
 abbrev pub marks_of : List ℕ → Option (List Mark)
 marks_of text = all_of (map (λ s. spelled (slice_index text s)) squares)
 
--- the side to move, which stands after the cells and a space
+-- the side to move, which the byte after the 64 cells and a space spells; None where there is no space or no spelling
+-- of a side
 abbrev pub mover_of : List ℕ → Option Side
 mover_of text = if slice_index text 64 == byte " " then side_spelled (slice_index text 65) else None
 
--- a mark, seen by a side
+-- the cell that a side sees where this mark stands
 abbrev pub seen_by : Side → Mark → Cell
 seen_by side Blank = Empty
 seen_by Black (Disc Black) = Own

@@ -10,7 +10,7 @@ opening = record {
   side = Black;
 }
 
--- the same discs with White to move
+-- the opening's discs with White to move
 abbrev pub white_to_move : Position
 white_to_move = record {
   board = record { own = 2 ^ 27 + 2 ^ 36; opp = 2 ^ 28 + 2 ^ 35; disjoint = refl };

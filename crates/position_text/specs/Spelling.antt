@@ -12,7 +12,7 @@ use Rattle.position_text.specs.declared.positions.Position.{Position}
 use Rattle.position_text.specs.declared.marks.Mark.{Mark}
 use Rattle.position_text.specs.declared.marks.Mark.TheVariants.{Disc, Blank}
 
--- what a byte spells: X, x and * a black disc, O and o a white one, - and . an empty cell
+-- what a byte spells: X, x and * a black disc, O and o a white one, - and . an empty cell; None for any other byte
 abbrev pub spelled : ℕ → Option Mark
 spelled b =
     if b == byte "X" || b == byte "x" || b == byte "*" then Some (Disc Black)
@@ -20,12 +20,12 @@ spelled b =
     else (if b == byte "-" || b == byte "." then Some Blank
     else None))
 
--- the side of a disc
+-- the side whose disc a mark is; None for a blank
 abbrev pub side_of : Mark → Option Side
 side_of (Disc side) = Some side
 side_of Blank = None
 
--- a side is spelled as its disc
+-- the side that a byte spells, which is written as one of its discs; None where the byte spells no disc
 abbrev pub side_spelled : ℕ → Option Side
 side_spelled b = option_and_then side_of (spelled b)
 
@@ -34,7 +34,7 @@ abbrev pub other_side : Side → Side
 other_side Black = White
 other_side White = Black
 
--- what stands on a cell that is seen by this side: its own discs are of its colour
+-- the mark of a cell as this side sees it: an own disc has the colour of this side, an opposing one that of the other
 abbrev pub mark_of : Side → Cell → Mark
 mark_of side Own = Disc side
 mark_of side Opp = Disc (other_side side)
@@ -48,7 +48,7 @@ pub record Spells (text : List ℕ) (p : Position) : Type 0 where
   pub space : slice_index text 64 ≡ byte " "
   pub side : side_spelled (slice_index text 65) ≡ Some p.side
 
--- how a mark is written: X, O or -
+-- the byte that a mark is written as: X, O or -
 abbrev pub byte_of : Mark → ℕ
 byte_of (Disc Black) = byte "X"
 byte_of (Disc White) = byte "O"
@@ -58,7 +58,7 @@ byte_of Blank = byte "-"
 abbrev pub written : Position → List ℕ
 written p = map (λ cell. byte_of (mark_of p.side cell)) (cells p.board) ++ byte " " ∷ byte_of (Disc p.side) ∷ []
 
--- both words of the position's board are of 64 bits, as those of each position in a program are
+-- both words of the position's board are below 2^64, as in every position of the code
 abbrev pub FitsWords : Position → Type 0
 FitsWords p = (p.board.own < 2 ^ 64) × (p.board.opp < 2 ^ 64)
 
@@ -73,7 +73,7 @@ pub record IsBadCell (text : List ℕ) (at : ℕ) : Type 0 where
   pub unspelled : spelled (slice_index text at) ≡ None
   pub before : AllSpelled text at
 
--- a text of 66 bytes with 64 cells, in which then comes no space, or no spelling of a side after it
+-- a text of 66 bytes whose first 64 each spell a cell, but byte 64 is no space or byte 65 spells no side
 pub record IsBadSide (text : List ℕ) : Type 0 where
   pub len : length text ≡ 66
   pub before : AllSpelled text 64

@@ -6,7 +6,7 @@ use super::marks::Mark;
 use super::positions::Side;
 use othello_board::Board;
 
-/// The discs that were read.
+/// The discs that were read so far, as two words.
 #[derive(Clone, Copy)]
 pub struct Discs {
     /// The black discs: bit `s` is square `s`, 0 to 63.
@@ -19,14 +19,14 @@ pub struct Discs {
 impl Discs {
     ghost use Rattle.position_text.specs.Discs.{mark_at};
 
-    /// No disc.
+    /// No discs: both words are 0.
     pub fn none() -> Discs
         ensures { (result.black ≡ 0) × (result.white ≡ 0) }
     {
         Discs { black: 0, white: 0 }
     }
 
-    /// These discs and, on a square without one, what is marked there.
+    /// These discs with the disc of this mark added, on a square that has none. A blank adds nothing.
     pub fn with(self, mark: Mark, square: u8) -> Discs
         requires on_board { square < 64 }
         requires no_black { bit_at self.black square ≡ 0 }

@@ -22,19 +22,19 @@ pub fn one_position(text: &[u8], first: Position, second: Position)
     let _second = words(second);
 }
 
-/// The words of a position, which are of 64 bits.
+/// The two words of a position's board; the contract says that both are below 2^64.
 fn words(position: Position) -> (u64, u64)
     ensures { FitsWords position }
 {
     (position.board.own, position.board.opp)
 }
 
-/// What is written of a position spells it.
+/// The text that is written for a position spells that position.
 pub fn written_spells(position: Position)
     ensures { Spells (written position) position }
 {}
 
-/// What is written of a position is read as that position again.
+/// The text that is written for a position is read as that position again.
 pub fn read_again(position: &Position) -> Result<Position, TextFault>
     ensures { result ≡ Ok position.now }
 {
@@ -42,8 +42,9 @@ pub fn read_again(position: &Position) -> Result<Position, TextFault>
     read(&write(position))
 }
 
-/// A text read byte by byte: what spells a position reads as the marks of its board and its side, and a
-/// side sees a cell's mark as that cell; a bad cell leaves no marks, and a bad side no side to move.
+/// Reading byte by byte (`marks_of`, `mover_of`) agrees with spelling. A text that spells a position gives the marks
+/// of its board and its side, and the side sees the mark of a cell as that cell. With a bad cell there are no marks;
+/// with a bad side there are marks but no side to move.
 pub fn readings_of_texts()
     ensures marks { (text : List ℕ) (p : Position) → Spells text p → marks_of text ≡ Some (map (mark_of p.side) (cells p.board)) }
     ensures mover { (text : List ℕ) (p : Position) → Spells text p → mover_of text ≡ Some p.side }

@@ -5,7 +5,7 @@ ghost use Rattle.position_text.specs.Spelling.{spelled, side_spelled, mark_of, b
 use super::positions::Side;
 use othello_board::Cell;
 
-/// What stands on a cell, whoever looks at it.
+/// What stands on a cell, by colour, not by which side is to move.
 #[derive(Clone, Copy, Debug, PartialEq, Eq)]
 pub enum Mark {
     /// A disc of this side.
@@ -14,7 +14,7 @@ pub enum Mark {
     Blank,
 }
 
-/// What a byte spells, if it spells a cell.
+/// What a byte spells; None where it spells no cell.
 pub fn spelled(byte: u8) -> Option<Mark>
     ensures { result ≡ spelled byte }
 {
@@ -26,7 +26,7 @@ pub fn spelled(byte: u8) -> Option<Mark>
     }
 }
 
-/// The side whose disc a byte spells, if it spells a disc.
+/// The side whose disc a byte spells; None where it spells no disc.
 pub fn side_spelled(byte: u8) -> Option<Side>
     ensures { result ≡ side_spelled byte }
 {
@@ -57,7 +57,7 @@ fn other_side(side: Side) -> Side
     }
 }
 
-/// What stands on a cell that is seen by this side.
+/// The mark of a cell as this side sees it: an own disc has this side's colour, an opposing one that of the other.
 pub fn mark_of(side: Side, cell: Cell) -> Mark
     ensures { result ≡ mark_of side cell }
 {

@@ -9,13 +9,13 @@ use super::faults::TextFault;
 use super::marks::{side_spelled, spelled};
 use super::positions::Position;
 
-/// The bytes of a text.
+/// How many bytes a text has.
 const LENGTH: usize = 66;
 
 /// What stands between the cells and the side.
 const SPACE: u8 = b' ';
 
-/// The discs of the 64 cells that a text begins with.
+/// The discs of a text's first 64 bytes, or the fault that names the first of them that spells no cell.
 fn cells(text: &[u8]) -> Result<Discs, TextFault>
     requires { length text.now ≡ 66 }
     ensures ok { IfOk result (λ discs. HoldsFirst discs.black discs.white text.now 64) }

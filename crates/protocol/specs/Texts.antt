@@ -14,10 +14,10 @@ move_text (Some (Square s)) = (97 + s % 8) ∷ (49 + s / 8) ∷ []
 abbrev pub value_text : ℤ → Option Choice → List ℕ
 value_text value choice = signed_decimal value ++ codes " " ++ move_text choice
 
--- the same, and a count after another space
+-- a value, a move and a count of positions, with spaces between them
 abbrev pub visited_text : ℤ → Option Choice → ℕ → List ℕ
 visited_text value choice count = value_text value choice ++ codes " " ++ decimal count
 
--- the fault of this number
+-- the text of a fault of this number: ERR, a space and the number
 abbrev pub error_text : ℕ → List ℕ
 error_text number = codes "ERR " ++ decimal number

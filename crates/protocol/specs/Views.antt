@@ -9,7 +9,7 @@ use Rattle.protocol.specs.Questions.{QuestionOf}
 abbrev pub question_of : Question → QuestionOf
 question_of question = record { depth = question.depth; board = cells question.position.board; side = question.position.side }
 
--- what was read, a question or a fault
+-- what was read, with a question's board as a list of cells; a fault stays
 abbrev pub read_as : Result Question ProtocolFault → Result QuestionOf ProtocolFault
 read_as (Ok question) = Ok (question_of question)
 read_as (Err fault) = Err fault

@@ -8,7 +8,7 @@ use crate::questions::Question;
 use crate::words::word_number;
 use position_text::read;
 
-/// The greatest depth that is asked for, in plies.
+/// The greatest depth that may be asked for, in plies.
 const MOST_DEPTH: u32 = 12;
 
 /// The question about the position in `text`, to `depth` plies, or the first fault in it: length, cell, side (24 to 26).

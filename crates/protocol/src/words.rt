@@ -2,8 +2,7 @@
 ghost use Rattle.std.specs.Prelude.{◌≡◌, option_map};
 ghost use Rattle.protocol.specs.Words.{split_at_space, word_number};
 
-/// What stands before the first space of a line, and what stands after it; none where there is no
-/// space.
+/// What stands before the first space of a line, and what stands after it; None where there is no space.
 pub fn split_at_space(line: &[u8]) -> Option<(&[u8], &[u8])>
     ensures { option_map (λ p. (p.0.now, p.1.now)) result ≡ split_at_space line.now }
 {

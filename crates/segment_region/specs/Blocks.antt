@@ -11,19 +11,19 @@ use Rattle.segment_region.specs.declared.cells.Title.{Title}
 abbrev pub WordBlock : Type 0
 WordBlock = Block (List ℕ)
 
--- the number in a link word, if it has one
+-- the block that a link word leads to; None where it leads to none
 abbrev pub next_of : Link → Option ℕ
 next_of link = if link.chained then Some link.next else None
 
--- a link word says that the block is taken, or is not, and which comes after it
+-- the link word says whether its block is taken, and which block comes after it, if one does
 abbrev pub IsLink : Link → Bool → Option ℕ → Type 0
 IsLink link taken next = (link.taken ≡ taken) × (next_of link ≡ next)
 
--- the entry that a block's link and words stand for: a segment where the block is taken
+-- the entry that a block's link and words stand for: a segment where the block is taken, else None
 abbrev pub entry_of : Link → List ℕ → Option Segment
 entry_of link words = if link.taken then Some (record { words = words; link = next_of link }) else None
 
--- the entry that a place of the block's memory stands for
+-- the entry that a place of the region's memory stands for; None where nothing was written there
 abbrev pub place_entry : Option WordBlock → Option Segment
 place_entry None = None
 place_entry (Some block) = entry_of block.link block.words
@@ -34,22 +34,23 @@ entries_of mark [] = []
 entries_of zero (place ∷ places) = None ∷ entries_of zero places
 entries_of (suc mark) (place ∷ places) = place_entry place ∷ entries_of mark places
 
--- the link word at a place, and that of a taken block where nothing is written
+-- the link word at a place; where nothing was written, one that says taken, so that no list of free blocks leads there
 abbrev pub place_link : Option WordBlock → Link
 place_link None = record { taken = true; chained = false; next = 0 }
 place_link (Some block) = block.link
 
--- the link word under a number
+-- the link word of the block of a number
 abbrev pub link_in : List (Option WordBlock) → ℕ → Link
 link_in places number = place_link (slice_index_or places number None)
 
--- from head on, the links of free blocks below the mark lead through count blocks and end
+-- the links of free blocks lead from `head` through `count` blocks, all below the mark, and end there
 abbrev pub IsFreeList : ℕ → List (Option WordBlock) → Option ℕ → ℕ → Type 0
 IsFreeList mark places head zero = head ≡ None
 IsFreeList mark places None (suc count) = ⊥
 IsFreeList mark places (Some number) (suc count) = (number < mark) × ((link_in places number).taken ≡ false) × IsFreeList mark places (next_of (link_in places number)) count
 
--- the blocks from the mark on are free, and of those below it the free ones are chained from the link free on: listed many, all that are not taken
+-- the invariant of a region of `count` blocks: those from `mark` on are free; of those below it just `listed` are
+-- free, and the link `free` leads through all of them
 pub record IsWhole (places : List (Option WordBlock)) (count mark : ℕ) (free : Link) (listed : ℕ) : Type 0 where
   pub all_places : length places ≡ count
   pub in_limits : count ≤ 65536
@@ -58,7 +59,7 @@ pub record IsWhole (places : List (Option WordBlock)) (count mark : ℕ) (free :
   pub is_free : free.taken ≡ false
   pub chain : IsFreeList mark places (next_of free) listed
 
--- the places, and the right to free them, are those of one allocation of count blocks
+-- the places, and the right to free them, are of one allocation of `count` blocks by `alloc`, which begins at the base
 abbrev pub IsOneAllocation : {A : Type 0} → Base WordBlock → Cells WordBlock → Title WordBlock A → ℕ → A → Type 0
 IsOneAllocation base cells title count alloc = (cells.at ≡ base.ptr) × (title.at ≡ base.ptr) × (title.len ≡ count) × (title.alloc ≡ alloc)
 

@@ -8,5 +8,6 @@ use Rattle.segment_region.specs.contracts.cells.Cells.{the_row}
 abbrev pub with_place : {X : Type 0} → Cells X → ℕ → X → Cells X
 with_place cells index value = record { mark = cells.mark; at = cells.at; slots = slice_set cells.slots index (Some value) }
 
+-- when the loan of `value` ends, the place at `index` holds what the borrower left, and all other places are as before
 abbrev pub LendsPlace : (R : RattleType) → MutBor (Cells R.Denot) → ℕ → MutBor R.Denot → Fml
 LendsPlace R cells index value = Lends (the_row R) R cells value (with_place cells.now index)

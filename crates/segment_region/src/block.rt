@@ -40,7 +40,7 @@ impl Link {
         }
     }
 
-    /// The link word of a taken block.
+    /// The link word of a taken block that has this block after it, or none.
     pub(crate) fn taken(next: Option<SegNo>) -> Link
         ensures { IsLink result true next }
     {
@@ -50,7 +50,7 @@ impl Link {
         }
     }
 
-    /// The block after this one.
+    /// The block that this link word leads to; None where it leads to none.
     pub(crate) fn next(self) -> Option<SegNo>
         ensures { result ≡ next_of self }
     {
@@ -58,15 +58,15 @@ impl Link {
     }
 }
 
-/// Words and the link word. The words' type is a parameter since a `&mut` to a field that is an array
-/// is followed back to its struct only where the array's type is one.
+/// A block: its words, and its link word. The words' type is a parameter since a `&mut` to a field that is an array is
+/// followed back to its struct only where the array's type is one.
 #[derive(Clone, Copy, Drop)]
 pub struct Block<W> {
     pub(crate) words: W,
     pub(crate) link: Link,
 }
 
-/// Sixteen words and the link word.
+/// A block of sixteen words.
 pub(crate) type WordBlock = Block<[u64; 16]>;
 
 impl<W> Block<W> {
@@ -83,7 +83,7 @@ impl<W> Block<W> {
     }
 }
 
-/// Sixteen zeros and this link word.
+/// A block of sixteen zeros with this link word.
 pub(crate) fn zeros(link: Link) -> WordBlock
     ensures { result ≡ record { words = replicate 16 0; link = link } }
 {

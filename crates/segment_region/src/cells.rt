@@ -72,10 +72,10 @@ impl<T, A: Allocator> Model for Title<T, A> {
 
 unsafe impl<T, A: Allocator + Send> Send for Title<T, A> {}
 
-// A `&` to it is no right at all.
+// A `&` to it gives no right to anything.
 unsafe impl<T, A: Allocator> Sync for Title<T, A> {}
 
-/// One allocation with so many empty places.
+/// Takes memory for so many places, all empty. Err where the allocator refuses.
 pub(crate) fn allocate<T, A: Allocator>(
     alloc: &A,
     len: usize,
@@ -126,7 +126,7 @@ impl<T> Cells<T> {
         unsafe { base.ptr.add(index).write(item) }
     }
 
-    /// What lies in a place.
+    /// What lies in a place that isn't empty.
     pub(crate) fn get(&self, base: Base<T>, index: usize) -> &T
         requires { (base.ptr ≡ self.now.at) × IsFilled self.now.slots index }
         ensures { slice_index_or self.now.slots index None ≡ Some result.now }
@@ -134,7 +134,7 @@ impl<T> Cells<T> {
         unsafe { &*base.ptr.add(index) }
     }
 
-    /// What lies in a place, to be written.
+    /// What lies in a place that isn't empty, to be written.
     pub(crate) fn get_mut(&mut self, base: Base<T>, index: usize) -> &mut T
         requires { (base.ptr ≡ self.old.at) × IsFilled self.old.slots index }
         ensures* writes_back { sem 𝓛 (LendsPlace T.row self.entry index result) }

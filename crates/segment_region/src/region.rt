@@ -22,9 +22,10 @@ pub struct Region<A: Allocator = Global> {
     alloc: A,
     // The blocks from the mark on are free, and nothing is read of them.
     mark: usize,
-    // The link word that the next block below the mark gets as it is given back: it leads to the free ones
-    // there, and how many these are.
+    // The list of the free blocks below the mark: its link leads to the first of them. It becomes the link word of the
+    // next block that is given back below the mark.
     free: Link,
+    // How many blocks are on that list.
     listed: usize,
 }
 
@@ -40,7 +41,7 @@ impl<A: Allocator> Model for Region<A> {
     ghost invariant = { λ region. IsOneAllocation region.base region.cells region.title region.count region.alloc × IsWhole region.cells.slots region.count region.mark region.free region.listed };
 }
 
-// The allocation goes, with the blocks in it.
+// Gives the allocation back, with the blocks in it.
 impl<A: Allocator> Drop for Region<A> {
     fn drop(self) {
         let Region {
@@ -77,8 +78,8 @@ impl<A: Allocator> Region<A> {
         })
     }
 
-    /// Takes a segment of sixteen zeros with no link, under a number that nothing is taken under.
-    /// None comes only where nothing is free.
+    /// Takes a free segment, and returns its number; its words are sixteen zeros then, and it has no link. None only
+    /// where no segment is free.
     pub fn take(&mut self) -> Option<SegNo>
         ensures fresh { IfSome result (IsFree self.old) }
         ensures taken { IfSome result (λ number. self.new ≡ with_entry self.old number (Some blank)) }
@@ -119,7 +120,7 @@ impl<A: Allocator> Region<A> {
         }
     }
 
-    /// The region as its readers see it.
+    /// Borrows the region for reading only.
     pub fn view(&self) -> RegionView<'_>
         ensures { result ≡ self.now }
     {
@@ -146,7 +147,7 @@ impl<A: Allocator> Region<A> {
         self.cells.get_mut(base, at).words_mut()
     }
 
-    /// The segment that a taken one is chained to, if there is one.
+    /// The segment that a taken one is chained to; None where it is chained to none.
     pub fn link(&self, segment: SegNo) -> Option<SegNo>
         requires { IsTaken self.now segment }
         ensures { result ≡ link_at self.now segment }

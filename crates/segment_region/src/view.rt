@@ -8,7 +8,7 @@ use crate::cells::{Base, Cells};
 use crate::slot::SegNo;
 use std::marker::Model;
 
-/// A region as its readers see it. Contracts see the same as of the region itself.
+/// A region that is borrowed for reading only. Contracts see it as they see the region: as the list of its entries.
 #[derive(Drop)]
 pub struct RegionView<'a> {
     base: Base<WordBlock>,
@@ -41,7 +41,7 @@ impl<'a> RegionView<'a> {
         RegionView { base, mark, cells }
     }
 
-    /// The same region, for one more reader.
+    /// One more view of the same region.
     pub fn view(&self) -> RegionView<'a>
         ensures { result ≡ self.now }
     {
@@ -63,7 +63,7 @@ impl<'a> RegionView<'a> {
         &cells.get(self.base, at).words
     }
 
-    /// The segment that a taken one is chained to, if there is one.
+    /// The segment that a taken one is chained to; None where it is chained to none.
     pub fn link(&self, segment: SegNo) -> Option<SegNo>
         requires { IsTaken self.now segment }
         ensures { result ≡ link_at self.now segment }

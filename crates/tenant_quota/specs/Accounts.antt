@@ -10,11 +10,11 @@ use Rattle.tenant_quota.specs.declared.account.Left.{Left}
 abbrev pub fresh : Quota → Account
 fresh quota = record { reserve = quota; charged = 0; opened = 0; ticks = 0 }
 
--- the account after a charge of so many segments, for so many newly opened nodes
+-- the account after it was charged `segments` segments more, and opened `nodes` nodes more
 abbrev pub charged_by : ℕ → ℕ → Account → Account
 charged_by segments nodes a = record a { charged = a.charged + segments; opened = a.opened + nodes }
 
--- the account after so many charged segments were given back; the nodes stay opened
+-- the account after `segments` of the charged segments were given back; the nodes stay opened
 abbrev pub credited_by : ℕ → Account → Account
 credited_by segments a = record a { charged = a.charged - segments }
 
@@ -41,11 +41,11 @@ pub record IsWithinReserve (a : Account) : Type 0 where
   pub opened_within : a.opened ≤ a.reserve.nodes
   pub ticks_within : a.ticks ≤ 16 * a.reserve.nodes
 
--- whose account it is
+-- the tenant whose account an entry is
 abbrev pub owner_of : ℕ × Account → ℕ
 owner_of entry = entry.0
 
--- the tenant's account, if the tenant is there
+-- the account of a tenant; None where the tenant isn't there
 abbrev pub account_of : ℕ → List (ℕ × Account) → Option Account
 account_of tenant es = said_of owner_of (λ e. Some e.1) None tenant es
 
@@ -57,11 +57,11 @@ with_new tenant a es = inserted owner_of (tenant, a) es
 abbrev pub with_changed : ℕ → (Account → Account) → List (ℕ × Account) → List (ℕ × Account)
 with_changed tenant f es = with_thing owner_of tenant (λ e. (e.0, f e.1)) es
 
--- the accounts without the tenant's
+-- the accounts without that of the tenant
 abbrev pub without : ℕ → List (ℕ × Account) → List (ℕ × Account)
 without tenant es = without_thing owner_of tenant es
 
--- each entry has P
+-- P holds of each entry
 abbrev pub AllEntries : (ℕ × Account → Type 0) → List (ℕ × Account) → Type 0
 AllEntries P es = AllByRecursion P es
 

@@ -5,11 +5,13 @@ use Rattle.tenant_quota.specs.Accounts.{reserved_segments, reserved_nodes}
 use Rattle.tenant_quota.specs.Reservations.{Reservations, IsSoundBook}
 use Rattle.tenant_quota.specs.declared.book.Book.TheInside.{Inside}
 
--- the totals and the accounts; the kept sums, the capacity and the index aren't seen
+-- what contracts see of the fields of a book: the totals and the accounts, but not the kept sums, the capacity or the
+-- index
 abbrev pub held_by : {A : Type 0} → Inside A → Reservations
 held_by {A} b = record { segments = b.segments; nodes = b.nodes; accounts = b.accounts.items }
 
--- the book is sound, the kept sums are those of the accounts, and there are places for 64
+-- the invariant of the fields of a book: the book is sound, the kept sums are those of the accounts, and there is
+-- memory for 64 accounts
 pub record IsKept {A : Type 0} (b : Inside A) : Type 0 where
   pub sound : IsSoundBook (held_by b)
   pub segments : b.reserved_segments ≡ reserved_segments b.accounts.items

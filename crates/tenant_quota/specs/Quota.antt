@@ -1,7 +1,7 @@
 -- Meaning: an amount of segments and nodes, and the limits of what one tenant may reserve.
 use Rattle.std.specs.Prelude.{◌≡◌, ℕ, ◌<◌, ◌≤◌, ◌⊎◌}
 
--- so many segments and so many nodes
+-- an amount of segments and an amount of nodes
 pub record Quota : Type 0 where
   pub segments : ℕ
   pub nodes : ℕ
@@ -13,13 +13,13 @@ pub record IsWithinLimits (quota : Quota) : Type 0 where
   pub some_nodes : 1 ≤ quota.nodes
   pub nodes_within : quota.nodes ≤ 65536
 
--- the quota is below `now` in neither amount, and above it in one
+-- the quota is at least `now` in both amounts, and more in one or both
 pub record IsAbove (now quota : Quota) : Type 0 where
   pub segments : now.segments ≤ quota.segments
   pub nodes : now.nodes ≤ quota.nodes
   pub one : (now.segments < quota.segments) ⊎ (now.nodes < quota.nodes)
 
--- the quota is below `now` in one amount, or above it in neither
+-- the quota isn't above `now`: it is less in one amount, or equal in both
 abbrev pub IsNotAbove : Quota → Quota → Type 0
 IsNotAbove now quota =
     (quota.segments < now.segments) ⊎ ((quota.nodes < now.nodes) ⊎ ((quota.segments ≡ now.segments) × (quota.nodes ≡ now.nodes)))

@@ -28,15 +28,15 @@ changed b tenant f = record b { accounts = with_changed tenant f b.accounts }
 abbrev pub released : Reservations → ℕ → Reservations
 released b tenant = record b { accounts = without tenant b.accounts }
 
--- what a tenant that is there has left
+-- what a tenant has left; None where it isn't there
 abbrev pub left_of : ℕ → Reservations → Option Left
 left_of tenant b = option_map left_in (account_of tenant b.accounts)
 
--- how many nodes a tenant that is there ever opened
+-- how many nodes a tenant ever opened; None where it isn't there
 abbrev pub opened_of : ℕ → Reservations → Option ℕ
 opened_of tenant b = option_map (λ a. a.opened) (account_of tenant b.accounts)
 
--- what a tenant that is there has reserved
+-- what a tenant has reserved; None where it isn't there
 abbrev pub reserve_of : ℕ → Reservations → Option Quota
 reserve_of tenant b = option_map (λ a. a.reserve) (account_of tenant b.accounts)
 
@@ -54,41 +54,41 @@ pub record HasRoom (b : Reservations) (quota : Quota) : Type 0 where
 abbrev pub IsFull : Reservations → Quota → Type 0
 IsFull b quota = (64 ≤ length b.accounts) ⊎ ((b.segments < reserved_segments b.accounts + quota.segments) ⊎ (b.nodes < reserved_nodes b.accounts + quota.nodes))
 
--- the reservation isn't above the tenant's own
+-- the tenant is there, and the quota isn't above what it has reserved
 abbrev pub IsLower : Reservations → ℕ → Quota → Type 0
 IsLower b tenant quota = IsSomeAnd (reserve_of tenant b) (λ now. IsNotAbove now quota)
 
--- both totals allow the reservation in the place of `now`, which is one of those in the book
+-- both totals allow the quota in the place of `now`, which a tenant of the book has reserved
 pub record HasRoomFor (b : Reservations) (now quota : Quota) : Type 0 where
   pub segments : reserved_segments b.accounts + quota.segments ≤ b.segments + now.segments
   pub nodes : reserved_nodes b.accounts + quota.nodes ≤ b.nodes + now.nodes
 
--- a total doesn't allow it
+-- a total doesn't allow the quota in the place of `now`, which a tenant of the book has reserved
 abbrev pub IsBeyond : Reservations → Quota → Quota → Type 0
 IsBeyond b now quota =
     (b.segments + now.segments < reserved_segments b.accounts + quota.segments) ⊎ (b.nodes + now.nodes < reserved_nodes b.accounts + quota.nodes)
 
--- the reservation is above the tenant's own, and both totals allow it in the place of that
+-- the tenant is there, the quota is above what it has reserved, and both totals allow it in the place of that
 abbrev pub CanRaise : Reservations → ℕ → Quota → Type 0
 CanRaise b tenant quota = IsSomeAnd (reserve_of tenant b) (λ now. IsAbove now quota × HasRoomFor b now quota)
 
--- the reservation is above the tenant's own, and a total doesn't allow it in the place of that
+-- the tenant is there, the quota is above what it has reserved, and a total doesn't allow it in the place of that
 abbrev pub IsTooMuch : Reservations → ℕ → Quota → Type 0
 IsTooMuch b tenant quota = IsSomeAnd (reserve_of tenant b) (λ now. IsAbove now quota × IsBeyond b now quota)
 
--- the tenant has so many segments and so many nodes left
+-- the tenant is there, and has at least so many segments and so many nodes left
 abbrev pub HasLeft : Reservations → ℕ → ℕ → ℕ → Type 0
 HasLeft b tenant segments nodes = IsSomeAnd (left_of tenant b) (λ left. (segments ≤ left.segments) × (nodes ≤ left.nodes))
 
--- the tenant hasn't so many segments left, or not so many nodes
+-- the tenant is there, and has fewer segments or fewer nodes left than these
 abbrev pub IsShort : Reservations → ℕ → ℕ → ℕ → Type 0
 IsShort b tenant segments nodes = IsSomeAnd (left_of tenant b) (λ left. (left.segments < segments) ⊎ (left.nodes < nodes))
 
--- the tenant has a step left
+-- the tenant is there, and has a step left
 abbrev pub HasStepLeft : Reservations → ℕ → Type 0
 HasStepLeft b tenant = IsSomeAnd (left_of tenant b) (λ left. 0 < left.steps)
 
--- the tenant has no step left
+-- the tenant is there, and has no step left
 abbrev pub IsOutOfSteps : Reservations → ℕ → Type 0
 IsOutOfSteps b tenant = IsSomeAnd (left_of tenant b) (λ left. left.steps ≡ 0)
 
@@ -135,8 +135,8 @@ pub record Releases (old new : Reservations) (tenant : ℕ) (a : Account) : Type
   pub nodes : reserved_nodes new.accounts + a.reserve.nodes ≡ reserved_nodes old.accounts
   pub charged : charged_segments new.accounts + a.charged ≡ charged_segments old.accounts
 
--- what is so of every book: each tenant stands once and has used no more than it reserved,
--- there are at most 64, and the reservations never exceed the totals
+-- what holds of every book: each tenant stands once and has used no more than it reserved, there are at most 64, and
+-- all reservations together never exceed the totals
 pub record IsSoundBook (b : Reservations) : Type 0 where
   pub some_segments : 1 ≤ b.segments
   pub segments_within : b.segments ≤ 65536

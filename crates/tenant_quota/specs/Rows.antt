@@ -6,15 +6,15 @@ use Rattle.tenant_quota.specs.declared.book.Rest.{Rest}
 use Rattle.tenant_quota.specs.Accounts.{raised_to, charged_by, credited_by, ticked}
 use Rattle.tenant_quota.specs.Reservations.{Reservations, empty_of, admitted, changed, released}
 
--- so many segments and nodes, as reserved
+-- a reservation of these amounts
 abbrev pub quota : ℕ → ℕ → Quota
 quota segments nodes = record { segments = segments; nodes = nodes }
 
--- so many segments, nodes and steps, as left to a tenant
+-- what a tenant has left, in these amounts
 abbrev pub left : ℕ → ℕ → ℕ → Left
 left segments nodes steps = record { segments = segments; nodes = nodes; steps = steps }
 
--- so many places, segments and nodes, as not reserved
+-- what isn't reserved, in these amounts
 abbrev pub rest : ℕ → ℕ → ℕ → Rest
 rest tenants segments nodes = record { tenants = tenants; segments = segments; nodes = nodes }
 
@@ -26,18 +26,18 @@ two_tenants = admitted (admitted (empty_of 8 32) 2 (quota 3 8)) 1 (quota 5 8)
 abbrev pub after_charge : Reservations
 after_charge = changed two_tenants 1 (charged_by 5 1)
 
--- it takes a step
+-- tenant 1 then takes a step
 abbrev pub after_tick : Reservations
 after_tick = changed after_charge 1 ticked
 
--- it gives the 5 segments back
+-- tenant 1 then gives the 5 segments back
 abbrev pub after_credit : Reservations
 after_credit = changed after_tick 1 (credited_by 5)
 
--- and tenant 2 is released
+-- tenant 2 is then released
 abbrev pub after_release : Reservations
 after_release = released after_credit 2
 
--- tenant 1 raises what it has reserved to 8 segments and 24 nodes, all that the others leave
+-- tenant 1 then raises what it has reserved to 8 segments, which is the total, and 24 nodes
 abbrev pub after_raise : Reservations
 after_raise = changed after_release 1 (raised_to (quota 8 24))

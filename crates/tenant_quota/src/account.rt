@@ -40,7 +40,7 @@ impl Account {
         }
     }
 
-    /// What is left of the reservation.
+    /// What is left of the reservation, in an account that has used no more than it reserved.
     pub fn left(&self) -> Left
         requires { IsWithinReserve self.now }
         ensures { result ≡ left_in self.now }

@@ -24,12 +24,14 @@ pub struct Rest {
 
 /// A book of reservations of segments (of 16 words) and nodes, with places for 64 tenants.
 ///
-/// A tenant is named by any number. What a call asks of a tenant is decided by its own account
-/// alone, and only [`Book::reserve`] and [`Book::raise`] look at the totals. A refused call changes nothing.
+/// A tenant is named by any number. Whether a call for a tenant is refused depends on its own account alone; only
+/// [`Book::reserve`] and [`Book::raise`] look at the totals too. A refused call changes nothing.
 #[derive(Debug, Drop)]
 pub struct Book<A: Allocator = Global> {
+    // The totals.
     segments: u32,
     nodes: u32,
+    // What all tenants together have reserved.
     reserved_segments: u32,
     reserved_nodes: u32,
     accounts: Vec<(u64, Account), A>,
@@ -53,8 +55,8 @@ impl<A: Allocator> Book<A> {
     ghost use Rattle.tenant_quota.specs.Accounts.{fresh, raised_to, charged_by, credited_by, ticked, charged_segments};
     ghost use Rattle.tenant_quota.specs.Reservations.{empty_of, left_of, opened_of, reserve_of, unreserved_of, HasRoom, IsFull, CanRaise, IsTooMuch, IsLower, HasLeft, IsShort, HasStepLeft, IsOutOfSteps, HasChargedAtLeast, KeepsOthers, Admits, Raises, ChangesOnly, Releases, IsSoundBook};
 
-    /// A book of so many segments (1 to 65,536) and nodes (1 to 4,194,304) in all, with no tenant.
-    /// It makes the places of all 64 tenants, so no other call takes memory.
+    /// A book of `segments` segments (1 to 65,536) and `nodes` nodes (1 to 4,194,304) in all, with no tenant. It takes
+    /// memory for the accounts of 64 tenants, and no other call takes any. Err where the allocator refuses it.
     pub fn new(alloc: A, segments: u32, nodes: u32) -> Result<Book<A>, AllocError>
         requires some_segments { 1 ≤ segments }
         requires segments_within { segments ≤ 65536 }
@@ -103,9 +105,9 @@ impl<A: Allocator> Book<A> {
 
     /// Raises what the tenant has reserved to this. What it has used stays.
     ///
-    /// Refused as `Lower` exactly where an amount is below what is reserved, or neither is above it;
-    /// else as `Full` exactly where a total doesn't allow it in the place of what is reserved. That 64
-    /// tenants are there is no reason.
+    /// Refused as `Lower` exactly where an amount is below what is reserved, or neither is above it; else as `Full`
+    /// exactly where a total doesn't allow it in the place of what is reserved. How many tenants are there doesn't
+    /// matter.
     pub fn raise(&mut self, tenant: u64, reserve: Reserve) -> Result<(), Refusal>
         requires { IsSome (account_of tenant self.old.accounts) }
         ensures ok { IsOk result ↔ CanRaise self.old tenant reserve }
@@ -135,7 +137,7 @@ impl<A: Allocator> Book<A> {
         Ok(())
     }
 
-    /// Charges the tenant so many segments, and counts so many newly opened nodes.
+    /// Charges the tenant `segments` segments, and counts `nodes` newly opened nodes.
     ///
     /// Refused as `Short` exactly where the tenant hasn't as many segments or nodes left.
     pub fn charge(&mut self, tenant: u64, segments: u32, nodes: u32) -> Result<(), Refusal>
@@ -153,8 +155,8 @@ impl<A: Allocator> Book<A> {
         Ok(())
     }
 
-    /// Charges the tenant so many segments for a newly opened node, and answers how many nodes it had
-    /// opened before.
+    /// Charges the tenant `segments` segments for a newly opened node, and returns how many nodes it had opened
+    /// before.
     ///
     /// Refused as `Short` exactly where the tenant hasn't as many segments left, or no node.
     pub fn open(&mut self, tenant: u64, segments: u32) -> Result<u32, Refusal>
@@ -172,7 +174,7 @@ impl<A: Allocator> Book<A> {
         self.charge_nodes(tenant, segments, 1)
     }
 
-    /// Gives back so many of the segments that the tenant is charged. Its nodes stay opened.
+    /// Gives back `segments` of the segments that the tenant is charged. Its nodes stay opened.
     pub fn give_back(&mut self, tenant: u64, segments: u32)
         requires { HasChargedAtLeast self.old tenant segments }
         ensures credits { ChangesOnly self.old self.new tenant (credited_by segments) }
@@ -224,7 +226,7 @@ impl<A: Allocator> Book<A> {
     pub fn left(&self, tenant: u64) -> Option<Left>
         ensures left { result ≡ left_of tenant self.now }
 
-        // What the tenant has left is there, whatever others are charged.
+        // The segments that a tenant has left are free, whatever others are charged.
         ensures there { IfSome result (λ left.
             charged_segments self.now.accounts + left.segments ≤ self.now.segments) }
         ensures sound { IsSoundBook self.now }
@@ -254,8 +256,8 @@ impl<A: Allocator> Book<A> {
         }
     }
 
-    /// Charges the tenant so many segments, counts so many newly opened nodes, and answers how many it
-    /// had opened before.
+    /// Charges the tenant `segments` segments, counts `nodes` newly opened nodes, and returns how many it had opened
+    /// before. Refused as `Short` exactly where the tenant hasn't as many segments or nodes left.
     fn charge_nodes(&mut self, tenant: u64, segments: u32, nodes: u32) -> Result<u32, Refusal>
         requires { IsSome (account_of tenant self.old.accounts) }
         ensures ok { IsOk result ↔ HasLeft self.old tenant segments nodes }

@@ -2,8 +2,8 @@ ghost use Rattle.std.specs.Prelude.{◌≡◌, ◌≤◌, ◌↔◌, IsTrue, IsS
 
 use std::marker::Model;
 
-/// What a tenant reserves when it is admitted: 1 to 4,096 segments and 1 to 65,536 nodes.
-/// A segment is 16 words of 64 bits, a node is one frame opened.
+/// What a tenant reserves: 1 to 4,096 segments and 1 to 65,536 nodes. A segment is 16 words of 64 bits, a node is one
+/// frame opened.
 #[derive(Clone, Copy, Debug, PartialEq, Eq)]
 pub struct Reserve {
     segments: u32,
@@ -32,7 +32,7 @@ impl Reserve {
     /// The most nodes that one tenant may reserve.
     pub const MAX_NODES: u32 = 65536;
 
-    /// The reservation of so many segments and nodes, or None outside the limits.
+    /// The reservation of these amounts; None where one of them is outside its limits.
     pub fn new(segments: u32, nodes: u32) -> Option<Reserve>
         ensures within { IsSome result ↔ IsWithinLimits (record { segments = segments; nodes = nodes }) }
         ensures value { IfSome result (λ r. r ≡ record { segments = segments; nodes = nodes }) }
@@ -59,7 +59,7 @@ impl Reserve {
         self.nodes
     }
 
-    /// Whether it is below `now` in neither amount, and above it in one.
+    /// Whether this is at least `now` in both amounts, and more in one or both.
     pub fn is_above(&self, now: &Reserve) -> bool
         ensures { IsTrue result ↔ IsAbove now.now self.now }
     {
