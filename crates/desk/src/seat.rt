@@ -34,8 +34,11 @@ impl Default for SeatAsked {
 #[derive(Drop)]
 pub struct Seat<L: Hands> {
     pub(crate) tenant: u64,
+    /// Its part of the desk's ledger, whose amount is `steps`. It takes no bytes.
     pub(crate) mine: Share<L>,
+    /// How many of its own steps were taken, from its admission on.
     pub(crate) steps: u128,
+    /// What it asked, from job 1 on.
     pub(crate) asked: ArrayVec<SeatAsked, JOBS>,
 }
 
