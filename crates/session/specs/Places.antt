@@ -9,11 +9,11 @@ use Rattle.session.specs.declared.bounds.Bounds.TheInside.{Inside}
 abbrev pub no_bound : Bound
 no_bound = record { choice = Pass; score = pos 0; kind = Exact }
 
--- the entries, and in all places after them no entry
+-- a table with these entries: they fill its first places, and `no_bound` all others
 abbrev pub bounds_held : List Bound → Inside
 bounds_held bounds = record { places = bounds ++ replicate (64 - length bounds) no_bound; count = length bounds }
 
--- just the first entries are held, so many as are counted
+-- a table is well formed: so many entries as it counts, at most 64, and `no_bound` in all places after them
 pub record IsHeld (b : Inside) : Type 0 where
   pub same : bounds_held (take b.count b.places) ≡ b
   pub few : b.count ≤ 64

@@ -67,7 +67,7 @@ impl<O: Office> Ends for Clerk<'_, O> {
     }
 }
 
-/// How a session ended, by how its talk did.
+/// How a session ended, by how the exchange of lines and answers did.
 fn session_end(talk: Result<TalkEnd, LineFault>) -> Result<End, SessionFault>
     requires { talk ≢ Err LineFault.TooMuch }
     ensures { talk_result result ≡ talk }
