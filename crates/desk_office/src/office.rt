@@ -10,10 +10,12 @@ use std::alloc::{Allocator, Global};
 use std::sync::Wait;
 use tenant_quota::{Left, Reserve};
 
-/// The office of one tenant at a desk: its seat, once it has one. Without a tenant it has no job.
+/// The office of one tenant at a desk. It has the tenant's seat from a HELLO that was taken until the tenant leaves;
+/// without a seat all calls but `hello` and `leave` are refused.
 pub struct DeskOffice<'a, L: Hands, R: Wait, A: Allocator = Global> {
     rt: &'a R,
     desk: &'a Desk<L, A>,
+    /// The tenant's seat; `None` where no tenant is there.
     seat: Option<Seat<L>>,
 }
 
@@ -31,7 +33,7 @@ impl<'a, L: Hands, R: Wait, A: Allocator> DeskOffice<'a, L, R, A> {
         }
     }
 
-    /// The office closes. Its seat, where a tenant is still there, is let go.
+    /// Ends the office. Where a tenant is still there its seat is dropped, and the tenant doesn't leave.
     pub fn close(self) {
         let DeskOffice {
             rt: _rt,
