@@ -25,16 +25,16 @@ with_asked asked seat = record { tenant = seat.tenant; share = seat.share + 1; a
 abbrev pub admit_refusals : List Refusal
 admit_refusals = Full ∷ OldTenant ∷ OutOfMemory ∷ []
 
--- the refusals of a raise of what a seat's tenant reserves: the tenant isn't there, the raise isn't above what it reserves, a total
--- doesn't allow it, no memory
+-- the refusals of a raise of what a seat's tenant reserves: the tenant isn't there, the raise isn't above what it
+-- reserves, a total doesn't allow it, no memory
 abbrev pub reserve_refusals : List Refusal
 reserve_refusals = NoTenant ∷ Lower ∷ Full ∷ OutOfMemory ∷ []
 
--- the refusals of an ask
+-- the refusals of an ask: the tenant isn't there, it has had all its 256 jobs, no node or too few segments are left
 abbrev pub ask_refusals : List Refusal
 ask_refusals = NoTenant ∷ NoJobsLeft ∷ NoNodes ∷ NoSegments ∷ []
 
--- the refusals of a cancel
+-- the refusals of a cancel: the tenant isn't there, or there is no such job or it has ended
 abbrev pub cancel_refusals : List Refusal
 cancel_refusals = NoTenant ∷ NoJob ∷ []
 

@@ -24,7 +24,7 @@ pub(crate) struct Backoff {
 }
 
 impl Backoff {
-    /// The shortest wait.
+    /// The wait to begin with: the shortest.
     pub(crate) fn new() -> Backoff {
         Backoff { pauses: LEAST }
     }
@@ -39,7 +39,7 @@ impl Backoff {
         self.pauses
     }
 
-    /// The lock was free: the next wait is a little shorter.
+    /// The lock was free: the next wait is a little shorter, but no shorter than the shortest.
     pub(crate) fn ease(&mut self) {
         self.pauses = self.pauses.saturating_sub(self.pauses / EASING).max(LEAST);
     }

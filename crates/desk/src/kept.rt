@@ -89,7 +89,7 @@ impl<L: Hands, A: Allocator + Clone> Kept<L, A> {
         }
     }
 
-    /// Offers a step to the hall; this share counts it if the hall took it.
+    /// Offers a step to the hall; the share `mine` counts it if the hall took it.
     fn take(&mut self, mine: &mut Share<L>, step: &Step<Jamboree>) -> StepAnswer
         requires search { IsSearch step.now }
         requires part { 0 < mine.old.parts }

@@ -12,6 +12,7 @@ pub trait Hands: Ledger {
     ghost all: { ℕ };
 }
 
+// A call may pass `Brand` for `L`; its proof then picks the members, in place of these.
 impl Hands for Brand {
     ghost all = { 0 };
 }
