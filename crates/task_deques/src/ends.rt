@@ -9,8 +9,8 @@ use pool_rules::Task;
 use sched_rules::Worker;
 use std::alloc::{Allocator, Global};
 
-/// A worker's own deque, and a thief's end of each worker's deque, in the order of the workers'
-/// numbers. The thief's end of its own deque is there for the order's sake, and isn't used.
+/// A worker's own deque, and a thief's end of each worker's deque, in the order of the workers' numbers. The one at its
+/// own deque isn't used: it is there so that the k-th is at worker k's.
 #[derive(Drop)]
 pub struct DequeEnds<A: Allocator = Global> {
     pub(crate) own: Owner<A>,
