@@ -37,6 +37,6 @@ pub record IsTurn (worker : ℕ) (held next : Holding) (before after : ℕ) (sea
   pub share : after ≡ share_after before answer
   pub task : IsPushedOf (turn_after worker held answer).task seats pushed
 
--- the worker brings an answer that was computed from just this leaf
+-- a worker holds an answer to this frame, which it brings to the hall next, and which was computed from just this leaf
 abbrev pub BringsAnswerTo : FrameId → Leaf → Holding → Type 0
 BringsAnswerTo frame leaf holds = (answer : LeafAnswer) × (leaf_of_answer answer ≡ leaf) × (holds ≡ Next (Bring frame answer))
