@@ -39,7 +39,7 @@ pub record IsAnalysisOf (asks : List Asked) (job : ℕ) (analysis : Analysis) : 
   pub choice : analysis.best.choice ≡ best_choice asked.depth asked.board
   pub table : IsTable asked.depth asked.board analysis.bounds
 
--- a job that is shown as done is shown with what was found for it
+-- how a job may be shown by what was asked: as done only with the analysis of what was asked under its number
 abbrev pub ShowsFound : List Asked → ℕ → Standing → Type 0
 ShowsFound asks job (Done analysis) = IsAnalysisOf asks job analysis
 ShowsFound asks job _ = Unit {0}
@@ -62,8 +62,9 @@ abbrev pub RefusedBy : List ℕ → OfficeReply → Type 0
 RefusedBy numbers (Refused number) = Contains numbers number
 RefusedBy numbers _ = Unit {0}
 
--- when a call is refused, and by which numbers: ASK by 13 where 256 jobs were asked, GET and WAIT by 17 exactly where nothing was asked
--- under their number, CANCEL by 17 there too. No call but HELLO and RESERVE is refused by 19
+-- by which numbers each call may be refused, and where it is: ASK by 13 where 256 jobs were asked, GET and WAIT by 17
+-- exactly where nothing was asked under their number, CANCEL by 17 there too. Only HELLO and RESERVE are refused by 19
+-- (no memory), and Leave never is
 abbrev pub IsRefusedWhere : List Asked → Call → OfficeReply → Type 0
 IsRefusedWhere asks (Hello quota) reply = RefusedBy (14 ∷ 18 ∷ 19 ∷ []) reply
 IsRefusedWhere asks (Reserve quota) reply = RefusedBy (1 ∷ 20 ∷ 14 ∷ 19 ∷ []) reply

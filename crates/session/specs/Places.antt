@@ -5,7 +5,7 @@ use Rattle.othello_eval.specs.declared.bound.Bound.{Bound}
 use Rattle.othello_eval.specs.declared.bound.BoundKind.TheVariants.{Exact}
 use Rattle.session.specs.declared.bounds.Bounds.TheInside.{Inside}
 
--- what lies in a place without an entry
+-- what fills the places after the last entry
 abbrev pub no_bound : Bound
 no_bound = record { choice = Pass; score = pos 0; kind = Exact }
 

@@ -32,7 +32,7 @@ abbrev pub later_replies : List OfficeReply → List OfficeReply
 later_replies [] = []
 later_replies (r ∷ rs) = rs
 
--- whether a tenant is there after a reply: it comes by a taken HELLO alone
+-- whether a tenant is there after a reply: from a WELCOME on, until it has left
 abbrev pub seated_after : Bool → OfficeReply → Bool
 seated_after seated (Welcome quota) = true
 seated_after seated Gone = false

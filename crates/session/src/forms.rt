@@ -12,7 +12,7 @@ pub(crate) enum Form<'a> {
     Hello(Option<u32>, Option<u32>),
     /// Segments and nodes to reserve for the tenant that is there.
     Reserve(Option<u32>, Option<u32>),
-    /// A depth's word, and a position's text.
+    /// The word of a depth and the text of a position, both not read yet.
     Ask(&'a [u8], &'a [u8]),
     /// The number of a job.
     Get(Option<u32>),

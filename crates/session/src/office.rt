@@ -10,7 +10,7 @@ use tenant_quota::{Left, Reserve};
 
 /// What a session calls: the desk's calls for its one tenant. Each refusal is one of the scheduling core's.
 pub trait Office {
-    /// What a call may do and reply, and the states before and after it.
+    /// What a call may do: the state before it, the call, the reply, and the state after it.
     ghost does: { Self → Call → OfficeReply → Self → Type 0 };
 
     /// Whether `leave` may be called, by what is known of the office's type (of one at a desk, of its ledger). True

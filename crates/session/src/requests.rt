@@ -58,7 +58,7 @@ fn ask_request(depth: &[u8], position: &[u8]) -> Request
     }
 }
 
-/// What a command asks for where a tenant is there.
+/// What a command asks for where a tenant is there: HELLO is a fault then.
 fn seated_request(form: Form<'_>) -> Request
     ensures { request_seen result ≡ seated_request (form_seen form.entry) }
 {

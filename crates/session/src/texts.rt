@@ -11,7 +11,7 @@ use protocol::{push_error, push_move, push_number, push_value};
 use sched_rules::Refusal;
 use tenant_quota::{Left, Reserve};
 
-/// The most bytes of an answer with its LF: a table of 64 entries, of 17 bytes each, after 26 bytes.
+/// The most bytes of an answer with its LF: TABLE and a number take 26 at most, and 64 entries 17 each.
 const ANSWER_BYTES: usize = 1115;
 
 /// Room for one answer: at most 1,114 bytes and an LF. A session has one, which is passed by reference alone.
