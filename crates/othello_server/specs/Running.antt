@@ -11,7 +11,7 @@ use Rattle.command_line.specs.declared.faults.WordsFault.{WordsFault}
 use Rattle.solve_command.specs.Answering.{IsSolvedAsAsked}
 use Rattle.othello_server.specs.declared.service.Service.{Service}
 
--- what a server runs with: each amount as the options say it; nothing where they ask for no server
+-- what a server runs with: each amount as the options say it; None exactly where they ask for no server
 abbrev pub IsAskedBy : Options → Option Service → Type 0
 IsAskedBy (Solve grain visited) None = Unit {0}
 IsAskedBy (Solve grain visited) (Some asked) = ⊥
