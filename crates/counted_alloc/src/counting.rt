@@ -3,14 +3,16 @@
 use std::alloc::{AllocError, Allocator};
 use std::cell::Cell;
 
-/// Passes each call on, and counts it.
+/// An allocator that passes each call on to another one, and counts it.
 pub struct Counted<B: Allocator> {
+    /// The allocator that does the calls.
     inner: B,
+    /// How many calls there were, modulo 2^64.
     calls: Cell<u64>,
 }
 
 impl<B: Allocator> Counted<B> {
-    /// No call was counted yet.
+    /// Passes calls on to `inner`; none is counted yet.
     pub fn new(inner: B) -> Counted<B> {
         Counted {
             inner,
@@ -18,7 +20,7 @@ impl<B: Allocator> Counted<B> {
         }
     }
 
-    /// How often memory was asked for or given back.
+    /// How often memory was asked for or given back, modulo 2^64.
     pub fn calls(&self) -> u64 {
         self.calls.get()
     }

@@ -20,17 +20,19 @@ use Rattle.desk.specs.Seats.{SeatOf}
 use Rattle.desk.specs.declared.change.Change.{Change}
 use Rattle.desk.specs.declared.change.Change.TheVariants.{Nothing, InReady, Job as InJob}
 
--- the hall, whether the desk is closed, and how many workers sleep until a frame is ready, by the remainder at division by 2^32
+-- what contracts see of what lies under the lock: the hall, whether the desk is closed, and how many workers sleep
+-- until a frame is ready, modulo 2^32
 pub record KeptOf : Type 0 where
   pub hall : HallOf
   pub closed : Bool
   pub sleepers : ℕ
 
--- whether the desk is closed and how many workers sleep is as it was
+-- a call changes neither whether the desk is closed nor how many workers sleep
 abbrev pub IsAsOpen : KeptOf → KeptOf → Type 0
 IsAsOpen before after = (after.closed ≡ before.closed) × (after.sleepers ≡ before.sleepers)
 
--- the hall after a step that was answered so, and left the tenants so
+-- the hall after this answer to a step: where it was taken it is written into the journals, and what the tenants share
+-- is that of `after`; where it was refused nothing has changed
 abbrev pub after_offer : HallOf → StepOf LeafAnswer → Result (DidOf Leaf) Refusal → HallOf → HallOf
 after_offer before step (Ok did) after = hall_after before step after.shared
 after_offer before step (Err refusal) after = before
@@ -40,22 +42,23 @@ pub record IsOffered (before : HallOf) (step : StepOf LeafAnswer) (answer : Resu
   pub one : IsOneStep (jamboree before.grain) before.shared step answer after.shared
   pub left : after ≡ after_offer before step answer after
 
--- a seat's tenant was offered to leave, and the seat's share is kept, with that step where it was taken
+-- a Leave of the seat's tenant was offered to the hall, which then keeps the seat's share too, and 1 more where the
+-- Leave was taken
 pub record IsLeft (before : HallOf) (seat : SeatOf) (after : HallOf) : Type 0 where
   pub answer : Result (DidOf Leaf) Refusal
   pub step : IsOffered before (Leave seat.tenant) answer (record after { kept = before.kept })
   pub kept : after.kept ≡ before.kept + seat.share + (if is_ok answer then 1 else 0)
 
--- what was found, or that the tenant isn't there
+-- what was found of a tenant; None, as the tenant isn't there, is the refusal NoTenant
 abbrev pub found_or_no_tenant : {X : Type 0} → Option X → Result X Refusal
 found_or_no_tenant (Some found) = Ok found
 found_or_no_tenant None = Err NoTenant
 
--- what lies under the lock, with so many more steps kept
+-- what lies under the lock, where the hall keeps so many more steps
 abbrev pub with_kept : ℕ → KeptOf → KeptOf
 with_kept steps kept = record kept { hall = record kept.hall { kept = kept.hall.kept + steps } }
 
--- whether a job is there that hasn't ended
+-- whether there is a job that hasn't ended
 abbrev pub is_live : Option Job → Bool
 is_live None = false
 is_live (Some (Live root)) = true
@@ -71,13 +74,14 @@ waits_on kept tenant job = not kept.closed && is_live (job_of kept.hall.shared t
 abbrev pub has_news : KeptOf → Bool
 has_news kept = kept.closed || not (ready_count kept.hall.shared.tenants == 0)
 
--- what a worker that waited is given: nothing exactly where the desk is closed or no frame is ready, else a frame that is, with its home
+-- the frame that a worker is given after it has waited, with its home: None exactly where the desk is closed or no
+-- frame is ready, else one that is ready
 abbrev pub IsNext : KeptOf → Option (FrameId × ℕ) → Type 0
 IsNext kept None = (not kept.closed && not (ready_count kept.hall.shared.tenants == 0)) ≡ false
 IsNext kept (Some ready) = (kept.closed ≡ false) × IsReadyAt (named kept.hall.shared ready.0) ready.1
 
--- what somebody may wait for that a worker's step changed: a frame became ready where a child was opened or a parent woken, and a
--- job ended where it was finished or spent
+-- what a worker's step changed that somebody may wait for, by the hall's answer: a frame became ready where a child was
+-- opened or a parent woken, and a job ended where it was finished or spent
 abbrev pub ends_of : Result (DidOf Leaf) Refusal → Change
 ends_of (Err refusal) = Nothing
 ends_of (Ok Admitted) = Nothing

@@ -5,7 +5,7 @@
 //! row, with the hall near its processor; one that finds it free looks more often again. Each worker goes by
 //! its own looks alone: nothing is shared, and nobody has to be called.
 
-/// The shortest wait, in pauses of the processor: some 4 microseconds, about twenty steps.
+/// The shortest wait, in pauses of the processor: some 4 microseconds, in which about twenty steps can be taken.
 const LEAST: u32 = 256;
 
 /// The longest wait: some half a millisecond.
@@ -14,37 +14,37 @@ const MOST: u32 = 32_768;
 /// The wait of a worker without a task: some 130 microseconds.
 const IDLE: u32 = 8_192;
 
-/// By which part of itself a wait gets shorter with each hold for which the lock was free.
+/// Each time the lock was free at the first try, the wait gets shorter by one part in so many: a 16th of itself.
 const EASING: u32 = 16;
 
-/// How long a worker waits between two looks at a lock that is taken.
+/// How long a worker waits between two tries to take the lock.
 #[derive(Clone, Copy, Debug)]
 pub(crate) struct Backoff {
     pauses: u32,
 }
 
 impl Backoff {
-    /// The shortest wait.
+    /// The wait to begin with: the shortest.
     pub(crate) fn new() -> Backoff {
         Backoff { pauses: LEAST }
     }
 
-    /// A long wait, for who has nothing to do.
+    /// The wait of a worker that has nothing to do.
     pub(crate) fn idle() -> Backoff {
         Backoff { pauses: IDLE }
     }
 
-    /// How many pauses of the processor it waits.
+    /// How long it waits, in pauses of the processor.
     pub(crate) fn pauses(self) -> u32 {
         self.pauses
     }
 
-    /// The lock was free: the next wait is a little shorter.
+    /// The lock was free: the next wait is a little shorter, but no shorter than the shortest.
     pub(crate) fn ease(&mut self) {
         self.pauses = self.pauses.saturating_sub(self.pauses / EASING).max(LEAST);
     }
 
-    /// The lock was taken: this wait and the next are twice as long.
+    /// The lock was taken: this wait and the next are twice as long, but no longer than the longest.
     pub(crate) fn double(&mut self) {
         self.pauses = self.pauses.saturating_mul(2).min(MOST);
     }

@@ -7,7 +7,7 @@ use hall::{DidOf, StepAnswer};
 /// What a step changed that somebody may wait for.
 #[derive(Clone, Copy, Debug, PartialEq, Eq)]
 pub(crate) enum Change {
-    /// Nothing.
+    /// Nothing that anybody waits for.
     Nothing,
     /// A frame became ready.
     InReady,
@@ -16,7 +16,7 @@ pub(crate) enum Change {
 }
 
 impl Change {
-    /// What a worker's step changed that was answered so.
+    /// What a worker's step changed, by the hall's answer to it.
     pub(crate) fn of(answer: &StepAnswer) -> Change
         ensures { result ≡ ends_of answer.now }
     {

@@ -20,10 +20,12 @@ use std::sync::{Condvar, Mutex, MutexGuard, Wait};
 use std::thread::yield_now;
 use tenant_quota::{Left, Reserve};
 
-/// The lock with the hall in it, which may have an allocator of its own.
+/// The hall under a lock, and the conditions that workers and seats wait for. `A` is the hall's allocator.
 pub struct Desk<L: Hands, A: Allocator = Global> {
     lock: Mutex<Kept<L, A>>,
+    /// Where workers wait for a frame to become ready.
     ready: Condvar,
+    /// Where seats wait for a job to end.
     ended: Condvar,
 }
 
@@ -39,7 +41,7 @@ impl<L: Hands, A: Allocator> Drop for Desk<L, A> {
 }
 
 impl<L: Hands, A: Allocator + Clone> Desk<L, A> {
-    /// A hall under a lock, with a ledger that is new.
+    /// Puts a hall under a lock, with a new ledger that counts the steps from now on.
     pub fn new(hall: Hall<A>, blank: Blank) -> Desk<L, A>
         requires name { blank.name ≡ L.name }
         requires parts { (blank.parts ≡ L.parts) × (L.all ≡ L.parts) × (L.all ≡ PARTS) }
@@ -51,7 +53,7 @@ impl<L: Hands, A: Allocator + Clone> Desk<L, A> {
         }
     }
 
-    /// The hall, locked.
+    /// Locks the hall: tries once, and then goes on as `enter_late` does.
     fn enter<R: Wait>(&self, rt: &R) -> MutexGuard<'_, Kept<L, A>> {
         match self.lock.try_lock() {
             Some(kept) => kept,
@@ -59,9 +61,9 @@ impl<L: Hands, A: Allocator + Clone> Desk<L, A> {
         }
     }
 
-    /// The hall, locked, where the lock was taken at the first look: looks again until it is free, and lets other
-    /// threads have the processor between two looks. It doesn't sleep for the lock: a thread that does is handed it,
-    /// and until that thread is awake nobody else can take it.
+    /// Locks the hall after a first try found the lock taken: tries again until it is free. Before each try it waits as
+    /// long as `backoff` says, and after a failed one it lets other threads have the processor. It never sleeps on the
+    /// lock: a thread that does is handed it, and until that thread is awake nobody else can take it.
     fn enter_late<R: Wait>(&self, rt: &R, backoff: Backoff) -> MutexGuard<'_, Kept<L, A>> {
         for _ in rt.forever() {
             pause(backoff);
@@ -73,8 +75,8 @@ impl<L: Hands, A: Allocator + Clone> Desk<L, A> {
         unreachable!()
     }
 
-    /// Admits a tenant under the number after the greatest so far: its seat, whose share is 1. Refused at most as
-    /// `Full`, `OutOfMemory`, and `OldTenant` after 2^62 tenants.
+    /// Admits a tenant under the number after the greatest so far, and returns its seat. The seat's share is 1, as its
+    /// admission was a step. The only refusals are `Full`, `OutOfMemory`, and `OldTenant` after 2^62 tenants.
     pub fn admit<R: Wait>(&self, rt: &R, reserve: Reserve) -> Result<Seat<L>, Refusal>
         ensures seat { IfOk result (λ seat. (seat.share ≡ 1) × (seat.asked ≡ [])) }
         ensures refused { IfErr result (Contains admit_refusals) }
@@ -82,9 +84,9 @@ impl<L: Hands, A: Allocator + Clone> Desk<L, A> {
         self.enter(rt).admit(reserve)
     }
 
-    /// Raises what the seat's tenant reserves to this, which is above what it reserves: as many segments and
-    /// nodes at least, and more of one. What it used stays used. Refused at most as `NoTenant`, `Lower` (not
-    /// above), `Full` and `OutOfMemory`; then seat and hall are as they were.
+    /// Raises the reservation of the seat's tenant to `reserve`, which has at least as many segments and nodes as it
+    /// reserves now, and more of one of them. What it used stays used. The only refusals are `NoTenant`, `Lower` (no
+    /// raise), `Full` and `OutOfMemory`; then seat and hall are unchanged.
     pub fn reserve<R: Wait>(
         &self,
         rt: &R,
@@ -97,9 +99,9 @@ impl<L: Hands, A: Allocator + Clone> Desk<L, A> {
         self.enter(rt).reserve(seat, reserve)
     }
 
-    /// Asks for the value of a position to a depth of 0 to 12 plies: the number of the job, which is
-    /// the new length of the seat's list. Refused as `NoJobsLeft` where the list is full, and else at most as
-    /// `NoNodes`, `NoSegments` and `NoTenant`; then seat and hall are as they were.
+    /// Submits a search of this position to a depth of 0 to 12 plies, wakes a worker, and returns the job's number,
+    /// which is the new length of the seat's list. Refused with `NoJobsLeft` where that list has 256 entries, else only
+    /// with `NoNodes`, `NoSegments` or `NoTenant`; then seat and hall are unchanged.
     pub fn ask<R: Wait>(
         &self,
         rt: &R,
@@ -116,15 +118,16 @@ impl<L: Hands, A: Allocator + Clone> Desk<L, A> {
         Ok(job)
     }
 
-    /// What became of a job. Refused as `NoJob` exactly where its number is 0 or over the length of the
-    /// seat's list; shown as done only with a reply to what stands there.
+    /// How a job stands. `NoJob` exactly where its number is 0 or above the length of the seat's list; there is no
+    /// other refusal. It is `Done` only with a reply to the board and the depth at its place in that list.
     pub fn get<R: Wait>(&self, rt: &R, seat: &Seat<L>, job: u64) -> Result<Outcome, Refusal>
         ensures { IsShown (seat_asked_at seat.now.asked job) result }
     {
         self.enter(rt).get(seat, job)
     }
 
-    /// What became of a job once it has ended, or the desk was closed; refused as `get` is.
+    /// Waits until a job has ended or the desk is closed, and answers as `get` does then. It doesn't wait for a job
+    /// that isn't there.
     pub fn wait<R: Wait>(&self, rt: &R, seat: &Seat<L>, job: u64) -> Result<Outcome, Refusal>
         ensures { IsShown (seat_asked_at seat.now.asked job) result }
     {
@@ -135,8 +138,8 @@ impl<L: Hands, A: Allocator + Clone> Desk<L, A> {
         kept.get(seat, job)
     }
 
-    /// Cancels a job. Refused as `NoJob` where its number is 0 or over the length of the seat's list,
-    /// or it has ended, and else at most as `NoTenant`.
+    /// Cancels a job, and wakes the seats that wait. `NoJob` where its number is 0 or above the length of the seat's
+    /// list, or it has ended; the only other refusal is `NoTenant`.
     pub fn cancel<R: Wait>(&self, rt: &R, seat: &mut Seat<L>, job: u64) -> Result<(), Refusal>
         ensures share { MatchResult result (λ _. seat.new ≡ stepped seat.old) (λ _. seat.new ≡ seat.old) }
         ensures none { seat_asked_at seat.old.asked job ≡ None → result ≡ Err NoJob }
@@ -155,14 +158,15 @@ impl<L: Hands, A: Allocator + Clone> Desk<L, A> {
         self.enter(rt).quota(seat.tenant())
     }
 
-    /// How many frames the seat's tenant has, and how many words they have. Refused at most as `NoTenant`.
+    /// How many frames the seat's tenant has, and how many words these have together. The only refusal is `NoTenant`.
     pub fn live<R: Wait>(&self, rt: &R, seat: &Seat<L>) -> Result<(usize, usize), Refusal>
         ensures { IfErr result (λ refusal. refusal ≡ NoTenant) }
     {
         self.enter(rt).live(seat.tenant())
     }
 
-    /// The seat's tenant leaves, and its jobs, frames and reservation are gone. Its share stays with the hall.
+    /// The seat's tenant leaves: its jobs, its frames and its reservation are gone. The seat's share is added to the
+    /// spare one, so its steps stay counted.
     pub fn leave<R: Wait>(&self, rt: &R, seat: Seat<L>)
         requires { L.all ≡ L.parts }
     {
@@ -170,15 +174,15 @@ impl<L: Hands, A: Allocator + Clone> Desk<L, A> {
         self.ended.notify_all();
     }
 
-    /// A badge whose share is 0; `None` only after 2^62 badges.
+    /// A new badge, with which a worker offers steps. Its share is 0. `None` only after 2^62 badges.
     pub fn badge<R: Wait>(&self, rt: &R) -> Option<Badge<L>>
         ensures { IfSome result (λ badge. badge ≡ 0) }
     {
         self.enter(rt).badge()
     }
 
-    /// Offers a worker's step: what it did, or why it is refused. The badge's share is raised by 1
-    /// exactly where the step was taken.
+    /// Offers a worker's step to the hall, and returns what it did or why it is refused. The badge's share is raised by
+    /// 1 exactly where the step was taken.
     pub fn offer<R: Wait>(&self, rt: &R, badge: &mut Badge<L>, step: &Step<Jamboree>) -> StepAnswer
         requires { is_worker_step step.now ≡ true }
         ensures share { MatchResult result (λ _. badge.new ≡ badge.old + 1) (λ _. badge.new ≡ badge.old) }
@@ -190,8 +194,8 @@ impl<L: Hands, A: Allocator + Clone> Desk<L, A> {
         answer
     }
 
-    /// The desk, held by the worker of this badge for steps that follow each other: until it is released all
-    /// others wait.
+    /// Locks the desk for several steps of the worker with this badge: until [`Held::release`] all other threads wait.
+    /// This worker's waits for the lock get longer where it was taken, else a little shorter.
     pub fn hold<R: Wait>(&self, rt: &R, badge: &mut Badge<L>) -> Held<'_, L, A>
         ensures share { badge.new ≡ badge.old }
     {
@@ -214,8 +218,8 @@ impl<L: Hands, A: Allocator + Clone> Desk<L, A> {
         }
     }
 
-    /// Some frame that is ready, with its home (a worker's number, or 0 for the hall). Waits until
-    /// there is one, or the desk is closed; `None` only where it is closed.
+    /// A frame that is ready, with its home (a worker's number, or 0 for the hall). Waits until there is one or the
+    /// desk is closed; `None` only where it is closed.
     pub fn next_ready<R: Wait>(&self, rt: &R) -> Option<(FrameId, u8)> {
         let mut kept = match self.lock.try_lock() {
             Some(kept) => kept,
@@ -229,21 +233,21 @@ impl<L: Hands, A: Allocator + Clone> Desk<L, A> {
         kept.next_ready()
     }
 
-    /// Nobody waits from now on: `next_ready` answers `None`, and `wait` what `get` does. All other
-    /// calls go on as before.
+    /// Closes the desk, so that nobody waits any more: `next_ready` answers `None`, and `wait` what `get` does. All
+    /// other calls go on as before.
     pub fn close<R: Wait>(&self, rt: &R) {
         self.enter(rt).close();
         self.ready.notify_all();
         self.ended.notify_all();
     }
 
-    /// All steps that were taken since the hall was new.
+    /// How many steps were taken since the hall was made.
     pub fn count<R: Wait>(&self, rt: &R) -> u128 {
         self.enter(rt).count()
     }
 
-    /// The hall, when no thread has the desk any more, and whether all shares are here: then all steps
-    /// are those that the hall keeps and the badge's.
+    /// Takes the hall out of the desk, and tells whether this badge has all parts of the ledger that were given out and
+    /// not returned. Where it has, all steps in the hall are those that the hall keeps and those of the badge.
     pub fn into_hall(self, badge: Badge<L>) -> (Hall<A>, bool)
         requires { L.all ≡ L.parts }
         ensures { result.1 ≡ true → count_of result.0 ≡ result.0.kept + badge }
@@ -257,7 +261,7 @@ impl<L: Hands, A: Allocator + Clone> Desk<L, A> {
     }
 }
 
-/// Lets the time between two looks go by.
+/// Spins as long as this backoff says.
 fn pause(backoff: Backoff) {
     for _ in 0..backoff.pauses() {
         spin_loop();

@@ -13,21 +13,21 @@ use hall::{Jamboree, Step, StepAnswer};
 use std::alloc::{Allocator, Global};
 use std::sync::{Condvar, MutexGuard, Wait};
 
-/// A desk whose lock one worker has. It can't be dropped, so that nobody forgets to wake who waits:
-/// [`Held::release`] lets go.
+/// The desk, locked by one worker for several steps. It can't be dropped: [`Held::release`] unlocks it, and wakes who
+/// waits for what the steps changed.
 pub struct Held<'d, L: Hands, A: Allocator = Global> {
     pub(crate) kept: MutexGuard<'d, Kept<L, A>>,
     pub(crate) ready: &'d Condvar,
     pub(crate) ended: &'d Condvar,
     /// How many frames became ready while some worker slept.
     pub(crate) wakes: u32,
-    /// Whether a job ended.
+    /// Whether one of the steps ended a job.
     pub(crate) has_ended: bool,
 }
 
 impl<'d, L: Hands, A: Allocator + Clone> Held<'d, L, A> {
-    /// Offers a worker's step: what it did, or why it is refused. The badge's share is raised by 1
-    /// exactly where the step was taken.
+    /// Offers a worker's step to the hall, and returns what it did or why it is refused. The badge's share is raised by
+    /// 1 exactly where the step was taken.
     pub fn offer<R: Wait>(
         &mut self,
         rt: &R,
@@ -39,7 +39,7 @@ impl<'d, L: Hands, A: Allocator + Clone> Held<'d, L, A> {
         ensures memory { result ≢ Err OutOfMemory }
     {
         if badge.share() >= u64::MAX as u128 {
-            // No badge takes so many steps.
+            // A badge can't count beyond 2^64 - 1 steps, which no worker reaches: it would stop here.
             for _ in rt.forever() {}
             unreachable!()
         }
@@ -54,8 +54,8 @@ impl<'d, L: Hands, A: Allocator + Clone> Held<'d, L, A> {
         answer
     }
 
-    /// Lets go of the lock, and wakes a worker for each frame that became ready while one slept, and all seats
-    /// where a job ended.
+    /// Unlocks the desk, and then wakes a worker for each frame that became ready while one slept, and all seats that
+    /// wait if a job ended.
     pub fn release(self) {
         let Held {
             kept,

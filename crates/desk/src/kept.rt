@@ -27,18 +27,24 @@ use std::marker::Model;
 use std::sync::ledger::{Blank, Book, Share};
 use tenant_quota::{Left, Reserve};
 
-/// The most badges that are ever given.
+/// The most badges that one desk ever gives.
 const BADGES: u64 = 1 << 62;
 
-/// What lies under the lock.
+/// What lies under the desk's lock: the hall, and the ledger that counts the steps taken since the desk was made.
 #[derive(Drop)]
 pub(crate) struct Kept<L: Hands, A: Allocator = Global> {
     hall: Hall<A>,
+    /// Its total is the number of steps taken since the desk was made.
     book: Book<L>,
+    /// The share that no seat and no badge has: parts that can be given, and the steps of seats that have left.
     spare: Share<L>,
+    /// How many parts the spare share has.
     parts: u64,
+    /// How many badges were given.
     badges: u64,
+    /// How many steps the hall had taken before the desk was made.
     before: u128,
+    /// Whether the desk is closed, so that nobody waits any more.
     closed: bool,
     /// How many workers sleep until a frame is ready.
     sleepers: u32,
@@ -59,7 +65,7 @@ impl<L: Hands, A: Allocator> Model for Kept<L, A> {
 }
 
 impl<L: Hands, A: Allocator + Clone> Kept<L, A> {
-    /// A hall under a ledger that is new. The steps that it has taken are kept.
+    /// A hall with a new ledger. The steps that it has taken so far are noted as kept (`Hall::keep`).
     pub(crate) fn new(hall: Hall<A>, blank: Blank) -> Kept<L, A>
         requires name { blank.name ≡ L.name }
         requires parts { (blank.parts ≡ L.parts) × (L.all ≡ L.parts) × (L.all ≡ PARTS) }
@@ -83,7 +89,7 @@ impl<L: Hands, A: Allocator + Clone> Kept<L, A> {
         }
     }
 
-    /// Offers a step to the hall; this share counts it if the hall took it.
+    /// Offers a step to the hall; the share `mine` counts it if the hall took it.
     fn take(&mut self, mine: &mut Share<L>, step: &Step<Jamboree>) -> StepAnswer
         requires search { IsSearch step.now }
         requires part { 0 < mine.old.parts }
@@ -117,7 +123,8 @@ impl<L: Hands, A: Allocator + Clone> Kept<L, A> {
         answer
     }
 
-    /// Admits a tenant under the number after the greatest so far.
+    /// Admits a tenant under the number after the greatest so far, and returns its seat, whose share of 1 counts the
+    /// admission.
     pub(crate) fn admit(&mut self, reserve: Reserve) -> Result<Seat<L>, Refusal>
         ensures seat { IfOk result (λ seat. seat ≡ record { tenant = self.old.hall.shared.newest + 1; share = 1; asked = [] }) }
         ensures step { MatchResult result
@@ -150,7 +157,7 @@ impl<L: Hands, A: Allocator + Clone> Kept<L, A> {
         }
     }
 
-    /// Raises what a seat's tenant reserves.
+    /// Raises the reservation of a seat's tenant to this one.
     pub(crate) fn reserve(&mut self, seat: &mut Seat<L>, reserve: Reserve) -> Result<(), Refusal>
         ensures share { MatchResult result (λ _. seat.new ≡ stepped seat.old) (λ _. seat.new ≡ seat.old) }
         ensures step { MatchResult result
@@ -164,7 +171,8 @@ impl<L: Hands, A: Allocator + Clone> Kept<L, A> {
         Ok(())
     }
 
-    /// Submits the search of a position for a seat.
+    /// Submits the search of a position for a seat, and returns the job's number. Where the seat has 256 jobs the hall
+    /// isn't asked, and the refusal is `NoJobsLeft`.
     pub(crate) fn ask(
         &mut self,
         seat: &mut Seat<L>,
@@ -192,7 +200,8 @@ impl<L: Hands, A: Allocator + Clone> Kept<L, A> {
         Ok(seat.asked.len() as u64)
     }
 
-    /// Cancels a seat's job.
+    /// Cancels a seat's job. Where the seat asked for no job of this number the hall isn't asked, and the refusal is
+    /// `NoJob`.
     pub(crate) fn cancel(&mut self, seat: &mut Seat<L>, job: u64) -> Result<(), Refusal>
         ensures share { MatchResult result (λ _. seat.new ≡ stepped seat.old) (λ _. seat.new ≡ seat.old) }
         ensures none { seat_asked_at seat.old.asked job ≡ None → (result ≡ Err NoJob) × (self.new ≡ self.old) }
@@ -210,7 +219,7 @@ impl<L: Hands, A: Allocator + Clone> Kept<L, A> {
         Ok(())
     }
 
-    /// Takes a worker's step for its badge.
+    /// Offers a worker's step to the hall; the badge's share counts it if the hall took it.
     pub(crate) fn offer(&mut self, badge: &mut Badge<L>, step: &Step<Jamboree>) -> StepAnswer
         requires worker { is_worker_step step.now ≡ true }
         requires few { badge.old + 1 < 2 ^ 64 }
@@ -226,7 +235,7 @@ impl<L: Hands, A: Allocator + Clone> Kept<L, A> {
         answer
     }
 
-    /// What became of a seat's job.
+    /// How a seat's job stands, as `shown` tells it; `NoJob` where the seat asked for no job of this number.
     pub(crate) fn get(&self, seat: &Seat<L>, job: u64) -> Result<Outcome, Refusal>
         ensures shown { IsShown (seat_asked_at seat.now.asked job) result }
         ensures told { (told : Option OutcomeOf) × IsOutcomeIn (job_of self.now.hall.shared seat.now.tenant job) told × IsToldBy (seat_asked_at seat.now.asked job) told result }
@@ -248,14 +257,14 @@ impl<L: Hands, A: Allocator + Clone> Kept<L, A> {
         }
     }
 
-    /// Whether a worker that waits may go on.
+    /// Whether a worker that waits may go on: the desk is closed, or some frame is ready.
     pub(crate) fn has_news(&self) -> bool
         ensures { result ≡ has_news self.now }
     {
         self.closed || self.hall.core().any_ready().is_some()
     }
 
-    /// A frame that is ready, with its home, unless the desk is closed.
+    /// A frame that is ready, with its home. `None` where no frame is ready or the desk is closed.
     pub(crate) fn next_ready(&self) -> Option<(FrameId, u8)>
         ensures { IsNext self.now result }
     {
@@ -266,14 +275,14 @@ impl<L: Hands, A: Allocator + Clone> Kept<L, A> {
         }
     }
 
-    /// One worker more sleeps until a frame is ready.
+    /// Counts one worker more that sleeps until a frame is ready, modulo 2^32.
     pub(crate) fn begin_sleep(&mut self)
         ensures { self.new ≡ record self.old { sleepers = (self.old.sleepers + 1) % 2 ^ 32 } }
     {
         self.sleepers = self.sleepers.wrapping_add(1);
     }
 
-    /// One worker fewer sleeps.
+    /// Counts one worker fewer that sleeps, modulo 2^32.
     pub(crate) fn end_sleep(&mut self)
         ensures { self.new ≡ record self.old { sleepers = (self.old.sleepers + 4294967295) % 2 ^ 32 } }
     {
@@ -287,35 +296,35 @@ impl<L: Hands, A: Allocator + Clone> Kept<L, A> {
         self.sleepers > 0
     }
 
-    /// Nobody waits from now on.
+    /// Closes the desk: nobody waits any more.
     pub(crate) fn close(&mut self)
         ensures { self.new ≡ record self.old { closed = true } }
     {
         self.closed = true;
     }
 
-    /// All steps that were taken.
+    /// How many steps were taken since the hall was made.
     pub(crate) fn count(&self) -> u128
         ensures { result ≡ count_of self.now.hall }
     {
         self.hall.count()
     }
 
-    /// What a tenant has left.
+    /// The segments, nodes and steps that a tenant has left; `NoTenant` where it isn't there.
     pub(crate) fn quota(&self, tenant: u64) -> Result<Left, Refusal>
         ensures { result ≡ found_or_no_tenant (left_of self.now.hall.shared tenant) }
     {
         self.hall.core().left(tenant).ok_or(Refusal::NoTenant)
     }
 
-    /// How many frames a tenant has, and how many words they have.
+    /// How many frames a tenant has, and how many words these have together; `NoTenant` where it isn't there.
     pub(crate) fn live(&self, tenant: u64) -> Result<(usize, usize), Refusal>
         ensures { result ≡ found_or_no_tenant (live_of self.now.hall.shared tenant) }
     {
         self.hall.core().live(tenant).ok_or(Refusal::NoTenant)
     }
 
-    /// A badge with no step; `None` only after 2^62 badges.
+    /// A new badge, with one part and a share of 0. `None` only after 2^62 badges.
     pub(crate) fn badge(&mut self) -> Option<Badge<L>>
         ensures share { IfSome result (λ badge. badge ≡ 0) }
         ensures same { self.new ≡ self.old }
@@ -323,6 +332,7 @@ impl<L: Hands, A: Allocator + Clone> Kept<L, A> {
         if self.badges == BADGES {
             return None;
         }
+        // This call tells the prover what `IsExplained` says of the tenants' numbers.
         let _next = self.hall.next_tenant();
         let mine = self.spare.split_off(1, 0);
         self.parts -= 1;
@@ -335,7 +345,7 @@ impl<L: Hands, A: Allocator + Clone> Kept<L, A> {
         })
     }
 
-    /// A seat's tenant leaves, and its share is kept.
+    /// A seat's tenant leaves. The hall keeps the seat's steps, and this one where it was taken.
     pub(crate) fn leave(&mut self, seat: Seat<L>)
         requires { L.all ≡ L.parts }
         ensures step { IsLeft self.old.hall seat self.new.hall }
@@ -353,7 +363,7 @@ impl<L: Hands, A: Allocator + Clone> Kept<L, A> {
         }
     }
 
-    /// Keeps a share that no seat has any more.
+    /// Adds the share of a seat that has left to the spare one, and its steps to those that the hall keeps.
     fn keep_share(&mut self, mine: Share<L>, steps: u128)
         requires all { L.all ≡ L.parts }
         requires amount { mine.amount ≡ steps }
@@ -363,12 +373,14 @@ impl<L: Hands, A: Allocator + Clone> Kept<L, A> {
         self.spare.merge(mine);
         self.book.audit(&mut self.spare);
         self.parts += 1;
+        // This call tells the prover what `IsExplained` says of the counts.
         let _count = self.hall.count();
         let kept = self.hall.kept();
         self.hall.keep(kept + steps);
     }
 
-    /// The hall, and whether this badge has all that was out.
+    /// Takes the hall out, and tells whether this badge has all parts that are out. Where it has, all steps in the hall
+    /// are those that it keeps and those of the badge.
     pub(crate) fn closed(self, badge: Badge<L>) -> (Hall<A>, bool)
         requires { L.all ≡ L.parts }
         ensures same { result.0 ≡ self.hall }
@@ -395,7 +407,7 @@ impl<L: Hands, A: Allocator + Clone> Kept<L, A> {
     }
 }
 
-/// What was asked by the job of this number, from 1 on.
+/// What was asked as the job of this number, from 1 on. `None` where the number is 0 or above the length.
 fn seat_asked_at(asked: &[SeatAsked], job: u64) -> Option<&SeatAsked>
     ensures { option_copied result ≡ seat_asked_at asked.now job }
 {
@@ -410,7 +422,8 @@ fn seat_asked_at(asked: &[SeatAsked], job: u64) -> Option<&SeatAsked>
     }
 }
 
-/// What is shown of a job that asked this: done only with a reply to just that.
+/// How a job that asked this is shown, by what the hall tells of it: `Pending` in place of a reply to another board or
+/// depth, and where the hall has no such job.
 fn shown(asked: &SeatAsked, told: Option<Outcome>) -> Outcome
     ensures fits { Shows asked.now result }
     ensures told { IsShownOf asked.now told result }

@@ -10,7 +10,7 @@ use std::sync::ledger::Share;
 /// How many jobs a seat can ask for.
 pub(crate) const JOBS: usize = 256;
 
-/// What was asked: a board, seen by the player to move, and a depth of 0 to 12 plies.
+/// What a seat asked: a board, seen by the player to move, and a depth of 0 to 12 plies.
 #[derive(Clone, Copy, Debug, PartialEq, Eq)]
 pub struct SeatAsked {
     /// The board.
@@ -19,7 +19,7 @@ pub struct SeatAsked {
     pub depth: u8,
 }
 
-// An `ArrayVec` fills its free places with some value.
+// Only for the free places of an `ArrayVec`, which need some value.
 impl Default for SeatAsked {
     fn default() -> SeatAsked {
         SeatAsked {
@@ -29,13 +29,16 @@ impl Default for SeatAsked {
     }
 }
 
-/// The seat of a tenant: its share, which counts its own taken steps, and what it asked. Contracts see
-/// its tenant, its share and the list of what it asked.
+/// What a tenant calls the desk with. Contracts see the tenant's number, the seat's share, which counts its own taken
+/// steps, and the list of what it asked.
 #[derive(Drop)]
 pub struct Seat<L: Hands> {
     pub(crate) tenant: u64,
+    /// Its part of the desk's ledger, whose amount is `steps`. It takes no bytes.
     pub(crate) mine: Share<L>,
+    /// How many of its own steps were taken, from its admission on.
     pub(crate) steps: u128,
+    /// What it asked, from job 1 on.
     pub(crate) asked: ArrayVec<SeatAsked, JOBS>,
 }
 

@@ -5,27 +5,33 @@ use crate::backoff::Backoff;
 use std::marker::{Brand, Model};
 use std::sync::ledger::{Ledger, Share};
 
-/// The ledger of one desk.
+/// A type that stands for the ledger of one desk.
 pub trait Hands: Ledger {
-    /// All its parts.
+    /// How many parts the ledger has, as `parts` of `Ledger` says: the invariants of `Badge` and `Kept` are stated by
+    /// this.
     ghost all: { ℕ };
 }
 
+// A call may pass `Brand` for `L`; its proof then picks the members, in place of these.
 impl Hands for Brand {
     ghost all = { 0 };
 }
 
-/// All parts of a desk's ledger: one for each of 2^62 badges, one for each of 2^62 tenants, and as
-/// many again.
+/// How many parts a desk's ledger has: one for each of 2^62 badges and of 2^62 tenants, and 2^62 more, so that the
+/// spare share always has some.
 pub const PARTS: u64 = 3 << 62;
 
-/// A worker's leave to take steps. Contracts see its share: how many it has taken.
+/// What a worker offers steps with. Contracts see its share: how many of the steps offered with it, and with the badges
+/// that were joined to it, were taken.
 #[derive(Drop)]
 pub struct Badge<L: Hands> {
+    /// Its parts of the desk's ledger, whose amount is `steps`. It takes no bytes.
     pub(crate) mine: Share<L>,
+    /// Its share.
     pub(crate) steps: u128,
+    /// How many parts it has: one for itself, and one for each badge that was joined to it.
     pub(crate) parts: u64,
-    /// How its worker waits for the lock.
+    /// How long its worker waits between two tries to take the lock.
     pub(crate) backoff: Backoff,
 }
 
@@ -39,7 +45,7 @@ impl<L: Hands> Model for Badge<L> {
 }
 
 impl<L: Hands> Badge<L> {
-    /// Its share: the steps that were taken by it, and by those that were joined to it.
+    /// Its share: how many steps were taken with it, and with the badges that were joined to it.
     pub fn share(&self) -> u128
         ensures { result ≡ self.now }
     {

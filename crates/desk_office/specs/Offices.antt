@@ -14,7 +14,7 @@ use Rattle.session.specs.Asks.{Asked}
 use Rattle.desk.specs.declared.seat.SeatAsked.{SeatAsked}
 use Rattle.desk.specs.Seats.{SeatOf}
 
--- what was asked, as a list of cells and a depth
+-- what a seat asked, as a session sees it: a list of cells and a depth
 abbrev pub ask_of : SeatAsked → Asked
 ask_of asked = record { board = cells asked.board; depth = asked.depth }
 
@@ -23,18 +23,18 @@ abbrev pub asks_of : Option SeatOf → List Asked
 asks_of None = []
 asks_of (Some seat) = map ask_of seat.asked
 
--- a reply is told by the minimax value and the best choice of its board to its depth, and by its table
+-- a reply as a session tells it: the minimax value and the best choice of its board to its depth, and its table
 abbrev pub analysis_of : Reply → Analysis
 analysis_of reply = record { best = record { value = minimax (depth_of reply) (cells (board_of reply)); choice = best_choice (depth_of reply) (cells (board_of reply)) }; bounds = table_of reply }
 
--- how a job stands
+-- a job's outcome at the desk, as a session tells it
 abbrev pub standing_of : Outcome → Standing
 standing_of Pending = pending
 standing_of (Done reply) = done (analysis_of reply)
 standing_of Spent = spent
 standing_of Cancelled = cancelled
 
--- what is answered of a job
+-- the desk's answer about a job, as a session tells it; a refusal stays as it is
 abbrev pub told_answer : Result Outcome Refusal → Result Standing Refusal
 told_answer (Ok outcome) = Ok (standing_of outcome)
 told_answer (Err refusal) = Err refusal

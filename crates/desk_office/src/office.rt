@@ -10,10 +10,12 @@ use std::alloc::{Allocator, Global};
 use std::sync::Wait;
 use tenant_quota::{Left, Reserve};
 
-/// The office of one tenant at a desk: its seat, once it has one. Without a tenant it has no job.
+/// The office of one tenant at a desk. It has the tenant's seat from a HELLO that was taken until the tenant leaves;
+/// without a seat all calls but `hello` and `leave` are refused.
 pub struct DeskOffice<'a, L: Hands, R: Wait, A: Allocator = Global> {
     rt: &'a R,
     desk: &'a Desk<L, A>,
+    /// The tenant's seat; `None` where no tenant is there.
     seat: Option<Seat<L>>,
 }
 
@@ -31,7 +33,7 @@ impl<'a, L: Hands, R: Wait, A: Allocator> DeskOffice<'a, L, R, A> {
         }
     }
 
-    /// The office closes. Its seat, where a tenant is still there, is let go.
+    /// Ends the office. Where a tenant is still there its seat is dropped, and the tenant doesn't leave.
     pub fn close(self) {
         let DeskOffice {
             rt: _rt,
@@ -46,6 +48,7 @@ impl<L: Hands, R: Wait, A: Allocator + Clone> Office for DeskOffice<'_, L, R, A>
 
     ghost ready = { L.all == L.parts };
 
+    /// `OldTenant` where a tenant is there already, else what the desk's `admit` answers.
     fn hello(&mut self, reserve: Reserve) -> Result<(), Refusal> {
         if self.seat.is_some() {
             return Err(Refusal::OldTenant);
@@ -54,6 +57,7 @@ impl<L: Hands, R: Wait, A: Allocator + Clone> Office for DeskOffice<'_, L, R, A>
         Ok(())
     }
 
+    /// `NoTenant` where no tenant is there, else what the desk answers.
     fn reserve(&mut self, reserve: Reserve) -> Result<(), Refusal> {
         match &mut self.seat {
             Some(seat) => self.desk.reserve(self.rt, seat, reserve),
@@ -61,6 +65,7 @@ impl<L: Hands, R: Wait, A: Allocator + Clone> Office for DeskOffice<'_, L, R, A>
         }
     }
 
+    /// `NoTenant` where no tenant is there, else what the desk answers.
     fn ask(&mut self, question: &Question) -> Result<u64, Refusal> {
         match &mut self.seat {
             Some(seat) => self
@@ -70,6 +75,7 @@ impl<L: Hands, R: Wait, A: Allocator + Clone> Office for DeskOffice<'_, L, R, A>
         }
     }
 
+    /// `NoJob` where no tenant is there, else what the desk answers.
     fn get(&mut self, job: u64) -> Result<Standing, Refusal> {
         match &self.seat {
             Some(seat) => told_answer(self.desk.get(self.rt, seat, job)),
@@ -77,6 +83,7 @@ impl<L: Hands, R: Wait, A: Allocator + Clone> Office for DeskOffice<'_, L, R, A>
         }
     }
 
+    /// `NoJob` where no tenant is there, else what the desk answers once the job has ended or the desk is closed.
     fn wait(&mut self, job: u64) -> Result<Standing, Refusal> {
         match &self.seat {
             Some(seat) => told_answer(self.desk.wait(self.rt, seat, job)),
@@ -84,6 +91,7 @@ impl<L: Hands, R: Wait, A: Allocator + Clone> Office for DeskOffice<'_, L, R, A>
         }
     }
 
+    /// `NoJob` where no tenant is there, else what the desk answers.
     fn cancel(&mut self, job: u64) -> Result<(), Refusal> {
         match &mut self.seat {
             Some(seat) => self.desk.cancel(self.rt, seat, job),
@@ -91,6 +99,7 @@ impl<L: Hands, R: Wait, A: Allocator + Clone> Office for DeskOffice<'_, L, R, A>
         }
     }
 
+    /// `NoTenant` where no tenant is there, else what the desk answers.
     fn quota(&mut self) -> Result<Left, Refusal> {
         match &self.seat {
             Some(seat) => self.desk.quota(self.rt, seat),
@@ -98,6 +107,7 @@ impl<L: Hands, R: Wait, A: Allocator + Clone> Office for DeskOffice<'_, L, R, A>
         }
     }
 
+    /// `NoTenant` where no tenant is there, else what the desk answers.
     fn live(&mut self) -> Result<Live, Refusal> {
         let Some(seat) = &self.seat else {
             return Err(Refusal::NoTenant);
@@ -109,6 +119,7 @@ impl<L: Hands, R: Wait, A: Allocator + Clone> Office for DeskOffice<'_, L, R, A>
         })
     }
 
+    /// The tenant leaves the desk, if one is there; else nothing happens.
     fn leave(&mut self) {
         if let Some(seat) = self.seat.take() {
             self.desk.leave(self.rt, seat);

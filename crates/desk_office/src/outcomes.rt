@@ -7,7 +7,7 @@ use desk::{Outcome, Refusal, Reply};
 use othello_eval::Valued;
 use session::{Analysis, Bounds, Standing};
 
-/// What a reply says of each choice.
+/// The entries of a reply's table, in order.
 fn bounds_of(reply: &Reply) -> Bounds
     ensures { result ≡ table_of reply.now }
 {
@@ -20,7 +20,7 @@ fn bounds_of(reply: &Reply) -> Bounds
     bounds
 }
 
-/// How a job stands: a reply is told by its value, its choice and what it says of each choice.
+/// A job's outcome at the desk, as a session tells it: of a reply the value, the choice and the table.
 fn standing_of(outcome: Outcome) -> Standing
     ensures { result ≡ standing_of outcome }
 {
@@ -38,7 +38,7 @@ fn standing_of(outcome: Outcome) -> Standing
     }
 }
 
-/// What a desk answers of a job, as a session tells it.
+/// The desk's answer about a job, as a session tells it; a refusal stays as it is.
 pub(crate) fn told_answer(answer: Result<Outcome, Refusal>) -> Result<Standing, Refusal>
     ensures { result ≡ told_answer answer }
 {

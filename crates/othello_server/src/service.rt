@@ -4,10 +4,10 @@ ghost use Rattle.std.specs.Prelude.{◌≤◌};
 use sched_rules::Worker;
 use tcp_server::desk::Config;
 
-/// What a server is asked to be.
+/// What the command line asks of a server.
 #[derive(Clone, Copy)]
 pub struct Service {
-    /// How many sessions it serves.
+    /// How many sessions it serves before it ends.
     pub sessions: u16,
     /// Its port; at 0 the system chooses one.
     pub port: u16,
@@ -15,7 +15,7 @@ pub struct Service {
     pub workers: Worker,
     /// The segments and nodes of all tenants together.
     pub config: Config,
-    /// The depth that one worker searches alone.
+    /// The greatest remaining depth that one worker searches by itself, 0 to 6.
     pub grain: u8,
     ghost limit: { grain ≤ 6 },
 }

@@ -13,25 +13,25 @@ pub record Asked : Type 0 where
   pub board : List Cell
   pub depth : ℕ
 
--- the asks, and this call too where it is one
+-- these asks, and what this call asks for after them if it is an Ask
 abbrev pub with_ask : List Asked → Call → List Asked
 with_ask asks (Ask depth board side) = asks ++ record { board = board; depth = depth } ∷ []
 with_ask asks _ = asks
 
--- the asks that were answered by JOB, after one more call and its reply: a new tenant has none, and one
--- that has left
+-- a tenant's asks that were answered by JOB, after one more call and its reply: a new tenant has none, and there are
+-- none after it has left
 abbrev pub asks_after : List Asked → Call → OfficeReply → List Asked
 asks_after asks call (Welcome quota) = []
 asks_after asks call (Job number) = with_ask asks call
 asks_after asks call Gone = []
 asks_after asks call _ = asks
 
--- what was asked as the job of this number, from 1 on
+-- what was asked as the job of this number, from 1 on; None where the number is 0 or above the length
 abbrev pub asked_at : List Asked → ℕ → Option Asked
 asked_at [] job = None
 asked_at (asked ∷ later) job = if job == 1 then Some asked else asked_at later (job - 1)
 
--- a value and a move are the minimax value and the best choice of what was asked as this job, and the entries beside them its table
+-- this analysis has the minimax value, the best choice and the table of what was asked as the job of this number
 pub record IsAnalysisOf (asks : List Asked) (job : ℕ) (analysis : Analysis) : Type 0 where
   pub asked : Asked
   pub is : asked_at asks job ≡ Some asked
@@ -39,29 +39,32 @@ pub record IsAnalysisOf (asks : List Asked) (job : ℕ) (analysis : Analysis) : 
   pub choice : analysis.best.choice ≡ best_choice asked.depth asked.board
   pub table : IsTable asked.depth asked.board analysis.bounds
 
--- a job that is shown as done is shown with what was found for it
+-- how a job may be shown by what was asked: as done only with the analysis of what was asked under its number
 abbrev pub ShowsFound : List Asked → ℕ → Standing → Type 0
 ShowsFound asks job (Done analysis) = IsAnalysisOf asks job analysis
 ShowsFound asks job _ = Unit {0}
 
--- what a reply to a call says of the asks before it: a new job has the next number, a done one its analysis
+-- a reply is true of the asks before its call: a new job has the next number, and a job that is done is shown with its
+-- analysis
 abbrev pub SaysTrue : List Asked → OfficeReply → Type 0
 SaysTrue asks (Job number) = number ≡ length asks + 1
 SaysTrue asks (Told job standing) = ShowsFound asks job standing
 SaysTrue asks _ = Unit {0}
 
--- what is replied of a job by what was asked under its number: how the job stands, and the refusal 17 exactly where nothing was
+-- the reply to GET or WAIT, by what was asked as this job: how the job stands, or the refusal 17 exactly where nothing
+-- was asked
 abbrev pub IsToldOf : ℕ → Option Asked → OfficeReply → Type 0
 IsToldOf job None reply = reply ≡ Refused 17
 IsToldOf job (Some asked) reply = (standing : Standing) × (reply ≡ Told job standing)
 
--- a reply that is a refusal has one of these numbers
+-- if the reply is a refusal, it has one of these numbers
 abbrev pub RefusedBy : List ℕ → OfficeReply → Type 0
 RefusedBy numbers (Refused number) = Contains numbers number
 RefusedBy numbers _ = Unit {0}
 
--- when a call is refused, and by which numbers: ASK by 13 where 256 jobs were asked, GET and WAIT by 17 exactly where nothing was asked
--- under their number, CANCEL by 17 there too. No call but HELLO and RESERVE is refused by 19
+-- by which numbers each call may be refused, and where it is: ASK by 13 where 256 jobs were asked, GET and WAIT by 17
+-- exactly where nothing was asked under their number, CANCEL by 17 there too. Only HELLO and RESERVE are refused by 19
+-- (no memory), and Leave never is
 abbrev pub IsRefusedWhere : List Asked → Call → OfficeReply → Type 0
 IsRefusedWhere asks (Hello quota) reply = RefusedBy (14 ∷ 18 ∷ 19 ∷ []) reply
 IsRefusedWhere asks (Reserve quota) reply = RefusedBy (1 ∷ 20 ∷ 14 ∷ 19 ∷ []) reply
@@ -73,12 +76,13 @@ IsRefusedWhere asks AskQuota reply = RefusedBy (1 ∷ []) reply
 IsRefusedWhere asks AskLive reply = RefusedBy (1 ∷ []) reply
 IsRefusedWhere asks Leave reply = reply ≡ Gone
 
--- what a call of such an office may reply, by its asks before and after it
+-- what a call of an office that keeps its asks may reply, by the asks before and after it
 abbrev pub KeepsAsks : List Asked → Call → OfficeReply → List Asked → Type 0
 KeepsAsks asks call reply asks' = (asks' ≡ asks_after asks call reply) × SaysTrue asks reply × IsRefusedWhere asks call reply
 
--- of these calls, in order, each ASK that is answered by JOB gets the next number, each DONE shows the minimax value, the best choice and a
--- table of what was asked by the ASK that was answered by JOB and its number, and each is refused where its asks say so
+-- these calls and replies are true, in order: each ASK that is answered by JOB gets the next number, each job shown as
+-- done has the minimax value, the best choice and a table of what was asked under its number, and refusals are as
+-- IsRefusedWhere says
 abbrev pub AllTrue : List Asked → List (Call × OfficeReply) → Type 0
 AllTrue asks [] = Unit {0}
 AllTrue asks (made ∷ more) = SaysTrue asks made.1 × AllTrue (asks_after asks made.0 made.1) more × IsRefusedWhere asks made.0 made.1

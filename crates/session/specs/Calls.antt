@@ -21,8 +21,9 @@ pub data Call : Type 0 where
   AskLive : Call
   Leave : Call
 
--- a reply of the office: what was reserved for a new tenant, and for one that is there, the number of a new job, how a job stands, that a job is cancelled, what is left,
--- what is alive, that the tenant is gone, or the number of a refusal
+-- a reply of the office: what is reserved for a new tenant (Welcome) or for the one that is there (Reserved), the
+-- number of a new job, how a job stands (Told), that a job is cancelled (Ended), what is left (Rest), how many frames
+-- and words there are (Alive), that the tenant has left (Gone), or the number of a refusal
 pub data OfficeReply : Type 0 where
   Welcome : (quota : Quota) → OfficeReply
   Reserved : (quota : Quota) → OfficeReply
@@ -34,7 +35,7 @@ pub data OfficeReply : Type 0 where
   Gone : OfficeReply
   Refused : (number : ℕ) → OfficeReply
 
--- the reply that a call's result is
+-- the result of a call as a reply: at Ok what `said` makes of it, at Err the refusal's number
 abbrev pub reply_of : {X : Type 0} → (X → OfficeReply) → Result X Refusal → OfficeReply
 reply_of said (Ok x) = said x
 reply_of said (Err refusal) = Refused (refusal_number refusal)

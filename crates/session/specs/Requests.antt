@@ -10,34 +10,35 @@ use Rattle.tenant_quota.specs.Quota.{Quota}
 use Rattle.session.specs.Calls.{Call, Hello, Reserve, Ask, Get, Wait, Cancel, AskQuota, AskLive}
 use Rattle.session.specs.Forms.{Form, HelloOf, ReserveOf, AskOf, GetOf, WaitOf, CancelOf, TableOf, QuotaForm, LiveForm, ByeForm, form_of}
 
--- a fault, a call of the office whose reply is told, a Get whose reply is told with its table, or the end of the session
+-- what a line asks for: nothing, as it has a fault; a call of the office whose reply is told; a Get whose reply is told
+-- with its table; or the end of the session
 pub data Request : Type 0 where
   Fault : (fault : ProtocolFault) → Request
   Makes : (call : Call) → Request
   Tabulates : (job : ℕ) → Request
   Ends : Request
 
--- what the words `depth position` ask for, or their first fault
+-- what an ASK line asks for, by how its arguments were read: their value, or their first fault
 abbrev pub ask_request : Result QuestionOf ProtocolFault → Request
 ask_request (Ok asked) = Makes (Ask asked.depth asked.board asked.side)
 ask_request (Err fault) = Fault fault
 
--- a reservation is of 1 to 4,096 segments and 1 to 65,536 nodes
+-- whether a reservation is within the limits: 1 to 4,096 segments and 1 to 65,536 nodes
 abbrev pub is_within : ℕ → ℕ → Bool
 is_within segments nodes = nat_le 1 segments && nat_le segments 4096 && nat_le 1 nodes && nat_le nodes 65536
 
--- what is reserved, where both amounts are numbers within the limits
+-- what is reserved; None unless both amounts are numbers within the limits
 abbrev pub quota_of : Option ℕ → Option ℕ → Option Quota
 quota_of None nodes = None
 quota_of (Some segments) None = None
 quota_of (Some segments) (Some nodes) = if is_within segments nodes then Some (record { segments = segments; nodes = nodes }) else None
 
--- 23 where an amount is no number, or one is outside the limits
+-- this call with a reservation; where there is none, fault 23: an amount is no number or outside the limits
 abbrev pub quota_request : (Quota → Call) → Option Quota → Request
 quota_request call None = Fault NoNumber
 quota_request call (Some quota) = Makes (call quota)
 
--- 23 where a job is no number
+-- what is asked of the job of this number; fault 23 where the argument is no number
 abbrev pub job_request : (ℕ → Request) → Option ℕ → Request
 job_request asked None = Fault NoNumber
 job_request asked (Some job) = asked job
@@ -55,19 +56,19 @@ seated_request QuotaForm = Makes AskQuota
 seated_request LiveForm = Makes AskLive
 seated_request ByeForm = Ends
 
--- where no tenant is there: all but HELLO and BYE are 28
+-- what a command asks for, where no tenant is there: fault 28 for all but HELLO and BYE
 abbrev pub early_request : Form → Request
 early_request (HelloOf segments nodes) = quota_request Hello (quota_of segments nodes)
 early_request ByeForm = Ends
 early_request _ = Fault NoHello
 
--- 21 where the line is no command with its arguments
+-- what a line asks for, by whether a tenant is there and the command that was read; fault 21 where there is none
 abbrev pub form_request : Bool → Option Form → Request
 form_request seated None = Fault NoCommand
 form_request true (Some form) = seated_request form
 form_request false (Some form) = early_request form
 
--- what a line asks for, by whether a tenant is there: 22 where it is too long
+-- what a line asks for, by whether a tenant is there; fault 22 where it is too long
 abbrev pub request : Bool → LineText → Request
 request seated TooLong = Fault LongLine
 request seated (Whole bytes) = form_request seated (form_of bytes)

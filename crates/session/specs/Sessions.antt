@@ -35,23 +35,26 @@ calls_for lines replies = calls_in false (turns false lines replies)
 abbrev pub texts_for : List LineText → List OfficeReply → List (List ℕ)
 texts_for lines replies = map turn_text (turns false lines replies)
 
--- the calls made of the office for an input, and what is written for it, where the office replies this
+-- the calls made of the office for an input, each with its reply, where the office replies this
 abbrev pub calls : List ℕ → List OfficeReply → List (Call × OfficeReply)
 calls bytes replies = calls_for (session_lines bytes) replies
 
+-- the bytes that are written for an input, where the office replies this
 abbrev pub out : List ℕ → List OfficeReply → List ℕ
 out bytes replies = written_texts (texts_for (session_lines bytes) replies)
 
--- one call and its reply
+-- the office does this call and gives this reply
 abbrev pub Called : {O : Type 0} → (O → Call → OfficeReply → O → Type 0) → O → Call × OfficeReply → O → Type 0
 Called does from made to = does from made.0 made.1 to
 
--- a tenant that is there leaves, and else nothing is asked
+-- the session's tenant leaves if it has one (true); else the office is not called
 abbrev pub LeavesIf : {O : Type 0} → (O → Call → OfficeReply → O → Type 0) → Bool → O → O → Type 0
 LeavesIf does true from to = does from Leave Gone to
 LeavesIf does false from to = from ≡ to
 
--- what is done for one request: the office before, whether a tenant is there, the text, and both after it
+-- what one request comes to, by the office and whether a tenant is there before it, the text of the answer, and both
+-- after it: a fault calls nothing, a call is made and its reply told, a table is got by Get, and at the end a tenant
+-- that is there leaves
 abbrev pub Turned : {O : Type 0} → (O → Call → OfficeReply → O → Type 0) → Request → O → Bool → List ℕ → O → Bool → Type 0
 Turned does (Fault fault) from seated text to seated' = (from ≡ to) × (seated' ≡ seated) × (text ≡ error_text (fault_number fault))
 Turned does (Makes call) from seated text to seated' =
@@ -60,26 +63,27 @@ Turned does (Tabulates job) from seated text to seated' =
     (reply : OfficeReply) × does from (Get job) reply to × (seated' ≡ seated_after seated reply) × (text ≡ table_text reply)
 Turned does Ends from seated text to seated' = LeavesIf does seated from to × (seated' ≡ false) × (text ≡ reply_text Gone)
 
--- how a session ended, as the end of its talk
+-- how a session ended, as the end of its exchange of lines and answers
 abbrev pub talk_result : Result End SessionFault → Result TalkEnd LineFault
 talk_result (Ok Bye) = Ok by_line
 talk_result (Ok EndOfInput) = Ok by_input
 talk_result (Err Read) = Err read_fault
 talk_result (Err Write) = Err write_fault
 
--- the lines that are answered of those that were read: all, and after a failed write the first of them
+-- which of the lines that were read are answered: all, but after a failed write only the first ones
 abbrev pub IsAnsweredOf : Result End SessionFault → List LineText → List LineText → Type 0
 IsAnsweredOf (Ok _) answered lines = answered ≡ lines
 IsAnsweredOf (Err Read) answered lines = answered ≡ lines
 IsAnsweredOf (Err Write) answered lines = IsPrefixOf answered lines
 
--- all of these texts are written, each with LF; after a failed write all but a rest of the last
+-- these bytes are all these texts, each with LF; after a failed write, all but a rest of the last text
 abbrev pub IsWrittenOf : Result (Unit {0}) WriteFailed → List ℕ → List (List ℕ) → Type 0
 IsWrittenOf (Ok _) bytes texts = bytes ≡ written_texts texts
 IsWrittenOf (Err _) bytes texts = (rest : List ℕ) × (bytes ++ rest ≡ written_texts texts) × IsCutShort texts rest
 
--- these blocks were read, these lines of them answered, with these replies of the office, and these pieces written. At fault 1 the
--- bytes after the last LF are no line. At fault 2 the last of the answered lines is the one whose answer wasn't written
+-- a whole session: the blocks that were read and the read after them, the lines of them that were answered, the
+-- office's replies, and the pieces that were written. At fault 1 the bytes after the last LF are no line. At fault 2
+-- the last of the answered lines is the one whose answer wasn't written
 pub record Session {S K O : Type 0} (gives : S → ReadAnswer → S → Type 0) (takes : K → WriteAnswer → K → Type 0) (does : O → Call → OfficeReply → O → Type 0) (source : S) (sink : K) (office : O) (source' : S) (sink' : K) (office' : O) (r : Result End SessionFault) : Type 0 where
   pub blocks : List (List ℕ)
   pub last : List ReadAnswer

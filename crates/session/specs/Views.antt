@@ -8,7 +8,7 @@ use Rattle.session.specs.Calls.{Hello, Reserve, Ask, Get, Wait, Cancel, AskQuota
 use Rattle.session.specs.Forms.{Form, HelloOf, ReserveOf, AskOf, GetOf, WaitOf, CancelOf, TableOf, QuotaForm, LiveForm, ByeForm}
 use Rattle.session.specs.Requests.{Request, Fault, Makes, Tabulates, Ends}
 
--- a command as data
+-- a command of the code as the contracts see it
 abbrev pub form_seen : Formed → Form
 form_seen (hello segments nodes) = HelloOf segments nodes
 form_seen (reserve segments nodes) = ReserveOf segments nodes
@@ -21,7 +21,7 @@ form_seen quota = QuotaForm
 form_seen live = LiveForm
 form_seen bye = ByeForm
 
--- a request as data
+-- a request of the code as the contracts see it
 abbrev pub request_seen : Requested → Request
 request_seen (fault met) = Fault met
 request_seen (to_hello amounts) = Makes (Hello amounts)

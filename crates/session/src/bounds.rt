@@ -8,7 +8,7 @@ use std::marker::Model;
 /// The most entries of a table: a board has at most 64 choices.
 const MOST: usize = 64;
 
-/// What lies in a place without an entry.
+/// What fills the places after the last entry.
 const NO_BOUND: Bound = Bound {
     choice: Choice::Pass,
     score: 0,
@@ -22,7 +22,8 @@ pub struct Bounds {
     count: usize,
 }
 
-// Clauses see the list of entries. All places after them are alike, so that two lists are equal where their entries are.
+// Clauses see the list of entries. All places after them are filled alike, so that two tables of the same entries are
+// equal.
 impl Model for Bounds {
     ghost use Rattle.std.specs.Prelude.{List, take};
     ghost use Rattle.othello_eval.specs.declared.bound.Bound.{Bound};
@@ -41,13 +42,13 @@ impl Model for Bounds {
 }
 
 impl Bounds {
-    /// No entry.
+    /// A table without entries.
     pub const NONE: Bounds = Bounds {
         places: [NO_BOUND; MOST],
         count: 0,
     };
 
-    /// One entry more, after these.
+    /// Appends an entry.
     pub fn push(&mut self, bound: Bound)
         requires { length self.old < 64 }
         ensures { self.new ≡ self.old ++ bound ∷ [] }

@@ -25,7 +25,7 @@ pub enum SessionFault {
 }
 
 impl SessionFault {
-    /// The number of the fault.
+    /// The number of the fault, 1 or 2.
     pub fn number(self) -> u8
         ensures { result ≡ session_fault_number self }
     {

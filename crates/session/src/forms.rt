@@ -5,32 +5,32 @@ ghost use Rattle.session.specs.Views.{form_seen};
 
 use protocol::{split_at_space, word_number};
 
-/// A command with its arguments. A number is none where its word is no number.
+/// A command with its arguments. `None` stands for an argument that should be a number and is none.
 #[derive(Clone, Copy)]
 pub(crate) enum Form<'a> {
     /// Segments and nodes to reserve.
     Hello(Option<u32>, Option<u32>),
     /// Segments and nodes to reserve for the tenant that is there.
     Reserve(Option<u32>, Option<u32>),
-    /// A depth's word, and a position's text.
+    /// The word of a depth and the text of a position, both not read yet.
     Ask(&'a [u8], &'a [u8]),
-    /// A job.
+    /// The number of a job.
     Get(Option<u32>),
-    /// A job.
+    /// The number of a job.
     Wait(Option<u32>),
-    /// A job.
+    /// The number of a job.
     Cancel(Option<u32>),
-    /// A job.
+    /// The number of a job.
     Table(Option<u32>),
-    /// What is left is asked for.
+    /// Asks what the tenant has left.
     Quota,
-    /// What is alive is asked for.
+    /// Asks how many frames and words the tenant has.
     Live,
-    /// The session ends.
+    /// Ends the session.
     Bye,
 }
 
-/// What a line of one word says; none where the word is another.
+/// The command of a line of one word; `None` unless that is QUOTA, LIVE or BYE.
 fn bare_form<'a>(word: &[u8]) -> Option<Form<'a>>
     ensures { option_map form_seen result ≡ bare_form word.now }
 {
@@ -45,7 +45,7 @@ fn bare_form<'a>(word: &[u8]) -> Option<Form<'a>>
     }
 }
 
-/// What a line of two words says.
+/// The command of a line of two words; `None` unless the first is GET, WAIT, CANCEL or TABLE.
 fn form_of_one<'a>(word: &[u8], argument: &[u8]) -> Option<Form<'a>>
     ensures { option_map form_seen result ≡ form_of_one word.now argument.now }
 {
@@ -62,7 +62,8 @@ fn form_of_one<'a>(word: &[u8], argument: &[u8]) -> Option<Form<'a>>
     }
 }
 
-/// What a line of three words or more says: the second argument is all that follows the second space.
+/// The command of a line of three words or more, where `second` is all that follows the second space. `None` unless the
+/// first is ASK, or it is HELLO or RESERVE with just two arguments.
 fn form_of_two<'a>(word: &[u8], first: &'a [u8], second: &'a [u8]) -> Option<Form<'a>>
     ensures { option_map form_seen result ≡ form_of_two word.now first.now second.now }
 {
@@ -77,7 +78,8 @@ fn form_of_two<'a>(word: &[u8], first: &'a [u8], second: &'a [u8]) -> Option<For
     }
 }
 
-/// What a line says; none where its word is unknown or has another number of arguments.
+/// The command of a line, with its arguments; `None` where its first word is unknown or has another number of
+/// arguments.
 pub(crate) fn form_of(line: &[u8]) -> Option<Form<'_>>
     ensures { option_map form_seen result ≡ form_of line.now }
 {

@@ -10,8 +10,9 @@ ghost use Rattle.session.specs.Sessions.{Session};
 use crate::office::Office;
 use line_io::{Sink, Source};
 
-/// Where each call of an office keeps its asks, each DONE line of a session bears the minimax value and the best choice
-/// of what was asked by the ASK line that was answered by JOB and its number, and each TABLE line its table.
+/// A law: this function does nothing, and its contract is what it says. In a session over an office each of whose calls
+/// keeps its asks (`KeepsAsks`), each DONE line has the minimax value and the best choice of what was asked by the ASK
+/// line that was answered by JOB and the same number, and each TABLE line with entries its table.
 pub fn each_done_line_is_true<S: Source, K: Sink, O: Office>()
     ensures { (asks : O → List Asked)
         → ((from : O) (call : Call) (reply : OfficeReply) (to : O) → O.does from call reply to → KeepsAsks (asks from) call reply (asks to))

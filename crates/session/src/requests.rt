@@ -14,31 +14,31 @@ use tenant_quota::Reserve;
 /// What a line asks for.
 #[derive(Clone, Copy)]
 pub(crate) enum Request {
-    /// Nothing: its first fault.
+    /// Nothing: the line has this fault, its first.
     Fault(ProtocolFault),
-    /// A new tenant.
+    /// A new tenant with this reservation.
     Hello(Reserve),
-    /// Another reservation for the tenant that is there.
+    /// That the session's tenant reserves this much from now on.
     Reserve(Reserve),
     /// The value of a position to a depth.
     Ask(Question),
-    /// How a job stands.
+    /// How the job of this number stands.
     Get(u64),
-    /// The same, once it has ended.
+    /// How the job of this number stands, once it has ended.
     Wait(u64),
-    /// The end of a job.
+    /// That the job of this number be cancelled.
     Cancel(u64),
-    /// How a job stands, with its table where it is done.
+    /// How the job of this number stands, with its table where it is done.
     Table(u64),
-    /// What is left.
+    /// The segments, nodes and steps that the tenant has left.
     Quota,
-    /// What is alive.
+    /// How many frames and words the tenant has.
     Live,
     /// The end of the session.
     Bye,
 }
 
-/// A reservation, where both amounts are numbers within the limits.
+/// A reservation of these segments and nodes; `None` unless both are numbers within the limits.
 fn quota_of(segments: Option<u32>, nodes: Option<u32>) -> Option<Reserve>
     ensures { result ≡ quota_of segments nodes }
 {
@@ -48,7 +48,7 @@ fn quota_of(segments: Option<u32>, nodes: Option<u32>) -> Option<Reserve>
     Reserve::new(segments, nodes)
 }
 
-/// The value of a position to a depth, or the first fault of the words.
+/// What an ASK line with these arguments asks for: the value of a position to a depth, or their first fault.
 fn ask_request(depth: &[u8], position: &[u8]) -> Request
     ensures { request_seen result ≡ ask_request (question depth.now position.now) }
 {
@@ -58,7 +58,7 @@ fn ask_request(depth: &[u8], position: &[u8]) -> Request
     }
 }
 
-/// What a command asks for where a tenant is there.
+/// What a command asks for where a tenant is there: HELLO is a fault then.
 fn seated_request(form: Form<'_>) -> Request
     ensures { request_seen result ≡ seated_request (form_seen form.entry) }
 {
@@ -82,7 +82,7 @@ fn seated_request(form: Form<'_>) -> Request
     }
 }
 
-/// What a command asks for where no tenant is there.
+/// What a command asks for where no tenant is there: only HELLO and BYE are no fault.
 fn early_request(form: Form<'_>) -> Request
     ensures { request_seen result ≡ early_request (form_seen form.entry) }
 {
@@ -96,7 +96,7 @@ fn early_request(form: Form<'_>) -> Request
     }
 }
 
-/// What a line asks for, by whether a tenant is there.
+/// What a line asks for, where a tenant is there (`seated`) or not. A line that is too long or no command is a fault.
 pub(crate) fn read_request(seated: bool, line: Line<'_>) -> Request
     ensures { request_seen result ≡ request seated (text_of line.entry) }
 {

@@ -25,7 +25,7 @@ struct Clerk<'a, O: Office> {
 }
 
 impl<'a, O: Office> Clerk<'a, O> {
-    /// A clerk without a tenant, who hasn't answered yet.
+    /// A clerk that has no tenant and hasn't answered yet.
     fn new(office: &'a mut O) -> Clerk<'a, O>
         requires { O.ready ≡ true }
         ensures same_office { result.office.ghost_name ≡ office.entry.ghost_name }
@@ -46,11 +46,13 @@ impl<O: Office> Answer for Clerk<'_, O> {
 
     ghost kept = { λ clerk. clerk.text.items };
 
+    /// Answers a line, over the last answer, and ends the answer by LF.
     fn answer(&mut self, line: Line<'_>) {
         take_turn(self.office, &mut self.seated, &mut self.text, line);
         self.text.push(LF);
     }
 
+    /// The last answer, with its LF.
     fn text(&self) -> &[u8] {
         self.text.as_slice()
     }
@@ -59,6 +61,7 @@ impl<O: Office> Answer for Clerk<'_, O> {
 impl<O: Office> Ends for Clerk<'_, O> {
     ghost ends = { is_bye };
 
+    /// Whether a line ends the session: it is just BYE.
     fn is_last(&self, line: Line<'_>) -> bool {
         match line {
             Line::Whole(bytes) => bytes == b"BYE".as_slice(),
@@ -67,7 +70,7 @@ impl<O: Office> Ends for Clerk<'_, O> {
     }
 }
 
-/// How a session ended, by how its talk did.
+/// How a session ended, by how the exchange of lines and answers did.
 fn session_end(talk: Result<TalkEnd, LineFault>) -> Result<End, SessionFault>
     requires { talk ≢ Err LineFault.TooMuch }
     ensures { talk_result result ≡ talk }
@@ -85,10 +88,10 @@ fn session_end(talk: Result<TalkEnd, LineFault>) -> Result<End, SessionFault>
 /// replies, up to a line `BYE` or the end of the input. It may wait, as the office may.
 ///
 /// At `Bye` such a line was answered, and nothing after it is. At `EndOfInput` the source has given its end, and all
-/// lines are answered. Fault 1 comes only where the source failed: the lines that an LF ended are answered then, and the
-/// bytes after the last LF are dropped. Fault 2 comes only where the sink failed or took no byte: the answer to the last
-/// line that was looked at isn't written, or in part. In each case the tenant has left. A tenant leaves before its `BYE`
-/// is answered, so who has read that answer may reserve anew what it had.
+/// lines are answered. Fault 1 comes only where the source failed: the lines that an LF ended are answered then, and
+/// the bytes after the last LF are dropped. Fault 2 comes only where the sink failed or took no byte: of the answer to
+/// the last line that was looked at nothing or only a part is written. In each case the tenant has left. It leaves
+/// before its `BYE` is answered, so a client that has read that answer may reserve again what it had.
 pub fn serve_lines<S: Source, K: Sink, O: Office, R: Wait>(
     rt: &R,
     source: &mut S,

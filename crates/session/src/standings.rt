@@ -9,7 +9,7 @@ pub enum Standing {
     Pending,
     /// It has ended with a value.
     Done(Analysis),
-    /// It has used up its tenant's reservation.
+    /// It was given up, as its tenant's reservation was used up.
     Spent,
     /// It was cancelled.
     Cancelled,
@@ -24,11 +24,11 @@ pub struct Analysis {
     pub bounds: Bounds,
 }
 
-/// What a tenant has alive.
+/// The frames that a tenant has at a moment.
 #[derive(Clone, Copy, Debug, PartialEq, Eq)]
 pub struct Live {
-    /// The number of its frames.
+    /// How many there are.
     pub frames: u64,
-    /// The number of their words, of 64 bits each.
+    /// How many words they have together, of 64 bits each.
     pub words: u64,
 }

@@ -11,13 +11,13 @@ use protocol::{push_error, push_move, push_number, push_value};
 use sched_rules::Refusal;
 use tenant_quota::{Left, Reserve};
 
-/// The most bytes of an answer with its LF: a table of 64 entries, of 17 bytes each, after 26 bytes.
+/// The most bytes of an answer with its LF: TABLE and a number take 26 at most, and 64 entries 17 each.
 const ANSWER_BYTES: usize = 1115;
 
-/// The last answer: of at most 1,114 bytes, and an LF. A session has one, which no call hands on by value.
+/// Room for one answer: at most 1,114 bytes and an LF. A session has one, which is passed by reference alone.
 pub(crate) type SessionText = ArrayVec<u8, ANSWER_BYTES>;
 
-/// A word of at most 10 bytes with the space after it.
+/// Writes a word of at most 10 bytes, with the space after it where more follows, over the last answer.
 fn write_word(text: &mut SessionText, word: &[u8])
     requires { length word.now ≤ 10 }
     ensures { text.new.items ≡ word.now }
@@ -26,7 +26,7 @@ fn write_word(text: &mut SessionText, word: &[u8])
     text.try_extend_from_slice(word).unwrap();
 }
 
-/// A word and a number.
+/// Writes a word and a number over the last answer.
 fn write_numbered(text: &mut SessionText, word: &[u8], number: u64)
     requires { length word.now ≤ 10 }
     ensures text { text.new.items ≡ word.now ++ decimal number }
@@ -36,7 +36,7 @@ fn write_numbered(text: &mut SessionText, word: &[u8], number: u64)
     push_number(text, number);
 }
 
-/// A word and two numbers.
+/// Writes a word and two numbers, with a space between these, over the last answer.
 fn write_pair(text: &mut SessionText, word: &[u8], first: u64, second: u64)
     requires { length word.now ≤ 10 }
     ensures text { text.new.items ≡ word.now ++ pair_text first second }
@@ -47,7 +47,7 @@ fn write_pair(text: &mut SessionText, word: &[u8], first: u64, second: u64)
     push_number(text, second);
 }
 
-/// A word and what is reserved.
+/// Writes a word, and the segments and nodes that are reserved, over the last answer.
 fn write_reserve(text: &mut SessionText, word: &[u8], reserve: Reserve)
     requires { length word.now ≤ 10 }
     ensures text { text.new.items ≡ word.now ++ pair_text reserve.segments reserve.nodes }
@@ -61,7 +61,7 @@ fn write_reserve(text: &mut SessionText, word: &[u8], reserve: Reserve)
     );
 }
 
-/// The value and the move of a job.
+/// Writes DONE, a job's number, the value and the move.
 fn write_analysis(text: &mut SessionText, job: u64, analysis: &Analysis)
     ensures text { text.new.items ≡ codes "DONE " ++ decimal job ++ codes " " ++ value_text analysis.now.best.value analysis.now.best.choice }
     ensures short { length text.new.items ≤ 72 }
@@ -73,7 +73,7 @@ fn write_analysis(text: &mut SessionText, job: u64, analysis: &Analysis)
     push_move(text, analysis.best.choice);
 }
 
-/// How a job stands.
+/// Writes how a job stands: PENDING, DONE with its value and move, SPENT or CANCELLED.
 fn write_standing(text: &mut SessionText, job: u64, standing: &Standing)
     ensures text { text.new.items ≡ standing_text job standing.now }
     ensures short { length text.new.items ≤ 72 }
@@ -86,7 +86,8 @@ fn write_standing(text: &mut SessionText, job: u64, standing: &Standing)
     }
 }
 
-/// The byte that says what is known of a choice.
+/// The byte for what a score says of the value of its choice: `=` that it is the score, `<` at most the score, `>` at
+/// least.
 fn kind_byte(kind: BoundKind) -> u8
     ensures { result ∷ [] ≡ kind_text kind }
 {
@@ -97,7 +98,7 @@ fn kind_byte(kind: BoundKind) -> u8
     }
 }
 
-/// Appends an entry of a table: at most 17 bytes.
+/// Appends an entry of a table, at most 17 bytes: a space, the move, the byte of `kind_byte` and the score.
 fn push_entry(text: &mut SessionText, bound: &Bound)
     requires { length text.old.items + 17 ≤ 1114 }
     ensures text { text.new.items ≡ text.old.items ++ entry_text bound.now }
@@ -121,7 +122,7 @@ fn push_entries(text: &mut SessionText, bounds: &[Bound])
     }
 }
 
-/// The table of a job.
+/// Writes TABLE, a job's number and the entries of its table.
 fn write_table(text: &mut SessionText, job: u64, analysis: &Analysis)
     ensures text { text.new.items ≡ codes "TABLE " ++ decimal job ++ entries_text analysis.now.bounds }
     ensures short { length text.new.items ≤ 1114 }
@@ -130,7 +131,7 @@ fn write_table(text: &mut SessionText, job: u64, analysis: &Analysis)
     push_entries(text, analysis.bounds.as_slice());
 }
 
-/// How a job stands, with its table where it is done.
+/// Writes how a job stands; where it is done, as TABLE with its entries.
 fn write_table_standing(text: &mut SessionText, job: u64, standing: &Standing)
     ensures text { text.new.items ≡ table_standing_text job standing.now }
     ensures short { length text.new.items ≤ 1114 }
@@ -141,7 +142,7 @@ fn write_table_standing(text: &mut SessionText, job: u64, standing: &Standing)
     }
 }
 
-/// The fault of this number.
+/// Writes ERR and this number.
 pub(crate) fn write_fault(text: &mut SessionText, number: u8)
     ensures text { text.new.items ≡ error_text number }
     ensures short { length text.new.items ≤ 72 }
@@ -150,7 +151,7 @@ pub(crate) fn write_fault(text: &mut SessionText, number: u8)
     push_error(text, number);
 }
 
-/// The reply to HELLO.
+/// Writes the answer to HELLO: WELCOME and what is reserved, or ERR and the refusal's number.
 pub(crate) fn write_welcome(text: &mut SessionText, reserve: Reserve, reply: Result<(), Refusal>)
     ensures text { text.new.items ≡ reply_text (reply_of (λ _. Welcome reserve) reply) }
     ensures short { length text.new.items ≤ 72 }
@@ -161,7 +162,7 @@ pub(crate) fn write_welcome(text: &mut SessionText, reserve: Reserve, reply: Res
     }
 }
 
-/// The reply to RESERVE.
+/// Writes the answer to RESERVE: RESERVED and what is reserved, or ERR and the refusal's number.
 pub(crate) fn write_reserved(text: &mut SessionText, reserve: Reserve, reply: Result<(), Refusal>)
     ensures text { text.new.items ≡ reply_text (reply_of (λ _. Reserved reserve) reply) }
     ensures short { length text.new.items ≤ 72 }
@@ -172,7 +173,7 @@ pub(crate) fn write_reserved(text: &mut SessionText, reserve: Reserve, reply: Re
     }
 }
 
-/// The reply to ASK.
+/// Writes the answer to ASK: JOB and the job's number, or ERR and the refusal's number.
 pub(crate) fn write_job(text: &mut SessionText, reply: Result<u64, Refusal>)
     ensures text { text.new.items ≡ reply_text (reply_of Job reply) }
     ensures short { length text.new.items ≤ 72 }
@@ -183,7 +184,7 @@ pub(crate) fn write_job(text: &mut SessionText, reply: Result<u64, Refusal>)
     }
 }
 
-/// The reply to GET and WAIT.
+/// Writes the answer to GET or WAIT: how the job stands, or ERR and the refusal's number.
 pub(crate) fn write_told(text: &mut SessionText, job: u64, reply: &Result<Standing, Refusal>)
     ensures text { text.new.items ≡ reply_text (reply_of (Told job) reply.now) }
     ensures short { length text.new.items ≤ 72 }
@@ -194,7 +195,7 @@ pub(crate) fn write_told(text: &mut SessionText, job: u64, reply: &Result<Standi
     }
 }
 
-/// The reply to TABLE.
+/// Writes the answer to TABLE: how the job stands, with its table where it is done, or ERR and the refusal's number.
 pub(crate) fn write_table_reply(text: &mut SessionText, job: u64, reply: &Result<Standing, Refusal>)
     ensures text { text.new.items ≡ table_text (reply_of (Told job) reply.now) }
     ensures short { length text.new.items ≤ 1114 }
@@ -205,7 +206,7 @@ pub(crate) fn write_table_reply(text: &mut SessionText, job: u64, reply: &Result
     }
 }
 
-/// The reply to CANCEL.
+/// Writes the answer to CANCEL: CANCELLED and the job's number, or ERR and the refusal's number.
 pub(crate) fn write_ended(text: &mut SessionText, job: u64, reply: Result<(), Refusal>)
     ensures text { text.new.items ≡ reply_text (reply_of (λ _. Ended job) reply) }
     ensures short { length text.new.items ≤ 72 }
@@ -216,7 +217,7 @@ pub(crate) fn write_ended(text: &mut SessionText, job: u64, reply: Result<(), Re
     }
 }
 
-/// The segments, nodes and steps that are left.
+/// Writes QUOTA and the segments, nodes and steps that are left.
 fn write_left(text: &mut SessionText, left: Left)
     ensures text { text.new.items ≡ reply_text (Rest left) }
     ensures short { length text.new.items ≤ 72 }
@@ -231,7 +232,7 @@ fn write_left(text: &mut SessionText, left: Left)
     push_number(text, u64::from(left.steps));
 }
 
-/// The reply to QUOTA.
+/// Writes the answer to QUOTA: the segments, nodes and steps that are left, or ERR and the refusal's number.
 pub(crate) fn write_quota(text: &mut SessionText, reply: Result<Left, Refusal>)
     ensures text { text.new.items ≡ reply_text (reply_of Rest reply) }
     ensures short { length text.new.items ≤ 72 }
@@ -242,7 +243,7 @@ pub(crate) fn write_quota(text: &mut SessionText, reply: Result<Left, Refusal>)
     }
 }
 
-/// The reply to LIVE.
+/// Writes the answer to LIVE: the number of frames and of their words, or ERR and the refusal's number.
 pub(crate) fn write_live(text: &mut SessionText, reply: Result<Live, Refusal>)
     ensures text { text.new.items ≡ reply_text (reply_of Alive reply) }
     ensures short { length text.new.items ≤ 72 }
@@ -253,7 +254,7 @@ pub(crate) fn write_live(text: &mut SessionText, reply: Result<Live, Refusal>)
     }
 }
 
-/// The answer to BYE.
+/// Writes the answer to BYE.
 pub(crate) fn write_bye(text: &mut SessionText)
     ensures text { text.new.items ≡ codes "BYE" }
     ensures short { length text.new.items ≤ 72 }

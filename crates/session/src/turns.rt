@@ -25,7 +25,7 @@ pub(crate) fn leave_if_seated<O: Office>(office: &mut O, seated: bool)
     }
 }
 
-/// A new tenant.
+/// Answers HELLO: asks the office for a new tenant, and sets `seated` where it admits one.
 fn take_hello<O: Office>(
     office: &mut O,
     seated: &mut bool,
@@ -42,10 +42,10 @@ fn take_hello<O: Office>(
     write_welcome(text, reserve, reply);
 }
 
-// What an office tells of a job is 800 bytes, which a function that holds one pays for at its entry. So each call that is
-// told so much stands in a function of its own, and other requests don't pay.
+// The office's reply to `get` or `wait` has 800 bytes, and a function that holds one pays for them at its entry. So
+// each such call has a function of its own, and other requests don't pay.
 
-/// How a job stands.
+/// Answers GET: how the job stands.
 fn tell_job<O: Office>(office: &mut O, text: &mut SessionText, job: u64)
     ensures turn { (seated : Bool) → Turned O.does (request_seen (Request.Get job)) office.old seated text.new.items office.new seated }
     ensures short { length text.new.items ≤ 1114 }
@@ -54,7 +54,7 @@ fn tell_job<O: Office>(office: &mut O, text: &mut SessionText, job: u64)
     write_told(text, job, &reply);
 }
 
-/// The same, once the job has ended.
+/// Answers WAIT: how the job stands, once it has ended.
 fn tell_ended_job<O: Office>(office: &mut O, text: &mut SessionText, job: u64)
     ensures turn { (seated : Bool) → Turned O.does (request_seen (Request.Wait job)) office.old seated text.new.items office.new seated }
     ensures short { length text.new.items ≤ 1114 }
@@ -63,7 +63,7 @@ fn tell_ended_job<O: Office>(office: &mut O, text: &mut SessionText, job: u64)
     write_told(text, job, &reply);
 }
 
-/// How a job stands, with its table where it is done.
+/// Answers TABLE: how the job stands, with its table where it is done.
 fn tell_table<O: Office>(office: &mut O, text: &mut SessionText, job: u64)
     ensures turn { (seated : Bool) → Turned O.does (request_seen (Request.Table job)) office.old seated text.new.items office.new seated }
     ensures short { length text.new.items ≤ 1114 }
@@ -72,7 +72,8 @@ fn tell_table<O: Office>(office: &mut O, text: &mut SessionText, job: u64)
     write_table_reply(text, job, &reply);
 }
 
-/// The answer to a request.
+/// Answers a request: makes the call that it asks for, writes the text of the answer, and keeps in `seated` whether the
+/// session has a tenant.
 fn answer_request<O: Office>(
     office: &mut O,
     seated: &mut bool,
@@ -102,7 +103,7 @@ fn answer_request<O: Office>(
     }
 }
 
-/// Answers a line: at most one call of the office, and a text, which is written over the last one.
+/// Answers a line: makes at most one call of the office, and writes the text of the answer over the last one.
 pub(crate) fn take_turn<O: Office>(
     office: &mut O,
     seated: &mut bool,

@@ -3,7 +3,8 @@ use Rattle.std.specs.Prelude.{◌≡◌, Bool, false}
 use Rattle.steal_pool.specs.declared.pool.BeginFault.{BeginFault}
 use Rattle.steal_pool.specs.declared.pool.BeginFault.TheVariants.{Pool, Unsaid}
 
--- nothing was said where the pool couldn't begin; else it couldn't be said
+-- how the announcer of a pool that didn't run may have changed: not at all where the pool couldn't begin, and else as
+-- by a call that couldn't say that it had begun
 abbrev pub IsUnsaid : {A : Type 0} → (A → Bool → A → Type 0) → A → BeginFault → A → Type 0
 IsUnsaid says before (Pool fault) after = after ≡ before
 IsUnsaid says before Unsaid after = says before false after

@@ -3,7 +3,7 @@ use Rattle.std.specs.Prelude.{ℕ}
 use Rattle.steal_pool.specs.declared.pool.PoolFault.{PoolFault}
 use Rattle.steal_pool.specs.declared.pool.PoolFault.TheVariants.{OutOfMemory, NoThread}
 
--- why no pool ran, by number
+-- the number of a pool's fault
 abbrev pub pool_fault_number : PoolFault → ℕ
 pool_fault_number OutOfMemory = 1
 pool_fault_number NoThread = 2

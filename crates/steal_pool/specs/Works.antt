@@ -23,19 +23,20 @@ share_after share (Err refusal) = share
 abbrev pub IsPushed : Task → WorkerSeats → WorkerSeats → Type 0
 IsPushed task before after = (after ≡ record before { own = with_pushed task before.own }) ⊎ (after ≡ before)
 
--- so it is with the task that a turn made, if it made one; else nothing is pushed
+-- a worker's seats after a turn: the turn's task, if it made one, was pushed or handed back, and else nothing has
+-- changed
 abbrev pub IsPushedOf : Option Task → WorkerSeats → WorkerSeats → Type 0
 IsPushedOf None before after = after ≡ before
 IsPushedOf (Some task) before after = IsPushed task before after
 
--- after some answer of the hall, the worker holds what the table says, the share is that after the answer, and just the task that
--- the table says is pushed
+-- a turn of a worker: by some answer of the hall it holds what the table says next, its badge's share is that after the
+-- answer, and just the task that the table says is pushed
 pub record IsTurn (worker : ℕ) (held next : Holding) (before after : ℕ) (seats pushed : WorkerSeats) : Type 0 where
   pub answer : Result (DidOf Leaf) Refusal
   pub holds : next ≡ (turn_after worker held answer).holding
   pub share : after ≡ share_after before answer
   pub task : IsPushedOf (turn_after worker held answer).task seats pushed
 
--- the worker brings an answer that was computed from just this leaf
+-- a worker holds an answer to this frame, which it brings to the hall next, and which was computed from just this leaf
 abbrev pub BringsAnswerTo : FrameId → Leaf → Holding → Type 0
 BringsAnswerTo frame leaf holds = (answer : LeafAnswer) × (leaf_of_answer answer ≡ leaf) × (holds ≡ Next (Bring frame answer))

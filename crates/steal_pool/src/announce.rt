@@ -3,15 +3,15 @@ ghost use Rattle.std.specs.Prelude.{◌≡◌, Bool, true};
 
 /// Says that a pool has begun.
 pub trait Announce {
-    /// What a call may leave of what there was, by whether it could be said.
+    /// What a call may do: the value before it, whether the pool's beginning could be said, and the value after it.
     ghost says: { Self → Bool → Self → Type 0 };
 
-    /// Says it, and tells whether it could be said.
+    /// Says that the pool has begun; false where that couldn't be said.
     fn announce(&mut self) -> bool
         ensures { says self.old result self.new };
 }
 
-/// Says nothing.
+/// Says nothing, which always succeeds.
 #[derive(Clone, Copy, Debug, PartialEq, Eq)]
 pub struct Quiet;
 

@@ -2,21 +2,22 @@
 use sched_rules::Worker;
 use task_deques::pool_rules::Task;
 
-/// Looks on while workers work. Its calls are made outside all locks, so one that waits holds up one
-/// worker alone.
+/// Hooks that workers call while they work, to watch them or to hold them up. The calls are made outside all locks, so
+/// one that waits holds up only its own worker.
 pub trait Gate {
     /// Called before a worker does a task.
     fn before(&self, worker: Worker, task: &Task);
 
-    /// Called inside a computation, before the search, with its number among the pool's computations,
-    /// from 1 on; it stays at the greatest u64.
+    /// Called at the start of a computation, before its search. `number` is that of the computation among those of the
+    /// pool, from 1 on; it doesn't rise beyond 2^64 - 1.
     fn inside(&self, worker: Worker, number: u64);
 
-    /// Called inside a computation, after the search, with the same number.
+    /// Called at the end of a computation, after its search, with the same number. Does nothing unless a gate says
+    /// otherwise.
     fn after(&self, _worker: Worker, _number: u64) {}
 }
 
-/// A gate that lets all pass.
+/// A gate that does nothing at any call.
 #[derive(Clone, Copy, Debug, PartialEq, Eq)]
 pub struct Open;
 

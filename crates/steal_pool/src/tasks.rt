@@ -16,7 +16,7 @@ pub struct Shared {
 }
 
 impl Shared {
-    /// No computation was begun.
+    /// What a new pool's workers share: no computation was begun yet.
     pub fn new() -> Shared {
         Shared {
             computations: Mutex::new(Computations::new()),
@@ -53,7 +53,8 @@ impl Tasks<'_> {
         }
     }
 
-    /// The worker's own newest task, else the oldest of the next worker's that has one.
+    /// Takes the newest task of the worker's own deque, else the oldest of another's, trying them in the order of their
+    /// numbers after its own. `None` where it found none, which doesn't prove that there is none.
     pub(crate) fn take(&mut self, worker: Worker) -> Option<Task>
         ensures taken { IfSome result (λ task. IsTaken task (worker_seats self.old.ends) (worker_seats self.new.ends)) }
         ensures unchanged { IfNone result (worker_seats self.new.ends ≡ worker_seats self.old.ends) }
@@ -62,7 +63,7 @@ impl Tasks<'_> {
         self.ends.take(worker)
     }
 
-    /// The number of the computation that begins now.
+    /// Counts a computation that begins now, and returns its number among those of the pool, from 1 on.
     pub(crate) fn begin<R: Wait>(&self, rt: &R) -> u64 {
         self.shared.computations.lock(rt).begin()
     }

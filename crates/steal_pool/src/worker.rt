@@ -86,8 +86,8 @@ fn work_off<L: Hands, G: Gate, R: Wait>(
     }
 }
 
-/// Takes the steps that follow each other, at most so many under one lock: until there is a leaf to
-/// compute, or the worker is without a frame.
+/// Takes up to 32 steps of the worker that follow each other under one lock, and returns what it holds then. It stops
+/// earlier where there is a leaf to compute, or the worker is without a frame.
 fn steps<L: Hands, R: Wait>(
     rt: &R,
     desk: &Desk<L>,
@@ -110,8 +110,9 @@ fn steps<L: Hands, R: Wait>(
     holding
 }
 
-/// Computes a leaf, as the computation of this number: the answer is to be brought. It is handed neither
-/// a means to wait nor anything that has a lock, so it can't take one.
+/// Computes a leaf, and returns what the worker holds then: the answer, to be brought to the hall. `number` is the
+/// computation's, for the gate. This function is handed neither a means to wait nor anything that has a lock, so it
+/// can't take one.
 fn computed<G: Gate>(worker: Worker, number: u64, gate: &G, frame: FrameId, leaf: Leaf) -> Holding
     ensures { BringsAnswerTo frame leaf result }
 {
@@ -121,7 +122,8 @@ fn computed<G: Gate>(worker: Worker, number: u64, gate: &G, frame: FrameId, leaf
     Holding::Next(Action::Bring(frame, answer))
 }
 
-/// Offers the step of what the worker holds, and pushes the task that it makes.
+/// Offers the step of what the worker holds, pushes the task of a frame that became ready by it, if one did, and
+/// returns what the worker holds then.
 #[tactic(auto, using(crate::proofs::Steps::offers_a_worker_step))]
 fn offered<L: Hands, R: Wait>(
     rt: &R,

@@ -14,26 +14,30 @@ pub record WorkerSeatsIn (A : Type 0) : Type 0 where
   pub own : DequeSeatIn A
   pub thieves : List (DequeSeatIn A)
 
--- which deques these seats are at, and how many parts the owner's has
+-- which deques a worker's seats are at, and how many parts the owner's seat has: no push, pop or steal changes these
 pub record PostsIn (A : Type 0) : Type 0 where
   pub own : DequeIn A
   pub parts : ℕ
   pub thieves : List (DequeIn A)
 
--- the same of the deques that are `Global`'s
+-- a worker's seats at deques whose memory is of the allocator `Global`
 abbrev pub WorkerSeats : Type 0
 WorkerSeats = WorkerSeatsIn Global
 
+-- the posts of a worker's seats at such deques
 abbrev pub Posts : Type 0
 Posts = PostsIn Global
 
 module _ {A : Type 0} where
+  -- the seats of these owners
   abbrev pub owner_seats : List (Owner A) → List (DequeSeatIn A)
   owner_seats owners = map owner_seat owners
 
+  -- the seats of these thieves
   abbrev pub thief_seats : List (Thief A) → List (DequeSeatIn A)
   thief_seats thieves = map thief_seat thieves
 
+  -- which deque each of these seats is at
   abbrev pub deques : List (DequeSeatIn A) → List (DequeIn A)
   deques seats = map (λ seat. seat.deque) seats
 
@@ -41,21 +45,23 @@ module _ {A : Type 0} where
   abbrev pub worker_seats : DequeEnds A → WorkerSeatsIn A
   worker_seats ends = record { own = owner_seat ends.own; thieves = thief_seats ends.thieves.items }
 
-  -- how many tasks there is room for in its own deque
+  -- how many tasks there is room for in a worker's own deque
   abbrev pub worker_room : DequeEnds A → ℕ
   worker_room ends = owner_room ends.own
 
+  -- which deques these seats of a worker are at, and how many parts the owner's has
   abbrev pub posts_of : WorkerSeatsIn A → PostsIn A
   posts_of seats = record { own = seats.own.deque; parts = seats.own.tally.parts; thieves = deques seats.thieves }
 
+  -- which deques a worker's ends are at, and how many parts the owner's seat has
   abbrev pub posts : DequeEnds A → PostsIn A
   posts ends = posts_of (worker_seats ends)
 
-  -- just one of the thieves' seats has taken one task more
+  -- just one of these thieves' seats has taken this one task more, and the others are unchanged
   abbrev pub IsStolen : Task → List (DequeSeatIn A) → List (DequeSeatIn A) → Type 0
   IsStolen task before after = (front : List (DequeSeatIn A)) × (seat : DequeSeatIn A) × (back : List (DequeSeatIn A)) × (before ≡ front ++ seat ∷ back) × (after ≡ front ++ with_taken task seat ∷ back)
 
-  -- just one of a worker's seats has taken one task more
+  -- just one of a worker's seats, its own or a thief's, has taken this one task more
   abbrev pub IsTaken : Task → WorkerSeatsIn A → WorkerSeatsIn A → Type 0
   IsTaken task before after =
       (after ≡ record before { own = with_taken task before.own }) ⊎ ((after.own ≡ before.own) × IsStolen task before.thieves after.thieves)
@@ -64,30 +70,31 @@ module _ {A : Type 0} where
   abbrev pub IsDealt : List (WorkerSeatsIn A) → Type 0
   IsDealt all = All (λ seats. (seats.own.tally ≡ tally (64 - length all) [] []) × (seats.thieves ≡ map (λ other. new_thief other.own) all)) all
 
-  -- a seat of a new deque's owner, with so many parts left
+  -- a seat at this one's deque with so many parts, which has pushed and taken nothing
   abbrev pub fresh_with : ℕ → DequeSeatIn A → DequeSeatIn A
   fresh_with parts seat = record seat { tally = tally parts [] [] }
 
-  -- an owner's seat beside the same thieves' seats
+  -- a worker's seats: this owner's, and these thieves'
   abbrev pub beside : List (DequeSeatIn A) → DequeSeatIn A → WorkerSeatsIn A
   beside thieves own = record { own = own; thieves = thieves }
 
-  -- all seats of all deques are there: each worker's thieves are at all workers' deques, and the parts of each deque add up to all
+  -- all seats of all deques are there: each worker has a thief at each worker's deque, and the parts of each owner and
+  -- those of its deque's thieves, one each, are all 64
   abbrev pub IsWhole : List (PostsIn A) → Type 0
   IsWhole all = All (λ its. (its.thieves ≡ map (λ other. other.own) all) × (its.parts + length all ≡ 64)) all
 
-  -- each owner's seat, with the seat of one thief at the same place joined to it
+  -- these owners' seats, each joined by the seat of the thief at the same place of the row
   abbrev pub with_row : List (DequeSeatIn A) → List (DequeSeatIn A) → List (DequeSeatIn A)
   with_row [] row = []
   with_row (owner ∷ owners) [] = owner ∷ owners
   with_row (owner ∷ owners) (thief ∷ row) = joined owner thief ∷ with_row owners row
 
-  -- the same with the thieves of several workers
+  -- these owners' seats, each joined by the seats of the thieves at the same place of all rows
   abbrev pub with_rows : List (DequeSeatIn A) → List (List (DequeSeatIn A)) → List (DequeSeatIn A)
   with_rows owners [] = owners
   with_rows owners (row ∷ rows) = with_rows (with_row owners row) rows
 
-  -- each deque, with what all its seats pushed and took
+  -- each deque as one seat: the owner's, joined by those of all workers' thieves there
   abbrev pub whole_deques : List (WorkerSeatsIn A) → List (DequeSeatIn A)
   whole_deques all = with_rows (map (λ seats. seats.own) all) (map (λ seats. seats.thieves) all)
 
@@ -95,7 +102,7 @@ module _ {A : Type 0} where
   abbrev pub IsAccounted : DequeSeatIn A → Type 0
   IsAccounted seat = (left : List Task) × ((h : Task → ℕ) → weigh h seat.tally.pushed ≡ weigh h seat.tally.taken + weigh h left)
 
-  -- owners and rows of thieves, put together again
+  -- each owner's seat with the row of thieves' seats at the same place, as a worker's seats
   abbrev pub zip_seats : List (DequeSeatIn A) → List (List (DequeSeatIn A)) → List (WorkerSeatsIn A)
   zip_seats [] rows = []
   zip_seats (own ∷ owners) [] = []
@@ -105,6 +112,6 @@ module _ {A : Type 0} where
   abbrev pub returned : Returned A → List (WorkerSeatsIn A)
   returned back = zip_seats (owner_seats back.owners.items) (map (λ row. thief_seats row.items) back.rows.items)
 
-  -- how many can come back
+  -- how many workers' ends there is room for
   abbrev pub returned_room : Returned A → ℕ
   returned_room back = back.room

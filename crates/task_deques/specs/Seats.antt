@@ -9,51 +9,52 @@ use Rattle.task_deques.specs.declared.owner.Owner.{Owner}
 use Rattle.task_deques.specs.declared.thief.Thief.{Thief}
 use Rattle.task_deques.specs.Tallies.{tally}
 
--- which deque it is, and which allocator its memory is of
+-- a deque: which one it is, and the allocator of its memory
 abbrev pub DequeIn : Type 0 → Type 0
 DequeIn A = RowsId × A
 
--- a seat at a deque
+-- a seat at a deque: which deque, and the seat's tally
 pub record DequeSeatIn (A : Type 0) : Type 0 where
   pub deque : DequeIn A
   pub tally : Tally
 
--- the same of the deques that are `Global`'s
+-- a deque whose memory is of the allocator `Global`
 abbrev pub Deque : Type 0
 Deque = DequeIn Global
 
+-- a seat at such a deque
 abbrev pub DequeSeat : Type 0
 DequeSeat = DequeSeatIn Global
 
 module _ {A : Type 0} where
-  -- the owner's
+  -- the seat of a deque's owner
   abbrev pub owner_seat : Owner A → DequeSeatIn A
   owner_seat owner = record { deque = worker_deque owner.worker; tally = worker_view owner.worker }
 
-  -- how many tasks there is room for in its deque
+  -- how many tasks there is room for in an owner's deque
   abbrev pub owner_room : Owner A → ℕ
   owner_room owner = owner.room
 
-  -- a thief's
+  -- the seat of a thief
   abbrev pub thief_seat : Thief A → DequeSeatIn A
   thief_seat thief = record { deque = stealer_deque thief.stealer; tally = view thief.pass }
 
-  -- one task more was pushed
+  -- a seat after it pushed one task more
   abbrev pub with_pushed : Task → DequeSeatIn A → DequeSeatIn A
   with_pushed task seat = record seat { tally = tally seat.tally.parts (seat.tally.pushed ++ task ∷ []) seat.tally.taken }
 
-  -- one task more was taken
+  -- a seat after it took one task more
   abbrev pub with_taken : Task → DequeSeatIn A → DequeSeatIn A
   with_taken task seat = record seat { tally = tally seat.tally.parts seat.tally.pushed (seat.tally.taken ++ task ∷ []) }
 
-  -- one part was cut off
+  -- a seat after one of its parts was given to a new seat
   abbrev pub with_part_cut : DequeSeatIn A → DequeSeatIn A
   with_part_cut seat = record seat { tally = tally (seat.tally.parts - 1) seat.tally.pushed seat.tally.taken }
 
-  -- the new seat of a thief at the same deque
+  -- the new seat of a thief at the same deque: one part, and no task pushed or taken
   abbrev pub new_thief : DequeSeatIn A → DequeSeatIn A
   new_thief seat = record seat { tally = tally 1 [] [] }
 
-  -- another seat's parts and tasks were joined to it
+  -- a seat after another was joined to it: it has the parts and the tasks of both
   abbrev pub joined : DequeSeatIn A → DequeSeatIn A → DequeSeatIn A
   joined seat other = record seat { tally = tally (seat.tally.parts + other.tally.parts) (seat.tally.pushed ++ other.tally.pushed) (seat.tally.taken ++ other.tally.taken) }

@@ -19,16 +19,17 @@ weigh h (task ∷ tasks) = h task + weigh h tasks
 abbrev pub IsEmptied : Tally → Type 0
 IsEmptied seat = (h : Task → ℕ) → weigh h seat.pushed ≡ weigh h seat.taken
 
--- a number of each seat, added up
+-- the sum over all seats of a number that each has
 abbrev pub total : (Tally → ℕ) → List Tally → ℕ
 total f [] = 0
 total f (v ∷ vs) = f v + total f vs
 
--- a seat with no part was spent by joining: it has pushed and taken nothing
+-- a seat without a part was joined to another, which counts its tasks now: it has pushed and taken nothing
 abbrev pub IdleIsEmpty : List Tally → Type 0
 IdleIsEmpty seats = (port : ℕ) (v : Tally) → get_elem? seats port ≡ some v → v.parts ≡ 0 → (v.pushed ≡ []) × (v.taken ≡ [])
 
--- the rule: the tasks that the deque holds and those that all seats took, counted together, are those that were pushed
+-- the rule of a deque that holds these tasks and has these seats: the seats have 64 parts together, what they pushed is
+-- what they took and what the deque holds, each task as often, and a seat without a part has an empty tally
 abbrev pub IsEachOnce : List Task → List Tally → Type 0
 IsEachOnce tasks seats =
     (total (λ v. v.parts) seats ≡ 64)

@@ -13,8 +13,8 @@ use crate::thief::Thief;
 use sched_rules::Worker;
 use std::alloc::{AllocError, Allocator};
 
-/// The ends of as many workers as the number of the last, in the order of their numbers, with room for
-/// so many tasks in each deque. It fails only where memory is refused.
+/// Makes a deque with room for so many tasks for each of the workers 1 to `last`, and deals the ends: those of each
+/// worker, in the order of their numbers. `Err` only where memory is refused.
 pub fn deal<A: Allocator + Clone>(
     alloc: A,
     last: Worker,
@@ -30,7 +30,7 @@ pub fn deal<A: Allocator + Clone>(
     paired(alloc, owners, rows)
 }
 
-/// Owners of new deques.
+/// The owners of so many new deques, each with all 64 parts. `Err` only where memory is refused.
 fn owners<A: Allocator + Clone>(
     alloc: &A,
     count: usize,
@@ -47,7 +47,8 @@ fn owners<A: Allocator + Clone>(
     Ok(owners)
 }
 
-/// A row of thieves, one at each deque, for each worker.
+/// For each worker a row of thieves, one at each deque; each thief gets one part of its deque's owner. `Err` only where
+/// memory is refused.
 fn rows<A: Allocator + Clone>(
     alloc: &A,
     owners: &mut Vec<Owner<A>, A>,
@@ -67,7 +68,8 @@ fn rows<A: Allocator + Clone>(
     Ok(rows)
 }
 
-/// A thief at each deque, in the order of the deques.
+/// A thief at each deque, in the order of the deques; each gets one part of its deque's owner. `Err` only where memory
+/// is refused.
 fn row<A: Allocator>(
     alloc: A,
     owners: &mut Vec<Owner<A>, A>,
@@ -85,7 +87,7 @@ fn row<A: Allocator>(
     Ok(row)
 }
 
-/// Each owner with one row of thieves.
+/// The ends of each worker: an owner, and a row of thieves. `Err` only where memory is refused.
 fn paired<A: Allocator>(
     alloc: A,
     owners: Vec<Owner<A>, A>,

@@ -9,8 +9,8 @@ use pool_rules::Task;
 use sched_rules::Worker;
 use std::alloc::{Allocator, Global};
 
-/// A worker's own deque, and a thief's end of each worker's deque, in the order of the workers'
-/// numbers. The thief's end of its own deque is there for the order's sake, and isn't used.
+/// A worker's own deque, and a thief's end of each worker's deque, in the order of the workers' numbers. The one at its
+/// own deque isn't used: it is there so that the k-th is at worker k's.
 #[derive(Drop)]
 pub struct DequeEnds<A: Allocator = Global> {
     pub(crate) own: Owner<A>,
@@ -20,8 +20,8 @@ pub struct DequeEnds<A: Allocator = Global> {
 impl<A: Allocator> DequeEnds<A> {
     ghost use Rattle.task_deques.specs.Deals.{worker_seats, worker_room, posts, IsTaken};
 
-    /// Pushes a task on the worker's own deque. Err hands it back: there is no room, 2^64 - 1 were pushed before,
-    /// or memory was refused.
+    /// Pushes a task on the worker's own deque. `Err` hands it back: there is no room, 2^64 - 1 tasks were pushed
+    /// before, or the deque can't grow.
     pub fn push(&mut self, task: Task) -> Result<(), Task>
         ensures pushed { OnOk result (worker_seats self.new ≡ record (worker_seats self.old) { own = with_pushed task (worker_seats self.old).own }) }
         ensures handed_back { IfErr result (λ back. back ≡ task) }
@@ -32,8 +32,8 @@ impl<A: Allocator> DequeEnds<A> {
         self.own.push(task)
     }
 
-    /// Takes the newest task of the worker's own deque, else the oldest of another's, which are tried in
-    /// the order of their numbers after its own. None proves nothing of the deques.
+    /// Takes the newest task of the worker's own deque, else the oldest of another's, trying them in the order of their
+    /// numbers after its own. `worker` is this worker. `None` doesn't prove that the deques are empty.
     pub fn take(&mut self, worker: Worker) -> Option<Task>
         ensures taken { IfSome result (λ task. IsTaken task (worker_seats self.old) (worker_seats self.new)) }
         ensures unchanged { IfNone result (worker_seats self.new ≡ worker_seats self.old) }
@@ -52,7 +52,8 @@ impl<A: Allocator> DequeEnds<A> {
     }
 }
 
-/// The first task that the thieves find from one place to before another.
+/// Steals a task by one of the thieves at the places from `from` to before `to`, trying them in order; `None` where
+/// none of them finds one.
 fn steal_between<A: Allocator>(
     thieves: &mut Vec<Thief<A>, A>,
     from: usize,
@@ -69,7 +70,7 @@ fn steal_between<A: Allocator>(
     None
 }
 
-/// The task that one of the thieves finds.
+/// The task that the thief at this place steals; `None` where it finds none.
 fn steal_at<A: Allocator>(thieves: &mut Vec<Thief<A>, A>, place: usize) -> Option<Task>
     requires { place < vec_len thieves.old }
     ensures taken { IfSome result (λ task. IsStolen task (thief_seats thieves.old.items) (thief_seats thieves.new.items)) }

@@ -25,7 +25,7 @@ pub(crate) fn joined<A: Allocator>(
     owners
 }
 
-/// Joins the seat of each thief to that of the owner at its place.
+/// Joins the seat of each thief in the row to the seat of the owner at the same place.
 fn join_row<A: Allocator>(owners: &mut Vec<Owner<A>, A>, row: Vec<Thief<A>, A>)
     requires deques { deques (thief_seats row.items) ≡ deques (owner_seats owners.old.items) }
     requires parts { All (λ seat. seat.tally.parts < 64) (owner_seats owners.old.items) }
@@ -38,7 +38,8 @@ fn join_row<A: Allocator>(owners: &mut Vec<Owner<A>, A>, row: Vec<Thief<A>, A>)
     }
 }
 
-/// The sums of all deques together, whose owners' seats have all parts.
+/// How many tasks were pushed on all deques together, taken from them and left, where each owner's seat has all parts
+/// of its deque.
 pub(crate) fn added<A: Allocator>(owners: Vec<Owner<A>, A>) -> Sums
     requires parts { All (λ seat. seat.tally.parts ≡ 64) (owner_seats owners.items) }
     requires few { vec_len owners ≤ 64 }

@@ -11,11 +11,11 @@ use crate::thief::Thief;
 use pool_rules::Task;
 use std::alloc::{AllocError, Allocator, Global};
 
-/// The owner's end of a deque, with how many tasks it pushed, and how many it and the thieves that
-/// were joined to it took.
+/// The owner's end of a deque. It counts the tasks that it pushed, and those that it and the thieves joined to it took.
 #[derive(Drop)]
 pub struct Owner<A: Allocator = Global> {
     worker: OwnerEnd<A>,
+    /// How many tasks may wait in the deque; a push beyond them is handed back.
     room: usize,
     pushed: u64,
     taken: u128,
@@ -29,7 +29,7 @@ pub struct Owner<A: Allocator = Global> {
 impl<A: Allocator> Owner<A> {
     ghost use Rattle.task_deques.specs.Seats.{owner_seat, owner_room, thief_seat, with_pushed, with_taken, with_part_cut, new_thief, joined};
 
-    /// The owner of a new deque with room for so many tasks. It fails only where memory is refused.
+    /// The owner of a new deque with room for so many tasks, with all 64 parts. `Err` only where memory is refused.
     pub fn with_room(alloc: A, room: usize) -> Result<Owner<A>, AllocError>
     where
         A: Clone,
@@ -45,9 +45,8 @@ impl<A: Allocator> Owner<A> {
         })
     }
 
-    /// Pushes a task. It is handed back where as many wait as there is room for, where as many were
-    /// pushed as a u64 counts, and where memory is refused. With all parts, as many wait as were pushed
-    /// and not taken.
+    /// Pushes a task. `Err` hands it back: as many tasks wait as there is room for, 2^64 - 1 were pushed before, or the
+    /// deque can't grow. For an owner with all 64 parts, the tasks that wait are just those pushed and not taken.
     pub fn push(&mut self, task: Task) -> Result<(), Task>
         ensures pushed { OnOk result (owner_seat self.new ≡ with_pushed task (owner_seat self.old)) }
         ensures handed_back { IfErr result (λ back. back ≡ task) }
@@ -73,8 +72,8 @@ impl<A: Allocator> Owner<A> {
         steps::waiting(worker) >= *room
     }
 
-    /// Takes the newest task. None says that the deque was empty at one moment, or that as many were
-    /// taken as a u64 counts: with all parts, all that was pushed was taken.
+    /// Takes the newest task. `None` where the deque was empty at one moment of the call, or 2^64 - 1 tasks were taken
+    /// before. For an owner with all 64 parts, empty means that all that was pushed was taken.
     pub fn pop(&mut self) -> Option<Task>
         ensures taken { IfSome result (λ task. owner_seat self.new ≡ with_taken task (owner_seat self.old)) }
         ensures unchanged { IfNone result (owner_seat self.new ≡ owner_seat self.old) }
@@ -90,8 +89,8 @@ impl<A: Allocator> Owner<A> {
         Some(task)
     }
 
-    /// A thief of this deque. It fails only where memory is refused, and the owner has one part less
-    /// all the same.
+    /// Makes a thief of this deque, whose seat gets one of the owner's parts. `Err` only where memory is refused; the
+    /// owner has lost the part then too.
     pub fn thief(&mut self) -> Result<Thief<A>, AllocError>
         requires parts { 1 < (owner_seat self.old).tally.parts }
         requires none_taken { (owner_seat self.old).tally.taken ≡ [] }
@@ -104,7 +103,8 @@ impl<A: Allocator> Owner<A> {
         Thief::at(worker, seat)
     }
 
-    /// Takes in the seat of a thief of this deque.
+    /// Joins the seat of a thief of this deque to the owner's: its parts and its tasks are counted as the owner's from
+    /// now on.
     pub fn join(&mut self, thief: Thief<A>)
         requires deque { (thief_seat thief).deque ≡ (owner_seat self.old).deque }
         requires parts { (owner_seat self.old).tally.parts < 64 }
@@ -117,7 +117,7 @@ impl<A: Allocator> Owner<A> {
         *taken += u128::from(stolen);
     }
 
-    /// How many tasks were pushed and taken, and how many are left, once the seats of all thieves were
+    /// How many tasks were pushed and taken, and how many are left. It requires all 64 parts, so all thieves were
     /// joined: what was pushed is what was taken and what is left, each task as often.
     pub fn sums(&mut self) -> Sums
         requires { (owner_seat self.old).tally.parts ≡ 64 }

@@ -8,11 +8,12 @@ use crate::sums::Sums;
 use crate::thief::Thief;
 use std::alloc::{AllocError, Allocator, Global};
 
-/// Ends that came back.
+/// The ends of the workers that have come back so far, and room for those of the others.
 #[derive(Drop)]
 pub struct Returned<A: Allocator = Global> {
     owners: Vec<Owner<A>, A>,
     rows: Vec<Vec<Thief<A>, A>, A>,
+    /// For how many workers' ends there is room.
     room: usize,
     ghost paired: { vec_len owners ≡ vec_len rows },
     ghost fits: { (room ≤ vec_capacity owners) × (room ≤ vec_capacity rows) },
@@ -21,7 +22,7 @@ pub struct Returned<A: Allocator = Global> {
 impl<A: Allocator> Returned<A> {
     ghost use Rattle.task_deques.specs.Deals.{worker_seats, posts_of, returned, returned_room, whole_deques, IsWhole, IsAccounted};
 
-    /// None, and room for those of so many workers. It fails only where memory is refused.
+    /// No ends yet, and room for those of so many workers. `Err` only where memory is refused.
     pub fn with_room(alloc: A, room: usize) -> Result<Returned<A>, AllocError>
     where
         A: Clone,
@@ -33,14 +34,14 @@ impl<A: Allocator> Returned<A> {
         Ok(Returned { owners, rows, room })
     }
 
-    /// Of how many workers the ends came back.
+    /// How many workers' ends have come back.
     pub fn count(&self) -> usize
         ensures { result ≡ length (returned self.now) }
     {
         self.owners.len()
     }
 
-    /// Puts a worker's ends after those that are there.
+    /// Adds a worker's ends after those that came back before.
     pub fn put(&mut self, ends: DequeEnds<A>)
         requires { length (returned self.old) < returned_room self.old }
         ensures ends { returned self.new ≡ returned self.old ++ worker_seats ends ∷ [] }

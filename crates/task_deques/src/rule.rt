@@ -18,10 +18,10 @@ use crossbeam_deque::{Pass, Stealer, Worker};
 use pool_rules::Task;
 use std::collections::LinkedList;
 
-/// What a seat has pushed and taken, and its parts of the right to know the whole. No value of it is
-/// made.
+/// What a seat knows: its parts of the right to know the whole deque, and the tasks that it pushed and took. Only
+/// contracts use it: no value of it is ever made.
 pub struct Tally {
-    /// Of 64 parts.
+    /// How many of the deque's 64 parts it has.
     pub parts: u64,
     /// The tasks that it pushed, the first one first.
     pub pushed: LinkedList<Task>,
@@ -29,7 +29,7 @@ pub struct Tally {
     pub taken: LinkedList<Task>,
 }
 
-/// The rule: what was pushed is what was taken and what the deque holds, each as often.
+/// The rule of a deque: what all its seats pushed is what they took and what the deque holds, each task as often.
 pub struct EachOnce;
 
 impl Protocol<Task, Tally> for EachOnce {
@@ -64,7 +64,8 @@ impl Outcome<Task, Tally> for Popped {
     ghost empty = { λ v. v.parts ≡ 64 → IsEmptied v };
 }
 
-/// One part that is cut off for a new seat, or a seat that is joined.
+/// How tallies are split and joined: a new seat is cut off with one part and no tasks, and a seat that is joined to
+/// another adds its parts and tasks to the other's.
 pub(crate) struct Part;
 
 impl Split<Tally> for Part {
@@ -79,7 +80,8 @@ impl Join<Tally> for Part {
     ghost spent = { tally 0 [] [] };
 }
 
-/// What a seat learns of the tasks that its deque holds, if it has all parts.
+/// What a seat with all 64 parts learns of the tasks that its deque holds: with those taken they are all that was
+/// pushed.
 pub(crate) struct Whole;
 
 impl Lesson<Task, Tally> for Whole {
@@ -89,8 +91,8 @@ impl Lesson<Task, Tally> for Whole {
 /// The owner's end of a deque.
 pub(crate) type OwnerEnd<A> = Worker<Task, A, Tally, EachOnce>;
 
-/// A thief's end.
+/// A thief's end of a deque.
 pub(crate) type ThiefEnd<A> = Stealer<Task, A, Tally, EachOnce>;
 
-/// A thief's seat.
+/// The seat of a thief's end.
 pub(crate) type DequeSeat<A> = Pass<Task, Tally, A>;

@@ -9,8 +9,8 @@ use crossbeam_deque::Steal;
 use pool_rules::Task;
 use std::alloc::{AllocError, Allocator};
 
-/// A deque with no task, and room for so many before it takes memory again. It fails only where memory
-/// is refused.
+/// The owner's end of a new, empty deque, with room for so many tasks before it takes memory again. `Err` only where
+/// memory is refused.
 pub(crate) fn made<A: Allocator + Clone>(alloc: A, room: usize) -> Result<OwnerEnd<A>, AllocError>
     ensures newest_first { IfOk result (λ w. worker_flavor w ≡ 1) }
     ensures tally { IfOk result (λ w. worker_view w ≡ tally 64 [] []) }
@@ -18,7 +18,7 @@ pub(crate) fn made<A: Allocator + Clone>(alloc: A, room: usize) -> Result<OwnerE
     OwnerEnd::<A>::lifo_as(alloc, room)
 }
 
-/// Pushes a task, or hands it back.
+/// Pushes a task. `Err` hands it back where the deque can't grow.
 pub(crate) fn push<A: Allocator>(owner: &mut OwnerEnd<A>, task: Task) -> Result<(), Task>
     requires { 0 < (worker_view owner.old).parts }
     ensures same { (worker_deque owner.new ≡ worker_deque owner.old) × (worker_flavor owner.new ≡ worker_flavor owner.old) }
@@ -29,7 +29,7 @@ pub(crate) fn push<A: Allocator>(owner: &mut OwnerEnd<A>, task: Task) -> Result<
     owner.push_as::<Pushed>(task)
 }
 
-/// Takes the newest task.
+/// Takes the newest task. `None` where none was found: for an owner with all 64 parts, all that was pushed was taken.
 pub(crate) fn pop<A: Allocator>(owner: &mut OwnerEnd<A>) -> Option<Task>
     requires { 0 < (worker_view owner.old).parts }
     ensures same { (worker_deque owner.new ≡ worker_deque owner.old) × (worker_flavor owner.new ≡ worker_flavor owner.old) }
@@ -41,7 +41,8 @@ pub(crate) fn pop<A: Allocator>(owner: &mut OwnerEnd<A>) -> Option<Task>
     owner.pop_as::<Popped>()
 }
 
-/// Takes the oldest task of another's deque. Nothing is learned where none came.
+/// Takes the oldest task of another's deque. `None` where it was empty or another thread was quicker; the thief learns
+/// nothing of the deque by it.
 pub(crate) fn steal<A: Allocator>(thief: &ThiefEnd<A>, seat: &mut DequeSeat<A>) -> Option<Task>
     requires deque { IsPassOf (stealer_deque thief.now) seat.old }
     requires part { 0 < (view seat.old).parts }
@@ -56,7 +57,7 @@ pub(crate) fn steal<A: Allocator>(thief: &ThiefEnd<A>, seat: &mut DequeSeat<A>) 
     }
 }
 
-/// A seat for a thief, with one part of the owner's.
+/// A new seat for a thief, which gets one of the owner's parts.
 pub(crate) fn seat<A: Allocator>(owner: &mut OwnerEnd<A>) -> DequeSeat<A>
     requires { 1 < (worker_view owner.old).parts }
     ensures same { (worker_deque owner.new ≡ worker_deque owner.old) × (worker_flavor owner.new ≡ worker_flavor owner.old) }
@@ -67,7 +68,7 @@ pub(crate) fn seat<A: Allocator>(owner: &mut OwnerEnd<A>) -> DequeSeat<A>
     owner.another::<Part>()
 }
 
-/// Joins a thief's seat to the owner's.
+/// Joins a thief's seat to the owner's, which then has its parts and its tasks too.
 pub(crate) fn join<A: Allocator>(owner: &mut OwnerEnd<A>, seat: DequeSeat<A>)
     requires deque { IsPassOf (worker_deque owner.old) seat }
     requires part { 0 < (worker_view owner.old).parts }
@@ -78,7 +79,7 @@ pub(crate) fn join<A: Allocator>(owner: &mut OwnerEnd<A>, seat: DequeSeat<A>)
     owner.absorb::<Part>(seat);
 }
 
-/// How many tasks wait at one moment of the call: with all parts, all that were pushed and not taken.
+/// How many tasks wait at one moment of the call. For an owner with all 64 parts they are those pushed and not taken.
 pub(crate) fn waiting<A: Allocator>(owner: &mut OwnerEnd<A>) -> usize
     ensures same { (worker_deque owner.new ≡ worker_deque owner.old) × (worker_flavor owner.new ≡ worker_flavor owner.old) }
     ensures tally { worker_view owner.new ≡ worker_view owner.old }
@@ -87,7 +88,8 @@ pub(crate) fn waiting<A: Allocator>(owner: &mut OwnerEnd<A>) -> usize
     owner.len_as::<Whole>()
 }
 
-/// What the owner learns once it has all parts: what was pushed is what was taken and what is left.
+/// How many tasks are left, for an owner with all 64 parts: what was pushed is what was taken and these, each task as
+/// often.
 pub(crate) fn left<A: Allocator>(owner: &mut OwnerEnd<A>) -> usize
     requires { (worker_view owner.old).parts ≡ 64 }
     ensures same { (worker_deque owner.new ≡ worker_deque owner.old) × (worker_flavor owner.new ≡ worker_flavor owner.old) }

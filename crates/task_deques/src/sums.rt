@@ -1,15 +1,14 @@
 //! How many tasks there were.
 ghost use Rattle.std.specs.Prelude.{◌≡◌, ◌+◌};
 
-/// How many tasks were pushed and taken, and how many are left: what was pushed is what was taken and
-/// what is left.
+/// How many tasks were pushed, taken and left: the first is the sum of the other two.
 #[derive(Clone, Copy, Debug, PartialEq, Eq)]
 pub struct Sums {
-    /// Pushed.
+    /// How many were pushed.
     pub pushed: u128,
-    /// Taken, by anybody.
+    /// How many were taken, by anybody.
     pub taken: u128,
-    /// Still there.
+    /// How many are still there.
     pub left: u128,
     ghost sum: { pushed ≡ taken + left },
 }

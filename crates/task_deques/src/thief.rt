@@ -23,7 +23,7 @@ pub struct Thief<A: Allocator = Global> {
 impl<A: Allocator> Thief<A> {
     ghost use Rattle.task_deques.specs.Seats.{thief_seat, with_taken};
 
-    /// A thief with a new seat at a deque. It fails only where memory is refused.
+    /// A thief at the deque of this owner, with this new seat. `Err` only where memory is refused.
     pub(crate) fn at(worker: &OwnerEnd<A>, pass: DequeSeat<A>) -> Result<Thief<A>, AllocError>
         requires deque { IsPassOf (worker_deque worker.now) pass }
         requires tally { view pass ≡ tally 1 [] [] }
@@ -38,8 +38,8 @@ impl<A: Allocator> Thief<A> {
         })
     }
 
-    /// Takes the oldest task. None says nothing of the deque: another thief may have been quicker, or
-    /// as many were stolen as a u64 counts.
+    /// Takes the oldest task. `None` doesn't prove that the deque is empty: another thread may have been quicker, or
+    /// this thief has stolen 2^64 - 1 tasks.
     pub fn steal(&mut self) -> Option<Task>
         ensures taken { IfSome result (λ task. thief_seat self.new ≡ with_taken task (thief_seat self.old)) }
         ensures unchanged { IfNone result (thief_seat self.new ≡ thief_seat self.old) }
@@ -57,7 +57,7 @@ impl<A: Allocator> Thief<A> {
         Some(task)
     }
 
-    /// Its seat, and how many tasks it stole.
+    /// Takes the thief apart: its seat, and how many tasks it stole.
     pub(crate) fn left(self) -> (DequeSeat<A>, u64)
         ensures deque { IsPassOf (thief_seat self).deque result.0 }
         ensures tally { view result.0 ≡ (thief_seat self).tally }

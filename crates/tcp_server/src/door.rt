@@ -15,22 +15,24 @@ const PROCESS_IS_FULL: i32 = 24;
 /// `accept` found no descriptor left in the system (Linux's ENFILE).
 const SYSTEM_IS_FULL: i32 = 23;
 
-/// A listener and its spare descriptor.
+/// A listener and a spare descriptor, with which a connection can be taken where no other descriptor is left.
 #[derive(Drop)]
 pub(crate) struct Door<N> {
     listener: N,
+    /// A second name of the listener; `None` where no descriptor was left for one.
     spare: Option<N>,
 }
 
 impl<N: OpenListener + Drop> Door<N> {
-    /// The door of a listener.
+    /// A door for this listener, with a spare descriptor if one is free.
     pub(crate) fn new(listener: N) -> Door<N> {
         let spare = listener.try_clone().ok();
         Door { listener, spare }
     }
 
-    /// The next connection, or None where it had to be turned away. One that was lost before it could be taken is
-    /// passed over.
+    /// Waits for the next connection. `None`: one was taken and closed at once, as no descriptor was left to serve it.
+    /// A connection that was lost before it could be taken is passed over. `Err`: `accept` failed otherwise, or no
+    /// descriptor was left and there was no spare one.
     pub(crate) fn next<R: Wait>(&mut self, rt: &R) -> io::Result<Option<N::Stream>> {
         for _ in rt.forever() {
             match self.listener.accept() {
@@ -47,12 +49,13 @@ impl<N: OpenListener + Drop> Door<N> {
         unreachable!()
     }
 
-    /// The spare descriptor is made, if one is free.
+    /// Makes the spare descriptor anew, if one is free.
     fn renew(&mut self) {
         self.spare = self.listener.try_clone().ok();
     }
 
-    /// What comes of a connection that is taken with the spare descriptor; None where none can be taken.
+    /// Gives up the spare descriptor and takes the next connection with it. The outer `None`: no connection could be
+    /// taken. The inner `None`: one was taken and closed at once (`with_spare`).
     fn take_with_spare(&mut self) -> Option<Option<N::Stream>> {
         self.spare = None;
         if let Ok((stream, _)) = self.listener.accept() {
@@ -62,7 +65,8 @@ impl<N: OpenListener + Drop> Door<N> {
         None
     }
 
-    /// A connection that was taken with the spare descriptor: None, and it is closed, where there is no other spare.
+    /// A connection that was taken with the spare descriptor, if another spare can be had; else it is closed, and
+    /// `None`.
     fn with_spare(&mut self, stream: N::Stream) -> Option<N::Stream> {
         self.renew();
         if self.spare.is_some() {
@@ -74,12 +78,12 @@ impl<N: OpenListener + Drop> Door<N> {
     }
 }
 
-/// Whether the listener goes on after this error.
+/// Whether an error of `accept` concerns this one call or connection alone, so that the listener can go on.
 fn is_passing(kind: ErrorKind) -> bool {
     kind == ErrorKind::ConnectionAborted || kind == ErrorKind::Interrupted
 }
 
-/// Whether there was no descriptor for a connection.
+/// Whether `accept` found no descriptor left for a connection.
 fn is_full(error: &io::Error) -> bool {
     matches!(error.raw_os_error(), Some(PROCESS_IS_FULL | SYSTEM_IS_FULL))
 }

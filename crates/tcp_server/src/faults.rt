@@ -12,10 +12,10 @@ pub enum ServeFault {
     /// There was no memory for the pool.
     #[error("no memory for the workers")]
     OutOfMemory,
-    /// A thread of the pool couldn't be had.
+    /// A thread couldn't be had, for a worker or for taking the connections, or a badge for a worker.
     #[error("no thread for a worker")]
     NoThread,
-    /// The pool had begun, and that couldn't be said.
+    /// The pool had begun, but that couldn't be announced.
     #[error("what is said at the beginning could not be said")]
     Unsaid,
 }
