@@ -11,7 +11,8 @@ use Rattle.othello_moves.specs.declared.choices.Choice.TheVariants.{Square, Pass
 use Rattle.othello_moves.specs.Choices.{choices}
 use Rattle.leaf_search.specs.othello_eval.Minimax.{minimax, choice_value}
 
--- the phases of a frame: it is new; it is computed outside; its first child is searched; the other choices are tested; it is done
+-- the phases of a frame: it is new; one worker computes it by itself; its first child is searched; the other
+-- choices are tested; it is done
 abbrev pub phase_new : ℕ
 phase_new = 0
 
@@ -27,7 +28,8 @@ phase_tests = 3
 abbrev pub phase_done : ℕ
 phase_done = 4
 
--- what a frame is to its parent: it has none; the first child; a test; a search again of a choice whose test has failed
+-- what a frame is to its parent: a root, which has none; the first child; a test; the search again of a choice
+-- whose test has failed
 abbrev pub role_root : ℕ
 role_root = 0
 
@@ -40,7 +42,8 @@ role_test = 2
 abbrev pub role_again : ℕ
 role_again = 3
 
--- how a choice stands: not spawned; its first search or its test runs; it is settled; its test has failed; its search again runs
+-- how a choice stands: not spawned; its first search or its test runs; it is settled; its test has failed; it is
+-- searched again
 abbrev pub status_not_spawned : ℕ
 status_not_spawned = 0
 
@@ -72,13 +75,15 @@ pub record Frame : Type 0 where
   -- the best score so far, and the code of the choice that has it
   pub best : ℤ
   pub choice : ℕ
-  -- how many choices there are, how many of them were spawned, the status of each, and what is found of each (0 for nothing)
+  -- how many choices there are, how many of them were spawned, the status of each, and the rest of each entry:
+  -- the bound that is known of the choice (0 for none)
   pub count : ℕ
   pub spawned : ℕ
   pub statuses : List ℕ
   pub rests : List ℕ
 
--- the ends of the full window, and the best score of a frame that has none yet (that of the word 0)
+-- the ends of the full window, -200,000 and 200,000; and the best score of a frame that has none yet, -1,000,000
+-- (stored as the word 0)
 abbrev pub least : ℤ
 least = negsuc 199999
 
@@ -110,7 +115,7 @@ abbrev pub coded : Option Choice → ℕ
 coded None = 65
 coded (Some c) = code_of c
 
--- what is found of the choice with this number
+-- the rest of the entry of the choice with this number: the bound that is known of it, 0 for none
 abbrev pub rest_at : Frame → ℕ → ℕ
 rest_at f i = slice_index f.rests i
 
@@ -122,7 +127,7 @@ value_at f i = choice_value f.depth (board f) (choice_at f i)
 abbrev pub value : Frame → ℤ
 value f = minimax f.depth (board f)
 
--- the greater of alpha and the best score
+-- the greater of alpha and the best score: only a choice that is worth more still matters
 abbrev pub floor : Frame → ℤ
 floor f = int_max f.alpha f.best
 
@@ -133,11 +138,12 @@ own_word b = bits_of (filter (λ s. is_own_cell (cell_at b s)) squares)
 abbrev pub opp_word : List Cell → ℕ
 opp_word b = bits_of (filter (λ s. is_opp_cell (cell_at b s)) squares)
 
--- whether these are the numbers of a leaf: no square has two discs, the depth is at most 12, and the window is one
+-- whether these numbers are in the ranges of a leaf: no square has two discs, the depth is at most 12, and
+-- -200,000 <= alpha < beta <= 200,000
 abbrev pub is_leaf : ℕ → ℕ → ℕ → ℤ → ℤ → Bool
 is_leaf own opp depth alpha beta = (bit_and own opp == 0) && (nat_le depth 12 && (int_le least alpha && (int_lt alpha beta && int_le beta greatest)))
 
--- whether this is the score of some word: from -INF to INF
+-- whether a score is in range: from -200,000 to 200,000
 abbrev pub is_score : ℤ → Bool
 is_score s = int_le least s && int_le s greatest
 
@@ -149,8 +155,9 @@ is_searching phase = (phase == phase_first) || (phase == phase_tests)
 abbrev pub counts_choices : Frame → Bool
 counts_choices f = nat_lt 0 f.depth && (nat_lt 0 f.count && (f.count == length (choices (board f))))
 
--- whether best score and count are as the phase asks: none before the first search; then a score, and while choices are searched
--- the count of the board's choices
+-- whether best score and count of choices suit the phase: before the first search there is no score, and the
+-- count is 0; later the score is in range, and while choices are searched the count is that of the board's
+-- choices
 abbrev pub is_in_phase : Frame → Bool
 is_in_phase f =
     if nat_le f.phase phase_computing then int_eq f.best unscored && (f.count == 0)
