@@ -5,7 +5,7 @@ use Rattle.jamboree.specs.declared.view.Change.{Change}
 use Rattle.jamboree.specs.declared.view.Change.TheVariants.{OwnBits, OppBits, Phase, Best, Chosen, Count, Spawned, Status}
 use Rattle.jamboree.specs.Numbers.{phase_number, status_number}
 
--- the store
+-- the store that a change stands for, as `jamboree_rules` has it
 abbrev pub store_of : Change → Store
 store_of (OwnBits bits) = ToOwnBits bits
 store_of (OppBits bits) = ToOppBits bits

@@ -14,6 +14,6 @@ board_of reply = reply.board
 abbrev pub depth_of : Reply → ℕ
 depth_of reply = reply.depth
 
--- what is known of each choice, in their order
+-- the table of a reply: what is known of each choice, in the order of the choices
 abbrev pub table_of : Reply → List Bound
 table_of reply = bounds_by (choices (cells reply.board)) (take reply.count reply.known)
