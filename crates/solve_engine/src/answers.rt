@@ -35,7 +35,7 @@ pub(crate) fn visited_text(value: i32, choice: Option<Choice>, visited: u64) -> 
     text
 }
 
-/// The fault of this number.
+/// The text `ERR` and this number.
 pub(crate) fn error_text(number: u8) -> SolveText
     ensures text { result.items ≡ error_text number }
     ensures short { length result.items ≤ 7 }
