@@ -18,8 +18,8 @@ use Rattle.jamboree_rules.specs.Places.{frame_of, is_formed, is_placed, Change, 
 abbrev pub returns : Act
 returns = record { stores = []; after = Return }
 
--- to open a child that searches choice i, in this role and with this window. Its depth is less by one for a
--- square, and the same for a pass
+-- what an act does after its stores, where it opens a child that searches choice i, in this role and with this
+-- window. Its depth is less by one for a square, and the same for a pass
 abbrev pub spawns : Frame → ℕ → ℕ → ℤ → ℤ → Then
 spawns f role i alpha beta = Spawn (given_words (f.depth - plies (choice_at f i)) alpha beta role i) frame_size
 
@@ -49,7 +49,7 @@ opening_under grain f None = opening_on 0 f f.own f.opp
 opening_under grain f (Some parent) = let b : List Cell = after (board parent) (choice_at parent f.number) in opening_on grain f (own_word b) (opp_word b)
 
 -- the act while the first choice is searched: where no child is spawned yet (true) its child is opened with the
--- frame's whole window, else (false) the frame waits for it. The child's entry gets a new status, and keeps what
+-- frame's whole window, else (false) the frame waits for it. The choice's entry gets a new status, and keeps what
 -- is known of the choice (`rest_at`)
 abbrev pub first_search : Bool → Frame → Act
 first_search true f = record { stores = pairs_of (Spawned 1 ∷ Status 0 status_runs (rest_at f 0) ∷ []); after = spawns f role_first_child 0 (neg_ℤ f.beta) (neg_ℤ f.alpha) }
@@ -60,10 +60,11 @@ abbrev pub first_open : List ℕ → ℕ
 first_open [] = 0
 first_open (status ∷ statuses) = if status == status_settled then suc (first_open statuses) else 0
 
--- the act while the later choices are tested, where j is the first choice that isn't settled. Where its test has
--- failed (`failed`), it is searched again with the window from the floor to beta. Else, where a choice isn't
--- spawned yet (`more`), that is tested with the window of width one just above the floor. Else, where all are
--- settled (`all`), the frame is done; or it waits for a child
+-- the act while the later choices are tested, where j is the first choice that isn't settled, and the floor the
+-- greater of alpha and the best score. Where the test of j has failed (`failed`), it is searched again with the
+-- window from the floor to beta. Else, where a choice isn't spawned yet (`more`), that is tested with the window
+-- of width one just above the floor. Else, where all are settled (`all`), the frame is done; or it waits for a
+-- child
 abbrev pub tests : (failed more all : Bool) → Frame → ℕ → Act
 tests true more all f j = record { stores = pairs_of (Status j status_runs_again (rest_at f j) ∷ []); after = spawns f role_again j (neg_ℤ f.beta) (neg_ℤ (floor f)) }
 tests false true all f j = record {
@@ -106,14 +107,16 @@ next_act grain (own ∷ above) = if is_formed own && is_placed own above then ac
 abbrev pub seen : Frame → ℤ
 seen c = neg_ℤ c.best
 
--- what a score says of a value that was searched for in the window from `lower` to `upper`. A score of at most
--- `lower` is an upper bound (Low: the value is at most the score), one of at least `upper` is a lower bound
--- (High), and any other is the value (Exact)
+-- the kind of bound that a score is, by two flags: whether it is at most the lower end of its window (Low), and
+-- else whether it is at least the upper end (High) or not (Exact)
 abbrev pub kind_by : (low high : Bool) → BoundKind
 kind_by true high = Low
 kind_by false true = High
 kind_by false false = Exact
 
+-- what a score says of a value that was searched for in the window from `lower` to `upper`. A score of at most
+-- `lower` is an upper bound (Low: the value is at most the score), one of at least `upper` is a lower bound
+-- (High), and any other is the value (Exact)
 abbrev pub kind_of : (lower upper score : ℤ) → BoundKind
 kind_of lower upper score = kind_by (int_le score lower) (int_le upper score)
 

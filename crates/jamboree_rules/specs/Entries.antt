@@ -36,9 +36,10 @@ bounds_in (c ∷ cs) (rest ∷ rests) = bound_in c rest ∷ bounds_in cs rests
 abbrev pub bounds_of : Frame → List Bound
 bounds_of f = bounds_in (choices (board f)) f.rests
 
--- the entry of choice i of the frame has this kind, and its score
+-- the entry of choice i of the frame has this kind
 abbrev pub HasKind : Frame → ℕ → BoundKind → Type 0
 HasKind f i kind = IsOfKind (rest_at f i) kind
 
+-- the score in the entry of choice i of the frame
 abbrev pub score_at : Frame → ℕ → ℤ
 score_at f i = score_in (rest_at f i)

@@ -11,51 +11,59 @@ use Rattle.othello_moves.specs.declared.choices.Choice.TheVariants.{Square, Pass
 use Rattle.othello_moves.specs.Choices.{choices}
 use Rattle.leaf_search.specs.othello_eval.Minimax.{minimax, choice_value}
 
--- the phases of a frame: it is new; one worker computes it by itself; its first child is searched; the other
--- choices are tested; it is done
+-- the phase of a frame that was opened and has done nothing yet
 abbrev pub phase_new : ℕ
 phase_new = 0
 
+-- the phase of a frame that one worker computes by itself
 abbrev pub phase_computing : ℕ
 phase_computing = 1
 
+-- the phase of a frame whose first choice is searched
 abbrev pub phase_first : ℕ
 phase_first = 2
 
+-- the phase of a frame whose later choices are tested, and searched again where a test has failed
 abbrev pub phase_tests : ℕ
 phase_tests = 3
 
+-- the phase of a frame that has its score
 abbrev pub phase_done : ℕ
 phase_done = 4
 
--- what a frame is to its parent: a root, which has none; the first child; a test; the search again of a choice
--- whose test has failed
+-- the role of a root, which has no parent
 abbrev pub role_root : ℕ
 role_root = 0
 
+-- the role of the child that searches its parent's first choice in full
 abbrev pub role_first_child : ℕ
 role_first_child = 1
 
+-- the role of a child that tests a later choice of its parent
 abbrev pub role_test : ℕ
 role_test = 2
 
+-- the role of a child that searches again a choice of its parent whose test has failed
 abbrev pub role_again : ℕ
 role_again = 3
 
--- how a choice stands: not spawned; its first search or its test runs; it is settled; its test has failed; it is
--- searched again
+-- the status of a choice that no child was opened for
 abbrev pub status_not_spawned : ℕ
 status_not_spawned = 0
 
+-- the status of a choice whose first search, or test, runs
 abbrev pub status_runs : ℕ
 status_runs = 1
 
+-- the status of a choice that is known to be worth at most the best score
 abbrev pub status_settled : ℕ
 status_settled = 2
 
+-- the status of a choice whose test has failed, and that isn't searched again yet
 abbrev pub status_failed : ℕ
 status_failed = 3
 
+-- the status of a choice that is searched again
 abbrev pub status_runs_again : ℕ
 status_runs_again = 4
 
@@ -82,14 +90,15 @@ pub record Frame : Type 0 where
   pub statuses : List ℕ
   pub rests : List ℕ
 
--- the ends of the full window, -200,000 and 200,000; and the best score of a frame that has none yet, -1,000,000
--- (stored as the word 0)
+-- the lower end of the full window, -200,000
 abbrev pub least : ℤ
 least = negsuc 199999
 
+-- the upper end of the full window, 200,000
 abbrev pub greatest : ℤ
 greatest = pos 200000
 
+-- the best score of a frame that has none yet, -1,000,000 (stored as the word 0)
 abbrev pub unscored : ℤ
 unscored = negsuc 999999
 
@@ -97,7 +106,7 @@ unscored = negsuc 999999
 abbrev pub board : Frame → List Cell
 board f = cells_of f.own f.opp
 
--- the choice with this number
+-- the choice of the frame's board with this number, from 0; a pass where there is none
 abbrev pub choice_at : Frame → ℕ → Choice
 choice_at f i = slice_index_or (choices (board f)) i Pass
 
@@ -131,10 +140,11 @@ value f = minimax f.depth (board f)
 abbrev pub floor : Frame → ℤ
 floor f = int_max f.alpha f.best
 
--- the bits of the mover's discs, and of the opponent's
+-- the bits of the mover's discs on a board
 abbrev pub own_word : List Cell → ℕ
 own_word b = bits_of (filter (λ s. is_own_cell (cell_at b s)) squares)
 
+-- the bits of the opponent's discs on a board
 abbrev pub opp_word : List Cell → ℕ
 opp_word b = bits_of (filter (λ s. is_opp_cell (cell_at b s)) squares)
 

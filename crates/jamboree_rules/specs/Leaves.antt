@@ -33,7 +33,7 @@ leaf-told own opp depth alpha beta h =
       high = record { le = T_from_true (int_le beta greatest) d.1 };
     }
 
--- the leaf of these numbers
+-- the leaf of these numbers, which are in range
 abbrev pub leaf_with : (own opp depth : ℕ) (alpha beta : ℤ) → IsLeaf own opp depth alpha beta → Leaf
 leaf_with own opp depth alpha beta h = record {
   board = record { own = own; opp = opp; disjoint = h.disjoint };
@@ -64,7 +64,7 @@ abbrev pub leaf_by : (own opp depth : ℕ) (alpha beta : ℤ) (b : Bool) → (b 
 leaf_by own opp depth alpha beta true h = leaf_with own opp depth alpha beta (h refl)
 leaf_by own opp depth alpha beta false h = any_leaf
 
--- the same leaf, where `is_leaf` says whether the numbers are in range
+-- the leaf of these numbers where `is_leaf` is true of them, else the empty board to depth 0
 abbrev pub leaf_from : (own opp depth : ℕ) (alpha beta : ℤ) → Leaf
 leaf_from own opp depth alpha beta = leaf_by own opp depth alpha beta (is_leaf own opp depth alpha beta) (leaf-told own opp depth alpha beta)
 
@@ -83,13 +83,15 @@ same_leaf one other =
     ((one.board.own == other.board.own) && (one.board.opp == other.board.opp))
     && ((one.depth == other.depth) && (int_eq one.alpha other.alpha && int_eq one.beta other.beta))
 
--- the leaf that an answer was computed for, its score and its choice
+-- the leaf that an answer was computed for
 abbrev pub leaf_of_answer : LeafAnswer → Leaf
 leaf_of_answer answer = answer.leaf
 
+-- the score of an answer
 abbrev pub score_of_answer : LeafAnswer → ℤ
 score_of_answer answer = answer.score
 
+-- the choice of an answer, if it has one
 abbrev pub choice_of_answer : LeafAnswer → Option Choice
 choice_of_answer answer = answer.choice
 

@@ -14,18 +14,19 @@ use Rattle.leaf_search.specs.othello_eval.declared.bound.BoundKind.{BoundKind}
 use Rattle.leaf_search.specs.othello_eval.declared.bound.BoundKind.TheVariants.{Low, High, Exact}
 use Rattle.jamboree_rules.specs.Frames.{Frame, is_score, is_frame, may_be_child, role_root, status_runs_again}
 
--- the score that a word stands for, and the word of a score: 1,000,000 more, so that no word is negative
+-- the score that a word stands for: 1,000,000 less than the word
 abbrev pub score_of : ℕ → ℤ
 score_of word = pos word -ℤ pos 1000000
 
+-- the word of a score: 1,000,000 more than the score, so that no word is negative
 abbrev pub word_of : ℤ → ℕ
 word_of score = nat_abs (score +ℤ pos 1000000)
 
--- the two parts of an entry: the status in its three low bits, and the rest, which is the bound that is known of
--- the choice (0 for none)
+-- the status in an entry: its three low bits
 abbrev pub status_of : ℕ → ℕ
 status_of entry = entry % 8
 
+-- the rest of an entry, which is all of it but the status: the bound that is known of the choice, 0 for none
 abbrev pub entry_rest : ℕ → ℕ
 entry_rest entry = entry / 8
 
@@ -39,10 +40,11 @@ kind_number Low = 1
 kind_number High = 2
 kind_number Exact = 3
 
--- the number of the kind in a rest, 0 for none, and the score in it
+-- the number of the kind in the rest of an entry, 0 for none
 abbrev pub kind_in : ℕ → ℕ
 kind_in rest = rest % 4
 
+-- the score in the rest of an entry
 abbrev pub score_in : ℕ → ℤ
 score_in rest = score_of (rest / 4)
 

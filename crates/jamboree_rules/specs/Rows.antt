@@ -10,7 +10,7 @@ entry status kind score = status + 8 * kind + 32 * score
 abbrev pub opened_with : ℕ → List ℕ
 opened_with d3 = 34628173824 ∷ 68853694464 ∷ 1 ∷ 800000 ∷ 1200000 ∷ 0 ∷ 0 ∷ 2 ∷ 800000 ∷ 65 ∷ 4 ∷ 0 ∷ d3 ∷ 0 ∷ 0 ∷ 0 ∷ []
 
--- that root with nothing known of d3
+-- the root once its four choices are counted, with nothing known of d3
 abbrev pub opened : List ℕ
 opened = opened_with 0
 
@@ -18,11 +18,11 @@ opened = opened_with 0
 abbrev pub first_runs_to : ℕ → List ℕ
 first_runs_to depth = 34628173824 ∷ 68853694464 ∷ depth ∷ 800000 ∷ 1200000 ∷ 0 ∷ 0 ∷ 2 ∷ 800000 ∷ 65 ∷ 4 ∷ 1 ∷ 1 ∷ 0 ∷ 0 ∷ 0 ∷ []
 
--- that root with depth 1
+-- the root while its first child is searched, to depth 1
 abbrev pub first_runs : List ℕ
 first_runs = first_runs_to 1
 
--- the words of a new child of that root, which searches d3 to this depth
+-- the words of the root's new child for d3, with this depth
 abbrev pub d3_to : ℕ → List ℕ
 d3_to depth = 0 ∷ 0 ∷ depth ∷ 800000 ∷ 1200000 ∷ 1 ∷ 0 ∷ 0 ∷ 0 ∷ 0 ∷ 0 ∷ 0 ∷ []
 

@@ -36,7 +36,7 @@ pub record HasGoal (f c : Frame) : Type 0 where
   pub depth : c.depth ≡ f.depth - plies (choice_at f c.number)
   pub window : HasWindow f c
 
--- each of these is such a child of f
+-- `HasGoal` holds of each of these children of f
 abbrev pub HaveGoals : Frame → List Frame → Type 0
 HaveGoals f [] = Unit {0}
 HaveGoals f (c ∷ cs) = HasGoal f c × HaveGoals f cs
