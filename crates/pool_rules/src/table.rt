@@ -20,7 +20,7 @@ pub(crate) fn without_task(holding: Holding) -> Turn
     }
 }
 
-/// The turn of a worker whose action's step was answered so: taken or refused.
+/// The turn of a worker after the answer to its action's step, which was taken or refused.
 #[inline(always)]
 pub(crate) fn done(worker: Worker, action: Action, answer: Result<DidOf<Leaf>, Refusal>) -> Turn
     ensures { result ≡ turn_after worker (Next action) answer }
