@@ -10,7 +10,7 @@ use Rattle.jamboree.specs.declared.plan.Plan.{Plan}
 use Rattle.jamboree.specs.declared.plan.Plan.TheVariants.{Returns, Waits, Computes, Ends, Computed, Counts, Starts, Again}
 use Rattle.jamboree.specs.Numbers.{role_number}
 
--- what an act does then, where it opens this child
+-- what an act does after its stores, where it opens this child
 abbrev pub spawn_of : NewChild → Then
 spawn_of c = Spawn (given_words c.depth c.alpha c.beta (role_number c.role) c.number) frame_size
 

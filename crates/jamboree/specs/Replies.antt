@@ -7,10 +7,11 @@ use Rattle.jamboree_rules.specs.othello_eval.declared.bound.Bound.{Bound}
 use Rattle.jamboree.specs.declared.reply.Reply.{Reply}
 use Rattle.jamboree.specs.Knowledge.{bounds_by}
 
--- the board that was asked, and the depth
+-- the board that a reply is to
 abbrev pub board_of : Reply → Board
 board_of reply = reply.board
 
+-- the depth that a reply is to
 abbrev pub depth_of : Reply → ℕ
 depth_of reply = reply.depth
 

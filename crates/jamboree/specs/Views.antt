@@ -46,10 +46,11 @@ frame_from head entries = record {
 abbrev pub entries_of : List ℕ → List ℕ
 entries_of words = drop 12 words
 
--- the statuses of the choices in these words, and the rests of their entries
+-- the statuses of the choices in these words
 abbrev pub statuses_in : List ℕ → List ℕ
 statuses_in words = map status_of (entries_of words)
 
+-- the rests of the entries in these words: what is known of each choice
 abbrev pub rests_in : List ℕ → List ℕ
 rests_in words = map entry_rest (entries_of words)
 

@@ -9,7 +9,7 @@ ghost use Rattle.jamboree.specs.Codes.{decoded};
 use othello_board::Board;
 use othello_moves::{Choice, choice};
 
-/// The code of no choice.
+/// The code that stands for no choice.
 pub(crate) const NONE: u64 = 65;
 
 /// The code of a choice.

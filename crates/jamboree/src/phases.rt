@@ -49,7 +49,7 @@ impl Phase {
 /// What a frame is to its parent.
 #[derive(Clone, Copy)]
 pub(crate) enum Role {
-    /// It has none: it is the root of a job.
+    /// It has no parent: it is the root of a job.
     Root,
     /// The full search of the first choice.
     FirstChild,

@@ -26,8 +26,8 @@ use jamboree_rules::sched_rules::{Act, InletAct, Procedure, Stores};
 use jamboree_rules::{Leaf, LeafAnswer};
 use othello_moves::choice_count;
 
-/// Jamboree search. A frame of a remaining depth of at most `grain` is searched serially by one worker. A root is
-/// only at depth 0 or in a finished game; else each of its choices has an entry.
+/// Jamboree search. A frame of a remaining depth of at most `grain` is searched serially by one worker. With a
+/// root that is done only at depth 0 or in a finished game; any other root has an entry for each of its choices.
 #[derive(Clone, Copy, Debug, PartialEq, Eq)]
 pub struct Jamboree {
     /// The greatest depth that one worker searches by itself, 0 to 6.
