@@ -13,7 +13,8 @@ StaysTaken (Ok (None, did)) = ⊥
 StaysTaken (Ok (Some tenant, did)) = Unit {0}
 StaysTaken (Err refusal) = ⊥
 
--- each step of a list was taken, where its tenant stood so before the first, and none was a Leave
+-- each step of a list was taken, one after the other, where the tenant was in this state before the first; and
+-- none was a Leave
 abbrev pub AreTakenFrom : {I A : Type 0} → Functions I A → Option Tenant → List (StepOf A) → Type 0
 AreTakenFrom functions before [] = Unit {0}
 AreTakenFrom functions before (step ∷ steps) =
