@@ -10,7 +10,7 @@ use Rattle.lone_search.specs.declared.found.Way.{Way}
 use Rattle.lone_search.specs.declared.found.Way.TheVariants.{Done, Spent, Stopped}
 use Rattle.lone_search.specs.declared.found.Searched.{Searched}
 
--- how the answer was found, by what became of the job; there is one
+-- how the answer was found, by what became of the job; not true where there is no job
 abbrev pub IsWayOf : Option Job → Way → Type 0
 IsWayOf None way = ⊥
 IsWayOf (Some (Live root)) way = way ≡ Stopped

@@ -35,7 +35,7 @@ pub(crate) fn admit<A: Allocator + Clone>(
 {
     match step_search(core, &StepOf::Admit(TENANT, reserve)) {
         Ok(_) => Ok(()),
-        // Only for want of memory: the core has no other tenant, and as much as is reserved.
+        // It is refused only for want of memory: the core has no other tenant, and as much as is reserved.
         Err(_) => Err(AllocError),
     }
 }
@@ -83,7 +83,7 @@ pub(crate) fn answer_in<A: Allocator>(
     }
 }
 
-/// What one serial search finds, with how it was found and what is left as given.
+/// What one serial search finds. How it was found and what is left are as given.
 fn search_serially(position: &Position, depth: u8, way: Way, left: Left) -> Searched
     requires { depth ≤ 12 }
     ensures value { result.answer.value ≡ minimax depth (cells position.now.board) }

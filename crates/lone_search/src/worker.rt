@@ -19,8 +19,8 @@ use std::alloc::Allocator;
 /// The worker's number.
 const WORKER: u8 = 1;
 
-/// What the worker does next. It is a [`Holding`] without the room for a leaf and its answer, as a holding would
-/// be copied at each turn.
+/// What the worker does next. It is kept in place of a [`Holding`], which has room for a leaf and its answer and
+/// would be copied at each turn.
 #[derive(Clone, Copy)]
 enum Ahead {
     /// To get the newest ready frame.
@@ -126,8 +126,9 @@ impl<A: Allocator + Clone> Searcher<A> {
         self.offer_and_run(Holding::Next(Action::Finish(root)))
     }
 
-    /// Offers a step after which the worker either runs its frame, and that is returned, or has none (None).
-    /// Where it is refused for want of quota, the job is spent, and None is returned.
+    /// Offers a step after which the worker either runs its frame, which is returned as its next step, or has no
+    /// frame, and then None is. Where the step is refused for want of quota, the job is spent, and None is
+    /// returned.
     #[inline(always)]
     fn offer_and_run(&mut self, held: Holding) -> Option<Ahead>
         ensures { Keeps self.old.core self.new.core }
