@@ -48,11 +48,12 @@ abbrev pub solved_unless : Bool → ℕ → List Cell → List ℕ
 solved_unless true depth board = error_text 19
 solved_unless false depth board = solved depth board
 
--- what `solve` answers to a line, and what it answers where a growth was refused (true); a line with a fault
--- takes no memory, so its answer is the fault's in any case
+-- what `solve` answers to a line, where no growth is refused
 abbrev pub solve_line : LineText → List ℕ
 solve_line line = answer_to solved line
 
+-- what `solve` answers to a line, where it is known whether a growth was refused (true). A line with a fault
+-- takes no memory, so its answer is the fault's in any case
 abbrev pub solve_line_unless : Bool → LineText → List ℕ
 solve_line_unless refused line = answer_to (solved_unless refused) line
 
