@@ -16,8 +16,8 @@ use sched_rules::{Step, StepOf, Worker};
 use std::mem::size_of;
 use tenant_quota::Reserve;
 
-/// What a journal keeps of a tenant's step, in 8 bytes. Of a frame's name it is the serial, as the tenant is the
-/// journal's; the second field of `Stolen` is the home that the frame was stolen from.
+/// What a journal keeps of a tenant's step, in 8 bytes. Of a frame's name it keeps the serial alone, as the
+/// tenant is the journal's. The second field of `Stolen` is the home that the frame was stolen from.
 #[derive(Drop)]
 pub(crate) enum JournalEntry {
     Taken(Worker, u32),

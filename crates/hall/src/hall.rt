@@ -29,9 +29,13 @@ pub struct Hall<A: Allocator = Global> {
     pub(crate) core: Core<Jamboree, A>,
     journals: Vec<Journal<A>, A>,
     index: TenantIndex,
+    /// The greatest number that a tenant was admitted with, 0 where none was.
     pub(crate) newest: u64,
+    /// How many steps were taken.
     pub(crate) count: u128,
+    /// How many of them are in no journal, as their tenants have left.
     pub(crate) gone: u128,
+    /// The number that `keep` was last given.
     pub(crate) kept: u128,
 }
 
@@ -46,7 +50,8 @@ impl<A: Allocator> Model for Hall<A> {
     ghost invariant = { λ h. IsHall (record { grain = h.core.procedure.grain; shared = h.core.shared; journals = h.journals.items; gone = h.gone; kept = h.kept }) h.newest h.count };
 }
 
-// By hand: were it derived, each crate that holds a hall would have to prove again that all its parts are dropped.
+// Written by hand: if it were derived, each crate that holds a hall would have to prove again that all its parts
+// can be dropped.
 impl<A: Allocator> Drop for Hall<A> {
     fn drop(self) {
         let Hall {
