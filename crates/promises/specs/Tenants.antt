@@ -13,10 +13,11 @@ use Rattle.jamboree_core.specs.jamboree_rules.declared.leaf.Leaf.{Leaf}
 use Rattle.jamboree_core.specs.jamboree_rules.declared.leaf.LeafAnswer.{LeafAnswer}
 use Rattle.jamboree_core.specs.jamboree_rules.Procedure.{jamboree}
 
--- a step of a core of searches, and the answer to one
+-- a step of a core of searches
 abbrev pub SearchStep : Type 0
 SearchStep = StepOf LeafAnswer
 
+-- what a core of searches answers to a step: what it did, or why it is refused
 abbrev pub SearchAnswer : Type 0
 SearchAnswer = Result (DidOf Leaf) Refusal
 
