@@ -44,10 +44,11 @@ tenant_with_root state = record {
 abbrev pub core_with : List (ℕ × Tenant) → Shared
 core_with tenants = record { totals = quota 12 32; newest = 2; tenants = tenants }
 
--- a root that is ready in the hall, and one that worker 5 runs
+-- tenant 1, with a root that is ready in the hall
 abbrev pub ready_one : ℕ × Tenant
 ready_one = (1, tenant_with_root (Ready 0))
 
+-- tenant 2, with a root that worker 5 runs
 abbrev pub running_two : ℕ × Tenant
 running_two = (2, tenant_with_root (Running 5))
 

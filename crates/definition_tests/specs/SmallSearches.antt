@@ -13,13 +13,15 @@ opening_root alpha beta phase best choice statuses rests = record { own = 346281
 abbrev pub full_root : ℕ → ℤ → ℕ → List ℕ → List ℕ → Frame
 full_root phase best choice statuses rests = opening_root least greatest phase best choice statuses rests
 
--- the statuses of the four choices where d3 alone is settled, where d3 and c4 are, and where none is
+-- the statuses of the four choices where d3 alone is settled
 abbrev pub d3_settled : List ℕ
 d3_settled = status_settled ∷ 0 ∷ 0 ∷ 0 ∷ []
 
+-- the statuses of the four choices where d3 and c4 are settled
 abbrev pub two_settled : List ℕ
 two_settled = status_settled ∷ status_settled ∷ 0 ∷ 0 ∷ []
 
+-- the statuses of the four choices where none is settled
 abbrev pub none_settled : List ℕ
 none_settled = 0 ∷ 0 ∷ 0 ∷ 0 ∷ []
 
