@@ -55,7 +55,8 @@ status_not_spawned = 0
 abbrev pub status_runs : ℕ
 status_runs = 1
 
--- the status of a choice that is known to be worth at most the best score
+-- the status of a choice that needs no more search: it is worth at most the best score, or its score has ended
+-- the frame
 abbrev pub status_settled : ℕ
 status_settled = 2
 

@@ -34,7 +34,7 @@ entry_rest entry = entry / 8
 abbrev pub entry_of : ℕ → ℕ → ℕ
 entry_of status rest = status + 8 * rest
 
--- the number of a kind
+-- the number that stands for a kind in an entry
 abbrev pub kind_number : BoundKind → ℕ
 kind_number Low = 1
 kind_number High = 2

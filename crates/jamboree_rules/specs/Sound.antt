@@ -20,7 +20,9 @@ pub record IsFirstBest (f : Frame) : Type 0 where
   pub worth : value_at f place ≡ f.best
   pub earlier : (i : ℕ) → i < place → value_at f i <ℤ f.best
 
--- the window of a child, by its role; where it searches a choice again, every earlier choice is settled
+-- child c of f has the window of its role, as f sees it. The first child has the whole window of f; a test has
+-- (t, t + 1), where t is at least alpha and at most the floor; a search again goes from the floor to beta, and
+-- every earlier choice is settled then
 pub data HasWindow (f c : Frame) : Type 0 where
   First : c.role ≡ role_first_child → c.alpha ≡ neg_ℤ f.beta → c.beta ≡ neg_ℤ f.alpha → HasWindow f c
   Test : c.role ≡ role_test → (t : ℤ) → c.alpha ≡ neg_ℤ (t +ℤ pos 1) → c.beta ≡ neg_ℤ t → f.alpha ≤ℤ t → t ≤ℤ floor f → HasWindow f c
