@@ -80,7 +80,7 @@ impl EntryRest {
     }
 }
 
-/// The number of a kind.
+/// The number that stands for a kind in an entry: 1 low, 2 high, 3 exact.
 #[inline(always)]
 fn kind_number(kind: BoundKind) -> u64
     ensures value { result ≡ kind_number kind }

@@ -93,7 +93,7 @@ pub(crate) enum Status {
     NotSpawned,
     /// Its first search, or its test, runs.
     Runs,
-    /// It is worth at most the best score.
+    /// It needs no more search: it is worth at most the best score, or its score has ended the frame.
     Settled,
     /// Its test has failed: it is worth more than the test's window, and is to be searched again.
     Failed,
