@@ -14,7 +14,7 @@ pub record JournalOf : Type 0 where
   pub places : ℕ
   pub steps : List (StepOf LeafAnswer)
 
--- whose journal it is
+-- the number of the tenant whose journal it is
 abbrev pub owner_of : JournalOf → ℕ
 owner_of journal = journal.tenant
 

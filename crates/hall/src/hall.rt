@@ -39,7 +39,7 @@ pub struct Hall<A: Allocator = Global> {
     pub(crate) kept: u128,
 }
 
-// Clauses see the grain, what the tenants share, the journals, and the counts of steps that are gone and kept.
+// Clauses see the grain, what the tenants share, the journals, and the numbers `gone` and `kept`.
 impl<A: Allocator> Model for Hall<A> {
     ghost use Rattle.hall.specs.Halls.{HallOf, IsHall};
 
