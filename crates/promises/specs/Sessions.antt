@@ -22,7 +22,7 @@ use Rattle.session.specs.Turns.{entries_text}
 use Rattle.promises.specs.Asking.{AsksFor}
 use Rattle.promises.specs.Replies.{IsTrueTable}
 
--- a line that was read, and the text that was answered
+-- a line that was read, with the text that answered it
 abbrev pub Said : Type 0
 Said = LineText × List ℕ
 
