@@ -11,7 +11,7 @@ use Rattle.sched_rules.specs.Functions.{Functions}
 use Rattle.sched_rules.specs.Trees.{Tenant}
 use Rattle.sched_rules.specs.Cores.{Shared}
 
--- so many segments and nodes
+-- a quota of so many segments and nodes
 abbrev pub quota : ℕ → ℕ → Quota
 quota segments nodes = record { segments = segments; nodes = nodes }
 
@@ -19,7 +19,7 @@ quota segments nodes = record { segments = segments; nodes = nodes }
 abbrev pub root_of_tenant : ℕ → FrameId
 root_of_tenant number = record { tenant = number; serial = 1 }
 
--- a procedure that goes on, takes in and accepts without a store
+-- a procedure whose frames always go on, and that stores nothing at any call
 abbrev pub going_on : Functions ℕ ℕ
 going_on = record {
   next = λ sight. record { stores = []; after = Go };
@@ -40,18 +40,19 @@ tenant_with_root state = record {
   frames = (record { serial = 1; path = 1 ∷ []; state = state; value = 0 ∷ 0 ∷ 0 ∷ 0 ∷ [] }) ∷ [];
 }
 
--- a core of 12 segments and 32 nodes with these tenants, of which 2 came last
+-- a core of 12 segments and 32 nodes with these tenants; 2 is the newest number
 abbrev pub core_with : List (ℕ × Tenant) → Shared
 core_with tenants = record { totals = quota 12 32; newest = 2; tenants = tenants }
 
--- a root that is ready in the hall, and one that worker 5 runs
+-- tenant 1, with a root that is ready in the hall
 abbrev pub ready_one : ℕ × Tenant
 ready_one = (1, tenant_with_root (Ready 0))
 
+-- tenant 2, with a root that worker 5 runs
 abbrev pub running_two : ℕ × Tenant
 running_two = (2, tenant_with_root (Running 5))
 
--- a tenant whose number was never taken
+-- a tenant with a number above the newest of `core_with`, which no tenant can have there
 abbrev pub untaken_three : ℕ × Tenant
 untaken_three = (3, tenant_with_root (Ready 0))
 

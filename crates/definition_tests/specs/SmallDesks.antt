@@ -5,10 +5,11 @@ use Rattle.desk.specs.Seats.{SeatOf}
 use Rattle.desk.specs.Counts.{KeptOf}
 use Rattle.definition_tests.specs.SmallHalls.{hall_with}
 
--- the seat of tenant 1 with this share
+-- the seat of tenant 1 with this share of the taken steps, which has asked for nothing
 abbrev pub seat_with : ℕ → SeatOf
 seat_with share = record { tenant = 1; share = share; asked = [] }
 
--- what lies under the lock
+-- what lies under a desk's lock: a hall whose core holds this, without journals, and whether the desk is closed;
+-- no worker sleeps
 abbrev pub kept_with : Shared → Bool → KeptOf
 kept_with shared closed = record { hall = hall_with shared [] 0; closed = closed; sleepers = 0 }

@@ -4,42 +4,46 @@ use Rattle.leaf_search.specs.othello_eval.declared.bound.BoundKind.{BoundKind}
 use Rattle.jamboree_rules.specs.Frames.{Frame, role_root, status_settled, least, greatest}
 use Rattle.jamboree_rules.specs.Places.{rest_with}
 
--- the root with this window, in this phase, with this best score and the code of a choice, and with these statuses and rests
+-- the root with this window, phase, best score and code of a choice, and with these statuses and rests of its
+-- entries
 abbrev pub opening_root : ℤ → ℤ → ℕ → ℤ → ℕ → List ℕ → List ℕ → Frame
 opening_root alpha beta phase best choice statuses rests = record { own = 34628173824; opp = 68853694464; depth = 1; alpha = alpha; beta = beta; role = role_root; number = 0; phase = phase; best = best; choice = choice; count = 4; spawned = 4; statuses = statuses; rests = rests }
 
--- the same with the full window
+-- the root with the full window, and the rest as given
 abbrev pub full_root : ℕ → ℤ → ℕ → List ℕ → List ℕ → Frame
 full_root phase best choice statuses rests = opening_root least greatest phase best choice statuses rests
 
--- d3 alone is settled; d3 and c4 are; none is
+-- the statuses of the four choices where d3 alone is settled
 abbrev pub d3_settled : List ℕ
 d3_settled = status_settled ∷ 0 ∷ 0 ∷ 0 ∷ []
 
+-- the statuses of the four choices where d3 and c4 are settled
 abbrev pub two_settled : List ℕ
 two_settled = status_settled ∷ status_settled ∷ 0 ∷ 0 ∷ []
 
+-- the statuses of the four choices where none is settled
 abbrev pub none_settled : List ℕ
 none_settled = 0 ∷ 0 ∷ 0 ∷ 0 ∷ []
 
--- nothing is found of a choice
+-- the rests of the four entries where nothing is known of any choice
 abbrev pub nothing_found : List ℕ
 nothing_found = 0 ∷ 0 ∷ 0 ∷ 0 ∷ []
 
--- this is found of c4
+-- the rests of the four entries where this is known of c4, and nothing of the others
 abbrev pub found_of_c4 : BoundKind → ℤ → List ℕ
 found_of_c4 kind score = 0 ∷ rest_with kind score ∷ 0 ∷ 0 ∷ []
 
--- a frame below it that is looked at to this depth, with this window, in this role, for the choice of this number, in this phase, with the words of a board
+-- a child of the root, with the words of a board, a depth, a window, its role, the number of its choice and its
+-- phase
 abbrev pub below_it : ℕ → ℕ → ℕ → ℤ → ℤ → ℕ → ℕ → ℕ → Frame
 below_it own opp depth alpha beta role number phase = record { own = own; opp = opp; depth = depth; alpha = alpha; beta = beta; role = role; number = number; phase = phase; best = pos 0; choice = 65; count = 0; spawned = 0; statuses = []; rests = [] }
 
--- the same once it knows the board after d3
+-- a child of the root that searches d3 and is computed on the board after it
 abbrev pub after_d3 : ℕ → ℤ → ℤ → ℕ → Frame
 after_d3 depth alpha beta role = below_it 68719476736 34762915840 depth alpha beta role 0 1
 
--- the words of the root whose alpha is 0 (1000000), in this phase, with this word of the best score and no choice, so many choices
--- spawned, and these entries of d3 and c4
+-- the words of the root whose alpha is 0 (1000000), in this phase, with this word of the best score, no stored
+-- choice, so many choices spawned, and these entries of d3 and c4
 abbrev pub above_its_best : ℕ → ℕ → ℕ → ℕ → ℕ → List ℕ
 above_its_best phase best spawned d3 c4 = 34628173824 ∷ 68853694464 ∷ 1 ∷ 1000000 ∷ 1200000 ∷ 0 ∷ 0 ∷ phase ∷ best ∷ 65 ∷ 4 ∷ spawned ∷ d3 ∷ c4 ∷ 0 ∷ 0 ∷ []
 

@@ -8,18 +8,19 @@ use Rattle.session.specs.Calls.{Call, Ask}
 use Rattle.session.specs.Asks.{Asked}
 use Rattle.session.specs.Rows.{opening_board}
 
--- the line that asks for it
+-- the line that asks for the opening to depth 1
 abbrev pub ask_line : LineText
 ask_line = Whole (codes "ASK 1 ---------------------------OX------XO--------------------------- X")
 
--- what was said before: HELLO and this line, answered by JOB 1; the last one stands foremost
+-- what was said before, the last line first: HELLO, and then this line, answered by JOB 1
 abbrev pub asked_once : List (LineText × List ℕ)
 asked_once = (ask_line, codes "JOB 1") ∷ (Whole (codes "HELLO 4 8"), codes "WELCOME 4 8") ∷ []
 
--- what is asked for, and the call that asks for it
+-- what the line asks for: the opening, to depth 1
 abbrev pub opening_to_1 : Asked
 opening_to_1 = record { board = opening_board; depth = 1 }
 
+-- the call to the office that asks for the opening to depth 1
 abbrev pub ask : Call
 ask = Ask 1 opening_board Black
 
@@ -27,9 +28,10 @@ ask = Ask 1 opening_board Black
 abbrev pub few : Quota
 few = record { segments = 4; nodes = 8 }
 
--- a source that counts its reads, and a sink that counts its writes
+-- what a source does at a read: it counts it, and may give any answer
 abbrev pub counts_reads : ℕ → ReadAnswer → ℕ → Type 0
 counts_reads before answer after = after ≡ before + 1
 
+-- what a sink does at a write: it counts it, and may give any answer
 abbrev pub counts_writes : ℕ → WriteAnswer → ℕ → Type 0
 counts_writes before answer after = after ≡ before + 1

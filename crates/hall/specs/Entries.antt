@@ -10,16 +10,16 @@ use Rattle.hall.specs.declared.entry.JournalEntry.TheVariants.{Taken, Stolen, Ad
 use Rattle.hall.specs.declared.entry.LongEntry.{LongEntry}
 use Rattle.hall.specs.declared.entry.LongEntry.TheVariants.{Admitted, Raised, Asked, Answered, Cancelled}
 
--- the name of a tenant's frame
+-- the name of the tenant's frame with this serial
 abbrev pub named : ℕ → ℕ → FrameId
 named number serial = record { tenant = number; serial = serial }
 
--- whether an entry's step stands in a long one
+-- whether an entry marks a step that is kept in a long entry
 abbrev pub is_long : JournalEntry → Bool
 is_long Long = true
 is_long _ = false
 
--- whether a step that goes on is kept in a long entry
+-- whether a step is kept in a long entry
 abbrev pub is_long_step : {A : Type 0} → StepOf A → Bool
 is_long_step (Admit number quota) = true
 is_long_step (AdmitMore number quota) = true
@@ -28,7 +28,7 @@ is_long_step (Answer worker name answer) = true
 is_long_step (Cancel number job) = true
 is_long_step _ = false
 
--- the tenant's step that a short entry was made of, alone in a list; none of the entry that stands for a long one
+-- the tenant's step that a short entry stands for, alone in a list; none where the entry marks a long one
 abbrev pub short_steps : ℕ → JournalEntry → List (StepOf LeafAnswer)
 short_steps number (Taken worker serial) = Take worker (named number serial) ∷ []
 short_steps number (Stolen worker from serial) = Steal worker from (named number serial) ∷ []
@@ -38,7 +38,7 @@ short_steps number (Finished worker serial) = Finish worker (named number serial
 short_steps number (Spent serial) = Spend (named number serial) ∷ []
 short_steps number Long = []
 
--- the tenant's step that a long entry was made of
+-- the tenant's step that a long entry stands for
 abbrev pub long_step : ℕ → LongEntry → StepOf LeafAnswer
 long_step number (Admitted reserve) = Admit number reserve
 long_step number (Raised reserve) = AdmitMore number reserve
@@ -46,19 +46,20 @@ long_step number (Asked depth own opp) = Submit number (root_words own opp depth
 long_step number (Answered worker serial answer) = Answer worker (named number serial) answer
 long_step number (Cancelled job) = Cancel number job
 
--- the tenant's steps that these entries and these long entries stand for, in order: each entry's own, or the next long entry's
+-- the tenant's steps that these entries and long entries stand for, in order: each short entry its own, and each
+-- other the next long entry's
 abbrev pub steps_in : ℕ → List JournalEntry → List LongEntry → List (StepOf LeafAnswer)
 steps_in number [] longs = []
 steps_in number (entry ∷ entries) longs =
     if is_long entry then map (long_step number) (take 1 longs) ++ steps_in number entries (drop 1 longs)
     else short_steps number entry ++ steps_in number entries longs
 
--- how many of these entries have a long one
+-- how many of these entries mark a long one
 abbrev pub long_count : List JournalEntry → ℕ
 long_count [] = 0
 long_count (entry ∷ entries) = (if is_long entry then 1 else 0) + long_count entries
 
--- the serial of the frame that a step names, and 0 where it names none
+-- the serial of the frame that a step names; 0 where it names none
 abbrev pub serial_in : {A : Type 0} → StepOf A → ℕ
 serial_in (Take worker name) = name.serial
 serial_in (Steal worker from name) = name.serial

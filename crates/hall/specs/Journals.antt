@@ -14,7 +14,7 @@ pub record JournalOf : Type 0 where
   pub places : ℕ
   pub steps : List (StepOf LeafAnswer)
 
--- whose journal it is
+-- the number of the tenant whose journal it is
 abbrev pub owner_of : JournalOf → ℕ
 owner_of journal = journal.tenant
 
@@ -23,7 +23,7 @@ abbrev pub journal_in : List JournalOf → ℕ → List (StepOf LeafAnswer)
 journal_in [] number = []
 journal_in (journal ∷ journals) number = if journal.tenant == number then journal.steps else journal_in journals number
 
--- the places of a tenant's journal
+-- how many places a tenant's journal has; 0 where it has no journal
 abbrev pub places_in : List JournalOf → ℕ → ℕ
 places_in [] number = 0
 places_in (journal ∷ journals) number = if journal.tenant == number then journal.places else places_in journals number
@@ -33,32 +33,33 @@ abbrev pub has_journal : ℕ → List JournalOf → Bool
 has_journal number [] = false
 has_journal number (journal ∷ journals) = (journal.tenant == number) || has_journal number journals
 
--- what a step makes of its tenant's reservation: an Admit begins it, an AdmitMore raises it, and no other step changes it
+-- what a step makes of its tenant's reservation: an Admit begins it, and an AdmitMore raises it to this; None for
+-- any other step, which doesn't change it
 abbrev pub reserve_in : {A : Type 0} → StepOf A → Option Quota
 reserve_in (Admit number quota) = Some quota
 reserve_in (AdmitMore number quota) = Some quota
 reserve_in _ = None
 
--- what a step raises its tenant's reservation to
+-- what a step raises its tenant's reservation to; None where it isn't an AdmitMore
 abbrev pub raise_in : {A : Type 0} → StepOf A → Option Quota
 raise_in (AdmitMore number quota) = Some quota
 raise_in _ = None
 
--- the newer reservation, if there is one
+-- the new reservation, if there is one, else the old
 abbrev pub newer : Quota → Option Quota → Quota
 newer now None = now
 newer now (Some quota) = quota
 
--- what is reserved after these steps, where so much was before
+-- what is reserved after these steps, where this was before them
 abbrev pub reserved_after : {A : Type 0} → Quota → List (StepOf A) → Quota
 reserved_after now [] = now
 reserved_after now (step ∷ steps) = reserved_after (newer now (reserve_in step)) steps
 
--- what the tenant of these steps reserves: what the newest admission among them says
+-- what the tenant of these steps reserves: what the last Admit or AdmitMore among them says
 abbrev pub reserved_in : {A : Type 0} → List (StepOf A) → Quota
 reserved_in steps = reserved_after (record { segments = 0; nodes = 0 }) steps
 
--- 1 for a raise
+-- 1 for a raise, 0 for none
 abbrev pub one_for : Option Quota → ℕ
 one_for None = 0
 one_for (Some quota) = 1
@@ -68,12 +69,14 @@ abbrev pub raise_count : {A : Type 0} → List (StepOf A) → ℕ
 raise_count [] = 0
 raise_count (step ∷ steps) = one_for (raise_in step) + raise_count steps
 
--- the places that are reserved for a tenant: a node allows 16 counted steps; a tenant is admitted once and leaves once, and submits,
--- spends and cancels at most 256 jobs each
+-- how many places a journal has for such a reservation, beside one for each raise: 16 for each node, as that
+-- allows 16 counted steps; one each for Admit and Leave; and 256 each for the Submits, the Spends and the Cancels
+-- of at most 256 jobs
 abbrev pub places_for : Quota → ℕ
 places_for quota = 16 * quota.nodes + 770
 
--- the places of a journal after a step: a raise makes those of the new reservation, beside one for each raise
+-- how many places a journal has after a step: an AdmitMore makes those of the new reservation, and one for each
+-- raise so far, this one included
 abbrev pub places_with : Option Quota → JournalOf → ℕ
 places_with None journal = journal.places
 places_with (Some quota) journal = places_for quota + (raise_count journal.steps + 1)
@@ -82,7 +85,7 @@ places_with (Some quota) journal = places_for quota + (raise_count journal.steps
 abbrev pub longer : StepOf LeafAnswer → JournalOf → JournalOf
 longer step journal = record { tenant = journal.tenant; places = places_with (raise_in step) journal; steps = journal.steps ++ step ∷ [] }
 
--- the journals, one step added to a tenant's
+-- the journals, with one step added to a tenant's
 abbrev pub with_step : ℕ → StepOf LeafAnswer → List JournalOf → List JournalOf
 with_step number step [] = []
 with_step number step (journal ∷ journals) =
@@ -93,12 +96,12 @@ abbrev pub without_journal : ℕ → List JournalOf → List JournalOf
 without_journal number [] = []
 without_journal number (journal ∷ journals) = if journal.tenant == number then journals else journal ∷ without_journal number journals
 
--- the lengths of all journals together
+-- how many steps all journals have together
 abbrev pub total_length : List JournalOf → ℕ
 total_length [] = 0
 total_length (journal ∷ journals) = length journal.steps + total_length journals
 
--- the journal of a tenant that was admitted
+-- the journal of a tenant that was just admitted
 abbrev pub admitted_journal : ℕ → Quota → JournalOf
 admitted_journal number quota = record { tenant = number; places = places_for quota; steps = Admit number quota ∷ [] }
 
@@ -108,18 +111,19 @@ journals_after (Admit number quota) journals = journals ++ admitted_journal numb
 journals_after (Leave number) journals = without_journal number journals
 journals_after step journals = with_step (tenant_of step) step journals
 
--- how many steps went with their tenant by a taken step: those of its journal, and the Leave itself
+-- how many steps go out of the journals by a taken step: at a Leave those of its tenant's journal, and the Leave
+-- itself; else none
 abbrev pub gone_by : StepOf LeafAnswer → List JournalOf → ℕ
 gone_by (Leave number) journals = length (journal_in journals number) + 1
 gone_by _ journals = 0
 
--- whether a step neither admits a tenant nor lets it go
+-- whether a step is neither an Admit nor a Leave
 abbrev pub goes_on : {A : Type 0} → StepOf A → Bool
 goes_on (Admit number quota) = false
 goes_on (Leave number) = false
 goes_on _ = true
 
--- whether a step is a worker's: neither an admission, a Submit, a Cancel nor a Leave, which are its tenant's
+-- whether a step is a worker's or a Spend: its tenant itself makes its Admit, AdmitMore, Submit, Cancel and Leave
 abbrev pub is_worker_step : {A : Type 0} → StepOf A → Bool
 is_worker_step (Admit number quota) = false
 is_worker_step (AdmitMore number quota) = false
@@ -128,13 +132,13 @@ is_worker_step (Cancel number job) = false
 is_worker_step (Leave number) = false
 is_worker_step _ = true
 
--- each of these journals is of a tenant up to this number
+-- the tenant's number of each of these journals is at most this
 abbrev pub AreUpTo : ℕ → List JournalOf → Type 0
 AreUpTo number [] = Unit {0}
 AreUpTo number (journal ∷ journals) = (journal.tenant ≤ number) × AreUpTo number journals
 
--- a journal begins with its tenant's admission, has the places of what is reserved beside one for each raise, and isn't longer; each
--- raise has brought a segment or a node
+-- of a journal: it begins with its tenant's Admit; it has the places for what is reserved, and one for each
+-- raise; it has no more steps than places; and each raise has added a segment or a node
 pub record IsBegun (journal : JournalOf) : Type 0 where
   pub quota : Quota
   pub later : List (StepOf LeafAnswer)
@@ -145,12 +149,13 @@ pub record IsBegun (journal : JournalOf) : Type 0 where
   pub raised : raise_count journal.steps ≤ (reserved_in journal.steps).segments + (reserved_in journal.steps).nodes
   pub within : length journal.steps ≤ journal.places
 
--- each of these journals does
+-- `IsBegun` holds of each of these journals
 abbrev pub AreBegun : List JournalOf → Type 0
 AreBegun [] = Unit {0}
 AreBegun (journal ∷ journals) = IsBegun journal × AreBegun journals
 
--- a step that may be written in a journal: of its tenant, no admission or Leave, a Submit only of a search, a serial of 32 bits, a place
+-- a step may be written in a journal without taking memory: it is its tenant's; it is neither an Admit, an
+-- AdmitMore nor a Leave; a Submit asks for a search; a frame's serial has 32 bits; and there is a free place
 pub record IsWritable (step : StepOf LeafAnswer) (journal : JournalOf) : Type 0 where
   pub own : tenant_of step ≡ journal.tenant
   pub serial : serial_in step < 2 ^ 32

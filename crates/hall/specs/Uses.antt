@@ -12,6 +12,7 @@ ended_count (Done words ∷ jobs) = ended_count jobs + 1
 ended_count (Spent ∷ jobs) = ended_count jobs + 1
 ended_count (Cancelled ∷ jobs) = ended_count jobs + 1
 
--- its admission, its counted steps, a Submit for each job, and a Spend or a Cancel for each that has ended
+-- what a tenant has used up: its admission, its counted steps, a Submit for each job, and a Spend or a Cancel for
+-- each job that has ended
 abbrev pub uses : Tenant → ℕ
 uses tenant = 1 + tenant.steps + length tenant.jobs + ended_count tenant.jobs

@@ -16,7 +16,8 @@ use sched_rules::{Step, StepOf, Worker};
 use std::mem::size_of;
 use tenant_quota::Reserve;
 
-/// What is kept of a tenant's step: of a frame's name its serial.
+/// What a journal keeps of a tenant's step, in 8 bytes. Of a frame's name it keeps the serial alone, as the
+/// tenant is the journal's. The second field of `Stolen` is the home that the frame was stolen from.
 #[derive(Drop)]
 pub(crate) enum JournalEntry {
     Taken(Worker, u32),
@@ -25,11 +26,12 @@ pub(crate) enum JournalEntry {
     TakenIn(Worker, u32),
     Finished(Worker, u32),
     Spent(u32),
-    /// The step of the next long entry.
+    /// A step that stands in the next long entry.
     Long,
 }
 
-/// What is kept of a tenant's step that says more: of a Submit the depth and the board that it asks for.
+/// What a journal keeps of a step that doesn't fit in 8 bytes. `Asked` has the depth and the two words of the
+/// board that a Submit asks for; `Answered` has the frame's serial.
 #[derive(Drop)]
 pub(crate) enum LongEntry {
     Admitted(Reserve),
@@ -44,7 +46,7 @@ const _: () = prove!(size_of::<JournalEntry>() == 8);
 const _: () = prove!(size_of::<LongEntry>() <= 48);
 
 impl JournalEntry {
-    /// The entry of a step of a tenant that is there.
+    /// The entry of a step, other than an Admit or a Leave: `Long` where the step is kept in a long entry.
     #[inline(always)]
     pub(crate) fn of(step: &Step<Jamboree>) -> JournalEntry
         requires goes_on { goes_on step.now ≡ true }
@@ -69,7 +71,7 @@ impl JournalEntry {
         }
     }
 
-    /// Whether the step stands in a long entry.
+    /// Whether the step is kept in a long entry.
     #[inline(always)]
     pub(crate) fn is_long(&self) -> bool
         ensures { result ≡ is_long self.now }
@@ -87,7 +89,7 @@ impl JournalEntry {
 }
 
 impl LongEntry {
-    /// The long entry of a step of a tenant that is there, where it has one.
+    /// The long entry of a step that is kept in one. An Admit isn't made here, but by `Journal::new`.
     #[inline(always)]
     pub(crate) fn of(step: &Step<Jamboree>) -> LongEntry
         requires goes_on { goes_on step.now ≡ true }
@@ -115,7 +117,7 @@ impl LongEntry {
     }
 }
 
-/// What is kept of the Submit of a search with these words.
+/// The long entry of the Submit of a search with these words.
 fn asked(words: &[u64]) -> LongEntry
     requires { AreRootWords words.now }
     ensures { (number : ℕ) → long_step number result ≡ StepOf.Submit number words.now frame_size }

@@ -20,7 +20,7 @@ use std::alloc::{AllocError, Allocator, Global};
 use std::marker::Model;
 use tenant_quota::Reserve;
 
-/// What a step is answered: what it did, or why it is refused.
+/// What a hall answers to a step: what it did, or why it is refused.
 pub type StepAnswer = Result<Did<Jamboree>, Refusal>;
 
 /// A core that searches, and the journals of the tenants that are there.
@@ -29,13 +29,17 @@ pub struct Hall<A: Allocator = Global> {
     pub(crate) core: Core<Jamboree, A>,
     journals: Vec<Journal<A>, A>,
     index: TenantIndex,
+    /// The greatest number that a tenant was admitted with, 0 where none was.
     pub(crate) newest: u64,
+    /// How many steps were taken.
     pub(crate) count: u128,
+    /// How many of them are in no journal, as their tenants have left.
     pub(crate) gone: u128,
+    /// The number that `keep` was last given.
     pub(crate) kept: u128,
 }
 
-// Clauses see the grain, what the tenants share, the journals, and the counts of steps that are gone and kept.
+// Clauses see the grain, what the tenants share, the journals, and the numbers `gone` and `kept`.
 impl<A: Allocator> Model for Hall<A> {
     ghost use Rattle.hall.specs.Halls.{HallOf, IsHall};
 
@@ -46,7 +50,8 @@ impl<A: Allocator> Model for Hall<A> {
     ghost invariant = { λ h. IsHall (record { grain = h.core.procedure.grain; shared = h.core.shared; journals = h.journals.items; gone = h.gone; kept = h.kept }) h.newest h.count };
 }
 
-// By hand: were it derived, each crate that holds a hall would have to prove again that all its parts are dropped.
+// Written by hand: if it were derived, each crate that holds a hall would have to prove again that all its parts
+// can be dropped.
 impl<A: Allocator> Drop for Hall<A> {
     fn drop(self) {
         let Hall {
@@ -63,8 +68,8 @@ impl<A: Allocator> Drop for Hall<A> {
 }
 
 impl<A: Allocator> Hall<A> {
-    /// A hall of these totals whose searches have this grain (0 to 6), with no tenant. `AllocError`
-    /// only where a growth was refused.
+    /// A hall with no tenant and these totals, whose searches have this grain (0 to 6). An error means that a
+    /// growth was refused.
     pub fn new(alloc: A, config: Config, grain: u8) -> Result<Hall<A>, AllocError>
     where
         A: Clone,
@@ -85,11 +90,11 @@ impl<A: Allocator> Hall<A> {
         })
     }
 
-    /// Takes the step and adds just it to its tenant's journal, or refuses it, and then nothing
-    /// changes. A Leave takes the journal with its tenant. Only an admission, of a tenant or of more for
-    /// it, takes memory, and only a Submit is refused by BadAct.
+    /// Takes the step and adds it to its tenant's journal, or refuses it, and then nothing changes. A Leave
+    /// removes the tenant and its journal. Only an Admit or an AdmitMore takes memory, and only a Submit can be
+    /// refused with BadAct.
     ///
-    /// A Submit is to ask for a search, with the root words of a position.
+    /// A Submit has to ask for a search, with the root words of a position.
     pub fn offer(&mut self, step: &Step<Jamboree>) -> StepAnswer
     where
         A: Clone,
@@ -110,8 +115,8 @@ impl<A: Allocator> Hall<A> {
         answer
     }
 
-    /// Notes a number as that of the steps that are kept: what it counts is for the caller to say. The
-    /// desk notes the shares of seats that left, and the steps from before it.
+    /// Stores a number for the caller, which [`Hall::kept`] gives back; the hall itself doesn't use it. The desk
+    /// stores how many steps were taken before it was made or by seats that have left since.
     pub fn keep(&mut self, kept: u128)
         ensures { self.new ≡ record self.old { kept = kept } }
     {
@@ -120,7 +125,7 @@ impl<A: Allocator> Hall<A> {
 }
 
 impl<A: Allocator + Clone> Hall<A> {
-    /// Takes the step by its kind, or refuses it.
+    /// Takes the step or refuses it, by its kind.
     fn decide(&mut self, step: &Step<Jamboree>) -> StepAnswer
         requires { IsSearch step.now }
         ensures decided { IsDecided self.old step.now result self.new }
@@ -143,8 +148,7 @@ impl<A: Allocator + Clone> Hall<A> {
         }
     }
 
-    /// Takes an admission, of a tenant or of more for one, or says why not. The core is asked before anything
-    /// grows.
+    /// Takes an Admit or an AdmitMore, or says why not. The core is asked before anything grows.
     fn admit(&mut self, step: &Step<Jamboree>) -> StepAnswer
         requires { is_admission step.now ≡ true }
         ensures { IsDecided self.old step.now result self.new }
@@ -159,7 +163,8 @@ impl<A: Allocator + Clone> Hall<A> {
         }
     }
 
-    /// Admits a tenant that the core would take. Its journal grows first, and then the core.
+    /// Admits a tenant that the core doesn't refuse. The journal's memory is taken first, and then the core's;
+    /// where either is refused, nothing has changed.
     fn let_in(&mut self, number: u64, reserve: Reserve) -> StepAnswer
         requires { shared_refusal (jamboree self.old.grain) self.old.shared (StepOf.Admit number reserve) ≡ None }
         ensures { IsDecided self.old (StepOf.Admit number reserve) result self.new }
@@ -179,8 +184,8 @@ impl<A: Allocator + Clone> Hall<A> {
         }
     }
 
-    /// Raises what a tenant reserves, where the core would take it. Its journal grows first, and then the
-    /// core.
+    /// Does an AdmitMore that the core doesn't refuse. The journal's memory is taken first, and then the core's;
+    /// where either is refused, nothing has changed.
     fn raise(&mut self, number: u64, reserve: Reserve) -> StepAnswer
         requires { shared_refusal (jamboree self.old.grain) self.old.shared (StepOf.AdmitMore number reserve) ≡ None }
         ensures { IsDecided self.old (StepOf.AdmitMore number reserve) result self.new }
@@ -198,7 +203,8 @@ impl<A: Allocator + Clone> Hall<A> {
         answer
     }
 
-    /// Takes a step of a tenant, neither an admission nor a Leave, and writes it into its journal.
+    /// Offers the core a step other than an Admit, an AdmitMore or a Leave. Where it is taken, it is written in
+    /// its tenant's journal.
     #[inline(always)]
     fn go_on(&mut self, number: u64, step: &Step<Jamboree>) -> StepAnswer
         requires search { IsSearch step.now }
@@ -216,7 +222,7 @@ impl<A: Allocator + Clone> Hall<A> {
         answer
     }
 
-    /// Lets a tenant go, and its journal with it.
+    /// Offers the core a tenant's Leave. Where it is taken, the tenant's journal is removed.
     fn leave(&mut self, number: u64) -> StepAnswer
         ensures decided { IsDecided self.old (StepOf.Leave number) result self.new }
         ensures memory { result ≢ Err OutOfMemory }
@@ -235,7 +241,8 @@ impl<A: Allocator + Clone> Hall<A> {
     }
 }
 
-/// The journal of a tenant that is to be admitted, and a place for it among all.
+/// The journal of a tenant that is to be admitted, once there is room for it in the list. An error means that
+/// memory was refused; the list has the same journals in any case.
 fn room_for<A: Allocator + Clone>(
     journals: &mut Vec<Journal<A>, A>,
     alloc: &A,

@@ -19,13 +19,13 @@ use std::alloc::{AllocError, Allocator, Global};
 use std::marker::Model;
 use tenant_quota::Reserve;
 
-/// How many places a journal has beside 16 for each node, and one for each raise of what is reserved: one
-/// for its tenant's admission, one for its Leave, and 256 each for the submits, the spends and the cancels
-/// of its jobs. The Leave isn't written, as the journal goes with it, and a job ends but once; so at least
-/// 257 of them stay free.
+/// How many places a journal has beside 16 for each node and one for each AdmitMore: one for the Admit, one for
+/// the Leave, and 256 each for the Submits, the Spends and the Cancels of its tenant's jobs. At least 257 of them
+/// stay free: the Leave isn't written, as the journal goes with it, and a job is spent or cancelled but once.
 const BESIDE_NODES: usize = 770;
 
-/// The steps of one tenant that were taken, in order, in the places that its admissions reserved.
+/// The taken steps of one tenant, in order. All places for what it reserves are made beforehand. `longs` has the
+/// steps that `entries` only mark as long, in their order; `raises` counts the AdmitMores.
 #[derive(Drop)]
 pub(crate) struct Journal<A: Allocator = Global> {
     tenant: u64,
@@ -49,7 +49,8 @@ impl<A: Allocator> Model for Journal<A> {
 }
 
 impl<A: Allocator> Journal<A> {
-    /// The journal of a tenant that is admitted with this reservation. It makes all places.
+    /// The journal of a tenant that is admitted with this reservation; its Admit is the first step. Memory for
+    /// all places is taken here, and an error means that it was refused.
     pub(crate) fn new(alloc: A, tenant: u64, reserve: Reserve) -> Result<Journal<A>, AllocError>
     where
         A: Clone,
@@ -70,14 +71,14 @@ impl<A: Allocator> Journal<A> {
         })
     }
 
-    /// How many steps there are.
+    /// How many steps it has.
     pub(crate) fn len(&self) -> usize
         ensures { result ≡ length self.now.steps }
     {
         self.entries.len()
     }
 
-    /// Adds a step of its tenant that raises nothing, in a place that is there.
+    /// Adds a step of its tenant, other than an AdmitMore, in a place that is reserved: it takes no memory.
     pub(crate) fn write(&mut self, step: &Step<Jamboree>)
         requires { IsWritable step.now self.old }
         ensures { self.new ≡ record self.old { steps = self.old.steps ++ step.now ∷ [] } }
@@ -89,7 +90,7 @@ impl<A: Allocator> Journal<A> {
         self.entries.push_reserved(entry);
     }
 
-    /// The same of a step that is kept in a long entry.
+    /// Adds a step that is kept in a long entry, and marks its place in `entries`. It takes no memory.
     fn write_long(&mut self, step: &Step<Jamboree>)
         requires writable { IsWritable step.now self.old }
         requires long { is_long_step step.now ≡ true }
@@ -99,9 +100,8 @@ impl<A: Allocator> Journal<A> {
         self.longs.push_reserved(LongEntry::of(step));
     }
 
-    /// Lets the core raise what the tenant reserves, and writes that it did. The places for all that the
-    /// tenant may do then, and for this step, are made first, exactly: nothing has changed where that is
-    /// refused, nor where the core refuses after it.
+    /// Has the core do its tenant's AdmitMore, and writes that step. The memory for the places that the journal
+    /// then has is taken first. Where that or the core refuses, neither the journal nor the core has changed.
     pub(crate) fn raise(
         &mut self,
         core: &mut Core<Jamboree, A>,
@@ -139,7 +139,7 @@ impl<A: Allocator> Journal<A> {
     }
 }
 
-// A journal stands among all by its tenant's number.
+// A journal is found by its tenant's number.
 impl<A: Allocator> Numbered for Journal<A> {
     ghost use Rattle.hall.specs.Journals.{owner_of};
 
@@ -151,7 +151,7 @@ impl<A: Allocator> Numbered for Journal<A> {
     }
 }
 
-/// Adds a step that raises nothing to the journal of its tenant, which has one.
+/// Adds a step, other than an AdmitMore, to the journal of its tenant, which has one with a free place.
 pub(crate) fn write<A: Allocator>(
     index: &TenantIndex,
     journals: &mut Vec<Journal<A>, A>,
@@ -173,7 +173,8 @@ pub(crate) fn write<A: Allocator>(
     journal.write(step);
 }
 
-/// Lets the core raise what a tenant reserves, which has a journal, and writes it there.
+/// Has the core do a tenant's AdmitMore, and writes that step in the tenant's journal, which is there. Where
+/// memory or the core refuses, neither the journals nor the core have changed.
 pub(crate) fn raise<A: Allocator + Clone>(
     index: &TenantIndex,
     journals: &mut Vec<Journal<A>, A>,

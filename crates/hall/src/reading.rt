@@ -14,8 +14,8 @@ use jamboree_core::{Outcome, outcome_of};
 use std::alloc::Allocator;
 
 impl<A: Allocator> Hall<A> {
-    /// What became of a tenant's job, by its number from 1 on; `None` where there is no such tenant or
-    /// job. A job that is done is told with the reply to the board and the depth of its Submit.
+    /// What became of a tenant's job, by its number from 1 on; None where there is no such tenant or job. A job
+    /// that is done has a reply, to the board and the depth that its Submit asked for.
     pub fn outcome(&self, tenant: u64, job: u64) -> Option<Outcome>
         ensures is { IsOutcomeIn (job_of self.now.shared tenant job) result }
         ensures asked { AnswersTo (origin_at (origins_of (journal_in self.now.journals tenant)) job) result }
@@ -23,7 +23,7 @@ impl<A: Allocator> Hall<A> {
         outcome_of(&self.core, tenant, job)
     }
 
-    /// The core, to be read.
+    /// The core, for reading.
     pub fn core(&self) -> &Core<Jamboree, A>
         ensures shared { result.now.shared ≡ self.now.shared }
         ensures grain { result.now.procedure.grain ≡ self.now.grain }
@@ -31,7 +31,7 @@ impl<A: Allocator> Hall<A> {
         &self.core
     }
 
-    /// All steps that were taken since the hall was new.
+    /// How many steps were taken since the hall was made.
     pub fn count(&self) -> u128
         ensures value { result ≡ count_of self.now }
         ensures explained { IsExplained self.now }
@@ -39,21 +39,21 @@ impl<A: Allocator> Hall<A> {
         self.count
     }
 
-    /// The length of the journals that went with a Leave, that Leave counted.
+    /// How many of the taken steps are in no journal: those of tenants that left, with their Leaves.
     pub fn gone(&self) -> u128
         ensures { result ≡ self.now.gone }
     {
         self.gone
     }
 
-    /// The number that was last noted as that of the steps that are kept ([`Hall::keep`]), 0 where none was.
+    /// The number that [`Hall::keep`] was last given; 0 where it wasn't called yet.
     pub fn kept(&self) -> u128
         ensures { result ≡ self.now.kept }
     {
         self.kept
     }
 
-    /// The number after the greatest of a tenant so far.
+    /// One more than the greatest number that a tenant was admitted with; 1 where none was.
     pub fn next_tenant(&self) -> u64
         ensures value { result ≡ self.now.shared.newest + 1 }
         ensures explained { IsExplained self.now }

@@ -5,7 +5,7 @@ use Rattle.jamboree.specs.declared.view.Change.{Change}
 use Rattle.jamboree.specs.declared.view.Change.TheVariants.{OwnBits, OppBits, Phase, Best, Chosen, Count, Spawned, Status}
 use Rattle.jamboree.specs.Numbers.{phase_number, status_number}
 
--- the store
+-- the store that a change stands for, as `jamboree_rules` has it
 abbrev pub store_of : Change → Store
 store_of (OwnBits bits) = ToOwnBits bits
 store_of (OppBits bits) = ToOppBits bits
@@ -16,12 +16,12 @@ store_of (Count count) = ToCount count
 store_of (Spawned count) = ToSpawned count
 store_of (Status number status rest) = ToStatus number (status_number status) rest.word
 
--- the score that it sets, and 0 where it sets another word
+-- the score that a change sets; 0 where it sets something else
 abbrev pub score_set : Change → ℤ
 score_set (Best score) = score
 score_set _ = pos 0
 
--- the number of the choice whose status it sets, and 0 where it sets another word
+-- the number of the choice whose entry a change sets; 0 where it sets something else
 abbrev pub number_set : Change → ℕ
 number_set (Status number status rest) = number
 number_set _ = 0

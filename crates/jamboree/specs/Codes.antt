@@ -3,6 +3,6 @@ use Rattle.std.specs.Prelude.{ℕ, nat_lt, ◌==◌, if◌then◌else◌, Option
 use Rattle.othello_moves.specs.declared.choices.Choice.{Choice}
 use Rattle.othello_moves.specs.declared.choices.Choice.TheVariants.{Square, Pass}
 
--- 0 to 63 a square, 64 a pass, any other none
+-- the choice with this code: 0 to 63 a square, 64 a pass, any other none
 abbrev pub decoded : ℕ → Option Choice
 decoded code = if nat_lt code 64 then Some (Square code) else if code == 64 then Some Pass else None

@@ -8,16 +8,17 @@ use Rattle.jamboree.specs.declared.intake.Settling.{Settling}
 use Rattle.jamboree.specs.declared.intake.Verdict.{Verdict}
 use Rattle.jamboree.specs.declared.intake.Verdict.TheVariants.{Nothing, Ended, Low, Failed, Raised, Kept}
 
--- the rest of an entry that says this
+-- the rest of the choice's entry once this is said of it: its kind and its score
 abbrev pub rest_said : Said → ℕ
 rest_said said = rest_with said.known.kind said.known.score
 
--- what is stored where a choice is settled; its code, too, where it has the best score now
+-- what is stored where a choice is settled: the best score and the choice's entry; and the choice's code, where
+-- it is now the best choice
 abbrev pub settled : Settling → Option ℕ → List (ℕ × ℕ)
 settled told None = pairs_of (Best told.best ∷ Status told.said.number 2 (rest_said told.said) ∷ [])
 settled told (Some code) = pairs_of (Best told.best ∷ Chosen code ∷ Status told.said.number 2 (rest_said told.said) ∷ [])
 
--- what is stored of a verdict
+-- what is stored of a verdict (status 2 is settled, 3 failed; phase 3 is the tests, 4 done)
 abbrev pub stores_for : Verdict → List (ℕ × ℕ)
 stores_for Nothing = []
 stores_for (Ended told code) = pairs_of (Best told.best ∷ Chosen code ∷ Status told.said.number 2 (rest_said told.said) ∷ Phase 4 ∷ [])
@@ -26,6 +27,6 @@ stores_for (Failed said) = pairs_of (Status said.number 3 (rest_said said) ∷ [
 stores_for (Raised told code) = pairs_of (Best told.best ∷ Chosen code ∷ Status told.said.number 2 (rest_said told.said) ∷ Phase 3 ∷ [])
 stores_for (Kept told) = pairs_of (Best told.best ∷ Status told.said.number 2 (rest_said told.said) ∷ Phase 3 ∷ [])
 
--- the inlet of an intake
+-- the inlet that an intake stands for; it always wakes the frame
 abbrev pub inlet_for : Intake → InletAct
 inlet_for intake = record { stores = stores_for intake.verdict; abort = intake.abort; wake = true }

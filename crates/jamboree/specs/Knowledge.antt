@@ -6,15 +6,15 @@ use Rattle.jamboree_rules.specs.Places.{kind_in, score_in}
 use Rattle.jamboree_rules.specs.Entries.{kind_numbered}
 use Rattle.jamboree.specs.declared.entry.Known.{Known}
 
--- what a rest says that has a kind
+-- what is known of a choice whose entry has this rest, which has a kind
 abbrev pub known_of : ℕ → Known
 known_of rest = record { score = score_in rest; kind = kind_numbered (kind_in rest) }
 
--- the entry of a choice of which this is known
+-- the table's entry for a choice of which this is known
 abbrev pub bound_by : Choice → Known → Bound
 bound_by choice known = record { choice = choice; score = known.score; kind = known.kind }
 
--- the entries of these choices, as far as something is known of them
+-- the table's entries for these choices, each with what is known of it, up to the end of the shorter list
 abbrev pub bounds_by : List Choice → List Known → List Bound
 bounds_by [] known = []
 bounds_by (c ∷ cs) [] = []

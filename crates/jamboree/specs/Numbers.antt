@@ -8,7 +8,7 @@ use Rattle.jamboree.specs.declared.phases.Status.{Status}
 use Rattle.jamboree.specs.declared.phases.Status.TheVariants.{NotSpawned, Runs, Settled, Failed, RunsAgain}
 use Rattle.jamboree_rules.specs.Frames.{Frame, phase_new, phase_computing, phase_first, phase_tests, phase_done, role_root, role_first_child, role_test, role_again, status_not_spawned, status_runs, status_settled, status_failed, status_runs_again}
 
--- the number of a phase
+-- the number that stands for a phase in a frame's words
 abbrev pub phase_number : Phase → ℕ
 phase_number New = phase_new
 phase_number Computing = phase_computing
@@ -16,14 +16,14 @@ phase_number First = phase_first
 phase_number Tests = phase_tests
 phase_number Done = phase_done
 
--- the number of a role
+-- the number that stands for a role in a frame's words
 abbrev pub role_number : Role → ℕ
 role_number Root = role_root
 role_number FirstChild = role_first_child
 role_number Test = role_test
 role_number Again = role_again
 
--- the number of a status
+-- the number that stands for a status in an entry
 abbrev pub status_number : Status → ℕ
 status_number NotSpawned = status_not_spawned
 status_number Runs = status_runs

@@ -10,11 +10,11 @@ use Rattle.jamboree.specs.declared.plan.Plan.{Plan}
 use Rattle.jamboree.specs.declared.plan.Plan.TheVariants.{Returns, Waits, Computes, Ends, Computed, Counts, Starts, Again}
 use Rattle.jamboree.specs.Numbers.{role_number}
 
--- the opening of a child
+-- what an act does after its stores, where it opens this child
 abbrev pub spawn_of : NewChild → Then
 spawn_of c = Spawn (given_words c.goal.depth c.goal.alpha c.goal.beta (role_number c.role) c.number) frame_size
 
--- the act of a plan
+-- the act that a plan stands for (phase 4 is done; status 1 runs, 4 is searched again)
 abbrev pub act_for : Plan → Act
 act_for Returns = returns
 act_for Waits = record { stores = []; after = Wait }

@@ -7,13 +7,14 @@ use Rattle.jamboree_rules.specs.othello_eval.declared.bound.Bound.{Bound}
 use Rattle.jamboree.specs.declared.reply.Reply.{Reply}
 use Rattle.jamboree.specs.Knowledge.{bounds_by}
 
--- the board that was asked, and the depth
+-- the board that a reply is to
 abbrev pub board_of : Reply → Board
 board_of reply = reply.board
 
+-- the depth that a reply is to
 abbrev pub depth_of : Reply → ℕ
 depth_of reply = reply.depth
 
--- what is known of each choice, in their order
+-- the table of a reply: what is known of each choice, in the order of the choices
 abbrev pub table_of : Reply → List Bound
 table_of reply = bounds_by (choices (cells reply.board)) (take reply.count reply.known)

@@ -6,7 +6,7 @@ use Rattle.jamboree_rules.specs.Frames.{Frame}
 use Rattle.jamboree_rules.specs.Places.{score_of, status_of, entry_rest}
 use Rattle.jamboree.specs.Numbers.{frame_by}
 
--- the first twelve words
+-- the first twelve words by name, 0 for each that is missing
 abbrev pub head_of : List ℕ → Head
 head_of words = record {
   own = slice_index words 0;
@@ -46,22 +46,24 @@ frame_from head entries = record {
 abbrev pub entries_of : List ℕ → List ℕ
 entries_of words = drop 12 words
 
--- their statuses, and the rests of them
+-- the statuses of the choices in these words
 abbrev pub statuses_in : List ℕ → List ℕ
 statuses_in words = map status_of (entries_of words)
 
+-- the rests of the entries in these words: what is known of each choice
 abbrev pub rests_in : List ℕ → List ℕ
 rests_in words = map entry_rest (entries_of words)
 
--- the frame that a view shows, of choices with these entries
+-- the frame that a view shows, where its choices have these entries
 abbrev pub frame_with : View → List ℕ → Frame
 frame_with v entries = frame_by v.board.own v.board.opp v.goal.depth v.goal.alpha v.goal.beta v.role v.number v.phase v.best v.choice v.count v.spawned (map status_of entries) (map entry_rest entries)
 
--- the same where nothing asks for the entries
+-- the frame that a view shows, without entries: for what doesn't depend on them
 abbrev pub frame_in : View → Frame
 frame_in v = frame_with v []
 
--- the entries of choices in a segment of these words: in the first they stand after the first twelve
+-- the entries of choices in the segment of this number, of 16 words each: in segment 0 they are the four after
+-- the first twelve words
 abbrev pub entries_in : List ℕ → ℕ → List ℕ
 entries_in words zero = drop 12 (take 16 words)
 entries_in words (suc number) = take 16 (drop (16 * suc number) words)

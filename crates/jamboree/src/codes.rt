@@ -9,7 +9,7 @@ ghost use Rattle.jamboree.specs.Codes.{decoded};
 use othello_board::Board;
 use othello_moves::{Choice, choice};
 
-/// The code of no choice.
+/// The code that stands for no choice.
 pub(crate) const NONE: u64 = 65;
 
 /// The code of a choice.
@@ -22,7 +22,7 @@ pub(crate) fn code_of(choice: Choice) -> u64
     }
 }
 
-/// The code of a choice, if there is one.
+/// The code of a choice, or 65 for None.
 pub(crate) fn coded(choice: Option<Choice>) -> u64
     ensures { result ≡ coded choice }
 {
@@ -32,7 +32,7 @@ pub(crate) fn coded(choice: Option<Choice>) -> u64
     }
 }
 
-/// The code of the choice of this number.
+/// The code of the choice of this number, from 0, on this board.
 pub(crate) fn code_at(board: Board, number: usize) -> u64
     requires { number < length (choices (cells board)) }
     ensures { result ≡ code_of (slice_index_or (choices (cells board)) number Pass) }
@@ -40,7 +40,7 @@ pub(crate) fn code_at(board: Board, number: usize) -> u64
     code_of(choice(board, number))
 }
 
-/// The choice of a code, if it is that of one.
+/// The choice that a code stands for; None for each code above 64.
 pub(crate) fn decoded(code: u64) -> Option<Choice>
     ensures { result ≡ decoded code }
 {

@@ -20,7 +20,7 @@ pub(crate) struct Known {
     pub(crate) kind: BoundKind,
 }
 
-/// The rest of an entry as it stands there.
+/// An entry without its status, as a word: the kind and the score that are known of a choice, or 0 for nothing.
 #[derive(Clone, Copy)]
 pub(crate) struct EntryRest {
     word: u64,
@@ -28,7 +28,7 @@ pub(crate) struct EntryRest {
 }
 
 impl EntryRest {
-    /// What stands above the status in an entry.
+    /// The rest of this entry: all of it but its status.
     #[inline(always)]
     pub(crate) fn of(entry: u64) -> EntryRest
         ensures { result.word ≡ entry_rest entry }
@@ -36,7 +36,7 @@ impl EntryRest {
         EntryRest { word: entry / 8 }
     }
 
-    /// The rest that says this.
+    /// The rest with this kind and this score.
     #[inline(always)]
     pub(crate) fn saying(known: Known) -> EntryRest
         requires low { negsuc 999999 ≤ℤ known.score }
@@ -48,7 +48,8 @@ impl EntryRest {
         }
     }
 
-    /// What it says, where it is that of an entry and has a kind.
+    /// The kind and the score in a rest that is valid (`is_rest`). Where it is 0 nothing is known, and what is
+    /// returned means nothing.
     pub(crate) fn known(self) -> Known
         requires { is_rest self.word ≡ true }
         ensures { result ≡ known_of self.word }
@@ -59,7 +60,7 @@ impl EntryRest {
         }
     }
 
-    /// The entry of a choice that stands so.
+    /// The entry with this status and this rest.
     #[inline(always)]
     pub(crate) fn entry(self, status: Status) -> u64
         ensures { result ≡ entry_of (status_number status) self.word }
@@ -67,7 +68,7 @@ impl EntryRest {
         status.number() + 8 * self.word
     }
 
-    /// Whether it says nothing, or its score is one from -200,000 to 200,000.
+    /// Whether it is valid: 0, or a kind with a score from -200,000 to 200,000.
     fn is_rest(self) -> bool
         ensures { result ≡ is_rest self.word }
     {
@@ -79,7 +80,7 @@ impl EntryRest {
     }
 }
 
-/// The number of a kind.
+/// The number that stands for a kind in an entry: 1 low, 2 high, 3 exact.
 #[inline(always)]
 fn kind_number(kind: BoundKind) -> u64
     ensures value { result ≡ kind_number kind }
@@ -92,7 +93,7 @@ fn kind_number(kind: BoundKind) -> u64
     }
 }
 
-/// The kind of this number, 1 to 3.
+/// The kind with this number: 1 low, 2 high, any other exact.
 fn kind_of_number(number: u64) -> BoundKind
     ensures { result ≡ kind_numbered number }
 {
@@ -103,7 +104,7 @@ fn kind_of_number(number: u64) -> BoundKind
     }
 }
 
-/// Whether this is the entry of a choice that stands so.
+/// Whether the entry has this status.
 #[inline(always)]
 pub(crate) fn is_entry_of(entry: u64, status: Status) -> bool
     ensures { result ≡ (status_of entry == status_number status) }
@@ -111,7 +112,7 @@ pub(crate) fn is_entry_of(entry: u64, status: Status) -> bool
     entry % 8 == status.number()
 }
 
-/// Whether this is an entry: a status, 0 to 4, and a rest.
+/// Whether a word is a valid entry: a status from 0 to 4, and a valid rest.
 pub(crate) fn is_entry(entry: u64) -> bool
     ensures { result ≡ is_entry entry }
 {

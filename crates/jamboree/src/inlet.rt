@@ -17,7 +17,7 @@ use crate::next::floor;
 use crate::phases::Role;
 use jamboree_rules::othello_eval::BoundKind;
 
-/// To wake the parent and no more.
+/// The intake that stores nothing and only wakes the frame.
 #[inline(always)]
 pub(crate) fn wakes() -> Intake
     ensures { inlet_for result ≡ wakes }
@@ -38,8 +38,9 @@ fn seen(child: &View) -> i32
     -child.best
 }
 
-/// What the score says of the choice, by the child's window as the parent sees it: at most its lower
-/// end the value is no more, at least its upper end no less, and between the two it is the score.
+/// What a child's score says of the value of its choice. To the parent the child's window goes from -beta to
+/// -alpha of the child. A score at or below that window is an upper bound of the value (`Low`), one at or above
+/// it a lower bound (`High`), and one inside it is the value (`Exact`).
 #[inline(always)]
 fn kind_of(child: &View) -> BoundKind
     ensures { result ≡ kind_of (neg_ℤ child.now.goal.beta) (neg_ℤ child.now.goal.alpha) (seen (frame_in child.now)) }
@@ -54,7 +55,7 @@ fn kind_of(child: &View) -> BoundKind
     BoundKind::Exact
 }
 
-/// The greater of the best score and the child's.
+/// The greater of the frame's best score and the child's score.
 #[inline(always)]
 fn best_of(frame: &View, child: &View) -> i32
     ensures value { result ≡ int_max frame.now.best (seen (frame_in child.now)) }
@@ -64,7 +65,7 @@ fn best_of(frame: &View, child: &View) -> i32
     frame.best.max(seen(child))
 }
 
-/// The number of a child's choice.
+/// The number of the child's choice among those of the frame.
 #[inline(always)]
 fn number_of(frame: &View, child: &View) -> usize
     requires { may_be_child (frame_in frame.now) (frame_in child.now) ≡ true }
@@ -75,8 +76,8 @@ fn number_of(frame: &View, child: &View) -> usize
     child.number as usize
 }
 
-/// What a frame takes in of a child of it: a score of at least beta ends the frame and all else
-/// below it.
+/// What the inlet of `frame` does about a child that has returned. A score of at least beta ends the frame and
+/// aborts all else below it.
 #[inline(always)]
 pub(crate) fn takes_in(frame: &View, child: &View) -> Intake
     requires { may_be_child (frame_in frame.now) (frame_in child.now) ≡ true }
@@ -88,7 +89,7 @@ pub(crate) fn takes_in(frame: &View, child: &View) -> Intake
     }
 }
 
-/// What the child's score says, by its role.
+/// What the frame does about the child's score, by the child's role.
 #[inline(always)]
 fn verdict_of(frame: &View, child: &View) -> Verdict
     requires { may_be_child (frame_in frame.now) (frame_in child.now) ≡ true }
@@ -116,7 +117,8 @@ fn verdict_of(frame: &View, child: &View) -> Verdict
     }
 }
 
-/// A score of at least beta is the frame's, with the child's choice, and the frame is done.
+/// The verdict on a score of at least beta: it becomes the frame's best score, the child's choice becomes the
+/// frame's, and the frame is done.
 #[inline(always)]
 fn ended(frame: &View, child: &View) -> Verdict
     requires { may_be_child (frame_in frame.now) (frame_in child.now) ≡ true }
@@ -128,7 +130,7 @@ fn ended(frame: &View, child: &View) -> Verdict
     Verdict::Ended(Settling { best, said }, code)
 }
 
-/// What the child says of its choice.
+/// The number of the child's choice, and what the child's score says of it.
 #[inline(always)]
 fn said(frame: &View, child: &View) -> Said
     requires { may_be_child (frame_in frame.now) (frame_in child.now) ≡ true }
@@ -145,7 +147,8 @@ fn said(frame: &View, child: &View) -> Said
     }
 }
 
-/// The greater of the best score and the child's, beside what the child says of its choice.
+/// What the child says of its choice, and the frame's best score from then on: the greater of its own and the
+/// child's.
 #[inline(always)]
 fn told(frame: &View, child: &View) -> Settling
     requires { may_be_child (frame_in frame.now) (frame_in child.now) ≡ true }
@@ -159,7 +162,7 @@ fn told(frame: &View, child: &View) -> Settling
     Settling { best, said }
 }
 
-/// A test that isn't above its window settles its choice.
+/// The verdict on a test whose score isn't above its window: its choice is settled.
 #[inline(always)]
 fn low(frame: &View, child: &View) -> Verdict
     requires { may_be_child (frame_in frame.now) (frame_in child.now) ≡ true }
@@ -168,7 +171,7 @@ fn low(frame: &View, child: &View) -> Verdict
     Verdict::Low(told(frame, child))
 }
 
-/// A test above its window has failed: its score says only that the choice is worth more.
+/// The verdict on a test whose score is above its window: it has failed, as the choice is worth more.
 #[inline(always)]
 fn failed(frame: &View, child: &View) -> Verdict
     requires { may_be_child (frame_in frame.now) (frame_in child.now) ≡ true }
@@ -177,7 +180,8 @@ fn failed(frame: &View, child: &View) -> Verdict
     Verdict::Failed(said(frame, child))
 }
 
-/// A search in full that is above the floor gives the best score and its choice.
+/// The verdict on a full search whose score is above the floor: that is the best score, and its choice the
+/// frame's.
 #[inline(always)]
 fn raised(frame: &View, child: &View) -> Verdict
     requires { may_be_child (frame_in frame.now) (frame_in child.now) ≡ true }
@@ -188,7 +192,8 @@ fn raised(frame: &View, child: &View) -> Verdict
     Verdict::Raised(told, code)
 }
 
-/// A search in full that isn't settles its choice.
+/// The verdict on a full search whose score isn't above the floor: its choice is settled, and the frame's choice
+/// stays.
 #[inline(always)]
 fn kept(frame: &View, child: &View) -> Verdict
     requires { may_be_child (frame_in frame.now) (frame_in child.now) ≡ true }

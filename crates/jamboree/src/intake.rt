@@ -13,7 +13,7 @@ pub(crate) struct Said {
     ghost high: { known.score ≤ℤ pos 1000000 },
 }
 
-/// What it says of a choice that is settled, and the best score of the frame then.
+/// What a child says of its choice, which is settled by it, and the frame's best score from then on.
 #[derive(Drop)]
 pub(crate) struct Settling {
     pub(crate) best: i32,
@@ -22,24 +22,27 @@ pub(crate) struct Settling {
     ghost high: { best ≤ℤ pos 1000000 },
 }
 
-/// What a child's score says of its choice. A word beside it is the choice's code.
+/// What a frame does about a returned child, by the child's score. The number in `Ended` and `Raised` is the code
+/// of the child's choice.
 #[derive(Drop)]
 pub(crate) enum Verdict {
-    /// Nothing: it is no child of the frame.
+    /// Nothing: the words aren't those of a frame and of a child of it.
     Nothing,
-    /// The score is at least beta, and the frame is done.
+    /// The score is at least the frame's beta: the frame is done.
     Ended(Settling, u64),
-    /// The test was low.
+    /// A test's score isn't above its window: the choice is settled.
     Low(Settling),
-    /// The test of the choice has failed.
+    /// A test's score is above its window: the choice is to be searched again.
     Failed(Said),
-    /// The search in full is above the floor.
+    /// A full search's score is above the floor, the greater of alpha and the best score: its choice is settled,
+    /// and the best so far.
     Raised(Settling, u64),
-    /// The search in full isn't.
+    /// A full search's score isn't above the floor: its choice is settled.
     Kept(Settling),
 }
 
-/// What an inlet stores, and whether it ends all else below the frame. It wakes the frame.
+/// What an inlet does: it stores what the verdict asks for, aborts all else below the frame where `abort` is
+/// true, and wakes the frame in any case.
 #[derive(Drop)]
 pub(crate) struct Intake {
     pub(crate) verdict: Verdict,

@@ -17,8 +17,9 @@ use cactus_stack::Words;
 use othello_board::Board;
 use othello_moves::{after, choice, choice_count, plies};
 
-/// What a new frame does next, whose board is this: it is computed outside near the leaves and where
-/// the game is over; else its choices are counted. Near the leaves they aren't sought at all.
+/// What a new frame with this board does first. Where its depth is at most the grain, or the game is over, one
+/// worker computes it by itself; else it gets an entry for each of its choices. At a depth within the grain its
+/// choices aren't looked for.
 #[inline(always)]
 pub(crate) fn opening(grain: u8, frame: &View, board: Board) -> Plan
     ensures { act_for result ≡ opening_on grain (frame_in frame.now) board.own board.opp }
@@ -32,7 +33,7 @@ pub(crate) fn opening(grain: u8, frame: &View, board: Board) -> Plan
     }
 }
 
-/// The greater of alpha and the best score: only a score above it still counts.
+/// The greater of alpha and the best score: only a choice that is worth more still matters.
 #[inline(always)]
 pub(crate) fn floor(frame: &View) -> i32
     ensures value { result ≡ floor (frame_in frame.now) }
@@ -42,8 +43,8 @@ pub(crate) fn floor(frame: &View) -> i32
     frame.goal.alpha.max(frame.best)
 }
 
-/// The plies of the choice of this number. A pass is the one choice of its board, so where there are more
-/// the choice isn't looked up.
+/// How many plies the choice of this number takes: 1 for a square, 0 for a pass. A pass is the only choice of its
+/// board, so where there are more the choice isn't looked up.
 #[inline(always)]
 fn plies_of(frame: &View, number: usize) -> u8
     requires choices { frame.now.count ≡ length (choices (cells frame.now.board)) }
@@ -57,7 +58,7 @@ fn plies_of(frame: &View, number: usize) -> u8
     plies(choice(frame.board, number)) as u8
 }
 
-/// A child for the choice of this number, in this role and with this window.
+/// A new child that searches the choice of this number, in this role and with this window.
 #[inline(always)]
 fn child(frame: &View, role: Role, number: usize, alpha: i32, beta: i32) -> NewChild
     requires deep { 0 < frame.now.goal.depth }
@@ -82,8 +83,8 @@ fn child(frame: &View, role: Role, number: usize, alpha: i32, beta: i32) -> NewC
     }
 }
 
-/// What is next while the first choice is searched: its child is opened with the whole window, and
-/// awaited.
+/// What a frame does while its first choice is searched: it opens the child for it, with the whole window, or
+/// waits for that child.
 #[inline(always)]
 fn first_search(frame: &View, words: &Words) -> Plan
     requires deep { 0 < frame.now.goal.depth }
@@ -104,8 +105,9 @@ fn first_search(frame: &View, words: &Words) -> Plan
     Plan::Starts(child, rest_at(words, 0))
 }
 
-/// What is next while choices are tested: the first choice that isn't settled is searched again,
-/// where its test has failed; else the next one is tested; else the frame is done, or waits.
+/// What a frame does while its later choices are tested. Where the first choice that isn't settled has failed its
+/// test, it is searched again; else the next choice is tested, if there is one; else the frame is done, or waits
+/// for a child where a choice isn't settled.
 #[inline(always)]
 fn tests(frame: &View, words: &Words) -> Plan
     requires deep { 0 < frame.now.goal.depth }
@@ -126,8 +128,8 @@ fn tests(frame: &View, words: &Words) -> Plan
     Plan::Waits
 }
 
-/// To search a choice again, above the greater of alpha and the best score. What is known of it
-/// stays.
+/// Searches the choice of this number again, with the window from the floor to beta. What its entry says of its
+/// value stays.
 #[inline(always)]
 fn search_again(frame: &View, number: usize, rest: EntryRest) -> Plan
     requires deep { 0 < frame.now.goal.depth }
@@ -139,7 +141,7 @@ fn search_again(frame: &View, number: usize, rest: EntryRest) -> Plan
     Plan::Again(child, rest)
 }
 
-/// To test the next choice, just above the greater of alpha and the best score. What is known of it
+/// Tests the next choice, with the window of width one just above the floor. What its entry says of its value
 /// stays.
 #[inline(always)]
 fn test(frame: &View, number: usize, rest: EntryRest) -> Plan
@@ -154,7 +156,7 @@ fn test(frame: &View, number: usize, rest: EntryRest) -> Plan
     Plan::Starts(child, rest)
 }
 
-/// What a frame does next that knows its board, in these words.
+/// What a frame that isn't new, and has these words, does next: it goes by the phase.
 #[inline(always)]
 pub(crate) fn later(frame: &View, words: &Words) -> Plan
     requires later { (frame_in frame.now).phase ≢ 0 }
@@ -169,8 +171,8 @@ pub(crate) fn later(frame: &View, words: &Words) -> Plan
     }
 }
 
-/// What a root does next in these words. Whatever the grain, it is computed outside only at depth 0 or
-/// where the game is over: else it has an entry for each choice.
+/// What a root with these words does next. Whatever the grain, one worker computes it by itself only at depth 0
+/// or where the game is over; else it has an entry for each choice.
 #[inline(always)]
 pub(crate) fn of_root(grain: u8, frame: &View, words: &Words) -> Plan
     requires { length words.now ≡ 12 + frame.now.count }
@@ -182,7 +184,7 @@ pub(crate) fn of_root(grain: u8, frame: &View, words: &Words) -> Plan
     }
 }
 
-/// The board of a new child of this parent: the one after its choice.
+/// The board of a new child of this parent: the parent's board after the child's choice.
 #[inline(always)]
 pub(crate) fn board_under(frame: &View, parent: &View) -> Board
     requires { may_be_child (frame_in parent.now) (frame_in frame.now) ≡ true }

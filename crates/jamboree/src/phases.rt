@@ -5,15 +5,15 @@ ghost use Rattle.jamboree.specs.Numbers.{phase_number, role_number, status_numbe
 /// How far a frame has come.
 #[derive(Clone, Copy)]
 pub(crate) enum Phase {
-    /// It was opened, and a child doesn't know its board yet.
+    /// It was opened and has done nothing yet. A child doesn't know its board then.
     New,
-    /// It is computed outside.
+    /// One worker computes it by itself, outside the scheduler's lock.
     Computing,
     /// Its first choice is searched in full.
     First,
     /// Its other choices are tested, and searched again where a test failed.
     Tests,
-    /// It has its score.
+    /// It is done: its best score is a bound of its minimax value.
     Done,
 }
 
@@ -32,7 +32,7 @@ impl Phase {
         }
     }
 
-    /// Its number.
+    /// The number that stands for the phase in a frame's words.
     pub(crate) fn number(self) -> u64
         ensures { result ≡ phase_number self }
     {
@@ -49,7 +49,7 @@ impl Phase {
 /// What a frame is to its parent.
 #[derive(Clone, Copy)]
 pub(crate) enum Role {
-    /// It has none: it is the root of a job.
+    /// It has no parent: it is the root of a job.
     Root,
     /// The full search of the first choice.
     FirstChild,
@@ -73,7 +73,7 @@ impl Role {
         }
     }
 
-    /// Its number.
+    /// The number that stands for the role in a frame's words.
     pub(crate) fn number(self) -> u64
         ensures { result ≡ role_number self }
     {
@@ -93,16 +93,16 @@ pub(crate) enum Status {
     NotSpawned,
     /// Its first search, or its test, runs.
     Runs,
-    /// It is worth at most the best score.
+    /// It needs no more search: it is worth at most the best score, or its score has ended the frame.
     Settled,
-    /// Its test failed.
+    /// Its test has failed: it is worth more than the test's window, and is to be searched again.
     Failed,
-    /// It is searched again.
+    /// Its search again runs.
     RunsAgain,
 }
 
 impl Status {
-    /// Its number.
+    /// The number that stands for the status in an entry.
     pub(crate) fn number(self) -> u64
         ensures value { result ≡ status_number self }
         ensures small { result ≤ 4 }

@@ -26,8 +26,8 @@ use jamboree_rules::sched_rules::{Act, InletAct, Procedure, Stores};
 use jamboree_rules::{Leaf, LeafAnswer};
 use othello_moves::choice_count;
 
-/// Jamboree search: frames of a remaining depth of at most `grain` are searched serially by one
-/// worker; a root only at depth 0 or in a finished game, so that else each of its choices has an entry.
+/// Jamboree search. A frame of a remaining depth of at most `grain` is searched serially by one worker. With a
+/// root that is done only at depth 0 or in a finished game; any other root has an entry for each of its choices.
 #[derive(Clone, Copy, Debug, PartialEq, Eq)]
 pub struct Jamboree {
     /// The greatest depth that one worker searches by itself, 0 to 6.
@@ -49,8 +49,8 @@ impl Jamboree {
 }
 
 impl View {
-    /// Whether there is a choice of this number. While choices are searched the frame's count is that
-    /// of its board, so that they aren't sought again.
+    /// Whether the frame has a choice of this number: it is below the frame's count and below the number of its
+    /// board's choices. While choices are searched these two are equal, so the board's aren't counted again.
     fn has_choice(&self, number: u64) -> bool
         ensures { result ≡ (nat_lt number self.now.count && nat_lt number (length (choices (cells self.now.board)))) }
     {
@@ -75,7 +75,7 @@ impl View {
     }
 }
 
-/// What a frame in these words does next with no level above it: only a root does something.
+/// What a frame in these words does next with no level above it. One that isn't a root returns.
 #[inline(always)]
 fn plan_alone(grain: u8, frame: &View, own: &Words) -> Plan
     requires { length own.now ≡ 12 + frame.now.count }
@@ -87,7 +87,7 @@ fn plan_alone(grain: u8, frame: &View, own: &Words) -> Plan
     }
 }
 
-/// What a frame in these words does next under this parent: only a child of it does something.
+/// What a frame in these words does next under this parent. One that can't be a child of it returns.
 #[inline(always)]
 fn plan_under(grain: u8, frame: &View, own: &Words, parent: &View) -> Plan
     requires { length own.now ≡ 12 + frame.now.count }
@@ -102,7 +102,8 @@ fn plan_under(grain: u8, frame: &View, own: &Words, parent: &View) -> Plan
     }
 }
 
-/// What a frame in these words does next under a parent in those: only a child of it does something.
+/// What a frame in the words `own` does next under a parent in the words `above`, whose form is checked. It
+/// returns where they don't have the form of a frame, or it can't be a child of that parent.
 fn plan_below(grain: u8, frame: &View, own: &Words, above: &Words) -> Plan
     requires { length own.now ≡ 12 + frame.now.count }
     ensures { act_for result ≡ (if is_formed above.now && may_be_child (frame_of above.now) (frame_in frame.now) then act_of grain (frame_with frame.now (entries_of own.now)) (Some (frame_of above.now)) else returns) }
@@ -113,7 +114,8 @@ fn plan_below(grain: u8, frame: &View, own: &Words, above: &Words) -> Plan
     plan_under(grain, frame, own, &view(above))
 }
 
-/// What a frame in these words does next, under a parent in those, if there is one.
+/// What a frame in the words `own` does next under a parent in these words, or with no level above it (None). The
+/// form of both is checked: it returns where one of them doesn't have the form of a frame.
 fn plan_tested(grain: u8, own: &Words, parent: Option<Words>) -> Plan
     ensures { act_for result ≡ next_act grain (own.now ∷ above_of parent.entry) }
 {
@@ -127,7 +129,7 @@ fn plan_tested(grain: u8, own: &Words, parent: Option<Words>) -> Plan
     }
 }
 
-/// What is done next by what sees these words.
+/// What a frame that sees these words does next. The form of its own words and of its parent's is checked.
 fn plan_seen(grain: u8, sight: &Sight) -> Plan
     ensures { act_for result ≡ next_act grain sight.now }
 {
@@ -137,7 +139,8 @@ fn plan_seen(grain: u8, sight: &Sight) -> Plan
     }
 }
 
-/// The same, where all words fit and so have the form of a frame.
+/// What a frame that sees these words does next, where all of them are known to fit (`AreFitting`), so that their
+/// form isn't checked.
 #[inline(always)]
 fn plan_fitting(grain: u8, sight: &Sight) -> Plan
     requires { AllFit AreFitting sight.now }
@@ -149,8 +152,8 @@ fn plan_fitting(grain: u8, sight: &Sight) -> Plan
     }
 }
 
-/// What a frame in these words does next, under a parent in those, if there is one, where both have the
-/// form of a frame.
+/// What a frame in the words `own` does next under a parent in these words, or with no level above it (None).
+/// Both are known to have the form of a frame.
 #[inline(always)]
 fn plan_formed(grain: u8, own: &Words, parent: Option<Words>) -> Plan
     requires own { is_formed own.now ≡ true }
@@ -164,7 +167,8 @@ fn plan_formed(grain: u8, own: &Words, parent: Option<Words>) -> Plan
     }
 }
 
-/// The same, where words that are known to fit need not be tested.
+/// What a frame that sees these words does next. Where `fitting` is true all of them are known to fit
+/// (`AreFitting`), and their form isn't checked.
 #[inline(always)]
 fn plan_of(grain: u8, fitting: bool, sight: &Sight) -> Plan
     requires { fitting ≡ true → AllFit AreFitting sight.now }
@@ -176,8 +180,9 @@ fn plan_of(grain: u8, fitting: bool, sight: &Sight) -> Plan
     plan_fitting(grain, sight)
 }
 
-/// The inlet of `frame` for a returned child whose words are unchecked: words that are no frame's, or no child's of
-/// `frame`, only wake it. `entries` are what a `View` leaves out, and don't matter.
+/// The inlet of `frame` for a returned child whose words are unchecked. Where they don't have the form of a
+/// frame, or can't be a child of `frame`, it only wakes it. `entries` are what a `View` leaves out, and don't
+/// matter.
 fn intake_unchecked(frame: &View, words: &Words) -> Intake
     ensures { (entries : List ℕ) → inlet_for result ≡ (if is_formed words.now && may_be_child (frame_with frame.now entries) (frame_of words.now) then inlet_of (frame_with frame.now entries) (frame_of words.now) else wakes) }
 {
@@ -187,7 +192,7 @@ fn intake_unchecked(frame: &View, words: &Words) -> Intake
     intake_under(frame, &view(words))
 }
 
-/// What a frame takes in of this child: one that may not be a child of it only wakes it.
+/// The inlet of `frame` for a returned child. One that can't be a child of it only wakes it.
 #[inline(always)]
 fn intake_under(frame: &View, child: &View) -> Intake
     ensures { (own below : List ℕ) → inlet_for result ≡ (if may_be_child (frame_with frame.now own) (frame_with child.now below) then inlet_of (frame_with frame.now own) (frame_with child.now below) else wakes) }
@@ -198,7 +203,8 @@ fn intake_under(frame: &View, child: &View) -> Intake
     takes_in(frame, child)
 }
 
-/// What a frame in these words takes in of a child in those.
+/// The inlet of a frame in the words `own` for a returned child in the words `child`. The form of both is
+/// checked: where one of them doesn't have the form of a frame, the frame is only woken.
 fn intake_seen(own: &Words, child: &Words) -> Intake
     ensures { inlet_for result ≡ inlet_act own.now child.now }
 {
@@ -208,7 +214,8 @@ fn intake_seen(own: &Words, child: &Words) -> Intake
     intake_unchecked(&view(own), child)
 }
 
-/// The same, where words that are known to fit need not be tested.
+/// The inlet of a frame in the words `own` for a returned child in the words `child`. Where `fitting` is true
+/// both are known to fit (`AreFitting`), and their form isn't checked.
 #[inline(always)]
 fn intake_of(fitting: bool, own: &Words, child: &Words) -> Intake
     requires { fitting ≡ true → AllFit AreFitting (own.now ∷ child.now ∷ []) }
@@ -238,17 +245,19 @@ impl Procedure for Jamboree {
 
     ghost rooted = { λ procedure. IsRoot };
 
-    /// The act of the frame's phase; words of no frame return.
+    /// The act that the frame's phase asks for. Words that don't have the form of a frame, or aren't those of a
+    /// child of the parent above, return.
     fn next(&self, sight: &Sight) -> Act {
         plan_seen(self.grain, sight).act()
     }
 
-    /// What the child's score says of its choice; words of no frame and child only wake.
+    /// Stores what the child's score says of its choice, and wakes the frame. Where the words don't have the form
+    /// of a frame and of a child of it, it only wakes.
     fn inlet(&self, own: &Words, child: &Words) -> InletAct {
         intake_seen(own, child).inlet()
     }
 
-    /// The frame's board, depth and window.
+    /// The frame's board, depth and window; the empty board to depth 0 where these are out of range.
     fn input(&self, own: &Words) -> Leaf {
         read_leaf(own)
     }
@@ -258,7 +267,8 @@ impl Procedure for Jamboree {
         answer.leaf()
     }
 
-    /// The answer's score and choice, and the frame is done; words of no frame store nothing.
+    /// Stores the answer's score and choice, and that the frame is done; nothing where the words don't have the
+    /// form of a frame.
     fn accept(&self, own: &Words, answer: &LeafAnswer) -> Stores {
         if !is_formed(own) {
             return Stores::new();
@@ -271,19 +281,19 @@ impl Procedure for Jamboree {
         size == SIZE && are_root_words(words)
     }
 
-    /// The act of the frame's phase. Words that fit have the form of a frame.
+    /// The act of `next`. Where `fitting` is true the words fit, so that their form isn't checked.
     #[inline(always)]
     fn next_of(&self, fitting: bool, sight: &Sight) -> Act {
         plan_of(self.grain, fitting, sight).act()
     }
 
-    /// What the child's score says of its choice. Words that fit have the form of a frame.
+    /// The act of `inlet`. Where `fitting` is true the words fit, so that their form isn't checked.
     #[inline(always)]
     fn inlet_of(&self, fitting: bool, own: &Words, child: &Words) -> InletAct {
         intake_of(fitting, own, child).inlet()
     }
 
-    /// The answer's score and choice, and the frame is done. Words that fit have the form of a frame.
+    /// The stores of `accept`. Where `fitting` is true the words fit, so that their form isn't checked.
     #[inline(always)]
     fn accept_of(&self, fitting: bool, own: &Words, answer: &LeafAnswer) -> Stores {
         if !fitting {
@@ -303,7 +313,7 @@ impl Procedure for Jamboree {
     ghost accept_keeps = { λ procedure. accept-keeps (jamboree procedure.grain) refl refl refl refl };
 }
 
-/// What a frame stores of an answer.
+/// What a frame stores of an answer: its score, its choice, and that the frame is done.
 #[inline(always)]
 fn answered(answer: &LeafAnswer) -> Stores
     ensures { result ≡ pairs_of (changes_of_answer answer.now) }

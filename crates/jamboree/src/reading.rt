@@ -12,7 +12,7 @@ use jamboree_rules::othello_eval::{Bound, BoundKind};
 use othello_board::Board;
 use othello_moves::{Choice, choice};
 
-/// What is known of the choices with these entries, in their order.
+/// What is known of the choices with these entries, in their order; the places after them hold a filler.
 fn known_in(entries: &[u64]) -> [Known; MOST]
     requires few { length entries.now ≤ 64 }
     requires entries { are_entries entries.now ≡ true }
@@ -30,7 +30,7 @@ fn known_in(entries: &[u64]) -> [Known; MOST]
 }
 
 impl Known {
-    /// The entry of a choice of which this is known.
+    /// What is known of this choice, as an entry of a table.
     fn of(self, choice: Choice) -> Bound
         ensures { result ≡ bound_by choice self }
     {
@@ -99,8 +99,8 @@ impl Reply {
         self.choice
     }
 
-    /// How many choices have an entry: at depth 1 and more all choices of the board, at most 64, and
-    /// none at depth 0. A finished game has no choice.
+    /// How many choices have an entry: none at depth 0, else all choices of the board, at most 64 (a finished
+    /// game has none).
     pub fn bound_count(&self) -> usize
         ensures value { result ≡ length (entered (depth_of self.now) (cells (board_of self.now))) }
         ensures few { result ≤ 64 }
@@ -110,8 +110,8 @@ impl Reply {
         self.count
     }
 
-    /// What is known of the choice with this number, from 0, in the order of the choices; None from the
-    /// count on. It is true of the minimax value of the choice, and the best choice's is exact.
+    /// What is known of the choice with this number, from 0, in the order of the choices; None where the number
+    /// is at least `bound_count`. It is true of the minimax value of the choice, and the best choice's is exact.
     pub fn bound(&self, number: usize) -> Option<Bound>
         ensures value { result ≡ slice_get (table_of self.now) number }
         ensures there { IsSome result ↔ (number < length (entered (depth_of self.now) (cells (board_of self.now)))) }

@@ -16,7 +16,7 @@ use othello_moves::Choice;
 pub(crate) const MOST: usize = 64;
 
 /// The minimax value and the best choice of a board to a depth, and what is known of each choice. Only
-/// the reading of what a job kept of its returned root makes one.
+/// [`Reply::read`] makes one, from the words that a job kept of its root.
 #[derive(Clone, Copy, Debug, PartialEq, Eq)]
 pub struct Reply {
     pub(crate) board: Board,
@@ -25,7 +25,7 @@ pub struct Reply {
     pub(crate) choice: Option<Choice>,
     /// How many choices have an entry.
     pub(crate) count: usize,
-    /// What is known of these, in their order. The places after them hold anything.
+    /// What is known of these, in their order. The places after them hold a filler.
     pub(crate) known: [Known; MOST],
     ghost shallow: { depth ≤ 12 },
     ghost is_value: { value ≡ minimax depth (cells board) } by { Prim.hlevel props },

@@ -2,7 +2,7 @@
 ghost use Rattle.std.specs.Prelude.{◌≡◌, ◌≤◌, ◌≤ℤ◌, pos, negsuc};
 ghost use Rattle.jamboree_rules.specs.Places.{score_of, word_of};
 
-/// What is added to a score.
+/// What is added to a score to make a word of it, so that no word is negative.
 const OFFSET: i32 = 1_000_000;
 
 /// The word of a score from -1,000,000 to 1,000,000.

@@ -9,7 +9,7 @@ use crate::phases::Status;
 use crate::view::{SIZE, entries, entry, first_number};
 use cactus_stack::{Words, charge};
 
-/// Whether each of these words is an entry.
+/// Whether each of these words is a valid entry.
 fn all_are_entries(entries: &[u64]) -> bool
     ensures { result ≡ are_entries entries.now }
 {
@@ -21,7 +21,7 @@ fn all_are_entries(entries: &[u64]) -> bool
     true
 }
 
-/// Whether each word after the first twelve of a frame is an entry.
+/// Whether each word after the first twelve of a frame is a valid entry.
 pub(crate) fn are_entries(words: &Words) -> bool
     requires { 12 ≤ length words.now }
     ensures { result ≡ are_entries (drop 12 words.now) }
@@ -34,7 +34,7 @@ pub(crate) fn are_entries(words: &Words) -> bool
     true
 }
 
-/// The place of the first of these entries that isn't settled, or how many there are.
+/// The place of the first of these entries whose choice isn't settled, or their number where all are.
 fn open_in(entries: &[u64]) -> usize
     ensures { result ≡ first_open (map status_of entries.now) }
 {
@@ -46,7 +46,7 @@ fn open_in(entries: &[u64]) -> usize
     entries.len()
 }
 
-/// The number of the first choice that isn't settled, or how many choices there are.
+/// The number of the first choice that isn't settled, or the number of choices where all are.
 #[inline(always)]
 pub(crate) fn first_open(words: &Words) -> usize
     requires { 12 ≤ length words.now }
@@ -63,7 +63,7 @@ pub(crate) fn first_open(words: &Words) -> usize
     words.len() - SIZE
 }
 
-/// Whether the test of the choice of this number has failed.
+/// Whether the test of the choice of this number has failed; false where there is no such choice.
 #[inline(always)]
 pub(crate) fn has_failed(words: &Words, number: usize) -> bool
     requires { number ≤ 128 }
@@ -75,7 +75,7 @@ pub(crate) fn has_failed(words: &Words, number: usize) -> bool
     }
 }
 
-/// The rest of the entry of this number: what is known of the choice.
+/// What is known of the choice of this number: the rest of its entry, or 0 where there is none.
 #[inline(always)]
 pub(crate) fn rest_at(words: &Words, number: usize) -> EntryRest
     requires { number ≤ 128 }

@@ -7,19 +7,21 @@ use Rattle.sched_rules.specs.Trees.{Tenant}
 use Rattle.sched_rules.specs.Lone.{Outcome, lone}
 use Rattle.sched_rules.specs.Runs.{state_after, alone_from}
 
--- a step came to this: it was taken, and its tenant is still there
+-- the result of a step: it was taken, and its tenant is still there after it
 abbrev pub StaysTaken : {I : Type 0} → Result (Outcome I) Refusal → Type 0
 StaysTaken (Ok (None, did)) = ⊥
 StaysTaken (Ok (Some tenant, did)) = Unit {0}
 StaysTaken (Err refusal) = ⊥
 
--- each step of a list was taken, from this state of its tenant on, and none was a Leave
+-- each step of a list was taken, one after the other, where the tenant was in this state before the first; and
+-- none was a Leave
 abbrev pub AreTakenFrom : {I A : Type 0} → Functions I A → Option Tenant → List (StepOf A) → Type 0
 AreTakenFrom functions before [] = Unit {0}
 AreTakenFrom functions before (step ∷ steps) =
     StaysTaken (lone functions before step) × AreTakenFrom functions (state_after before (lone functions before step)) steps
 
--- a list of steps is the journal of a tenant: each was taken, from nothing on, and alone they come to this tenant
+-- a list of steps is the journal of a tenant: each was taken, beginning without the tenant, and run alone they
+-- come to this tenant
 pub record IsJournalOf {I A : Type 0} (functions : Functions I A) (journal : List (StepOf A)) (tenant : Tenant) : Type 0 where
   pub taken : AreTakenFrom functions None journal
   pub comes : alone_from functions None journal ≡ Some tenant

@@ -14,13 +14,14 @@ use Rattle.jamboree_rules.specs.declared.leaf.LeafAnswer.{LeafAnswer}
 use Rattle.jamboree_rules.specs.Procedure.{jamboree}
 use Rattle.jamboree_core.specs.Replies.{AreReplies, AreAllSound}
 
--- the words that were submitted under each number, in the order of the Submits of a list that were taken
+-- the words that the taken Submits of a list carried, by the number of their tenant, in order
 abbrev pub submitted_by : {I A : Type 0} → List (StepOf A) → List (Result (DidOf I) Refusal) → ℕ → List (List ℕ)
 submitted_by steps answers number = origins_of (only number (taken steps answers))
 
--- a list of steps on a core with this grain and these totals that has no tenant: no tenant is disturbed, a step is refused only for
--- its own tenant's state or a busy worker; each job of a tenant that is done holds the minimax value, the best choice and a table of
--- the board and the depth that its Submit carried, the k-th job those of the tenant's k-th taken Submit; and every frame is sound
+-- what holds after a list of steps on a new core with this grain and these totals. No tenant is disturbed, and a
+-- step is refused only for its own tenant's state or a busy worker. Each job of a tenant that is done holds the
+-- minimax value, the best choice and a table of the board to the depth that its Submit carried; the k-th job is
+-- that of the tenant's k-th taken Submit. And every frame is sound
 pub record IsHeadlineFromNew (grain : ℕ) (totals : Quota) (steps : List (StepOf LeafAnswer)) (answers : List (Result (DidOf Leaf) Refusal)) (after : Shared) : Type 0 where
   pub tenants : IsHeadline (jamboree grain) (shared_by_nobody totals) steps answers after
   pub replies : (number : ℕ) (tenant : Tenant) → tenant_in after.tenants number ≡ Some tenant → AreReplies (submitted_by steps answers number) tenant.jobs

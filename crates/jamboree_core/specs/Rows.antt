@@ -10,16 +10,16 @@ use Rattle.sched_rules.specs.Trees.{Tenant}
 use Rattle.jamboree_rules.specs.declared.leaf.LeafAnswer.{LeafAnswer}
 use Rattle.jamboree_rules.specs.Rows.{entry}
 
--- what is asked
+-- the words that are submitted: the opening to depth 1
 abbrev pub asked : List ℕ
 asked = 34628173824 ∷ 68853694464 ∷ 1 ∷ 800000 ∷ 1200000 ∷ 0 ∷ 0 ∷ 0 ∷ []
 
--- what a job keeps of the root that has returned, with this depth, this word of the value, this code of the choice and this entry of d3; c4, f5 and e6 are
--- settled and worth at most -3
+-- what a job keeps of its root that has returned, with this depth, this word of the value, this code of the
+-- choice and this entry of d3; c4, f5 and e6 are settled and worth at most -3
 abbrev pub kept_with : ℕ → ℕ → ℕ → ℕ → List ℕ
 kept_with d3 depth value choice = 34628173824 ∷ 68853694464 ∷ depth ∷ 800000 ∷ 1200000 ∷ 0 ∷ 0 ∷ 4 ∷ value ∷ choice ∷ 4 ∷ 4 ∷ d3 ∷ entry 2 1 999997 ∷ entry 2 1 999997 ∷ entry 2 1 999997 ∷ []
 
--- the same, where d3 is worth exactly -3
+-- what a job keeps of that root where d3 is worth exactly -3
 abbrev pub kept : ℕ → ℕ → ℕ → List ℕ
 kept depth value choice = kept_with (entry 2 3 999997) depth value choice
 
@@ -27,11 +27,11 @@ kept depth value choice = kept_with (entry 2 3 999997) depth value choice
 abbrev pub few : Quota
 few = record { segments = 4; nodes = 8 }
 
--- the tenant was admitted, and then this
+-- the tenant's Admit, and then these steps
 abbrev pub admitted_then : List (StepOf LeafAnswer) → List (StepOf LeafAnswer)
 admitted_then steps = Admit 1 few ∷ steps
 
--- a job is submitted, whose root has this size
+-- the Submit of a job whose root has this size
 abbrev pub submit_of : ℕ → StepOf LeafAnswer
 submit_of size = Submit 1 asked size
 

@@ -14,45 +14,47 @@ use Rattle.jamboree_rules.specs.Fits.{AreFitting, IsRoot}
 use Rattle.jamboree_rules.specs.Procedure.{jamboree}
 use Rattle.jamboree_core.specs.Replies.{AreRootWords, AreSearches, AreReplies, AreAllSound}
 
--- each of these is the words of a search
+-- each of these is the words of a search's root
 abbrev pub AreAllRootWords : List (List ℕ) → Type 0
 AreAllRootWords [] = Unit {0}
 AreAllRootWords (origin ∷ origins) = AreRootWords origin × AreAllRootWords origins
 
--- a tenant's jobs are searches, submitted with these words in order: every frame fits, and each job holds what it was asked
+-- a tenant's jobs are searches, submitted with these words (origins), in order: every frame fits (`AreFitting`),
+-- and each job stands for what it was submitted with
 pub record TenantSearches (origins : List (List ℕ)) (tenant : Tenant) : Type 0 where
   pub fits : TenantFits AreFitting IsRoot origins tenant
   pub asked : AreAllRootWords origins
 
--- a tenant, if it is there, has searches alone, whatever they were submitted with
+-- a tenant, if it is there, has searches for jobs, whatever words they were submitted with
 abbrev pub ServesSearches : Option Tenant → Type 0
 ServesSearches None = Unit {0}
 ServesSearches (Some tenant) = (origins : List (List ℕ)) × TenantSearches origins tenant
 
--- the jobs of a core's tenants are searches, submitted with the words under each number; a number that wasn't taken has none
+-- the jobs of a core's tenants are searches, submitted with the words under each tenant's number; under a number
+-- that no tenant has had there are none
 pub record CoreSearches (origins : ℕ → List (List ℕ)) (shared : Shared) : Type 0 where
   pub fits : CoreFits AreFitting IsRoot origins shared
   pub asked : (number : ℕ) → AreAllRootWords (origins number)
 
--- the words under each number after a list of taken steps
+-- the words under each number, once those of the Submits in a list of taken steps are added
 abbrev pub submitted_to : {A : Type 0} → (ℕ → List (List ℕ)) → List (StepOf A) → ℕ → List (List ℕ)
 submitted_to origins steps number = origins number ++ origins_of (only number steps)
 
--- what a core has come to: each job that is done holds the minimax value and the best choice of what it was submitted with, in
--- order, and every frame is sound
+-- what a core holds whose jobs are searches: each job that is done has the minimax value, the best choice and a
+-- table of what it was submitted with, in order, and every frame is sound
 pub record HoldsReplies (origins : ℕ → List (List ℕ)) (shared : Shared) : Type 0 where
   pub replies : (number : ℕ) (tenant : Tenant) → tenant_in shared.tenants number ≡ Some tenant → AreReplies (origins number) tenant.jobs
   pub sound : (number : ℕ) (tenant : Tenant) → tenant_in shared.tenants number ≡ Some tenant → AreAllSound tenant.frames tenant.frames
 
--- the headline in full, for a list of steps on a core that runs Jamboree with this grain: no tenant is disturbed, and a step is
--- refused only for its own tenant's state or a busy worker; and where the core's jobs are searches, and so are those that the
--- list's taken steps submit, they still are, and each completed reply is the minimax value
+-- what holds after a list of steps on a core that runs Jamboree with this grain. No tenant is disturbed, and a
+-- step is refused only for its own tenant's state or a busy worker. Where the core's jobs are searches, and so
+-- are those that the list's taken steps submit, they still are, and each completed reply is the minimax value
 pub record IsHeadlineInFull (grain : ℕ) (before : Shared) (steps : List (StepOf LeafAnswer)) (answers : List (Result (DidOf Leaf) Refusal)) (after : Shared) : Type 0 where
   pub tenants : IsHeadline (jamboree grain) before steps answers after
   pub searches : (origins : ℕ → List (List ℕ)) → CoreSearches origins before → AreSearches (taken steps answers) → CoreSearches (submitted_to origins (taken steps answers)) after
   pub replies : (origins : ℕ → List (List ℕ)) → CoreSearches origins before → AreSearches (taken steps answers) → HoldsReplies (submitted_to origins (taken steps answers)) after
 
--- the words of the job with this number, from 1 on
+-- the words that the job with this number, from 1 on, was submitted with; None where there is no such job
 abbrev pub origin_at : List (List ℕ) → ℕ → Option (List ℕ)
 origin_at [] number = None
 origin_at (origin ∷ origins) number = if number == 1 then Some origin else origin_at origins (number - 1)

@@ -24,9 +24,9 @@ ghost use Rattle.sched_rules.specs.declared.refusal.Refusal.TheVariants.{BadAct}
 ghost use Rattle.sched_laws.specs.Shapes.{AreShaped};
 ghost use Rattle.jamboree_rules.specs.Fits.{AreFitting, IsRoot};
 
-/// After any list of steps from nobody by any workers for any tenants, whose taken Submits ask for
-/// searches: each job of a tenant that is done holds the minimax value, the best choice and a table of
-/// the board to the depth that its Submit carried, the k-th job those of the k-th taken Submit.
+/// After any list of steps on a new core, by any workers for any tenants, where each taken Submit asks for a
+/// search: each job of a tenant that is done holds the minimax value, the best choice and a table of the board to
+/// the depth that its Submit carried. The k-th job is that of the tenant's k-th taken Submit.
 pub fn every_completed_reply_is_the_minimax_value()
     ensures { (grain : ℕ) (totals : Quota) (steps : List (StepOf LeafAnswer)) (answers : List (Result (DidOf Leaf) Refusal)) (number : ℕ) (tenant : Tenant) →
         AreAnswersTo (jamboree grain) (shared_by_nobody totals) steps answers → AreSearches (taken steps answers) →
@@ -34,7 +34,8 @@ pub fn every_completed_reply_is_the_minimax_value()
         AreReplies (origins_of (only number (taken steps answers))) tenant.jobs }
 {}
 
-/// After such a list every frame of every tenant is sound.
+/// After any list of steps on a new core, by any workers for any tenants, where each taken Submit asks for a
+/// search: every frame of every tenant is sound (`IsSound`).
 pub fn every_frame_is_sound()
     ensures { (grain : ℕ) (totals : Quota) (steps : List (StepOf LeafAnswer)) (answers : List (Result (DidOf Leaf) Refusal)) (number : ℕ) (tenant : Tenant) →
         AreAnswersTo (jamboree grain) (shared_by_nobody totals) steps answers → AreSearches (taken steps answers) →
@@ -42,14 +43,14 @@ pub fn every_frame_is_sound()
         AreAllSound tenant.frames tenant.frames }
 {}
 
-/// Of a core whose jobs are searches, a step that submits nothing isn't refused by BadAct.
+/// On a core whose jobs are searches, only a step that submits a job can be refused with BadAct.
 pub fn bad_acts_come_of_submits_alone()
     ensures { (grain : ℕ) (origins : ℕ → List (List ℕ)) (before : Shared) (step : StepOf LeafAnswer) (answer : Result (DidOf Leaf) Refusal) →
         AreShaped before.tenants → CoreFits AreFitting IsRoot origins before → submits step ≡ [] →
         IsAnswerTo (jamboree grain) before step answer → answer ≢ Err BadAct }
 {}
 
-/// A new core's jobs are searches: it has none.
+/// A new core counts as one whose jobs are searches, as it has none.
 pub fn a_new_core_has_no_searches()
     ensures { (totals : Quota) → CoreSearches (λ number. []) (shared_by_nobody totals) }
 {}
@@ -61,8 +62,10 @@ pub fn what_a_tenant_of_searches_holds()
     ensures sound { (origins : List (List ℕ)) (tenant : Tenant) → TenantSearches origins tenant → AreAllSound tenant.frames tenant.frames }
 {}
 
-/// Where a core's jobs are searches, so are each tenant's; and what is submitted under numbers of
-/// tenants that aren't there, but were, is of no account.
+/// A core's jobs are searches where those of each of its tenants are, and no words are noted under the number of
+/// a tenant that isn't there (`whole`); and then those of each tenant are (`tenant`, `serves`). Each of its jobs
+/// that is done holds the minimax value and the best choice of what it was submitted with, and every frame is
+/// sound (`replies`).
 pub fn what_a_core_of_searches_holds()
     ensures replies { (origins : ℕ → List (List ℕ)) (shared : Shared) → CoreSearches origins shared → HoldsReplies origins shared }
     ensures tenant { (origins : ℕ → List (List ℕ)) (shared : Shared) (number : ℕ) (tenant : Tenant) →
@@ -73,8 +76,9 @@ pub fn what_a_core_of_searches_holds()
         ((number : ℕ) → tenant_in shared.tenants number ≡ None → origins number ≡ []) → IsKnown shared → CoreSearches origins shared }
 {}
 
-/// Where each step of a tenant's journal that submits a job asks for a search, the tenant's jobs are
-/// searches, the k-th that of the k-th Submit.
+/// Where each Submit in a tenant's journal asks for a search, the tenant's jobs are searches, the k-th that of
+/// the k-th Submit (`searches`); each that is done holds the minimax value, the best choice and a table of what
+/// its Submit asked for (`replies`).
 pub fn a_journal_of_searches()
     ensures searches { (grain : ℕ) (journal : List (StepOf LeafAnswer)) (tenant : Tenant) →
         IsJournalOf (jamboree grain) journal tenant → AreSearches journal → TenantSearches (origins_of journal) tenant }
@@ -82,16 +86,17 @@ pub fn a_journal_of_searches()
         IsJournalOf (jamboree grain) journal tenant → AreSearches journal → AreReplies (origins_of journal) tenant.jobs }
 {}
 
-/// What is known of each choice, where a job is done, is a function of its tenant's own taken steps: so of
-/// all that others did nothing shows in it.
+/// The table of a job that is done depends on nothing but its tenant's journal, the list of its own taken steps:
+/// two tenants with the same journal have the same tables, whatever other tenants did.
 pub fn a_table_is_of_its_tenants_own_steps()
     ensures { (grain : ℕ) (journal : List (StepOf LeafAnswer)) (one other : Tenant) (number : ℕ) (first second : Reply) →
         IsJournalOf (jamboree grain) journal one → IsJournalOf (jamboree grain) journal other →
         IsOutcomeIn (job_at one.jobs number) (Some (Done first)) → IsOutcomeIn (job_at other.jobs number) (Some (Done second)) → table_of first ≡ table_of second }
 {}
 
-/// Journals along the steps of a core: an admission begins its tenant's; a taken step of a tenant that
-/// stays goes on with its tenant's; and no step changes another tenant, so neither its journal.
+/// How the steps of a core lengthen journals: a taken Admit begins its tenant's (`begins`); a taken step after
+/// which its tenant is still there is added to its tenant's (`goes_on`); and no step, taken or refused, changes
+/// another tenant (`others`).
 pub fn how_journals_grow()
     ensures begins { (grain : ℕ) (before : Shared) (number : ℕ) (quota : Quota) (did : DidOf Leaf) (after : Shared) →
         IsKnown before → IsOneStep {A = LeafAnswer} (jamboree grain) before (Admit number quota) (Ok did) after →

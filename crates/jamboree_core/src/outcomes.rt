@@ -16,7 +16,8 @@ use std::alloc::Allocator;
 pub enum Outcome {
     /// The search goes on.
     Pending,
-    /// The minimax value and the best choice of the board and the depth that were asked.
+    /// The search is done: the reply has the minimax value, the best choice and what is known of each choice of
+    /// the board to the depth that were asked for.
     Done(Reply),
     /// The job was given up for want of quota.
     Spent,

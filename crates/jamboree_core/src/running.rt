@@ -17,8 +17,9 @@ use sched_core::{Config, Core};
 use sched_rules::{Did, Refusal, Step};
 use std::alloc::{AllocError, Allocator};
 
-/// One step of a core of searches: what it did, or why it is refused, and then nothing changes. Only
-/// an admission takes memory. Where a taken Submit asks for a search, the core's jobs stay searches.
+/// Offers one step to a core of searches. It gives what the step did, or why it is refused, and then nothing
+/// changes. Only an admission takes memory. Where a taken Submit asks for a search, the core's jobs stay
+/// searches.
 pub fn step_search<A: Allocator + Clone>(
     core: &mut Core<Jamboree, A>,
     step: &Step<Jamboree>,
@@ -32,14 +33,14 @@ pub fn step_search<A: Allocator + Clone>(
     ensures searching { (origins : ℕ → List (List ℕ)) → CoreSearches origins core.old.shared → (is_ok result ≡ true → IsSearch step.now)
         → CoreSearches (origins_after origins step.now result) core.new.shared }
 
-    // Where the core's jobs are searches, BadAct comes of a Submit alone.
+    // Where the core's jobs are searches, only a Submit can be refused with BadAct.
     ensures bad_act { (origins : ℕ → List (List ℕ)) → CoreSearches origins core.old.shared → submits step.now ≡ [] → result ≢ Err BadAct }
 {
     core.step(step)
 }
 
-/// A list of steps of a core of searches, one after the other: one answer each is appended. The
-/// vector grows first: where that is refused, no step is tried.
+/// Offers a list of steps to a core of searches, one after the other, and appends one answer for each. The vector
+/// of answers grows first: where that is refused (the error), no step is tried.
 pub fn run_searches<A: Allocator + Clone>(
     core: &mut Core<Jamboree, A>,
     steps: &[Step<Jamboree>],
@@ -53,10 +54,10 @@ pub fn run_searches<A: Allocator + Clone>(
     core.run(steps, answers)
 }
 
-/// A new core of these totals, and a list of searches on it: each step that submits a job asks for a
-/// search. One answer each is appended. The core's jobs are searches, those that were submitted by the
-/// steps that were taken, so that [`outcome_of`](crate::outcome_of) may be asked of it and further steps
-/// made. It fails only where a growth was refused, and then no answer is appended and no core is left.
+/// Makes a core of these totals and offers it a list of steps, in which each Submit asks for a search; one answer
+/// for each is appended. The core's jobs are then searches, those that the taken steps submitted, so that
+/// [`outcome_of`](crate::outcome_of) and further steps may follow. It fails only where a growth was refused, and
+/// then no answer is appended and no core is left.
 pub fn run_from_new<A: Allocator + Clone>(
     alloc: A,
     config: Config,

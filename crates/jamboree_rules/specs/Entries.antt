@@ -9,35 +9,37 @@ use Rattle.leaf_search.specs.othello_eval.Tables.{Says}
 use Rattle.jamboree_rules.specs.Frames.{Frame, board, rest_at}
 use Rattle.jamboree_rules.specs.Places.{kind_number, kind_in, score_in}
 
--- a rest has this kind
+-- the rest of an entry (all of it but the status) is a bound of this kind
 abbrev pub IsOfKind : ℕ → BoundKind → Type 0
 IsOfKind rest kind = kind_in rest ≡ kind_number kind
 
--- what a rest says of a value is true; where it has no kind it says nothing
+-- the bound in the rest of an entry is true of this value; a rest without a kind is no bound, and so true of any
+-- value
 abbrev pub IsTrueRest : ℕ → ℤ → Type 0
 IsTrueRest rest value = (kind : BoundKind) → IsOfKind rest kind → Says kind (score_in rest) value
 
--- the kind with this number
+-- the kind with this number: 1 Low, 2 High, any other Exact
 abbrev pub kind_numbered : ℕ → BoundKind
 kind_numbered number = if number == 1 then Low else (if number == 2 then High else Exact)
 
--- the entry of a choice whose rest has a kind
+-- the table's entry for a choice: the score and the kind in this rest, which has a kind
 abbrev pub bound_in : Choice → ℕ → Bound
 bound_in choice rest = record { choice = choice; score = score_in rest; kind = kind_numbered (kind_in rest) }
 
--- the entries of these choices, from their rests
+-- the table's entries for these choices, each with its rest, up to the end of the shorter list
 abbrev pub bounds_in : List Choice → List ℕ → List Bound
 bounds_in [] rests = []
 bounds_in (c ∷ cs) [] = []
 bounds_in (c ∷ cs) (rest ∷ rests) = bound_in c rest ∷ bounds_in cs rests
 
--- the table of a frame: an entry for each choice that has a place
+-- the table of a frame: one entry for each choice of its board that the frame's words have a place for
 abbrev pub bounds_of : Frame → List Bound
 bounds_of f = bounds_in (choices (board f)) f.rests
 
--- the entry of choice i of the frame has this kind, and its score
+-- the entry of choice i of the frame has this kind
 abbrev pub HasKind : Frame → ℕ → BoundKind → Type 0
 HasKind f i kind = IsOfKind (rest_at f i) kind
 
+-- the score in the entry of choice i of the frame
 abbrev pub score_at : Frame → ℕ → ℤ
 score_at f i = score_in (rest_at f i)

@@ -20,7 +20,8 @@ pub record IsFirst (f c : Frame) : Type 0 where
   pub low : c.alpha ≡ neg_ℤ f.beta
   pub high : c.beta ≡ neg_ℤ f.alpha
 
--- c is a test of a choice of f: its window is just above some t, which was the floor of f when it was opened
+-- c is a test of a choice of f. To f its window is (t, t + 1), where t is at least alpha of f and at most its
+-- floor: t was the floor when the test was opened
 pub record IsTest (f c : Frame) : Type 0 where
   pub role : c.role ≡ role_test
   pub phase : f.phase ≡ phase_tests
@@ -38,6 +39,7 @@ pub record IsAgain (f c : Frame) : Type 0 where
   pub high : c.beta ≡ neg_ℤ (floor f)
   pub earlier : (k : ℕ) → k < c.number → slice_index f.statuses k ≡ status_settled
 
+-- c is a child of f in one of the three roles
 pub data IsInRole (f c : Frame) : Type 0 where
   First : IsFirst f c → IsInRole f c
   Test : IsTest f c → IsInRole f c
@@ -59,14 +61,15 @@ AreChildren f (c ∷ cs) = IsChildOf f c × AreChildren f cs
 abbrev pub how_many : ℕ → List Frame → ℕ
 how_many i children = count_by (λ c. c.number == i) children
 
--- the table, over what the choices are worth, their statuses and what is found of them: a rest for each status, each true, and a
--- settled choice has a kind
+-- the table of a frame, where v k is the value of choice k: there is one rest for each status, each rest is true
+-- of its choice's value, and the rest of a settled choice has a kind
 pub record IsTabled (v : ℕ → ℤ) (statuses rests : List ℕ) : Type 0 where
   pub places : length rests ≡ length statuses
   pub holds : (k : ℕ) → IsTrueRest (slice_index rests k) (v k)
   pub said : (k : ℕ) → slice_index statuses k ≡ status_settled → kind_in (slice_index rests k) ≢ 0
 
--- the choice with this code is the first that is worth the best score; it is settled, and its entry is exact
+-- the stored choice is the first that is worth the best score, where v k and code k are the value and the code of
+-- choice k. It is settled, and its entry is exact
 pub record IsFound (v : ℕ → ℤ) (code : ℕ → ℕ) (statuses rests : List ℕ) (best : ℤ) (choice : ℕ) : Type 0 where
   pub place : ℕ
   pub inside : place < length statuses
@@ -76,14 +79,16 @@ pub record IsFound (v : ℕ → ℤ) (code : ℕ → ℕ) (statuses rests : List
   pub worth : v place ≡ best
   pub earlier : (k : ℕ) → k < place → v k <ℤ best
 
--- between two searches, over what the choices are worth, their codes, their statuses and what is found of them: the best score is below beta, no settled
--- choice is worth more, and where it is above alpha, the first choice that is worth it is named
+-- while choices are searched, where v k and code k are the value and the code of choice k: the best score is
+-- below beta, no settled choice is worth more than it, and where it is above alpha, the stored choice is the
+-- first that is worth it
 pub record IsSearching (v : ℕ → ℤ) (code : ℕ → ℕ) (statuses rests : List ℕ) (alpha beta best : ℤ) (choice : ℕ) : Type 0 where
   pub below : best <ℤ beta
   pub settled : (k : ℕ) → k < length statuses → slice_index statuses k ≡ status_settled → v k ≤ℤ best
   pub found : alpha <ℤ best → IsFound v code statuses rests best choice
 
--- while choices are searched: a status for each, and those that aren't spawned yet say so
+-- of a frame that searches its choices: it has a depth of at least 1, at least one choice, and a status for each
+-- choice of its board; the choices from number `spawned` on have the status of those that aren't spawned
 pub record IsSearchingFrame (f : Frame) : Type 0 where
   pub places : length f.statuses ≡ length (choices (board f))
   pub some : 0 < length f.statuses
@@ -92,21 +97,22 @@ pub record IsSearchingFrame (f : Frame) : Type 0 where
   pub unspawned : (k : ℕ) → f.spawned ≤ k → k < length f.statuses → slice_index f.statuses k ≡ status_not_spawned
   pub search : IsSearching (value_at f) (code_at f) f.statuses f.rests f.alpha f.beta f.best f.choice
 
--- of a frame that is done: the best score is a bound of the minimax value, and inside the window the choice is the best choice; below beta each
--- choice that has a place is settled, and inside the window the best of them is found
+-- of a frame that is done: its best score is a bound of the minimax value. Where that is below beta, each choice
+-- with a place is settled; where it is inside the window, the stored choice is the best choice, and if the
+-- choices have places, its entry is exact
 pub record IsDoneFrame (f : Frame) : Type 0 where
   pub bound : IsBound f.alpha f.beta f.best (value f)
   pub named : f.alpha <ℤ f.best → f.best <ℤ f.beta → f.choice ≡ coded (best_choice f.depth (board f))
   pub all : f.best <ℤ f.beta → (k : ℕ) → k < length f.statuses → slice_index f.statuses k ≡ status_settled
   pub found : f.alpha <ℤ f.best → f.best <ℤ f.beta → 0 < length f.statuses → IsFound (value_at f) (code_at f) f.statuses f.rests f.best f.choice
 
--- what the scheduler knows of a frame agrees with its phase
+-- the frame's phase agrees with its state in the scheduler (the mark): it computes, has returned, or neither
 abbrev pub IsMarked : ℕ → Mark → Type 0
 IsMarked phase Neither = phase ≢ phase_computing
 IsMarked phase Computes = phase ≡ phase_computing
 IsMarked phase HasReturned = phase ≡ phase_done
 
--- a frame fits its children and its mark
+-- the invariant of a frame, with its children and its mark
 pub record Fits (f : Frame) (children : List Frame) (mark : Mark) : Type 0 where
   pub window : f.alpha <ℤ f.beta
   pub marked : IsMarked f.phase mark
@@ -119,12 +125,14 @@ pub record Fits (f : Frame) (children : List Frame) (mark : Mark) : Type 0 where
   pub kin : AreChildren f children
   pub once : (i : ℕ) → how_many i children ≤ 1
 
--- words fit: they have the form of a frame, and the frame in them fits those in its children's words
+-- the invariant of a frame's words, with its children's words and its mark: they have the form of a frame, and
+-- the frames in them satisfy `Fits`
 pub record AreFitting (words : List ℕ) (children : List (List ℕ)) (mark : Mark) : Type 0 where
   pub formed : is_formed words ≡ true
   pub frame : Fits (frame_of words) (map frame_of children) mark
 
--- the words of a root belong to those that were submitted: the same board and depth, and the full window
+-- a root's words have the board and the depth of the words that were submitted (origin), the role of a root, and
+-- the full window
 pub record IsRoot (origin own : List ℕ) : Type 0 where
   pub own_is : (frame_of own).own ≡ (frame_of origin).own
   pub opp_is : (frame_of own).opp ≡ (frame_of origin).opp
@@ -133,7 +141,8 @@ pub record IsRoot (origin own : List ℕ) : Type 0 where
   pub alpha_is : (frame_of own).alpha ≡ least
   pub beta_is : (frame_of own).beta ≡ greatest
 
--- what a job keeps of a root that has returned: the first 76 words of words that fit, of a root
+-- these words are what a job keeps of its root once that has returned: the first 76 of the root's words, of which
+-- `AreFitting` held
 pub record IsKeptRoot (words : List ℕ) : Type 0 where
   pub origin : List ℕ
   pub whole : List ℕ

@@ -11,48 +11,60 @@ use Rattle.othello_moves.specs.declared.choices.Choice.TheVariants.{Square, Pass
 use Rattle.othello_moves.specs.Choices.{choices}
 use Rattle.leaf_search.specs.othello_eval.Minimax.{minimax, choice_value}
 
--- the phases of a frame: it is new; it is computed outside; its first child is searched; the other choices are tested; it is done
+-- the phase of a frame that was opened and has done nothing yet
 abbrev pub phase_new : ℕ
 phase_new = 0
 
+-- the phase of a frame that one worker computes by itself
 abbrev pub phase_computing : ℕ
 phase_computing = 1
 
+-- the phase of a frame whose first choice is searched
 abbrev pub phase_first : ℕ
 phase_first = 2
 
+-- the phase of a frame whose later choices are tested, and searched again where a test has failed
 abbrev pub phase_tests : ℕ
 phase_tests = 3
 
+-- the phase of a frame that has its score
 abbrev pub phase_done : ℕ
 phase_done = 4
 
--- what a frame is to its parent: it has none; the first child; a test; a search again of a choice whose test has failed
+-- the role of a root, which has no parent
 abbrev pub role_root : ℕ
 role_root = 0
 
+-- the role of the child that searches its parent's first choice in full
 abbrev pub role_first_child : ℕ
 role_first_child = 1
 
+-- the role of a child that tests a later choice of its parent
 abbrev pub role_test : ℕ
 role_test = 2
 
+-- the role of a child that searches again a choice of its parent whose test has failed
 abbrev pub role_again : ℕ
 role_again = 3
 
--- how a choice stands: not spawned; its first search or its test runs; it is settled; its test has failed; its search again runs
+-- the status of a choice that no child was opened for
 abbrev pub status_not_spawned : ℕ
 status_not_spawned = 0
 
+-- the status of a choice whose first search, or test, runs
 abbrev pub status_runs : ℕ
 status_runs = 1
 
+-- the status of a choice that needs no more search: it is worth at most the best score, or its score has ended
+-- the frame
 abbrev pub status_settled : ℕ
 status_settled = 2
 
+-- the status of a choice whose test has failed, and that isn't searched again yet
 abbrev pub status_failed : ℕ
 status_failed = 3
 
+-- the status of a choice that is searched again
 abbrev pub status_runs_again : ℕ
 status_runs_again = 4
 
@@ -72,19 +84,22 @@ pub record Frame : Type 0 where
   -- the best score so far, and the code of the choice that has it
   pub best : ℤ
   pub choice : ℕ
-  -- how many choices there are, how many of them were spawned, the status of each, and what is found of each (0 for nothing)
+  -- how many choices there are, how many of them were spawned, the status of each, and the rest of each entry:
+  -- the bound that is known of the choice (0 for none)
   pub count : ℕ
   pub spawned : ℕ
   pub statuses : List ℕ
   pub rests : List ℕ
 
--- the ends of the full window, and the best score of a frame that has none yet (that of the word 0)
+-- the lower end of the full window, -200,000
 abbrev pub least : ℤ
 least = negsuc 199999
 
+-- the upper end of the full window, 200,000
 abbrev pub greatest : ℤ
 greatest = pos 200000
 
+-- the best score of a frame that has none yet, -1,000,000 (stored as the word 0)
 abbrev pub unscored : ℤ
 unscored = negsuc 999999
 
@@ -92,7 +107,7 @@ unscored = negsuc 999999
 abbrev pub board : Frame → List Cell
 board f = cells_of f.own f.opp
 
--- the choice with this number
+-- the choice of the frame's board with this number, from 0; a pass where there is none
 abbrev pub choice_at : Frame → ℕ → Choice
 choice_at f i = slice_index_or (choices (board f)) i Pass
 
@@ -110,7 +125,7 @@ abbrev pub coded : Option Choice → ℕ
 coded None = 65
 coded (Some c) = code_of c
 
--- what is found of the choice with this number
+-- the rest of the entry of the choice with this number: the bound that is known of it, 0 for none
 abbrev pub rest_at : Frame → ℕ → ℕ
 rest_at f i = slice_index f.rests i
 
@@ -122,22 +137,24 @@ value_at f i = choice_value f.depth (board f) (choice_at f i)
 abbrev pub value : Frame → ℤ
 value f = minimax f.depth (board f)
 
--- the greater of alpha and the best score
+-- the greater of alpha and the best score: only a choice that is worth more still matters
 abbrev pub floor : Frame → ℤ
 floor f = int_max f.alpha f.best
 
--- the bits of the mover's discs, and of the opponent's
+-- the bits of the mover's discs on a board
 abbrev pub own_word : List Cell → ℕ
 own_word b = bits_of (filter (λ s. is_own_cell (cell_at b s)) squares)
 
+-- the bits of the opponent's discs on a board
 abbrev pub opp_word : List Cell → ℕ
 opp_word b = bits_of (filter (λ s. is_opp_cell (cell_at b s)) squares)
 
--- whether these are the numbers of a leaf: no square has two discs, the depth is at most 12, and the window is one
+-- whether these numbers are in the ranges of a leaf: no square has two discs, the depth is at most 12, and
+-- -200,000 <= alpha < beta <= 200,000
 abbrev pub is_leaf : ℕ → ℕ → ℕ → ℤ → ℤ → Bool
 is_leaf own opp depth alpha beta = (bit_and own opp == 0) && (nat_le depth 12 && (int_le least alpha && (int_lt alpha beta && int_le beta greatest)))
 
--- whether this is the score of some word: from -INF to INF
+-- whether a score is in range: from -200,000 to 200,000
 abbrev pub is_score : ℤ → Bool
 is_score s = int_le least s && int_le s greatest
 
@@ -149,8 +166,9 @@ is_searching phase = (phase == phase_first) || (phase == phase_tests)
 abbrev pub counts_choices : Frame → Bool
 counts_choices f = nat_lt 0 f.depth && (nat_lt 0 f.count && (f.count == length (choices (board f))))
 
--- whether best score and count are as the phase asks: none before the first search; then a score, and while choices are searched
--- the count of the board's choices
+-- whether best score and count of choices suit the phase: before the first search there is no score, and the
+-- count is 0; later the score is in range, and while choices are searched the count is that of the board's
+-- choices
 abbrev pub is_in_phase : Frame → Bool
 is_in_phase f =
     if nat_le f.phase phase_computing then int_eq f.best unscored && (f.count == 0)

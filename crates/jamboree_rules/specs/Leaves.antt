@@ -10,7 +10,7 @@ use Rattle.jamboree_rules.specs.declared.leaf.LeafAnswer.{LeafAnswer}
 use Rattle.jamboree_rules.specs.Frames.{Frame, phase_done, least, greatest, is_leaf, coded}
 use Rattle.jamboree_rules.specs.Places.{Change, Best, Chosen, Phase, pairs_of, frame_of, is_formed}
 
--- the numbers are those of a leaf
+-- the two words of a board, a depth and a window are in the ranges of a leaf
 pub record IsLeaf (own opp depth : ℕ) (alpha beta : ℤ) : Type 0 where
   pub disjoint : bit_and own opp ≡ 0
   pub shallow : depth ≤ 12
@@ -18,7 +18,7 @@ pub record IsLeaf (own opp depth : ℕ) (alpha beta : ℤ) : Type 0 where
   pub window : alpha <ℤ beta
   pub high : beta ≤ℤ greatest
 
--- so they are where their test is true
+-- where the test `is_leaf` is true, the numbers are in the ranges of a leaf
 pub leaf-told : (own opp depth : ℕ) (alpha beta : ℤ) → is_leaf own opp depth alpha beta ≡ true → IsLeaf own opp depth alpha beta
 leaf-told own opp depth alpha beta h =
     let a = and_parts (bit_and own opp == 0) (nat_le depth 12 && (int_le least alpha && (int_lt alpha beta && int_le beta greatest))) h in
@@ -33,7 +33,7 @@ leaf-told own opp depth alpha beta h =
       high = record { le = T_from_true (int_le beta greatest) d.1 };
     }
 
--- the leaf of these numbers
+-- the leaf of these numbers, which are in range
 abbrev pub leaf_with : (own opp depth : ℕ) (alpha beta : ℤ) → IsLeaf own opp depth alpha beta → Leaf
 leaf_with own opp depth alpha beta h = record {
   board = record { own = own; opp = opp; disjoint = h.disjoint };
@@ -46,7 +46,7 @@ leaf_with own opp depth alpha beta h = record {
   greatest = h.high;
 }
 
--- an empty board to depth 0
+-- an empty board to depth 0, for numbers that are out of range
 abbrev pub any_leaf : Leaf
 any_leaf = record {
   board = record { own = 0; opp = 0; disjoint = refl };
@@ -59,15 +59,17 @@ any_leaf = record {
   greatest = record { le = tt };
 }
 
--- the leaf of these numbers where they are those of a leaf, else any leaf
+-- the leaf of these numbers where they are in range (true), else the empty board to depth 0
 abbrev pub leaf_by : (own opp depth : ℕ) (alpha beta : ℤ) (b : Bool) → (b ≡ true → IsLeaf own opp depth alpha beta) → Leaf
 leaf_by own opp depth alpha beta true h = leaf_with own opp depth alpha beta (h refl)
 leaf_by own opp depth alpha beta false h = any_leaf
 
+-- the leaf of these numbers where `is_leaf` is true of them, else the empty board to depth 0
 abbrev pub leaf_from : (own opp depth : ℕ) (alpha beta : ℤ) → Leaf
 leaf_from own opp depth alpha beta = leaf_by own opp depth alpha beta (is_leaf own opp depth alpha beta) (leaf-told own opp depth alpha beta)
 
--- the leaf of a frame: its board, its depth and its window
+-- the leaf of a frame: its board, its depth and its window; the empty board to depth 0 where they are out of
+-- range
 abbrev pub leaf_of : Frame → Leaf
 leaf_of f = leaf_from f.own f.opp f.depth f.alpha f.beta
 
@@ -75,26 +77,28 @@ leaf_of f = leaf_from f.own f.opp f.depth f.alpha f.beta
 abbrev pub leaf_in : List ℕ → Leaf
 leaf_in words = leaf_of (frame_of words)
 
--- whether two leaves are the same
+-- whether two leaves have the same board, depth and window
 abbrev pub same_leaf : Leaf → Leaf → Bool
 same_leaf one other =
     ((one.board.own == other.board.own) && (one.board.opp == other.board.opp))
     && ((one.depth == other.depth) && (int_eq one.alpha other.alpha && int_eq one.beta other.beta))
 
--- the leaf that an answer was computed for, its score and its choice
+-- the leaf that an answer was computed for
 abbrev pub leaf_of_answer : LeafAnswer → Leaf
 leaf_of_answer answer = answer.leaf
 
+-- the score of an answer
 abbrev pub score_of_answer : LeafAnswer → ℤ
 score_of_answer answer = answer.score
 
+-- the choice of an answer, if it has one
 abbrev pub choice_of_answer : LeafAnswer → Option Choice
 choice_of_answer answer = answer.choice
 
--- what a frame stores of an answer: score and choice, and it is done
+-- what a frame stores of an answer: its score, its choice, and that the frame is done
 abbrev pub changes_of_answer : LeafAnswer → List Change
 changes_of_answer answer = Best (score_of_answer answer) ∷ Chosen (coded (choice_of_answer answer)) ∷ Phase phase_done ∷ []
 
--- what a frame's words store of an answer; words of no frame store nothing
+-- what a frame stores of an answer, by its words; nothing where they don't have the form of a frame
 abbrev pub accepts : List ℕ → LeafAnswer → List (ℕ × ℕ)
 accepts own answer = if is_formed own then pairs_of (changes_of_answer answer) else []

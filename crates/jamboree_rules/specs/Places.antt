@@ -14,17 +14,19 @@ use Rattle.leaf_search.specs.othello_eval.declared.bound.BoundKind.{BoundKind}
 use Rattle.leaf_search.specs.othello_eval.declared.bound.BoundKind.TheVariants.{Low, High, Exact}
 use Rattle.jamboree_rules.specs.Frames.{Frame, is_score, is_frame, may_be_child, role_root, status_runs_again}
 
--- the score that a word stands for, and the word of a score
+-- the score that a word stands for: 1,000,000 less than the word
 abbrev pub score_of : ℕ → ℤ
 score_of word = pos word -ℤ pos 1000000
 
+-- the word of a score: 1,000,000 more than the score, so that no word is negative
 abbrev pub word_of : ℤ → ℕ
 word_of score = nat_abs (score +ℤ pos 1000000)
 
--- the status in an entry, its three low bits, and the rest of it: what is found of the choice, 0 for nothing
+-- the status in an entry: its three low bits
 abbrev pub status_of : ℕ → ℕ
 status_of entry = entry % 8
 
+-- the rest of an entry, which is all of it but the status: the bound that is known of the choice, 0 for none
 abbrev pub entry_rest : ℕ → ℕ
 entry_rest entry = entry / 8
 
@@ -32,20 +34,21 @@ entry_rest entry = entry / 8
 abbrev pub entry_of : ℕ → ℕ → ℕ
 entry_of status rest = status + 8 * rest
 
--- the number of a kind
+-- the number that stands for a kind in an entry
 abbrev pub kind_number : BoundKind → ℕ
 kind_number Low = 1
 kind_number High = 2
 kind_number Exact = 3
 
--- the number of the kind in a rest, 0 for none, and the score in it
+-- the number of the kind in the rest of an entry, 0 for none
 abbrev pub kind_in : ℕ → ℕ
 kind_in rest = rest % 4
 
+-- the score in the rest of an entry
 abbrev pub score_in : ℕ → ℤ
 score_in rest = score_of (rest / 4)
 
--- the rest of a score of this kind
+-- the rest of an entry whose bound has this kind and this score
 abbrev pub rest_with : BoundKind → ℤ → ℕ
 rest_with kind score = kind_number kind + 4 * word_of score
 
@@ -68,30 +71,32 @@ frame_of words = record {
   rests = map entry_rest (drop 12 words);
 }
 
--- whether this is the rest of an entry: nothing, or a kind with the word of a score from -INF to INF
+-- whether this may be the rest of an entry: 0 for no bound, or a kind and the word of a score from -200,000 to
+-- 200,000
 abbrev pub is_rest : ℕ → Bool
 is_rest rest = if kind_in rest == 0 then rest == 0 else is_score (score_in rest)
 
--- whether this is an entry: a status, 0 to 4, and a rest
+-- whether this may be an entry: a status from 0 to 4, and a rest
 abbrev pub is_entry : ℕ → Bool
 is_entry entry = nat_le (status_of entry) status_runs_again && is_rest (entry_rest entry)
 
--- whether each of these is an entry
+-- whether each of these may be an entry
 abbrev pub are_entries : List ℕ → Bool
 are_entries [] = true
 are_entries (entry ∷ entries) = is_entry entry && are_entries entries
 
--- whether words have the form of a frame: the places 0 to 11, one place for each choice and no other, and each in its range
+-- whether words have the form of a frame: the places 0 to 11, then one entry for each choice and nothing else,
+-- each in its range
 abbrev pub is_formed : List ℕ → Bool
 is_formed words = (length words == 12 + slice_index words 10) && (are_entries (drop 12 words) && is_frame (frame_of words))
 
--- whether words are those of a frame at the place where they stand: a root with no level above it, or else a child of the parent,
--- whose words, too, have the form
+-- whether words, which have the form of a frame, suit the levels above: with none they are a root's; else the
+-- parent's words have the form of a frame too, and this may be a child of it
 abbrev pub is_placed : List ℕ → List (List ℕ) → Bool
 is_placed words [] = (frame_of words).role == role_root
 is_placed words (parent ∷ above) = is_formed parent && may_be_child (frame_of parent) (frame_of words)
 
--- one store, by what it sets
+-- one store into a frame's words, named by what it sets
 pub data Change : Type 0 where
   OwnBits : (word : ℕ) → Change
   OppBits : (word : ℕ) → Change
@@ -129,14 +134,15 @@ changed (Count count) f = record f { count = count }
 changed (Spawned count) f = record f { spawned = count }
 changed (Status i status rest) f = record f { statuses = slice_set f.statuses i status; rests = slice_set f.rests i rest }
 
--- the first words of a new frame: a goal with no board known, in this role, for the choice with this number
+-- the eight words that a child begins with: a depth, a window, its role and the number of its choice. Its board
+-- isn't known yet (0 and 0), and its phase is new
 abbrev pub given_words : ℕ → ℤ → ℤ → ℕ → ℕ → List ℕ
 given_words depth alpha beta role number = 0 ∷ 0 ∷ depth ∷ word_of alpha ∷ word_of beta ∷ role ∷ number ∷ 0 ∷ []
 
--- the first words of a root: a board to a depth, with the full window
+-- the eight words that a root begins with: a board, a depth, and the full window, as the words of its ends
 abbrev pub root_words : ℕ → ℕ → ℕ → List ℕ
 root_words own opp depth = own ∷ opp ∷ depth ∷ 800000 ∷ 1200000 ∷ 0 ∷ 0 ∷ 0 ∷ []
 
--- the size of a new frame
+-- how many words a new frame has
 abbrev pub frame_size : ℕ
 frame_size = 12

@@ -6,6 +6,6 @@ use Rattle.jamboree_rules.specs.declared.leaf.LeafAnswer.{LeafAnswer}
 use Rattle.jamboree_rules.specs.Acts.{next_act, inlet_act}
 use Rattle.jamboree_rules.specs.Leaves.{leaf_in, leaf_of_answer, same_leaf, accepts}
 
--- Jamboree with this grain
+-- Jamboree's functions, where frames of at most this depth (the grain) are searched by one worker
 abbrev pub jamboree : ℕ → Functions Leaf LeafAnswer
 jamboree grain = record { next = next_act grain; inlet = inlet_act; input = leaf_in; asked = leaf_of_answer; accept = accepts; same = same_leaf }

@@ -20,14 +20,17 @@ pub record IsFirstBest (f : Frame) : Type 0 where
   pub worth : value_at f place ≡ f.best
   pub earlier : (i : ℕ) → i < place → value_at f i <ℤ f.best
 
--- the window of a child, by its role; where it searches a choice again, every earlier choice is settled
+-- child c of f has the window of its role, as f sees it. The first child has the whole window of f; a test has
+-- (t, t + 1), where t is at least alpha and at most the floor; a search again goes from the floor to beta, and
+-- every earlier choice is settled then
 pub data HasWindow (f c : Frame) : Type 0 where
   First : c.role ≡ role_first_child → c.alpha ≡ neg_ℤ f.beta → c.beta ≡ neg_ℤ f.alpha → HasWindow f c
   Test : c.role ≡ role_test → (t : ℤ) → c.alpha ≡ neg_ℤ (t +ℤ pos 1) → c.beta ≡ neg_ℤ t → f.alpha ≤ℤ t → t ≤ℤ floor f → HasWindow f c
   Again : c.role ≡ role_again → c.alpha ≡ neg_ℤ f.beta → c.beta ≡ neg_ℤ (floor f) → ((i : ℕ) → i < c.number → IsSettled f i) → HasWindow f c
 
--- the goal of a child: the board after its choice, which is one of its parent's (it knows that board once it isn't new), less deep
--- by the plies of that choice, and its window
+-- what child c of frame f searches: the board after its choice (which it knows once it isn't new), to a depth
+-- that is less by the plies of that choice, with the window of its role. Frame f is in a phase that searches
+-- choices
 pub record HasGoal (f c : Frame) : Type 0 where
   pub searches : (f.phase ≡ phase_first) ⊎ (f.phase ≡ phase_tests)
   pub inside : c.number < length (choices (board f))
@@ -35,11 +38,15 @@ pub record HasGoal (f c : Frame) : Type 0 where
   pub depth : c.depth ≡ f.depth - plies (choice_at f c.number)
   pub window : HasWindow f c
 
+-- `HasGoal` holds of each of these children of f
 abbrev pub HaveGoals : Frame → List Frame → Type 0
 HaveGoals f [] = Unit {0}
 HaveGoals f (c ∷ cs) = HasGoal f c × HaveGoals f cs
 
--- a frame with these children is sound; in every phase each entry with a kind is true
+-- a frame with these children is sound. While it searches, its best score is below beta, no settled choice is
+-- worth more, and where the score is above alpha, the stored choice is the first that is worth it. Once it is
+-- done, the score is a bound of the minimax value, and inside the window the stored choice is the best. In every
+-- phase each entry that has a kind is true
 pub record IsSound (f : Frame) (cs : List Frame) : Type 0 where
   pub below : (f.phase ≡ phase_first) ⊎ (f.phase ≡ phase_tests) → f.best <ℤ f.beta
   pub settled : (f.phase ≡ phase_first) ⊎ (f.phase ≡ phase_tests) → (i : ℕ) → IsSettled f i → value_at f i ≤ℤ f.best

@@ -17,7 +17,8 @@ ghost use Rattle.jamboree_rules.specs.Fits.{AreFitting, IsRoot};
 ghost use Rattle.jamboree_rules.specs.Sound.{IsSound};
 ghost use Rattle.jamboree_rules.specs.Procedure.{jamboree};
 
-/// The next act of a frame that fits can be done, and leaves it, its parent and a new child fitting.
+/// Where `AreFitting` holds of a frame and of what is above it, the frame's next act can be done (`possible`),
+/// and `AreFitting` holds of the frame, its parent and a new child after it (`keeps`).
 pub fn next_keeps()
     ensures keeps { (grain : ℕ) → NextKeeps (jamboree grain) AreFitting IsRoot }
     ensures possible { (grain : ℕ) (origin own : List ℕ) (above older younger children : List (List ℕ)) →
@@ -25,41 +26,46 @@ pub fn next_keeps()
         is_bad_act own (has_one children) (next_act grain (own ∷ above)) ≡ false }
 {}
 
-/// The inlet of a frame that fits for a child that has returned can be done, and leaves it and its
-/// parent fitting, also after an abort.
+/// Where `AreFitting` holds of a frame and of its child that has returned, the inlet stores only in words that
+/// the frame has (`possible`), and `AreFitting` holds of the frame and its parent after it, also where the inlet
+/// aborts (`keeps`).
 pub fn inlet_keeps()
     ensures keeps { (grain : ℕ) → InletKeeps (jamboree grain) AreFitting IsRoot }
     ensures possible { (own child : List ℕ) (before behind : List (List ℕ)) →
         AreFitting own (before ++ child ∷ behind) Neither → AreFitting child [] HasReturned → is_outside (inlet_act own child).stores own ≡ false }
 {}
 
-/// What a frame stores of an answer to its leaf can be done, and leaves it and its parent fitting.
+/// Where `AreFitting` holds of a frame that computes, what it stores of an answer to its leaf is in words that it
+/// has (`possible`), and `AreFitting` holds of the frame and its parent after it (`keeps`).
 pub fn accept_keeps()
     ensures keeps { (grain : ℕ) → AcceptKeeps (jamboree grain) AreFitting IsRoot }
     ensures possible { (own : List ℕ) (answer : LeafAnswer) → AreFitting own [] Computes → is_outside (accepts own answer) own ≡ false }
 {}
 
-/// Leaves that compare as the same are equal.
+/// Two leaves of which `same_leaf` is true are equal.
 pub fn same_leaves_are_equal()
     ensures { (one other : Leaf) → same_leaf one other ≡ true → one ≡ other }
 {}
 
-/// The root of a board and a depth of at most 12 fits, and belongs to the words that it was submitted with.
+/// The words of a new root, of a board and a depth of at most 12, satisfy `AreFitting` (`fits`), and have the
+/// board, the depth and the full window of the words that it was submitted with (`rooted`).
 pub fn a_new_root_fits()
     ensures fits { (own opp depth : ℕ) → bit_and own opp ≡ 0 → depth ≤ 12 → AreFitting (padded (root_words own opp depth) frame_size) [] Neither }
     ensures rooted { (own opp depth : ℕ) → bit_and own opp ≡ 0 → depth ≤ 12 → IsRoot (root_words own opp depth) (padded (root_words own opp depth) frame_size) }
 {}
 
-/// A returned root holds the minimax value and the best choice of its board to its depth.
+/// A root that has returned holds the minimax value of its board to its depth, and the code of the best choice
+/// (65 for none).
 pub fn a_returned_root_holds_value_and_choice()
     ensures value { (origin words : List ℕ) → AreFitting words [] HasReturned → IsRoot origin words → (frame_of words).best ≡ value (frame_of words) }
     ensures choice { (origin words : List ℕ) → AreFitting words [] HasReturned → IsRoot origin words →
         (frame_of words).choice ≡ coded (best_choice (frame_of words).depth (board (frame_of words))) }
 {}
 
-/// A returned root holds a table of its board to its depth: it has a place for each choice, and none at
-/// depth 0; each place has a kind; each entry is true, and the best choice's is exact. It has at most 76
-/// words, which a job keeps.
+/// A root that has returned holds a table of its board to its depth (`table`): one entry for each choice, and
+/// none at depth 0 (`places`). Each entry has a kind (`kinds`), so that its score is an upper bound, a lower
+/// bound or exact; that is true of the choice's value, and the best choice's entry is exact. The root has at most
+/// 76 words, so its job keeps them all (`kept`).
 pub fn a_returned_root_holds_a_table()
     ensures kept { (origin words : List ℕ) → AreFitting words [] HasReturned → IsRoot origin words → kept_words words ≡ words }
     ensures places { (origin words : List ℕ) → AreFitting words [] HasReturned → IsRoot origin words →
@@ -70,7 +76,8 @@ pub fn a_returned_root_holds_a_table()
         IsTable (frame_of words).depth (board (frame_of words)) (bounds_of (frame_of words)) }
 {}
 
-/// A frame that fits is sound.
+/// Where `AreFitting` holds of a frame and its children, the frame is sound (`IsSound`): what it says of minimax
+/// values is true.
 pub fn a_fitting_frame_is_sound()
     ensures { (words : List ℕ) (children : List (List ℕ)) (mark : Mark) → AreFitting words children mark → IsSound (frame_of words) (map frame_of children) }
 {}

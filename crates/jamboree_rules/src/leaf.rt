@@ -10,8 +10,8 @@ use leaf_search::search;
 use othello_board::Board;
 use othello_moves::Choice;
 
-/// A search that is done by one worker, outside the scheduler's lock: a board to a depth, and a
-/// window. It can only be made of what [`search`] takes.
+/// The input of a search that one worker does by itself, outside the scheduler's lock: a board, a depth and a
+/// window. Its fields are proved to be in the ranges that [`search`] requires.
 #[derive(Clone, Copy, Debug, PartialEq, Eq)]
 pub struct Leaf {
     /// The board, seen by the player to move.
@@ -28,8 +28,8 @@ pub struct Leaf {
     ghost greatest: { beta ≤ℤ pos 200000 },
 }
 
-/// What the search of a [`Leaf`] gave. Only [`LeafAnswer::compute`] makes one, so its score is a
-/// bound of the leaf's minimax value, and inside the window the value itself with the best choice.
+/// What the search of a [`Leaf`] gave. Only [`LeafAnswer::compute`] makes one. Its score is a bound of the leaf's
+/// minimax value; inside the window it is the value, and the choice is the best choice.
 #[derive(Clone, Copy, Debug, PartialEq, Eq)]
 pub struct LeafAnswer {
     leaf: Leaf,
@@ -46,7 +46,7 @@ impl LeafAnswer {
     ghost use Rattle.std.specs.Prelude.{◌≡◌};
     ghost use Rattle.jamboree_rules.specs.Leaves.{leaf_of_answer, score_of_answer, choice_of_answer};
 
-    /// Searches a leaf: the one place where a search happens. It takes no memory and no lock.
+    /// Searches a leaf, by [`search`]. No other function makes an answer. It takes no memory and no lock.
     pub fn compute(leaf: Leaf) -> LeafAnswer
         ensures { leaf_of_answer result ≡ leaf }
     {
@@ -65,14 +65,17 @@ impl LeafAnswer {
         self.leaf
     }
 
-    /// Its score, from -128,000 to 128,000.
+    /// The score that the search gave, from -128,000 to 128,000: at most the leaf's alpha it is an upper bound of
+    /// the minimax value, at least beta a lower bound, and in between the value.
     pub fn score(&self) -> i32
         ensures { result ≡ score_of_answer self.now }
     {
         self.score
     }
 
-    /// Its choice, if it has one.
+    /// The choice that the search gave: inside the window the best choice, None at depth 0 and in a finished
+    /// game. Where the score is outside the window, nothing is promised but that it is one of the board's choices
+    /// or None.
     pub fn choice(&self) -> Option<Choice>
         ensures { result ≡ choice_of_answer self.now }
     {

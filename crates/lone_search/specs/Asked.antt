@@ -14,43 +14,46 @@ use Rattle.jamboree_core.specs.jamboree_rules.Procedure.{jamboree}
 use Rattle.jamboree_core.specs.jamboree.declared.procedure.Jamboree.{Jamboree}
 use Rattle.jamboree_core.specs.Searching.{CoreSearches}
 
--- the jobs are searches, and those of tenant 1 were asked with these words, in order
+-- the core's jobs are searches, and those of tenant 1 were submitted with these words, in order
 pub record HasAsked (asked : List (List ℕ)) (shared : Shared) : Type 0 where
   pub origins : ℕ → List (List ℕ)
   pub are : origins 1 ≡ asked
   pub searches : CoreSearches origins shared
 
--- a core of these totals, with this grain, came to this by steps that were each rightly answered
+-- a new core of these totals, with this grain, came to this by a list of steps that were each answered as the
+-- definitions say
 pub record HasRun (grain : ℕ) (totals : Quota) (shared : Shared) : Type 0 where
   pub steps : List (StepOf LeafAnswer)
   pub answers : List (Result (DidOf Leaf) Refusal)
   pub right : AreAnswersTo (jamboree grain) (shared_by_nobody totals) steps answers
   pub comes : shared ≡ after_answers (jamboree grain) (shared_by_nobody totals) steps answers
 
--- tenant 1 is there, and reserved this
+-- tenant 1 is there and reserves this
 pub record HasReserved (quota : Quota) (shared : Shared) : Type 0 where
   pub tenant : Tenant
   pub there : tenant_in shared.tenants 1 ≡ Some tenant
   pub reserve : tenant.reserve ≡ quota
 
--- a task: its grain, all that its core has, which is all its tenant's, and the words that its jobs were asked with
+-- what a core works on: its grain, its segments and nodes, all of which its tenant reserves, and the words that
+-- its jobs were submitted with
 pub record Task : Type 0 where
   pub grain : ℕ
   pub quota : Quota
   pub asked : List (List ℕ)
 
--- a core works on a task
+-- a core has this grain, and came to where it is from these totals; tenant 1 reserves them all, and its jobs are
+-- searches submitted with these words
 pub record WorksOn (task : Task) (core : CoreOf Jamboree) : Type 0 where
   pub grain : core.procedure.grain ≡ task.grain
   pub run : HasRun task.grain task.quota core.shared
   pub reserved : HasReserved task.quota core.shared
   pub asked : HasAsked task.asked core.shared
 
--- what was worked on before is worked on after
+-- a core works on the same after as before
 abbrev pub Keeps : CoreOf Jamboree → CoreOf Jamboree → Type 0
 Keeps before after = (task : Task) → WorksOn task before → WorksOn task after
 
--- the steps of a worker, and Spend
+-- a step is a worker's or a Spend
 abbrev pub IsWork : {A : Type 0} → StepOf A → Type 0
 IsWork (Take worker name) = Unit {0}
 IsWork (Steal worker from name) = Unit {0}
@@ -61,7 +64,7 @@ IsWork (Finish worker name) = Unit {0}
 IsWork (Spend name) = Unit {0}
 IsWork _ = ⊥
 
--- a core of which all is reserved by tenant 1, who has just come
+-- a core all of which tenant 1 reserves, who was just admitted and has no job
 pub record IsBegun (grain : ℕ) (quota : Quota) (core : CoreOf Jamboree) : Type 0 where
   pub works : WorksOn (record { grain = grain; quota = quota; asked = [] }) core
   pub fresh : tenant_in core.shared.tenants 1 ≡ Some (admitted_with quota)

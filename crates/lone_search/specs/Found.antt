@@ -10,7 +10,7 @@ use Rattle.lone_search.specs.declared.found.Way.{Way}
 use Rattle.lone_search.specs.declared.found.Way.TheVariants.{Done, Spent, Stopped}
 use Rattle.lone_search.specs.declared.found.Searched.{Searched}
 
--- how the answer was found, by what became of the job, which is there
+-- how the answer was found, by what became of the job; not true where there is no job
 abbrev pub IsWayOf : Option Job → Way → Type 0
 IsWayOf None way = ⊥
 IsWayOf (Some (Live root)) way = way ≡ Stopped
@@ -18,13 +18,13 @@ IsWayOf (Some (DoneJob words)) way = way ≡ Done
 IsWayOf (Some SpentJob) way = way ≡ Spent
 IsWayOf (Some CancelledJob) way = way ≡ Stopped
 
--- what was found tells how job 1 of tenant 1 stands, and what that tenant has left
+-- what was found says how job 1 of tenant 1 ended, and what that tenant has left
 pub record IsFoundIn (shared : Shared) (found : Searched) : Type 0 where
   pub way : IsWayOf (job_of shared 1 1) found.way
   pub left : left_of shared 1 ≡ Some found.left
 
--- what was found is what a core came to, by steps from no tenant on: a core with this grain and these totals, which tenant 1
--- reserved, and with one job, asked with these words
+-- what was found is what a core came to from new: it has this grain and these totals, which tenant 1 reserves,
+-- and one job, which was submitted with these words
 pub record IsFoundBy (grain : ℕ) (totals : Quota) (words : List ℕ) (found : Searched) : Type 0 where
   pub shared : Shared
   pub run : HasRun grain totals shared

@@ -11,7 +11,8 @@ pub enum Way {
     /// The job was spent, since the core's segments, nodes or steps were at their end; the answer is that of one
     /// serial search.
     Spent,
-    /// The job was stopped before its end, for any other reason; the answer is that of one serial search.
+    /// The worker stopped before the job was done or spent, which isn't expected; the answer is that of one
+    /// serial search.
     Stopped,
 }
 

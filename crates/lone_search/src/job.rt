@@ -25,7 +25,7 @@ pub(crate) const TENANT: u64 = 1;
 /// The number of its only job.
 const JOB: u64 = 1;
 
-/// The tenant comes and reserves all that the core has, where there is memory for its places. At Ok it is there.
+/// Admits the tenant, which reserves all that the core has. It fails only where memory for that was refused.
 pub(crate) fn admit<A: Allocator + Clone>(
     core: &mut Core<Jamboree, A>,
     reserve: Reserve,
@@ -35,13 +35,13 @@ pub(crate) fn admit<A: Allocator + Clone>(
 {
     match step_search(core, &StepOf::Admit(TENANT, reserve)) {
         Ok(_) => Ok(()),
-        // Nothing but memory can be wanting: nobody came before, and the core has what is reserved.
+        // It is refused only for want of memory: the core has no other tenant, and as much as is reserved.
         Err(_) => Err(AllocError),
     }
 }
 
-/// Submits the core's one job, to a depth in plies. Right after `admit` the step can't be refused (`submits-on`), so
-/// its answer is dropped.
+/// Submits the core's one job, the search of the position to a depth in plies. Right after `admit` the step can't
+/// be refused (`submits-on`), so its answer is dropped.
 pub(crate) fn ask<A: Allocator + Clone>(
     core: &mut Core<Jamboree, A>,
     position: &Position,
@@ -54,7 +54,7 @@ pub(crate) fn ask<A: Allocator + Clone>(
     let _ = step_search(core, &submit(TENANT, position, depth));
 }
 
-/// What the job came to: its reply, if it is done, and else what one serial search finds.
+/// What the search found: the job's reply, if it is done, and else what one serial search finds.
 pub(crate) fn answer_in<A: Allocator>(
     core: &Core<Jamboree, A>,
     position: &Position,
@@ -83,7 +83,7 @@ pub(crate) fn answer_in<A: Allocator>(
     }
 }
 
-/// What one serial search finds, beside how the job stands and what is left.
+/// What one serial search finds. How it was found and what is left are as given.
 fn search_serially(position: &Position, depth: u8, way: Way, left: Left) -> Searched
     requires { depth ≤ 12 }
     ensures value { result.answer.value ≡ minimax depth (cells position.now.board) }

@@ -44,7 +44,9 @@ pub fn solve_by_core<A: Allocator + Clone>(
     search_within(alloc, position, depth, grain, reserve)
 }
 
-/// The same in a core that has just what is reserved.
+/// Searches the position to the depth as [`solve_by_core`] does, in a core of the segments and nodes of
+/// `reserve`, all of them its tenant's. Where they don't suffice the job is spent, and the answer is that of one
+/// serial search: value and choice are the same. It fails only where a growth was refused.
 pub fn search_within<A: Allocator + Clone>(
     alloc: A,
     position: &Position,

@@ -19,8 +19,8 @@ use std::alloc::Allocator;
 /// The worker's number.
 const WORKER: u8 = 1;
 
-/// What the worker does next, in few words: a holding has room for a leaf and its answer, and one that is handed on is
-/// put together and taken apart each time.
+/// What the worker does next. It is kept in place of a [`Holding`], which has room for a leaf and its answer and
+/// would be copied at each turn.
 #[derive(Clone, Copy)]
 enum Ahead {
     /// To get the newest ready frame.
@@ -31,8 +31,8 @@ enum Ahead {
     TakeIn(FrameId),
 }
 
-/// The one worker, and the core that it has to itself. Its number is a constant, not a field: each step names it, and a
-/// field would be read for each.
+/// The one worker, with the core that it has to itself. Its number is the constant `WORKER`, as a field would be
+/// read at each step.
 #[derive(Drop)]
 struct Searcher<A: Allocator> {
     core: Core<Jamboree, A>,
@@ -56,8 +56,8 @@ pub(crate) fn work<A: Allocator + Clone>(core: Core<Jamboree, A>, turns: u32) ->
 }
 
 impl<A: Allocator + Clone> Searcher<A> {
-    /// One turn, and what the worker does after it; None where the job has ended, or can't go on. What it holds is
-    /// known at each place from which it offers a step, so that no holding is put together only to be looked at.
+    /// One turn, and what the worker does after it; None where the job has ended or can't go on. Each arm makes
+    /// the holding that it offers, so that the compiler knows which it is.
     #[inline(always)]
     fn turn(&mut self, ahead: Ahead) -> Option<Ahead>
         ensures { Keeps self.old.core self.new.core }
@@ -72,15 +72,15 @@ impl<A: Allocator + Clone> Searcher<A> {
         }
     }
 
-    /// The tenant's ready frame of the greatest serial, if one is ready, as a task.
+    /// The tenant's ready frame of the greatest serial, as a task; None where no frame is ready.
     #[inline(always)]
     fn newest_task(&self) -> Option<Task> {
         let (frame, home) = self.core.newest_ready(TENANT)?;
         Some(Task { frame, home })
     }
 
-    /// Offers the step of what the worker holds, and does what follows up to its next step, which it returns; None where
-    /// the job has ended or can't go on.
+    /// Offers the step of what the worker holds, and does what follows up to its next step, which it returns;
+    /// None where the job has ended or can't go on.
     #[inline(always)]
     fn offer_on(&mut self, held: Holding) -> Option<Ahead>
         ensures { Keeps self.old.core self.new.core }
@@ -89,8 +89,9 @@ impl<A: Allocator + Clone> Searcher<A> {
         self.go_on(next)
     }
 
-    /// What the worker's next step is with what it holds now. A leaf is computed and its answer brought at once; a job
-    /// whose root has returned is ended, and one that is given up is spent.
+    /// The worker's next step with what it holds now; None where the job has ended or can't go on. A leaf is
+    /// computed and its answer brought at once; a job whose root has returned is ended, and one that is given up
+    /// is spent.
     #[inline(always)]
     fn go_on(&mut self, held: Holding) -> Option<Ahead>
         ensures { Keeps self.old.core self.new.core }
@@ -102,12 +103,12 @@ impl<A: Allocator + Clone> Searcher<A> {
             Holding::Computing(frame, leaf) => self.bring(frame, leaf),
             Holding::Next(Action::Finish(frame)) => self.finish(frame),
             Holding::GivingUp(action) => self.spend(action.frame()),
-            // Nothing that was taken leads here.
+            // No taken step leaves the worker with one of these.
             Holding::Next(Action::Get(_)) | Holding::Next(Action::Bring(_, _)) => None,
         }
     }
 
-    /// Computes a leaf, and brings its answer.
+    /// Computes a leaf and brings its answer. It returns the next step, or None where the answer was refused.
     #[inline(always)]
     fn bring(&mut self, frame: FrameId, leaf: Leaf) -> Option<Ahead>
         ensures { Keeps self.old.core self.new.core }
@@ -116,7 +117,7 @@ impl<A: Allocator + Clone> Searcher<A> {
         self.offer_and_run(Holding::Next(Action::Bring(frame, answer)))
     }
 
-    /// Ends the job of the returned root. Nothing is left to do then.
+    /// Ends the job of the returned root. Nothing is left to do then, so it returns None.
     #[cold]
     #[inline(never)]
     fn finish(&mut self, root: FrameId) -> Option<Ahead>
@@ -125,8 +126,9 @@ impl<A: Allocator + Clone> Searcher<A> {
         self.offer_and_run(Holding::Next(Action::Finish(root)))
     }
 
-    /// Offers a step after which the worker runs its frame, or has none; where it is refused for want of quota the job
-    /// is spent.
+    /// Offers a step after which the worker either runs its frame, which is returned as its next step, or has no
+    /// frame, and then None is. Where the step is refused for want of quota, the job is spent, and None is
+    /// returned.
     #[inline(always)]
     fn offer_and_run(&mut self, held: Holding) -> Option<Ahead>
         ensures { Keeps self.old.core self.new.core }
@@ -134,12 +136,13 @@ impl<A: Allocator + Clone> Searcher<A> {
         match self.offer(held)? {
             Holding::Next(Action::Run(frame)) => Some(Ahead::Run(frame)),
             Holding::GivingUp(action) => self.spend(action.frame()),
-            // Nothing else is held then.
+            // It holds no frame.
             _ => None,
         }
     }
 
-    /// Offers to spend the job of a frame. Nothing is left to do then, whether or not it may be spent.
+    /// Offers to spend the job of a frame. Nothing is left to do then, whether or not it may be spent, so it
+    /// returns None.
     #[cold]
     #[inline(never)]
     fn spend(&mut self, frame: FrameId) -> Option<Ahead>
@@ -149,7 +152,8 @@ impl<A: Allocator + Clone> Searcher<A> {
         None
     }
 
-    /// Offers the step of what the worker holds, if it has one; what it holds after it.
+    /// Offers the step of what the worker holds, and returns what it holds after it; None where it has no step to
+    /// offer, or can't go on (`goes_on`).
     #[inline(always)]
     fn offer(&mut self, held: Holding) -> Option<Holding>
         ensures { Keeps self.old.core self.new.core }
@@ -161,7 +165,7 @@ impl<A: Allocator + Clone> Searcher<A> {
         goes_on(refused, held.turned(worker, answer).holding)
     }
 
-    /// Takes such a step, if it isn't refused.
+    /// Offers a worker's step or a Spend to the core: what it did, or why it is refused.
     #[inline(always)]
     fn take(&mut self, step: &Step<Jamboree>) -> Result<Did<Jamboree>, Refusal>
         requires { IsWork step.now }
@@ -171,7 +175,7 @@ impl<A: Allocator + Clone> Searcher<A> {
     }
 }
 
-/// The step that the worker offers with what it holds, which is a worker's step or Spend.
+/// The step that the worker offers with what it holds, a worker's step or a Spend; None where it has none.
 #[inline(always)]
 fn own_step(worker: Worker, held: &Holding) -> Option<Step<Jamboree>>
     ensures { IfSome result (λ step. IsWork step) }
@@ -179,8 +183,8 @@ fn own_step(worker: Worker, held: &Holding) -> Option<Step<Jamboree>>
     held.step(worker)
 }
 
-/// What the worker goes on with after its turn. A refusal for want of quota leaves it the offer to spend the job; after
-/// any other it doesn't go on, and so not where the job may not be spent either.
+/// What the worker holds after its turn, or None where it stops. After a refusal for want of quota it goes on, to
+/// offer that the job be spent; after any other refusal it stops, also where the job may not be spent.
 #[inline(always)]
 fn goes_on(refused: bool, next: Holding) -> Option<Holding> {
     match next {

@@ -6,6 +6,6 @@ use Rattle.pool_rules.specs.declared.count.Computations.{Computations}
 abbrev pub begun : Computations → ℕ
 begun computations = computations.begun
 
--- the greatest u64
+-- the greatest u64: a count that has come to it stays there
 abbrev pub greatest_count : ℕ
 greatest_count = 18446744073709551615

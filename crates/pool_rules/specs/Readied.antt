@@ -12,19 +12,19 @@ use Rattle.pool_rules.specs.declared.task.Task.{Task}
 use Rattle.pool_rules.specs.declared.turn.Holding.{Holding}
 use Rattle.pool_rules.specs.Turns.{turn_after}
 
--- the frames of a tenant, if it is there
+-- the frames of a tenant; none where it isn't there
 abbrev pub frames_in : Option Tenant → Tree
 frames_in None = []
 frames_in (Some tenant) = tenant.frames
 
--- each frame of a tenant that is ready afterwards was ready there before, or is the task
+-- each frame that is ready after a step was ready at the same home before it, or is the frame of this task
 abbrev pub IsNoneForgotten : ℕ → Tree → Tree → Option Task → Type 0
 IsNoneForgotten tenant before after task =
     (serial home : ℕ) → IsReadyAt (frame_at after serial) home →
     IsReadyAt (frame_at before serial) home ⊎ (task ≡ Some (record { frame = record { tenant = tenant; serial = serial }; home = home }))
 
--- where the step that a worker offers with what it holds is taken from a tenant that has the core to itself, no ready frame is
--- forgotten: each that the step made ready is the task of its turn
+-- where the step that a worker offers with what it holds is taken, on a tenant that has the core to itself, no
+-- ready frame is forgotten: each that the step made ready is the task of the worker's turn
 abbrev pub PushesWhatItReadied : Functions Leaf LeafAnswer → Tenant → ℕ → Holding → StepOf LeafAnswer → Type 0
 PushesWhatItReadied functions tenant worker holding step =
     IfOk (lone functions (Some tenant) step) (λ outcome.
@@ -35,7 +35,8 @@ abbrev pub IsOfAReadyFrame : ℕ → Tree → Option Task → Type 0
 IsOfAReadyFrame tenant after None = Unit {0}
 IsOfAReadyFrame tenant after (Some task) = (task.frame.tenant ≡ tenant) × IsReadyAt (frame_at after task.frame.serial) task.home
 
--- where the step that a worker offers is taken, the task of its turn is of a frame that is ready then
+-- where the step that a worker offers is taken, the task of its turn, if there is one, is of a frame that is
+-- ready then
 abbrev pub PushesWhatIsReady : Functions Leaf LeafAnswer → Tenant → ℕ → Holding → StepOf LeafAnswer → Type 0
 PushesWhatIsReady functions tenant worker holding step =
     IfOk (lone functions (Some tenant) step) (λ outcome.

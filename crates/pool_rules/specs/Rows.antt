@@ -3,10 +3,11 @@ use Rattle.std.specs.Prelude.{ℕ}
 use Rattle.frame_tree.specs.declared.names.FrameId.{FrameId}
 use Rattle.pool_rules.specs.declared.task.Task.{Task}
 
--- tenant 1's first frame, and its second
+-- the name of tenant 1's first frame
 abbrev pub root : FrameId
 root = record { tenant = 1; serial = 1 }
 
+-- the name of tenant 1's second frame
 abbrev pub child : FrameId
 child = record { tenant = 1; serial = 2 }
 

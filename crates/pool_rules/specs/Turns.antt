@@ -25,8 +25,8 @@ frame_of (Bring frame answer) = frame
 frame_of (TakeIn frame) = frame
 frame_of (Finish frame) = frame
 
--- the step for an action: a task of the worker's own is taken, another's stolen from its home; a running frame advances; an answer
--- is brought; a returned frame is taken in, and a returned root finished
+-- the step for an action: a task of the worker's own is taken, another's is stolen from its home; a running frame
+-- advances; an answer is brought; a returned frame is taken in by its parent, and a returned root is finished
 abbrev pub step_of : ℕ → Action → StepOf LeafAnswer
 step_of worker (Get task) = if task.home == worker then Take worker task.frame else Steal worker task.home task.frame
 step_of worker (Run frame) = Advance worker frame
@@ -34,17 +34,18 @@ step_of worker (Bring frame answer) = Answer worker frame answer
 step_of worker (TakeIn frame) = Inlet worker frame
 step_of worker (Finish frame) = FinishRoot worker frame
 
--- what a worker offers: nothing without a frame and while it computes; the step of its action; and after a step that was refused for
--- want of quota, to spend the frame's job
+-- the step that a worker offers: none where it holds no frame or computes; the step of its action; or, after a
+-- step that was refused as quota ran out or its act can't be done, the offer to spend the frame's job
 abbrev pub offered : ℕ → Holding → Option (StepOf LeafAnswer)
 offered worker Nothing = None
 offered worker (Next action) = Some (step_of worker action)
 offered worker (Computing frame leaf) = None
 offered worker (GivingUp action) = Some (Spend (frame_of action))
 
--- what a worker holds after what a step on a frame did: a frame that it got, that went on, grew, opened a child or has its answer
--- runs; one that waits is let go; one that computes is computed; one that has returned is taken in, or finished where it is a root;
--- and with the frame taken in, its job finished or spent, the worker is without one
+-- what a worker holds after what a step on a frame did. A frame that it got, that went on, grew, opened a child
+-- or has its answer runs on; one that waits is let go; one that computes is computed; one that has returned is
+-- taken in by its parent, or finished where it is a root. Once the frame is taken in, or its job has ended, the
+-- worker holds nothing
 abbrev pub held_after : FrameId → DidOf Leaf → Holding
 held_after frame Admitted = Nothing
 held_after frame AdmittedMore = Nothing
@@ -83,7 +84,7 @@ readied (Spent job) = None
 readied Cancelled = None
 readied Left = None
 
--- its task: its home is the worker that did the step
+-- the task of a frame that became ready, if one did: its home is the worker that did the step
 abbrev pub task_at : ℕ → Option FrameId → Option Task
 task_at worker None = None
 task_at worker (Some frame) = Some (record { frame = frame; home = worker })
@@ -96,18 +97,19 @@ is_short NoSteps = true
 is_short BadAct = true
 is_short _ = false
 
--- whether a refusal says that the frame's job may go on
+-- whether the refusal of a Spend says that the job may go on
 abbrev pub may_go_on : Refusal → Bool
 may_go_on NotSpent = true
 may_go_on _ = false
 
--- a turn that leaves a worker so, without a task
+-- the turn after which a worker holds this, with no task
 abbrev pub turn : Holding → Turn
 turn holding = record { holding = holding; task = None }
 
--- a worker's turn: what it holds after the answer to what it offered, and the task that it pushes. An action that was refused for want
--- of something is kept while its job is offered to be spent; where that is refused, as the job may go on, the action comes again; any
--- other refusal leaves the worker without a frame
+-- a worker's turn: what it holds after the answer to what it offered, and the task that it pushes. After a
+-- refusal for want of quota or for an act that can't be done, it keeps its action while it offers to spend the
+-- job. Where that is refused since the job may go on, the action comes again; any other refusal leaves it without
+-- a frame
 abbrev pub turn_after : ℕ → Holding → Result (DidOf Leaf) Refusal → Turn
 turn_after worker Nothing answer = turn Nothing
 turn_after worker (Next action) (Ok did) = record { holding = held_after (frame_of action) did; task = task_at worker (readied did) }

@@ -9,7 +9,7 @@ use frame_tree::FrameId;
 use jamboree_rules::Leaf;
 use sched_rules::{DidOf, Refusal, Worker};
 
-/// A turn that makes no task.
+/// The turn after which a worker holds this, where no frame became ready.
 #[inline(always)]
 pub(crate) fn without_task(holding: Holding) -> Turn
     ensures { result ≡ turn holding }
@@ -20,7 +20,7 @@ pub(crate) fn without_task(holding: Holding) -> Turn
     }
 }
 
-/// The turn after the answer, taken or refused, to the step of an action.
+/// The turn of a worker after the answer to its action's step, which was taken or refused.
 #[inline(always)]
 pub(crate) fn done(worker: Worker, action: Action, answer: Result<DidOf<Leaf>, Refusal>) -> Turn
     ensures { result ≡ turn_after worker (Next action) answer }
@@ -37,7 +37,8 @@ pub(crate) fn done(worker: Worker, action: Action, answer: Result<DidOf<Leaf>, R
     }
 }
 
-/// What a worker holds whose action was refused.
+/// What a worker holds after its action was refused: where quota ran out, or the act can't be done, it is about
+/// to give the job up; after any other refusal it holds nothing.
 #[inline(always)]
 fn refused(action: Action, refusal: Refusal) -> Holding
     ensures { turn result ≡ turn_after 0 (Next action) (Err refusal) }
@@ -50,7 +51,8 @@ fn refused(action: Action, refusal: Refusal) -> Holding
     }
 }
 
-/// What a worker holds after the answer to its offer to spend a job.
+/// What a worker holds after the answer to its offer to spend a job: its action again, where the job may go on
+/// (`NotSpent`), else nothing.
 #[inline(always)]
 pub(crate) fn spent(action: Action, answer: Result<DidOf<Leaf>, Refusal>) -> Holding
     ensures { turn result ≡ turn_after 0 (GivingUp action) answer }
@@ -61,7 +63,7 @@ pub(crate) fn spent(action: Action, answer: Result<DidOf<Leaf>, Refusal>) -> Hol
     }
 }
 
-/// What a worker holds after what a step on a frame did.
+/// What a worker holds after a step on this frame did this.
 #[inline(always)]
 fn held_after(frame: FrameId, did: DidOf<Leaf>) -> Holding
     ensures { result ≡ held_after frame did }
@@ -77,7 +79,8 @@ fn held_after(frame: FrameId, did: DidOf<Leaf>) -> Holding
     }
 }
 
-/// The frame that became ready by what a step did.
+/// The frame that became ready by what a step did: a child that was opened, or a parent that was woken; None
+/// where there is none.
 #[inline(always)]
 fn readied(did: DidOf<Leaf>) -> Option<FrameId>
     ensures { result ≡ readied did }

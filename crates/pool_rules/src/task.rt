@@ -1,12 +1,12 @@
 //! Tasks: frames that became ready.
 use frame_tree::FrameId;
 
-/// A frame that became ready, and whose it is: the number of the worker that made it ready, or 0 for
-/// the hall. It is a hint and no right: whether the frame is still to be had is asked of the hall.
+/// A frame that became ready, and the worker whose task it is. It is a hint: the hall may refuse the frame when a
+/// worker comes for it, as another may have taken it or it may be gone.
 #[derive(Clone, Copy, Debug, PartialEq, Eq)]
 pub struct Task {
     /// The frame.
     pub frame: FrameId,
-    /// Its home, 0 to 32.
+    /// The number of the worker that made the frame ready, 1 to 32, or 0 for the hall.
     pub home: u8,
 }

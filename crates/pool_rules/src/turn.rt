@@ -13,7 +13,7 @@ use sched_rules::{DidOf, Refusal, StepOf, Worker};
 /// What a worker does next with a frame, by one step of the hall.
 #[derive(Clone, Copy, Debug, PartialEq, Eq)]
 pub enum Action {
-    /// To get the frame of a task: it is taken where its home is the worker, else stolen.
+    /// To get the frame of a task: to take it where the task's home is this worker, else to steal it.
     Get(Task),
     /// To advance the frame that it runs.
     Run(FrameId),
@@ -32,17 +32,17 @@ pub enum Holding {
     Nothing,
     /// A frame, and what it does with it next.
     Next(Action),
-    /// A frame that it computes outside the hall's lock, and what from.
+    /// A frame that it computes outside the hall's lock, and the leaf that it computes.
     Computing(FrameId, Leaf),
-    /// A frame whose step was refused for want of quota, or as its act can't be done: it offers to
-    /// give its job up, and where that is refused, the step again.
+    /// An action whose step was refused, as quota ran out or the act can't be done. The worker offers to spend
+    /// the frame's job; where that is refused since the job may go on, it offers the action's step again.
     GivingUp(Action),
 }
 
-/// What a worker's turn leaves.
+/// What a worker's turn comes to.
 #[derive(Clone, Copy, Debug, PartialEq, Eq)]
 pub struct Turn {
-    /// What it holds now.
+    /// What the worker holds after it.
     pub holding: Holding,
     /// The frame that became ready by its step, if one did.
     pub task: Option<Task>,
@@ -66,7 +66,7 @@ impl Action {
         }
     }
 
-    /// The core's step that does it. A task whose home is `worker` is taken, any other is stolen from its home.
+    /// The core's step for the action. A task whose home is `worker` is taken, any other is stolen from its home.
     #[inline(always)]
     pub fn step(&self, worker: Worker) -> StepOf<LeafAnswer>
         ensures { result ≡ step_of worker self.now }
@@ -104,7 +104,8 @@ impl Holding {
         }
     }
 
-    /// What a worker holds after the answer to the step that it offered, and the task of the frame that the step made ready. One that offers nothing keeps what it holds.
+    /// What a worker holds after the answer to the step that it offered, and the task of the frame that the step
+    /// made ready. One that offers no step keeps what it holds.
     #[inline(always)]
     pub fn turned(self, worker: Worker, answer: Result<DidOf<Leaf>, Refusal>) -> Turn
         ensures { result ≡ turn_after worker self answer }

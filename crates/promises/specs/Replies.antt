@@ -14,8 +14,8 @@ use Rattle.jamboree_core.specs.sched_laws.Fitted.{origins_of}
 use Rattle.jamboree_core.specs.Searching.{origin_at}
 use Rattle.promises.specs.Tenants.{SearchStep}
 
--- entry i of a table of a board to a depth: it is of choice i in order, and what it says of that choice's value is true: low, the value is at most the score;
--- high, at least; exact, it is the score. The best choice's is exact
+-- entry i of a table of a board to a depth: it is that of choice i, in order, and is true of this choice's value.
+-- Low: the value is at most the score; high: at least; exact: it is the score. The best choice's entry is exact
 pub record IsTrueEntry (depth : ℕ) (board : List Cell) (i : ℕ) (entry : Bound) : Type 0 where
   pub of : slice_get (entered depth board) i ≡ Some entry.choice
   pub low : entry.kind ≡ Low → choice_value depth board entry.choice ≤ℤ entry.score
@@ -23,12 +23,13 @@ pub record IsTrueEntry (depth : ℕ) (board : List Cell) (i : ℕ) (entry : Boun
   pub exact : entry.kind ≡ Exact → choice_value depth board entry.choice ≡ entry.score
   pub best : best_choice depth board ≡ Some entry.choice → entry.kind ≡ Exact
 
--- a table of a board to a depth: as many entries as choices (none at depth 0), each true
+-- a table of a board to a depth: one true entry for each choice, and none at depth 0
 pub record IsTrueTable (depth : ℕ) (board : List Cell) (entries : List Bound) : Type 0 where
   pub all : length entries ≡ length (entered depth board)
   pub each : (i : ℕ) (entry : Bound) → slice_get entries i ≡ Some entry → IsTrueEntry depth board i entry
 
--- words that a job kept reply to a board, by its two words, and a depth
+-- the words that a job kept are the reply to a board (its two words) and a depth: minimax value, best choice and
+-- a true table
 pub record IsReplyInWords (own opp depth : ℕ) (words : List ℕ) : Type 0 where
   pub own_is : slice_index words 0 ≡ own
   pub opp_is : slice_index words 1 ≡ opp
@@ -37,12 +38,13 @@ pub record IsReplyInWords (own opp depth : ℕ) (words : List ℕ) : Type 0 wher
   pub choice : slice_index words 9 ≡ coded (best_choice depth (cells_of own opp))
   pub table : IsTrueTable depth (cells_of own opp) (bounds_of (frame_of words))
 
--- of these steps of a tenant, the Submit of this number asked for the search of a board, by its two words, to a depth of at most 12
+-- among a tenant's steps, the Submit of this number, from 1 on, asked for the search of a board (its two words)
+-- to a depth of at most 12
 pub record IsAskedBy (steps : List SearchStep) (job own opp depth : ℕ) : Type 0 where
   pub shallow : depth ≤ 12
   pub words : origin_at (origins_of steps) job ≡ Some (root_words own opp depth)
 
--- these words reply to what the Submit of this number asked for
+-- these words are the reply to what the Submit of this number asked for
 pub record RepliesToSubmit (steps : List SearchStep) (job : ℕ) (words : List ℕ) : Type 0 where
   pub own : ℕ
   pub opp : ℕ
@@ -59,7 +61,7 @@ pub record IsValueOfSubmit (steps : List SearchStep) (job : ℕ) (value : ℤ) (
   pub value_is : value ≡ minimax depth (cells_of own opp)
   pub choice_is : choice ≡ best_choice depth (cells_of own opp)
 
--- entry i of the table of what the Submit of this number asked for
+-- this is a true entry i of a table of what the Submit of this number asked for
 pub record IsEntryOfSubmit (steps : List SearchStep) (job i : ℕ) (entry : Bound) : Type 0 where
   pub own : ℕ
   pub opp : ℕ

@@ -22,7 +22,7 @@ use Rattle.session.specs.Turns.{entries_text}
 use Rattle.promises.specs.Asking.{AsksFor}
 use Rattle.promises.specs.Replies.{IsTrueTable}
 
--- a line that was read, and the text that was answered
+-- a line that was read, with the text that answered it
 abbrev pub Said : Type 0
 Said = LineText × List ℕ
 
@@ -30,13 +30,14 @@ Said = LineText × List ℕ
 abbrev pub begins : List ℕ → List ℕ → Bool
 begins text word = starts_with nat_eq text word
 
--- the last of the lines comes foremost. None of these was answered by WELCOME or BYE, so that the tenant stayed the same
+-- none of these lines (the last comes first) was answered by WELCOME or BYE, so the session's tenant stayed the
+-- same
 abbrev pub KeepTenant : List Said → Type 0
 KeepTenant [] = Unit {0}
 KeepTenant (said ∷ before) = (begins said.1 (codes "WELCOME ") ≡ false) × (begins said.1 (codes "BYE") ≡ false) × KeepTenant before
 
--- of the lines before, the last foremost, one was `ASK`, a word, a space and a text, and was answered by `JOB` and this number; and it
--- asked for the position to the depth
+-- one of the lines before (the last comes first) was `ASK`, a word, a space and a text, which ask for this
+-- position to this depth; it was answered by `JOB` and this number, and the tenant stayed the same since
 pub record IsAskedAs (before : List Said) (job depth : ℕ) (position : Position) : Type 0 where
   pub later : List Said
   pub word : List ℕ
@@ -64,20 +65,21 @@ pub record IsTrueTableText (before : List Said) (text : List ℕ) : Type 0 where
   pub is : text ≡ codes "TABLE " ++ decimal job ++ entries_text entries
   pub true_of : IsTrueTable depth (cells position.board) entries
 
--- a text that begins with DONE or TABLE is such a one; and one that begins with JOB bears the number after that of the last ASK that
--- was answered so
+-- an answer is true, by the lines before it: if it begins with DONE or TABLE, it is a true DONE or TABLE text; if
+-- it begins with JOB, its number is one more than the ASK lines of this tenant that were answered by JOB so far
 pub record IsTrueText (before : List Said) (text : List ℕ) : Type 0 where
   pub done : begins text (codes "DONE ") ≡ true → IsTrueDoneText before text
   pub table : begins text (codes "TABLE ") ≡ true → IsTrueTableText before text
   pub job : begins text (codes "JOB ") ≡ true → text ≡ codes "JOB " ++ decimal (length (asks_of_lines before) + 1)
 
--- so is each answer to these lines, after those before them
+-- each of these answers is true, by the lines before it; the last of the lines before all of them comes first
 abbrev pub AreTrueTexts : List Said → List Said → Type 0
 AreTrueTexts before [] = Unit {0}
 AreTrueTexts before (said ∷ more) = IsTrueText before said.1 × AreTrueTexts (said ∷ before) more
 
--- a session by its bytes: these blocks were read, and these pieces written. The lines of what was read, up to a line BYE, are answered
--- by these texts, one for each, and these with LF are what was written (up to a fault, as it says); and each is true
+-- a session by its bytes: these blocks were read, and these pieces written. The lines of what was read, up to a
+-- line BYE, are answered by one true text each, and these texts, each with LF, are what was written; where the
+-- session ended by a fault, as far as that fault says
 pub record TrueBytes {S K : Type 0} (gives : S → ReadAnswer → S → Type 0) (takes : K → WriteAnswer → K → Type 0) (source : S) (sink : K) (source' : S) (sink' : K) (r : Result End SessionFault) : Type 0 where
   pub blocks : List (List ℕ)
   pub last : List ReadAnswer

@@ -15,7 +15,7 @@ use Rattle.line_io.specs.Writes.{writes_of, written_texts}
 use Rattle.promises.specs.Asking.{AsksFor}
 use Rattle.promises.specs.Sessions.{begins}
 
--- the minimax value of a position to a depth, and its best choice
+-- the text of the minimax value of a position to a depth, and of its best choice
 abbrev pub solution : ℕ → Position → List ℕ
 solution depth position = value_text (minimax depth (cells position.board)) (best_choice depth (cells position.board))
 
@@ -26,21 +26,21 @@ pub record IsQuestion (line : LineText) (depth : ℕ) (position : Position) : Ty
   pub is : line ≡ Whole (word ++ byte " " ∷ text)
   pub asks : AsksFor word text depth position
 
--- a text that doesn't begin with ERR is the solution of what its line asks for; and a line that asks for a position to a depth is answered
--- by its solution, or by ERR 19 where memory ran out
+-- a text is a true answer to its line. One that doesn't begin with ERR is the solution of what the line asks for;
+-- and a line that asks for a position to a depth is answered by the solution, or by ERR 19 where memory ran out
 pub record IsTrueSolution (line : LineText) (text : List ℕ) : Type 0 where
   pub solved : begins text (codes "ERR ") ≡ false → (depth : ℕ) × (position : Position) × IsQuestion line depth position × (text ≡ solution depth position)
   pub answered : (depth : ℕ) (position : Position) → IsQuestion line depth position → (text ≡ solution depth position) ⊎ (text ≡ error_text 19)
 
--- so is each of these texts, one for each line
+-- there is one text for each line, and each is a true answer to its line
 abbrev pub AreTrueSolutions : List LineText → List (List ℕ) → Type 0
 AreTrueSolutions [] [] = Unit {0}
 AreTrueSolutions [] (text ∷ texts) = ⊥
 AreTrueSolutions (line ∷ lines) [] = ⊥
 AreTrueSolutions (line ∷ lines) (text ∷ texts) = IsTrueSolution line text × AreTrueSolutions lines texts
 
--- `solve` by its bytes: these blocks were read, and these pieces written: a text for each line of what was read, with LF (up to a fault, as
--- it says)
+-- `solve` by its bytes: these blocks were read, and these pieces written, which are a true answer, with LF, to
+-- each line of what was read; where `solve` ended by a fault, as far as that fault says
 pub record SolvedBytes {S K : Type 0} (gives : S → ReadAnswer → S → Type 0) (takes : K → WriteAnswer → K → Type 0) (source : S) (sink : K) (source' : S) (sink' : K) (r : Result (Unit {0}) LineFault) : Type 0 where
   pub blocks : List (List ℕ)
   pub last : List ReadAnswer

@@ -13,10 +13,11 @@ use Rattle.jamboree_core.specs.jamboree_rules.declared.leaf.Leaf.{Leaf}
 use Rattle.jamboree_core.specs.jamboree_rules.declared.leaf.LeafAnswer.{LeafAnswer}
 use Rattle.jamboree_core.specs.jamboree_rules.Procedure.{jamboree}
 
--- a step of searches, and what it is answered
+-- a step of a core of searches
 abbrev pub SearchStep : Type 0
 SearchStep = StepOf LeafAnswer
 
+-- what a core of searches answers to a step: what it did, or why it is refused
 abbrev pub SearchAnswer : Type 0
 SearchAnswer = Result (DidOf Leaf) Refusal
 
@@ -24,15 +25,15 @@ SearchAnswer = Result (DidOf Leaf) Refusal
 abbrev pub own_steps : ℕ → List SearchStep → List SearchAnswer → List SearchStep
 own_steps number steps answers = only number (taken steps answers)
 
--- two tenants don't differ: each job stands as it does, with the same words where it is done; there are the same frames, in the same
--- states, with the same words; the same is reserved, and the same is left
+-- two tenants are in the same state: the same jobs, each with the same words where it is done; the same frames,
+-- in the same states and with the same words; and the same reserved and left
 pub record IsSameTenant (one other : Tenant) : Type 0 where
   pub jobs : one.jobs ≡ other.jobs
   pub frames : one.frames ≡ other.frames
   pub reserve : one.reserve ≡ other.reserve
   pub left : left one ≡ left other
 
--- the same of tenants that may not be there: both are, or neither is
+-- two tenants that may not be there: both are and are in the same state, or neither is
 abbrev pub AreSame : Option Tenant → Option Tenant → Type 0
 AreSame None None = Unit {0}
 AreSame None (Some other) = ⊥
@@ -45,11 +46,12 @@ AreAdmissionsTaken [] answers = Unit {0}
 AreAdmissionsTaken (step ∷ steps) [] = Unit {0}
 AreAdmissionsTaken (step ∷ steps) (answer ∷ answers) = (is_admission step ≡ true → is_ok answer ≡ true) × AreAdmissionsTaken steps answers
 
--- a tenant as it stands after the first steps of a list: what its own taken steps give it alone
+-- the tenant as it stands after the first steps of a list: what its own taken steps give it when they are run
+-- alone
 abbrev pub stands : ℕ → ℕ → List SearchStep → List SearchAnswer → Option Tenant
 stands grain number steps answers = alone (jamboree grain) (own_steps number steps answers)
 
--- the worker that has to be free for a step
+-- the worker that has to be free for a step; None where none has to be
 abbrev pub free_worker : SearchStep → Option ℕ
 free_worker (Take worker name) = Some worker
 free_worker (Steal worker from name) = Some worker
@@ -65,18 +67,21 @@ pub record IsBusyWithAnother (grain worker number : ℕ) (steps : List SearchSte
   pub there : stands grain another steps answers ≡ Some tenant
   pub busy : is_busy_in worker tenant.frames ≡ true
 
--- after these steps, answered so, a step is refused for its own tenant's state, which its tenant alone is refused for by the same number
+-- after these steps, which were answered so, a step is refused for its own tenant's state: the tenant alone would
+-- refuse it in the same way
 abbrev pub IsForOwnState : ℕ → List SearchStep → List SearchAnswer → SearchStep → Refusal → Type 0
 IsForOwnState grain steps answers step refusal = lone_refusal (jamboree grain) (stands grain (tenant_of step) steps answers) step ≡ Some refusal
 
--- or by Busy, since the worker that has to be free for it is busy with another tenant
+-- after these steps, which were answered so, a step is refused with Busy, since the worker that has to be free
+-- for it is busy with another tenant
 pub record IsForBusyWorker (grain : ℕ) (steps : List SearchStep) (answers : List SearchAnswer) (step : SearchStep) (refusal : Refusal) : Type 0 where
   pub is : refusal ≡ Busy
   pub worker : ℕ
   pub free : free_worker step ≡ Some worker
   pub elsewhere : IsBusyWithAnother grain worker (tenant_of step) steps answers
 
--- each step of a list that is no admission and was refused was refused for one of the two
+-- each step of a list that is no Admit or AdmitMore and was refused was refused for its own tenant's state or for
+-- a busy worker
 abbrev pub AreRefusedForThese : ℕ → List SearchStep → List SearchAnswer → Type 0
 AreRefusedForThese grain steps answers =
     (before later : List SearchStep) (said more : List SearchAnswer) (step : SearchStep) (refusal : Refusal) →

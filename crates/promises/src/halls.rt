@@ -9,8 +9,9 @@ use hall::{Hall, Outcome};
 use othello_eval::{Bound, Valued};
 use std::alloc::Allocator;
 
-/// Of two halls whose searches have the same grain: a tenant whose journals, the lists of its own taken
-/// steps, are the same in both doesn't differ. What else was offered to either hall doesn't show.
+/// Two halls whose searches have the same grain: a tenant whose journal, the list of its own taken steps, is the
+/// same in both doesn't differ between them, whatever else was offered to either. The code only makes this known:
+/// it changes nothing.
 pub fn same_journals<A: Allocator, B: Allocator>(one: &Hall<A>, other: &Hall<B>)
     ensures { one.now.grain ≡ other.now.grain → (number : ℕ) → journal_in one.now.journals number ≡ journal_in other.now.journals number →
         AreSame (tenant_in one.now.shared.tenants number) (tenant_in other.now.shared.tenants number) }
@@ -19,8 +20,8 @@ pub fn same_journals<A: Allocator, B: Allocator>(one: &Hall<A>, other: &Hall<B>)
     let _other = other.count();
 }
 
-/// The value and the choice that a hall tells of a job that is done: the minimax value and the best
-/// choice of the board to the depth that the Submit of its number asked for, by its tenant's journal.
+/// The value and the choice that a hall tells of a job that is done, else None: the minimax value and the best
+/// choice of the board to the depth that the Submit of the job's number asked for, by its tenant's journal.
 pub fn value_in<A: Allocator>(hall: &Hall<A>, tenant: u64, job: u64) -> Option<Valued>
     ensures { IfSome result (λ told. IsValueOfSubmit (journal_in hall.now.journals tenant) job told.value told.choice) }
 {
@@ -34,8 +35,9 @@ pub fn value_in<A: Allocator>(hall: &Hall<A>, tenant: u64, job: u64) -> Option<V
     }
 }
 
-/// An entry of the table that a hall tells of a job that is done, by its number from 0 on: it is true of
-/// that choice of the board to the depth that the Submit of the job's number asked for.
+/// The entry of this number, from 0, in the table that a hall tells of a job that is done: it is true of that
+/// choice of the board to the depth that the Submit of the job's number asked for. None where the job isn't done,
+/// or its table has no such entry.
 pub fn entry_in<A: Allocator>(hall: &Hall<A>, tenant: u64, job: u64, number: usize) -> Option<Bound>
     ensures { IfSome result (λ entry. IsEntryOfSubmit (journal_in hall.now.journals tenant) job number entry) }
 {

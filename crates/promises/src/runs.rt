@@ -25,7 +25,8 @@ pub struct After<A: Allocator> {
     pub answers: Vec<Result<Did<Jamboree>, Refusal>, A>,
 }
 
-/// A list of searches on a new core of these totals, by any workers for any tenants.
+/// Offers a list of steps, in which each Submit asks for a search, to a new core of these totals, by any workers
+/// for any tenants. It fails only where a growth was refused.
 fn ran<A>(
     alloc: A,
     procedure: Jamboree,
@@ -43,11 +44,11 @@ where
     Ok(After { core, answers })
 }
 
-/// A list of searches on a new core of these totals, by any workers for any tenants. A step that is no
-/// admission is refused only for its own tenant's state, or by Busy where the worker that has to be
-/// free for it is busy with another tenant (`refused`). Each job that is done, of any tenant, replies
-/// to the board and the depth of the Submit of its number: the minimax value, the best choice, and a
-/// true table (`replies`).
+/// Offers a list of steps, in which each Submit asks for a search, to a new core of these totals, by any workers
+/// for any tenants. A step that is no Admit or AdmitMore is refused only for its own tenant's state, or with Busy
+/// where the worker that has to be free for it is busy with another tenant (`refused`). Each job that is done, of
+/// any tenant, replies to the board and the depth of the Submit of its number: the minimax value, the best
+/// choice, and a true table (`replies`). It fails only where a growth was refused.
 pub fn run<A: Allocator + Clone>(
     alloc: A,
     procedure: Jamboree,
@@ -64,11 +65,12 @@ pub fn run<A: Allocator + Clone>(
     ran(alloc, procedure, config, steps)
 }
 
-/// Two lists of searches on new cores of any totals, by any workers for any tenants. A tenant whose own
-/// taken steps are the same in both doesn't differ after them, and was answered the same: no other
-/// tenant disturbs it (`undisturbed`). So it is where the second list is the tenant's own taken steps
-/// of the first, all other tenants' steps removed, and the admissions in it are taken, since there is
-/// room and memory: then each of its steps is taken too, and answered as in the first (`alone`).
+/// Offers two lists of steps, in which each Submit asks for a search, to two new cores of any totals, by any
+/// workers for any tenants. A tenant whose own taken steps are the same in both is in the same state after both,
+/// and got the same answers: no other tenant disturbs it (`undisturbed`). That also holds where the second list
+/// is the tenant's own taken steps of the first, without all other tenants' steps, if the admissions in it are
+/// taken, for which there must be room and memory: then each of its steps is taken, and answered as in the first
+/// (`alone`). It fails only where a growth was refused.
 pub fn run_two<A: Allocator + Clone>(
     alloc: A,
     procedure: Jamboree,

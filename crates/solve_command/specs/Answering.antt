@@ -10,24 +10,26 @@ use Rattle.command_line.specs.declared.faults.WordsFault.{WordsFault}
 use Rattle.command_line.specs.CommandLine.{options_asked, program}
 use Rattle.command_line.specs.Faults.{IsRefusal, status_of}
 
--- the words are read as what they ask for, and refused only for a fault that they have or for want of memory
+-- what the words of a command line are read as: what they ask for, where they have no fault; or they are refused,
+-- for a fault that they have or for want of memory
 abbrev pub IsReadOf : List Text → Result Options WordsFault → Type 0
 IsReadOf words (Ok options) = (options_asked words ≡ Some options) × (fault_of program words ≡ [])
 IsReadOf words (Err fault) = IsRefusal words fault
 
--- 0 where the input has ended, and 1 where it or the output failed
+-- the exit status of a run: 0 where the input has ended, 1 where it or the output failed
 abbrev pub status_of_run : Result (Unit {0}) LineFault → ℕ
 status_of_run (Ok _) = 0
 status_of_run (Err _) = 1
 
 module _ {S K : Type 0} (gives : S → ReadAnswer → S → Type 0) (takes : K → WriteAnswer → K → Type 0) (source : S) (sink : K) (source' : S) (sink' : K) where
-  -- the lines of the input are answered, with counts or without; the grain changes nothing of it
+  -- the lines of the input are answered, at true with numbers of positions, at false without; the grain has no
+  -- part in it
   abbrev pub IsAnsweredRun : Bool → Result (Unit {0}) LineFault → Type 0
   IsAnsweredRun false r = SolvedRun gives takes source sink source' sink' r
   IsAnsweredRun true r = VisitedRun gives takes source sink source' sink' r
 
-  -- what is done for the words by a program without a server, and the exit status: nothing is read where the words are refused or ask
-  -- for a server
+  -- what a program without a server does for the words, and its exit status: `solve` answers the input's lines.
+  -- Nothing is read where the words are refused (the fault's status) or ask for a server (status 1)
   abbrev pub IsSolvedAsAsked : Result Options WordsFault → ℕ → Type 0
   IsSolvedAsAsked (Ok (Solve grain visited)) status = (r : Result (Unit {0}) LineFault) × IsAnsweredRun visited r × (status ≡ status_of_run r)
   IsSolvedAsAsked (Ok (Serve sessions port workers segments nodes grain)) status = (source' ≡ source) × (status ≡ 1)

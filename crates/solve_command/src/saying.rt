@@ -6,8 +6,8 @@ use command_line::WordsFault;
 use line_io::{Sink, write_text};
 use std::fmt::{self, Display, Write as _};
 
-/// Says why the words are not followed, or what they ask to be told: to the errors, and to the output where it is help
-/// or the version. Gives the exit status.
+/// Prints why the words of the command line are refused on `errors`, or the help or the version that they ask for
+/// on `sink`. It returns the exit status.
 pub fn refuse<K: Sink, E: Sink>(fault: &WordsFault, sink: &mut K, errors: &mut E) -> u8
     ensures { result ≡ status_of fault.now }
 {
@@ -19,12 +19,12 @@ pub fn refuse<K: Sink, E: Sink>(fault: &WordsFault, sink: &mut K, errors: &mut E
     fault.status()
 }
 
-/// Writes a line of the program's own, as far as it can be written.
+/// Writes a line that begins with the program's name. Where the sink fails, what is left of it is lost.
 pub fn say<K: Sink, D: Display + Drop>(sink: &mut K, text: D) {
     let _ = writeln!(Pen(sink), "othello: {text}");
 }
 
-/// Writes a text.
+/// Writes a text. Where the sink fails, what is left of it is lost.
 fn put<K: Sink, D: Display + Drop>(sink: &mut K, text: D) {
     let _ = write!(Pen(sink), "{text}");
 }

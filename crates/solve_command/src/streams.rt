@@ -27,7 +27,7 @@ impl Streams<FromReader<Stdin>, FromWriter<Stdout>, FromWriter<Stderr>> {
 
 /// An input of the program.
 pub trait Input: Source {
-    /// Whether somebody types it.
+    /// Whether it is a terminal.
     fn is_typed(&self) -> bool;
 }
 
@@ -39,7 +39,7 @@ impl<R: Read + IsTerminal> Input for FromReader<R> {
 
 /// An output of the program.
 pub trait Output: Sink {
-    /// Whether a write failed since nobody reads the output any more.
+    /// Whether a write failed as its reader has closed the output (a broken pipe).
     fn is_closed(&self) -> bool;
 }
 

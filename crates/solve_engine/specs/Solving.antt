@@ -14,7 +14,8 @@ use Rattle.protocol.specs.Questions.{QuestionOf, question}
 use Rattle.protocol.specs.Words.{split_at_space}
 use Rattle.protocol.specs.Texts.{value_text, visited_text, error_text}
 
--- 21 where there is no space; the position is all that follows the first space
+-- what a line asks for, by its two parts before and after the first space, a depth and a position; fault 21 where
+-- there is no space
 abbrev pub words_question : Option (List ℕ × List ℕ) → Result QuestionOf ProtocolFault
 words_question None = Err NoCommand
 words_question (Some words) = question words.0 words.1
@@ -24,36 +25,39 @@ abbrev pub line_question : LineText → Result QuestionOf ProtocolFault
 line_question (Whole bytes) = words_question (split_at_space bytes)
 line_question TooLong = Err LongLine
 
--- what is replied to a depth and a board, and a fault by its number
+-- the answer to what a line asks for: what `reply` says of the depth and the board, or the number of the line's
+-- fault
 abbrev pub question_answer : (ℕ → List Cell → List ℕ) → Result QuestionOf ProtocolFault → List ℕ
 question_answer reply (Ok asked) = reply asked.depth asked.board
 question_answer reply (Err fault) = error_text (fault_number fault)
 
--- the answer to a line, where this is replied to a depth and a board
+-- the answer to a line, where `reply` says what is answered to a depth and a board
 abbrev pub answer_to : (ℕ → List Cell → List ℕ) → LineText → List ℕ
 answer_to reply line = question_answer reply (line_question line)
 
--- the minimax value of a board to a depth, and its best choice
+-- the text of the minimax value of a board to a depth, and of its best choice
 abbrev pub solved : ℕ → List Cell → List ℕ
 solved depth board = value_text (minimax depth board) (best_choice depth board)
 
--- the same, and a number of positions
+-- the text of the minimax value of a board to a depth, of its best choice, and of this number of positions
 abbrev pub solved_with_count : ℕ → ℕ → List Cell → List ℕ
 solved_with_count count depth board = visited_text (minimax depth board) (best_choice depth board) count
 
--- what is replied where it is known whether a growth was refused: ERR 19 where one was
+-- the text of value and best choice, or ERR 19 where a growth was refused (true)
 abbrev pub solved_unless : Bool → ℕ → List Cell → List ℕ
 solved_unless true depth board = error_text 19
 solved_unless false depth board = solved depth board
 
--- what `solve` answers to a line, and what it answers where a growth was refused; a line with a fault asks for no memory
+-- what `solve` answers to a line, where no growth is refused
 abbrev pub solve_line : LineText → List ℕ
 solve_line line = answer_to solved line
 
+-- what `solve` answers to a line, where it is known whether a growth was refused (true). A line with a fault
+-- takes no memory, so its answer is the fault's in any case
 abbrev pub solve_line_unless : Bool → LineText → List ℕ
 solve_line_unless refused line = answer_to (solved_unless refused) line
 
--- some text that `solve` may answer to a line
+-- a text is one that `solve` may answer to a line
 abbrev pub IsSolvedLine : LineText → List ℕ → Type 0
 IsSolvedLine line text = (refused : Bool) × (text ≡ solve_line_unless refused line)
 
@@ -61,26 +65,29 @@ IsSolvedLine line text = (refused : Bool) × (text ≡ solve_line_unless refused
 abbrev pub solve_out : List ℕ → List ℕ
 solve_out bytes = answers_to solve_line (lines_of bytes)
 
--- the same for lines of which some met a refused growth: true stands for each line that did, in order, and a line after
--- the end of the list met none
+-- the answers, each with LF, to lines of which some met a refused growth: true stands for each line that did, in
+-- order, and a line after the end of that list met none
 abbrev pub answers_unless : List Bool → List LineText → List ℕ
 answers_unless refused [] = []
 answers_unless [] (line ∷ lines) = with_newline (solve_line line) ++ answers_unless [] lines
 answers_unless (flag ∷ refused) (line ∷ lines) = with_newline (solve_line_unless flag line) ++ answers_unless refused lines
 
+-- what `solve` writes for an input, some of whose lines met a refused growth, as in `answers_unless`
 abbrev pub solve_out_unless : List Bool → List ℕ → List ℕ
 solve_out_unless refused bytes = answers_unless refused (lines_of bytes)
 
--- what `solve` does with an input: some growths were refused, and what is written is the answers to the lines due, ERR 19 to those
--- that met one
+-- what `solve` does with an input: what is written is the answers to the lines that are due, ERR 19 for those
+-- that met a refused growth
 abbrev pub SolvedRun : {S K : Type 0} → (S → ReadAnswer → S → Type 0) → (K → WriteAnswer → K → Type 0) → S → K → S → K → Result (Unit {0}) LineFault → Type 0
 SolvedRun gives takes source sink source' sink' r = (refused : List Bool) × FunctionRun gives takes (solve_out_unless refused) source sink source' sink' r
 
--- with `--visited` each answer has a third word, a number of positions
+-- a text is an answer of `solve --visited` to a line: value, move and some number of positions, or the line's
+-- fault
 abbrev pub IsVisitedLine : LineText → List ℕ → Type 0
 IsVisitedLine line text = (count : ℕ) × (text ≡ answer_to (solved_with_count count) line)
 
--- what `solve --visited` does with an input: each line due is answered by a value, a move and a number of positions
+-- what `solve --visited` does with an input: each line that is due is answered by value, move and a number of
+-- positions, or by its fault
 abbrev pub VisitedRun : {S K : Type 0} → (S → ReadAnswer → S → Type 0) → (K → WriteAnswer → K → Type 0) → S → K → S → K → Result (Unit {0}) LineFault → Type 0
 VisitedRun gives takes source sink source' sink' r =
     Run gives takes (λ (_ : Unit {0}) line text (_ : Unit {0}). IsVisitedLine line text) source sink tt source' sink' tt r

@@ -12,7 +12,7 @@ const ANSWER_BYTES: usize = 40;
 /// An answer: of at most 37 bytes, and an LF.
 pub(crate) type SolveText = ArrayVec<u8, ANSWER_BYTES>;
 
-/// A value and a move, with a space between them.
+/// A value and a move, with a space between them; the move is `-` where there is none.
 pub(crate) fn value_text(value: i32, choice: Option<Choice>) -> SolveText
     ensures text { result.items ≡ value_text value choice }
     ensures short { length result.items ≤ 16 }
@@ -24,7 +24,7 @@ pub(crate) fn value_text(value: i32, choice: Option<Choice>) -> SolveText
     text
 }
 
-/// A value, a move and the number of positions that were entered.
+/// A value, a move and the number of positions that the search entered, with spaces between them.
 pub(crate) fn visited_text(value: i32, choice: Option<Choice>, visited: u64) -> SolveText
     ensures text { result.items ≡ visited_text value choice visited }
     ensures short { length result.items ≤ 37 }
@@ -35,7 +35,7 @@ pub(crate) fn visited_text(value: i32, choice: Option<Choice>, visited: u64) -> 
     text
 }
 
-/// The fault of this number.
+/// The text `ERR` and this number.
 pub(crate) fn error_text(number: u8) -> SolveText
     ensures text { result.items ≡ error_text number }
     ensures short { length result.items ≤ 7 }

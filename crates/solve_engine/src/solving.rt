@@ -19,7 +19,8 @@ use std::io::{Read, Write};
 /// Ends each answer.
 const LF: u8 = 10;
 
-/// The answer to a line, each search being one job of a core that is made for it.
+/// The answer to a line: value and move, or its first fault. Each search is one job of a core that is made for
+/// it; where a growth of that was refused, the answer is `ERR 19`.
 fn solve_line<A: Allocator + Copy>(alloc: A, grain: u8, line: Line<'_>) -> SolveText
     requires { grain ≤ 6 }
     ensures text { IsSolvedLine (text_of line.entry) result.items }
@@ -34,7 +35,8 @@ fn solve_line<A: Allocator + Copy>(alloc: A, grain: u8, line: Line<'_>) -> Solve
     }
 }
 
-/// The answer to a line, each search being a serial one, with the number of positions that it entered.
+/// The answer to a line: value, move and the number of positions that one serial search entered; or the line's
+/// first fault.
 fn visited_line(line: Line<'_>) -> SolveText
     ensures text { IsVisitedLine (text_of line.entry) result.items }
     ensures short { length result.items ≤ 37 }
@@ -48,7 +50,7 @@ fn visited_line(line: Line<'_>) -> SolveText
     }
 }
 
-/// Answers each line by its value and move.
+/// Answers each line by value and move; `text` is the last answer, with LF.
 #[derive(Drop)]
 struct Solver<A> {
     alloc: A,
@@ -72,7 +74,8 @@ impl<A: Allocator + Copy> Answer for Solver<A> {
     }
 }
 
-/// Answers each line by its value, its move and the number of positions that the search entered.
+/// Answers each line by value, move and the number of positions that the search entered; `text` is the last
+/// answer, with LF.
 #[derive(Drop)]
 struct VisitedSolver {
     text: SolveText,
@@ -96,13 +99,13 @@ impl Answer for VisitedSolver {
 /// Answers each line of the source, as soon as it is complete, by a line `value move` on the sink.
 ///
 /// Each line that asks for a search is one job of a core that takes its memory from `alloc` and gives it back;
-/// frames of a remaining depth of at most `grain`, 0 to 6, are searched serially. What is written doesn't depend on
-/// the grain.
+/// frames of a remaining depth of at most `grain`, 0 to 6, are searched serially. What is written doesn't depend
+/// on the grain.
 ///
 /// At Ok the source has given its end, and what is written is `solve_out` of what was read, save that a line for
 /// which a growth was refused is answered `ERR 19`. Fault 1 comes only where the source failed, and fault 3 only
-/// where 2^62 bytes were read: what is written then is the same of the bytes up to the last LF. Fault 2 comes only
-/// where the sink failed or took no byte, and what is written then is a beginning of that.
+/// where 2^62 bytes were read: what is written then is the answers to the lines up to the last LF. Fault 2 comes
+/// only where the sink failed or took no byte, and what is written then is a beginning of the answers.
 pub fn solve<A: Allocator + Copy, S: Source, K: Sink>(
     alloc: A,
     source: &mut S,
@@ -120,8 +123,8 @@ pub fn solve<A: Allocator + Copy, S: Source, K: Sink>(
     answer_lines(source, sink, &mut solver)
 }
 
-/// `solve` over std's readers and writers: where the bytes to be read are known, and what the writer holds, it
-/// then holds the answers to the bytes after that.
+/// [`solve`] over std's readers and writers. Where it is known which bytes are to be read and which the writer
+/// holds, the writer holds at Ok what it held and then the answers to those bytes.
 pub fn solve_bytes<A: Allocator + Copy, R: Read, W: Write>(
     alloc: A,
     source: &mut FromReader<R>,
@@ -138,7 +141,9 @@ pub fn solve_bytes<A: Allocator + Copy, R: Read, W: Write>(
     result
 }
 
-/// The same by lines `value move visited`.
+/// Answers each line of the source, as soon as it is complete, by a line `value move visited` on the sink, where
+/// `visited` is the number of positions that the search entered. Each search is serial, and none takes memory.
+/// The faults are those of [`solve`].
 pub fn solve_visited<S: Source, K: Sink>(source: &mut S, sink: &mut K) -> Result<(), LineFault>
     ensures { VisitedRun S.gives K.takes source.old sink.old source.new sink.new result }
 {
