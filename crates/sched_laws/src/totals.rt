@@ -28,7 +28,8 @@ pub fn more_is_beyond_exactly_where_a_total_is_passed()
         (is_beyond (reservations_in before) tenant.reserve quota ≡ false ↔ IsReservedWithin (record before { tenants = with_tenant number (record tenant { reserve = quota }) before.tenants })) }
 {}
 
-/// What is left and what is used make up what is reserved; what is free and what is charged, the total.
+/// What a tenant has left and what it used add up to what it reserved, and the free and the charged segments to
+/// the total. So no subtraction in `left` and `free_in` is cut off at 0.
 pub fn nothing_is_cut_off()
     ensures segments { (tenant : Tenant) → IsShaped tenant → (left tenant).segments + charged_for tenant.frames ≡ tenant.reserve.segments }
     ensures nodes { (tenant : Tenant) → IsShaped tenant → (left tenant).nodes + tenant.serials ≡ tenant.reserve.nodes }
