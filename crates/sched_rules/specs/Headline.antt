@@ -17,8 +17,7 @@ abbrev pub IsRefusedForOwnState : {I A : Type 0} → Functions I A → Shared �
 IsRefusedForOwnState functions before step answer =
     (refusal : Refusal) → lone_refusal functions (tenant_in before.tenants (tenant_of step)) step ≡ Some refusal → answer ≡ Err refusal
 
--- a Take, Steal, Inlet or Finish that its tenant alone would be granted is refused by Busy if its worker is busy
--- elsewhere
+-- a Take, Steal, Inlet or Finish that its tenant alone would be granted gets Busy if its worker is busy elsewhere
 abbrev pub IsRefusedForBusyWorker : {I A : Type 0} → Functions I A → Shared → StepOf A → Result (DidOf I) Refusal → Type 0
 IsRefusedForBusyWorker functions before step answer =
     lone_refusal functions (tenant_in before.tenants (tenant_of step)) step ≡ None → meets_busy step before.tenants ≡ true → answer ≡ Err Busy
