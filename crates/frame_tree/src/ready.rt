@@ -11,7 +11,7 @@ use crate::names::State;
 use crate::window::ListWindow;
 use std::alloc::Allocator;
 
-/// A ready frame: its serial, and the home that its task lies with.
+/// A ready frame: its serial, and its home.
 #[derive(Clone, Copy)]
 pub(crate) struct ReadyFrame {
     pub(crate) serial: u64,

@@ -133,7 +133,7 @@ impl<T: Copy, A: Allocator> TenantFrames<T, A> {
         }
     }
 
-    /// The serial of the root above a frame, or of the frame itself.
+    /// The serial of the root above a frame that is there; the frame's own where it is a root.
     pub fn root(&self, serial: u64) -> u64
         requires { IsTrue (has_frame self.now.frames serial) }
         ensures { result ≡ root_of (path_in self.now.frames serial) }
