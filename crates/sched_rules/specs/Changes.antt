@@ -15,19 +15,19 @@ with_change number change (entry ∷ entries) = if entry.0 == number then (entry
 abbrev pub on_tenant : ℕ → (Tenant → Tenant) → Shared → Shared
 on_tenant number change shared = record shared { tenants = with_change number change shared.tenants }
 
--- the tenant with another reservation
+-- the tenant with this reservation
 abbrev pub with_reserve : Quota → Tenant → Tenant
 with_reserve quota tenant = record tenant { reserve = quota }
 
--- the tenant without one frame
+-- the tenant without the frame of this serial
 abbrev pub without_frame : ℕ → Tenant → Tenant
 without_frame serial tenant = record tenant { frames = frames_without serial tenant.frames }
 
--- the tenant without the frames under one, which stays
+-- the tenant without the frames under the one of this serial, which stays
 abbrev pub without_under : ℕ → Tenant → Tenant
 without_under serial tenant = record tenant { frames = aborted serial tenant.frames }
 
--- the tenant with one job more
+-- the tenant with this job added after the others
 abbrev pub with_job : Job → Tenant → Tenant
 with_job job tenant = record tenant { jobs = tenant.jobs ++ job ∷ [] }
 

@@ -39,7 +39,7 @@ abbrev pub with_tenant : ℕ → Tenant → List (ℕ × Tenant) → List (ℕ �
 with_tenant number tenant [] = (number, tenant) ∷ []
 with_tenant number tenant (entry ∷ entries) = if entry.0 == number then (number, tenant) ∷ entries else entry ∷ with_tenant number tenant entries
 
--- the tenants without this one
+-- the tenants without the one of this number
 abbrev pub without_tenant : ℕ → List (ℕ × Tenant) → List (ℕ × Tenant)
 without_tenant number [] = []
 without_tenant number (entry ∷ entries) = if entry.0 == number then without_tenant number entries else entry ∷ without_tenant number entries
@@ -72,11 +72,11 @@ abbrev pub accounts_in : List (ℕ × Tenant) → List (ℕ × Account)
 accounts_in [] = []
 accounts_in (entry ∷ entries) = (entry.0, account_in entry.1) ∷ accounts_in entries
 
--- what all tenants have reserved, and the totals
+-- the book of reservations: the totals, and the accounts of all tenants
 abbrev pub reservations_in : Shared → Reservations
 reservations_in shared = record { segments = shared.totals.segments; nodes = shared.totals.nodes; accounts = accounts_in shared.tenants }
 
--- whether 64 tenants are there, or a total doesn't allow the reservation
+-- whether there is no room for a new tenant's reservation: 64 tenants are there, or a total would be passed
 abbrev pub is_full : Reservations → Quota → Bool
 is_full book quota =
     nat_le 64 (length book.accounts)
@@ -139,7 +139,7 @@ abbrev pub shared_after : {I A : Type 0} → Shared → StepOf A → Result (Out
 shared_after shared step (Ok outcome) = shared_with shared step outcome.0
 shared_after shared step (Err refusal) = shared
 
--- the core after a list of steps
+-- the core after a list of steps, where memory doesn't run out
 abbrev pub shared_run : {I A : Type 0} → Functions I A → Shared → List (StepOf A) → Shared
 shared_run functions shared [] = shared
 shared_run functions shared (step ∷ steps) = shared_run functions (shared_after shared step (judged functions shared step)) steps
@@ -149,6 +149,6 @@ abbrev pub charged_in : List (ℕ × Tenant) → ℕ
 charged_in [] = 0
 charged_in (entry ∷ entries) = charged_for entry.1.frames + charged_in entries
 
--- why a step among several tenants is refused, if it is, where memory doesn't run out
+-- why a step among several tenants is refused, if memory doesn't run out; none where it is taken
 abbrev pub shared_refusal : {I A : Type 0} → Functions I A → Shared → StepOf A → Option Refusal
 shared_refusal functions shared step = refusal_in (judged functions shared step)

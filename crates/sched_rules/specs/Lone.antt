@@ -32,7 +32,7 @@ abbrev pub applies : List (Bool × Refusal) → Bool
 applies [] = false
 applies (test ∷ tests) = test.0 || applies tests
 
--- what a step gives: a tenant, or nothing after a Leave, with what the step did
+-- what a taken step gives: the tenant after it (none after a Leave), and what the step did
 abbrev pub Outcome : Type 0 → Type 0
 Outcome I = Option Tenant × DidOf I
 
@@ -144,7 +144,7 @@ abbrev pub is_returned : State → Bool
 is_returned Returned = true
 is_returned _ = false
 
--- the next act of a frame
+-- the next act of a frame, by what it sees
 abbrev pub act_of : {I A : Type 0} → Functions I A → Tenant → Frame (List ℕ) → Act
 act_of functions tenant frame = functions.next (sight tenant.frames frame.path)
 
@@ -224,7 +224,7 @@ answer_tests functions tenant worker frame answer =
     ∷ (is_outside (functions.accept frame.value answer) frame.value, BadAct)
     ∷ []
 
--- Answer: the stores, and the worker runs the frame
+-- Answer: the frame stores what the procedure makes of the answer, and the worker runs it
 abbrev pub answered : {I A : Type 0} → Functions I A → Tenant → ℕ → Frame (List ℕ) → A → Outcome I
 answered functions tenant worker frame answer =
     (Some (counted (in_state frame.serial (Running worker) (holding frame.serial (stored (functions.accept frame.value answer) frame.value) tenant))), Answered)
@@ -251,11 +251,11 @@ abbrev pub does_wait : Option (Frame (List ℕ)) → Bool
 does_wait None = false
 does_wait (Some frame) = is_waiting frame.state
 
--- the frames that stay: all but the one taken in, and at an abort all but those below the parent
+-- the frames that stay after an inlet: all but the one taken in, and at an abort all but those below the parent
 abbrev pub staying : Tree → ℕ → ℕ → Bool → Tree
 staying frames child parent abort = if abort then aborted parent frames else frames_without child frames
 
--- how many frames an abort removes beside the one taken in
+-- how many frames an inlet removes beside the one taken in: where it aborts, all others below the parent, else 0
 abbrev pub aborted_beside : Tree → ℕ → ℕ → Bool → ℕ
 aborted_beside frames child parent abort = if abort then length (frames_under parent (frames_without child frames)) else 0
 

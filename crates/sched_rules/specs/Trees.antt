@@ -24,7 +24,7 @@ pub record Tenant : Type 0 where
   pub jobs : List Job
   pub frames : Tree
 
--- a tenant as it is admitted
+-- a tenant as it is admitted, with this reservation: without a job or a frame, and nothing used
 abbrev pub admitted_with : Quota → Tenant
 admitted_with quota = record { reserve = quota; serials = 0; steps = 0; jobs = []; frames = [] }
 
@@ -53,12 +53,12 @@ account_in tenant = record { reserve = tenant.reserve; charged = charged_for ten
 abbrev pub left : Tenant → Left
 left tenant = left_in (account_in tenant)
 
--- the frames with these words in the frame of this serial
+-- the frames, the one with this serial having these words
 abbrev pub with_words : ℕ → List ℕ → Tree → Tree
 with_words serial words [] = []
 with_words serial words (frame ∷ frames) = (if frame.serial == serial then record frame { value = words } else frame) ∷ with_words serial words frames
 
--- the words after stores, done in order
+-- the words after these stores, each of a word at a place, done in order
 abbrev pub stored : List (ℕ × ℕ) → List ℕ → List ℕ
 stored [] words = words
 stored (store ∷ stores) words = stored stores (slice_set words store.0 store.1)

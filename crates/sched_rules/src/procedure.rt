@@ -91,7 +91,7 @@ pub trait Procedure {
         self.accept(own, answer)
     }
 
-    // Two inputs are the same where `==` says so: an Answer compares them.
+    // `same` is the `==` of inputs, by which an Answer's input is compared with the frame's.
     ghost compares: { (p : Self) → (functions p).same ≡ Self.Input.PartialEq.eq };
 
     // Two inputs that compare as the same are equal, so that an answer to another input is never taken.
