@@ -52,6 +52,6 @@ AreLiveOnce (job ∷ jobs) = ((root : ℕ) → is_live_at root job ≡ true → 
 abbrev pub with_jobs : ℕ → (List Job → List Job) → List Ledger → List Ledger
 with_jobs number change ledgers = with_thing number_in number (λ ledger. (ledger.0, change ledger.1)) ledgers
 
--- the ledgers without one tenant's
+-- the ledgers without that of the tenant of this number
 abbrev pub without_ledger : ℕ → List Ledger → List Ledger
 without_ledger number ledgers = without_thing number_in number ledgers

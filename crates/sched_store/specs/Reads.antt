@@ -71,7 +71,7 @@ is_held (Running worker) = true
 is_held (Computing worker) = true
 is_held _ = false
 
--- the tenant is there, and this is above what it reserves
+-- the tenant is there, and this is a raise of what it reserves: more segments or nodes, and of neither less
 abbrev pub IsAboveOwn : Option Tenant → Quota → Type 0
 IsAboveOwn None quota = ⊥
 IsAboveOwn (Some tenant) quota = is_lower tenant.reserve quota ≡ false

@@ -79,9 +79,9 @@ pub record IsStored (parts : Parts) : Type 0 where
   pub sized : AreSized parts.nodes
   -- each tenant's account agrees with its frames
   pub accounts : (number : ℕ) (account : Account) → account_of number parts.book.accounts ≡ Some account → IsAccountFor parts.nodes parts.trees number account
-  -- without an account no places for frames
+  -- a number without an account has no places for frames
   pub nobody : (number : ℕ) → account_of number parts.book.accounts ≡ None → places_of parts.trees number ≡ 0
-  -- without an account no frame
+  -- a number without an account has no frame
   pub nothing : (number : ℕ) → account_of number parts.book.accounts ≡ None → frames_of parts.trees number ≡ []
   -- each tenant's frames are a tree
   pub forest : (number : ℕ) → IsTree (frames_of parts.trees number)
@@ -89,7 +89,7 @@ pub record IsStored (parts : Parts) : Type 0 where
   pub tenants : tenant_count parts.trees ≡ length parts.book.accounts
   -- the segments of all nodes are those charged to all accounts
   pub charges : total_charge parts.nodes ≡ charged_segments parts.book.accounts
-  -- a place for a node at each segment of the book's total
+  -- as many places for nodes as segments in the total
   pub segments : length parts.nodes ≡ parts.book.segments
   -- a ledger for each account, in the same order
   pub ledgers : numbers_of parts.ledgers ≡ numbers_in parts.book.accounts
