@@ -25,7 +25,7 @@ pub record IsKeptFitting (fits : Fitting) (rooted : Rooting) (fitting : Bool) (s
   pub kept : IsKept shared
   pub fit : fitting ≡ true → IsFitting fits rooted shared
 
--- what is left of a tenant that is there, and what it used, are what it reserved: nothing is cut off
+-- what a tenant has left and what it used add up to what it reserved, so that nothing was cut off at 0
 pub record IsRest (tenant : Tenant) (left : Left) : Type 0 where
   pub segments : left.segments + charged_for tenant.frames ≡ tenant.reserve.segments
   pub nodes : left.nodes + tenant.serials ≡ tenant.reserve.nodes

@@ -27,7 +27,7 @@ pub record IsRunning (shared : Shared) (name : FrameId) (worker : ℕ) (tenant :
   pub runs : is_run_by worker seen.state ≡ true
   pub some : (seen.left.steps == 0) ≡ false
 
--- the frame that is seen has returned to this parent, and its tenant has a step left
+-- the frame that is seen has returned, this is its parent, and its tenant has a step left
 pub record IsReturnedUnder (shared : Shared) (name parent : FrameId) (tenant : Tenant) (frame : Frame (List ℕ)) (seen : Seen) : Type 0 where
   pub seen_so : IsSeen shared name tenant frame seen
   pub above : seen.parent ≡ Some parent

@@ -119,7 +119,7 @@ impl<P: Procedure, A: Allocator> Core<P, A> {
         Ok(())
     }
 
-    /// What a tenant has left; `None` where it isn't there. With what it uses that is what it reserved.
+    /// What a tenant has left, which with what it used is what it reserved; `None` where it isn't there.
     pub fn left(&self, tenant: u64) -> Option<Left>
         ensures is { result ≡ left_of self.now.shared tenant }
         ensures whole { IfSome result (λ left. IsRestOf (tenant_in self.now.shared.tenants tenant) left) }
@@ -172,7 +172,7 @@ impl<P: Procedure, A: Allocator> Core<P, A> {
         self.engine.store.any_ready()
     }
 
-    /// How many segments are free. With those that all frames are charged for they are the total.
+    /// How many segments are free: the total less those that all frames are charged for.
     pub fn free_segments(&self) -> usize
         ensures is { result ≡ free_in self.now.shared }
         ensures whole { result + charged_in self.now.shared.tenants ≡ self.now.shared.totals.segments }
