@@ -18,12 +18,12 @@ use Rattle.sched_toys.specs.Toys.{word_at}
 use Rattle.sched_rules.specs.Cores.{Shared, shared_refusal}
 use Rattle.sched_toys.specs.FanRows.{frame, one_job, quota}
 
--- a procedure that does this act and this inlet at any words, and stores this of any answer; an answer asks for itself
+-- a procedure with this act and this inlet at any words, and these stores of any answer, which is itself its input
 abbrev pub always : Act → InletAct → List (ℕ × ℕ) → Functions ℕ ℕ
 always act inlet stores =
     record { next = λ sight. act; inlet = λ own child. inlet; input = λ own. word_at own 0; asked = λ answer. answer; accept = λ own answer. stores; same = λ one other. one == other }
 
--- an act after these stores
+-- an act: these stores, and what is done after them
 abbrev pub act : List (ℕ × ℕ) → Then → Act
 act stores after = record { stores = stores; after = after }
 
@@ -31,7 +31,7 @@ act stores after = record { stores = stores; after = after }
 abbrev pub inlet : List (ℕ × ℕ) → Bool → Bool → InletAct
 inlet stores abort wake = record { stores = stores; abort = abort; wake = wake }
 
--- a procedure that goes on, takes in and accepts without a store
+-- a procedure whose frames go on for ever, and whose inlets and answers do nothing
 abbrev pub idle : Functions ℕ ℕ
 idle = always (act [] Go) (inlet [] false false) []
 

@@ -61,7 +61,7 @@ fan_act (line ∷ lines) kind count =
     then record { stores = (1, line.next_count) ∷ []; after = line.after }
     else fan_act lines kind count
 
--- what a parent in Fan does about a returned child: one of kind 0 counts it in word 2 (0 after the greatest word) and aborts
+-- what a parent in Fan does about a returned child: one of kind 0 adds 1 to word 2 (modulo 2^64) and aborts
 abbrev pub fan_inlet : List ℕ → List ℕ → InletAct
 fan_inlet own child =
     if word_at own 0 == 0
@@ -88,11 +88,11 @@ chain_act count stage =
 abbrev pub chain_inlet : List ℕ → List ℕ → InletAct
 chain_inlet own child = record { stores = (2, word_at child 0) ∷ []; abort = false; wake = false }
 
--- Chain, whose answers ask for themselves and store nothing
+-- the procedure Chain; an answer is itself the input that it was computed from, and nothing is stored of it
 abbrev pub chain : Functions ℕ ℕ
 chain = toy chain_act chain_inlet (λ answer. answer) (λ answer. [])
 
--- Spin: a frame of one word goes on for ever, without a store; answers ask for themselves and store nothing
+-- the procedure Spin: a frame goes on for ever, without a store; an answer is itself its input and stores nothing
 abbrev pub spin : Functions ℕ ℕ
 spin =
     toy (λ count stage. record { stores = []; after = Go }) (λ own child. record { stores = []; abort = false; wake = false })

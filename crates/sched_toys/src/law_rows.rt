@@ -66,8 +66,8 @@ pub fn what_jobs_hold()
     ensures no_job { JobsFit AlwaysFits SameFirstWord (parent_in Waiting) ((0 ∷ []) ∷ []) [] → ⊥ }
 {}
 
-/// A frame may be given up where no step is left, where its Advance stores outside, and where its Inlet
-/// does; not where it goes on, nor where it waits for a child whose inlet is good.
+/// A frame's job may be given up where no step is left, where the frame's Advance stores outside, and where its
+/// Inlet does; not where its next act or its Inlet can be done, nor while it is ready.
 pub fn what_may_be_spent()
     ensures tired { MayBeSpent idle (tired (parent_in Waiting)) (one 2) }
     ensures stuck { MayBeSpent (acting ((4, 1) ∷ []) Go) (fresh (root (Running 1) ∷ [])) (one 1) }

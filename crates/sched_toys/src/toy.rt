@@ -64,7 +64,7 @@ pub struct Toy<T> {
 }
 
 impl<T> Toy<T> {
-    /// The procedure.
+    /// The procedure, which holds no data.
     pub fn new() -> Toy<T> {
         Toy { play: PhantomData }
     }
