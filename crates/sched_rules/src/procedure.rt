@@ -36,7 +36,7 @@ pub trait Procedure {
     fn inlet(&self, own: &Words, child: &Words) -> InletAct
         ensures { result ≡ (functions self.now).inlet own.now child.now };
 
-    /// The input that a frame with these words has computed.
+    /// The input that is to be computed for a frame with these words.
     fn input(&self, own: &Words) -> Self::Input
         ensures { result ≡ (functions self.now).input own.now };
 
