@@ -20,7 +20,7 @@ pub record TenantTree (T : Type 0) : Type 0 where
   pub places : ℕ
   pub frames : List (Frame T)
 
--- whose tree it is
+-- the number of the tenant whose tree this is
 abbrev pub owner_of : {T : Type 0} → TenantTree T → ℕ
 owner_of tree = tree.tenant
 
@@ -39,7 +39,7 @@ abbrev pub has_parent : {T : Type 0} → List (Frame T) → Option ℕ → Bool
 has_parent frames None = true
 has_parent frames (Some parent) = has_frame frames parent
 
--- the path of the frame with this serial
+-- the path of the frame with this serial; empty where there is none
 abbrev pub path_in : {T : Type 0} → List (Frame T) → ℕ → List ℕ
 path_in [] serial = []
 path_in (frame ∷ frames) serial = if frame.serial == serial then frame.path else path_in frames serial
@@ -49,7 +49,7 @@ abbrev pub path_under : {T : Type 0} → List (Frame T) → Option ℕ → ℕ �
 path_under frames None serial = serial ∷ []
 path_under frames (Some parent) serial = path_in frames parent ++ serial ∷ []
 
--- a frame as it is added: ready at its home, one step further than its parent
+-- a new frame: ready at this home, its path that of its parent with its own serial, or for a root its serial alone
 abbrev pub new_frame : {T : Type 0} → List (Frame T) → ℕ → Option ℕ → ℕ → T → Frame T
 new_frame frames serial parent home value = record { serial = serial; path = path_under frames parent serial; state = Ready home; value = value }
 
@@ -58,12 +58,12 @@ abbrev pub frames_in : {T : Type 0} → Option (Bor (TenantTree T)) → List (Fr
 frames_in None = []
 frames_in (Some tree) = tree.now.frames
 
--- the first serial of a path: the root's
+-- the serial of the root above a frame with this path: the first of the path (0 of an empty path)
 abbrev pub root_of : List ℕ → ℕ
 root_of [] = 0
 root_of (serial ∷ path) = serial
 
--- the last serial but one of a path: the parent's, which a root has not
+-- the serial of the parent of a frame with this path: the last but one of the path; none for a root
 abbrev pub parent_of : List ℕ → Option ℕ
 parent_of [] = None
 parent_of (serial ∷ []) = None
@@ -84,7 +84,7 @@ frames_under serial frames = filter (λ frame. goes_under serial frame.path) fra
 abbrev pub aborted : {T : Type 0} → ℕ → List (Frame T) → List (Frame T)
 aborted serial frames = filter (λ frame. not (goes_under serial frame.path)) frames
 
--- the frames without this one
+-- the frames but the one with this serial
 abbrev pub frames_without : {T : Type 0} → ℕ → List (Frame T) → List (Frame T)
 frames_without serial frames = filter (λ frame. not (frame.serial == serial)) frames
 
@@ -96,21 +96,21 @@ is_one_more [] (serial ∷ next ∷ path) = false
 is_one_more (above ∷ aboves) [] = false
 is_one_more (above ∷ aboves) (serial ∷ path) = (above == serial) && is_one_more aboves path
 
--- those whose path is this frame's with one more serial
+-- the frames whose path is this frame's with one more serial; none where there is no frame
 abbrev pub children_under : {T : Type 0} → Option (Frame T) → List (Frame T) → List (Frame T)
 children_under None frames = []
 children_under (Some parent) frames = filter (λ frame. is_one_more parent.path frame.path) frames
 
--- the children of a frame
+-- the children of the frame with this serial; none where it isn't there
 abbrev pub children_of : {T : Type 0} → List (Frame T) → ℕ → List (Frame T)
 children_of frames serial = children_under (frame_at frames serial) frames
 
--- the frames with this one in another state
+-- the frames, the one with this serial put into this state
 abbrev pub with_state : {T : Type 0} → ℕ → State → List (Frame T) → List (Frame T)
 with_state serial state [] = []
 with_state serial state (frame ∷ frames) = (if frame.serial == serial then record frame { state = state } else frame) ∷ with_state serial state frames
 
--- whether a frame waits for a worker to run it
+-- whether a state is Ready: a worker may run the frame
 abbrev pub is_ready : State → Bool
 is_ready (Ready home) = true
 is_ready _ = false
@@ -119,7 +119,7 @@ is_ready _ = false
 abbrev pub ready_frames : {T : Type 0} → List (Frame T) → List (Frame T)
 ready_frames frames = filter (λ frame. is_ready frame.state) frames
 
--- one for a frame that is ready
+-- 1 for the state Ready, 0 for any other
 abbrev pub one_if_ready : State → ℕ
 one_if_ready state = if is_ready state then 1 else 0
 
@@ -136,7 +136,7 @@ names_of tenant frames = map (λ frame. record { tenant = tenant; serial = frame
 abbrev pub values_of : {T : Type 0} → List (Frame T) → List T
 values_of frames = map (λ frame. frame.value) frames
 
--- a tenant's frame by its serial, as a name
+-- the name of a tenant's frame with this serial, if a serial is given
 abbrev pub name_of : ℕ → Option ℕ → Option FrameId
 name_of tenant None = None
 name_of tenant (Some serial) = Some (record { tenant = tenant; serial = serial })
@@ -146,7 +146,7 @@ abbrev pub entry_of : {T : Type 0} → ℕ → Option (Frame T) → Option (Entr
 entry_of tenant None = None
 entry_of tenant (Some frame) = Some (record { parent = name_of tenant (parent_of frame.path); state = frame.state; value = frame.value })
 
--- the home of a ready frame, with its name
+-- the name and the home of a frame in this state, if the state is Ready
 abbrev pub ready_name : ℕ → ℕ → State → Option (FrameId × ℕ)
 ready_name tenant serial (Ready home) = Some (record { tenant = tenant; serial = serial }, home)
 ready_name tenant serial (Running worker) = None
@@ -154,12 +154,12 @@ ready_name tenant serial (Computing worker) = None
 ready_name tenant serial Waiting = None
 ready_name tenant serial Returned = None
 
--- the second where the first is none
+-- the first if it is there, else the second
 abbrev pub first_of_two : {X : Type 0} → Option X → Option X → Option X
 first_of_two None other = other
 first_of_two (Some x) other = Some x
 
--- the ready frame of the greatest serial, and its home
+-- the name and the home of the last ready frame, which in a tree has the greatest serial; none where none is ready
 abbrev pub newest_ready_of : {T : Type 0} → ℕ → List (Frame T) → Option (FrameId × ℕ)
 newest_ready_of tenant [] = None
 newest_ready_of tenant (frame ∷ frames) = first_of_two (newest_ready_of tenant frames) (ready_name tenant frame.serial frame.state)
@@ -184,7 +184,7 @@ IsTreeAfter before (frame ∷ frames) = IsNextFrame before frame × IsTreeAfter 
 abbrev pub IsTree : {T : Type 0} → List (Frame T) → Type 0
 IsTree frames = IsTreeAfter [] frames
 
--- a frame that is ready, with its home
+-- the frame is there, ready at this home
 abbrev pub IsReadyAt : {T : Type 0} → Option (Frame T) → ℕ → Type 0
 IsReadyAt None home = ⊥
 IsReadyAt (Some frame) home = frame.state ≡ Ready home

@@ -7,12 +7,12 @@ abbrev pub has_number : List ℕ → ℕ → Bool
 has_number [] n = false
 has_number (first ∷ numbers) n = (first == n) || has_number numbers n
 
--- each number is this one or above
+-- each element's number is n or above
 abbrev pub AllFromBy : {X : Type 0} → (X → ℕ) → ℕ → List X → Type 0
 AllFromBy number n [] = Unit {0}
 AllFromBy number n (x ∷ xs) = (n ≤ number x) × AllFromBy number n xs
 
--- the numbers before this place are below this one, and those from the place on are not
+-- the place of number n, or where to insert it: the elements before have numbers below n, the others n or above
 abbrev pub IsPlaceFor : {X : Type 0} → (X → ℕ) → List X → ℕ → ℕ → Type 0
 IsPlaceFor number xs n zero = AllFromBy number n xs
 IsPlaceFor number [] n (suc at) = ⊥

@@ -9,7 +9,7 @@ use Rattle.number_index.specs.Places.{inserted}
 use Rattle.frame_tree.specs.Slots.{AreSoundSlots, serials_of}
 use Rattle.frame_tree.specs.Windows.{PlacedList}
 
--- the frame of this serial before others, if it is ready
+-- these ready frames, with the one of this serial in front if its state is Ready
 abbrev pub with_ready : ℕ → State → List ReadyFrame → List ReadyFrame
 with_ready serial (ReadyAt home) frames = record { serial = serial; home = home } ∷ frames
 with_ready serial (Running worker) frames = frames
@@ -22,11 +22,11 @@ abbrev pub ready_in : {T : Type 0} → List (Slot T) → List ReadyFrame
 ready_in [] = []
 ready_in (slot ∷ slots) = with_ready slot.serial slot.state (ready_in slots)
 
--- ready frames without the one of this serial, if its state was to be ready
+-- these ready frames without the one of this serial, if the state that it leaves is Ready; else all of them
 abbrev pub without_ready : ℕ → State → List ReadyFrame → List ReadyFrame
 without_ready serial was frames = if is_ready was then filter (λ frame. not (frame.serial == serial)) frames else frames
 
--- ready frames with the one of this serial in its place, if it is ready now
+-- these ready frames, with the one of this serial inserted in order if its new state is Ready
 abbrev pub put_ready : ℕ → State → List ReadyFrame → List ReadyFrame
 put_ready serial (ReadyAt home) frames = inserted (λ frame. frame.serial) (record { serial = serial; home = home }) frames
 put_ready serial (Running worker) frames = frames
@@ -34,12 +34,13 @@ put_ready serial (Computing worker) frames = frames
 put_ready serial Waiting frames = frames
 put_ready serial Returned frames = frames
 
--- the last of ready frames
+-- the last of these ready frames, if there is one
 abbrev pub last_ready : List ReadyFrame → Option ReadyFrame
 last_ready [] = None
 last_ready (frame ∷ frames) = first_of_two (last_ready frames) (Some frame)
 
--- what is true of a tenant's slots, its number of places, its serials and its ready frames
+-- the invariant of TenantFrames (src/tree.rt): serials and ready are those of the slots, which are sound and no more
+-- than places, and all lists have room for as many
 pub record IsTenant {T : Type 0} (slots : List (Slot T)) (places : ℕ) (serials : PlacedList ℕ) (ready : PlacedList ReadyFrame) : Type 0 where
   pub sound : AreSoundSlots slots (length ready.list)
   pub index : serials.list ≡ serials_of slots

@@ -14,7 +14,7 @@ abbrev pub frames_from : {T : Type 0} → List (Frame T) → List (Slot T) → L
 frames_from frames [] = []
 frames_from frames (slot ∷ slots) = frame_of_slot frames slot ∷ frames_from (frames ++ frame_of_slot frames slot ∷ []) slots
 
--- a slot that may come after these frames
+-- a slot that may come after these frames: its serial is above theirs, its parent is one of them, its root is right
 pub record IsNextSlot {T : Type 0} (frames : List (Frame T)) (slot : Slot T) : Type 0 where
   pub above : AllBelow slot.serial frames
   pub parent : has_parent frames slot.parent ≡ true
@@ -43,7 +43,7 @@ is_of_parent (Some serial) parent = is_serial serial parent
 abbrev pub slots_of : {T : Type 0} → Option ℕ → List (Slot T) → List (Slot T)
 slots_of parent slots = filter (λ slot. is_of_parent parent slot.parent) slots
 
--- each slot has this count of children, by its serial
+-- each slot's count of children is what count says of its serial
 abbrev pub CountsAre : {T : Type 0} → (ℕ → ℕ) → List (Slot T) → Type 0
 CountsAre count [] = Unit {0}
 CountsAre count (slot ∷ slots) = (slot.children ≡ count slot.serial) × CountsAre count slots
@@ -52,7 +52,7 @@ CountsAre count (slot ∷ slots) = (slot.children ≡ count slot.serial) × Coun
 abbrev pub ready_slots : {T : Type 0} → List (Slot T) → List (Slot T)
 ready_slots slots = filter (λ slot. is_ready slot.state) slots
 
--- what is true of a tenant's slots and its count of ready frames
+-- the slots are linked, each counts its children, and ready is how many of them are ready
 pub record AreSoundSlots {T : Type 0} (slots : List (Slot T)) (ready : ℕ) : Type 0 where
   pub linked : IsLinked [] slots
   pub counted : CountsAre (λ serial. length (child_slots serial slots)) slots
@@ -71,7 +71,7 @@ abbrev pub has_slot : {T : Type 0} → List (Slot T) → ℕ → Bool
 has_slot [] serial = false
 has_slot (slot ∷ slots) serial = (slot.serial == serial) || has_slot slots serial
 
--- each serial is above this one
+-- each slot's serial is above this one
 abbrev pub AllAbove : {T : Type 0} → ℕ → List (Slot T) → Type 0
 AllAbove serial slots = AreAbove (λ slot. slot.serial) serial slots
 
@@ -79,7 +79,7 @@ AllAbove serial slots = AreAbove (λ slot. slot.serial) serial slots
 abbrev pub Rises : {T : Type 0} → List (Slot T) → Type 0
 Rises slots = AreRising (λ slot. slot.serial) slots
 
--- the slots with one changed
+-- the slots, the one with this serial changed by change
 abbrev pub with_slot : {T : Type 0} → ℕ → (Slot T → Slot T) → List (Slot T) → List (Slot T)
 with_slot serial change [] = []
 with_slot serial change (slot ∷ slots) = (if slot.serial == serial then change slot else slot) ∷ with_slot serial change slots
@@ -89,12 +89,12 @@ abbrev pub with_child : {T : Type 0} → Option ℕ → List (Slot T) → List (
 with_child None slots = slots
 with_child (Some parent) slots = with_slot parent (λ slot. record slot { children = slot.children + 1 }) slots
 
--- the root that the slot with this serial names
+-- the root that the slot with this serial names; 0 where there is none
 abbrev pub root_at : {T : Type 0} → List (Slot T) → ℕ → ℕ
 root_at [] serial = 0
 root_at (slot ∷ slots) serial = if slot.serial == serial then slot.root else root_at slots serial
 
--- whether a frame stays at an abort
+-- whether the frame with this serial stays at an abort at under
 abbrev pub is_kept : {T : Type 0} → ℕ → List (Frame T) → ℕ → Bool
 is_kept under frames serial = not (goes_under under (path_in frames serial))
 
@@ -102,7 +102,7 @@ is_kept under frames serial = not (goes_under under (path_in frames serial))
 abbrev pub kept_slots : {T : Type 0} → ℕ → List (Slot T) → List (Slot T)
 kept_slots under slots = filter (λ slot. is_kept under (frames_from [] slots) slot.serial) slots
 
--- the values of the others
+-- the values of the slots that an abort at under removes
 abbrev pub gone_values : {T : Type 0} → ℕ → List (Slot T) → List T
 gone_values under slots = map (λ slot. slot.value) (filter (λ slot. not (is_kept under (frames_from [] slots) slot.serial)) slots)
 
@@ -115,7 +115,7 @@ abbrev pub has_parent_slot : {T : Type 0} → List (Slot T) → Option ℕ → B
 has_parent_slot slots None = true
 has_parent_slot slots (Some parent) = has_slot slots parent
 
--- the root above a new slot
+-- the root of a new slot: its parent's, or its own serial where it has no parent
 abbrev pub root_under : {T : Type 0} → List (Slot T) → Option ℕ → ℕ → ℕ
 root_under slots None serial = serial
 root_under slots (Some parent) serial = root_at slots parent
@@ -130,22 +130,23 @@ abbrev pub without_child : {T : Type 0} → Option ℕ → List (Slot T) → Lis
 without_child None slots = slots
 without_child (Some parent) slots = with_slot parent (λ slot. record slot { children = slot.children - 1 }) slots
 
--- the count of children in the slot with this serial
+-- the count of children in the slot with this serial; 0 where there is none
 abbrev pub children_at : {T : Type 0} → List (Slot T) → ℕ → ℕ
 children_at [] serial = 0
 children_at (slot ∷ slots) serial = if slot.serial == serial then slot.children else children_at slots serial
 
--- a parent, if there is one, has a child counted
+-- the parent, if there is one, has a count of children above 0
 abbrev pub CountsAtParent : {T : Type 0} → List (Slot T) → Option ℕ → Type 0
 CountsAtParent slots None = Unit {0}
 CountsAtParent slots (Some parent) = 0 < children_at slots parent
 
--- the last ready slot's name, and its home
+-- the name and the home of the last ready slot; none where none is ready
 abbrev pub newest_in : {T : Type 0} → ℕ → List (Slot T) → Option (FrameId × ℕ)
 newest_in tenant [] = None
 newest_in tenant (slot ∷ slots) = first_of_two (newest_in tenant slots) (ready_name tenant slot.serial slot.state)
 
--- the names of the slots of this parent are the one found, if there is one, and those of the rest
+-- a search of slots for the first of this parent's (of any, where no parent is named) found this serial, or none, and
+-- left rest to search: the names of all of them in slots are the one found, if there is one, and those in rest
 abbrev pub SplitsFirst : {T : Type 0} → Option ℕ → List (Slot T) → Option ℕ → List (Slot T) → Type 0
 SplitsFirst parent slots None rest = (slots_of parent slots ≡ []) × (slots_of parent rest ≡ [])
 SplitsFirst parent slots (Some serial) rest = (tenant : ℕ) → names_in tenant (slots_of parent slots) ≡ record { tenant = tenant; serial = serial } ∷ names_in tenant (slots_of parent rest)

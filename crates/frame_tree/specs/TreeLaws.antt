@@ -3,7 +3,7 @@ use Rattle.std.specs.Prelude.{◌≡◌, ℕ, Bool, false, ◌==◌, List, [], �
 use Rattle.number_index.specs.Places.{AreAbove, AreRising as AreRisingBy}
 use Rattle.frame_tree.specs.Frames.{Frame, parent_of}
 
--- whether a parent, if there is one, is this serial
+-- whether there is a parent, and it has this serial
 abbrev pub is_that : ℕ → Option ℕ → Bool
 is_that serial None = false
 is_that serial (Some parent) = parent == serial
@@ -20,25 +20,25 @@ AllAboveSerial serial frames = AreAbove (λ frame. frame.serial) serial frames
 abbrev pub AreRising : {T : Type 0} → List (Frame T) → Type 0
 AreRising frames = AreRisingBy (λ frame. frame.serial) frames
 
--- each of these frames has this
+-- P holds of each of these frames
 abbrev pub Each : {T : Type 0} → (Frame T → Type 0) → List (Frame T) → Type 0
 Each P [] = Unit {0}
 Each P (frame ∷ frames) = P frame × Each P frames
 
--- a frame where there is one that passes the test
+-- the frame, if there is one and it passes the test
 abbrev pub if_kept : {T : Type 0} → (Frame T → Bool) → Option (Frame T) → Option (Frame T)
 if_kept keep None = None
 if_kept keep (Some frame) = if keep frame then Some frame else None
 
--- a frame with what this makes of its value
+-- a frame with change applied to its value
 abbrev pub map_value : {T U : Type 0} → (T → U) → Frame T → Frame U
 map_value change frame = record { serial = frame.serial; path = frame.path; state = frame.state; value = change frame.value }
 
--- frames, each with what this makes of its value
+-- frames, each with change applied to its value
 abbrev pub map_values : {T U : Type 0} → (T → U) → List (Frame T) → List (Frame U)
 map_values change frames = map (map_value change) frames
 
--- frames one by one of the same serial and path
+-- two lists of frames with the same serials and paths, one by one; states and values may differ
 abbrev pub AreAlike : {T U : Type 0} → List (Frame T) → List (Frame U) → Type 0
 AreAlike [] [] = Unit {0}
 AreAlike [] (other ∷ others) = ⊥

@@ -6,9 +6,9 @@ ghost use Rattle.frame_tree.specs.Rows.{five_frames};
 ghost use Rattle.frame_tree.specs.TreeLaws.{is_child_of, AreRising, if_kept, map_value, map_values};
 ghost use Rattle.frame_tree.specs.declared.names.State.{State};
 
-/// In a tree no serial stands twice; a frame's path is its parent's with its own serial, or that alone;
-/// the parent has a lower serial and is there, and so is the root; and the children of a frame can be
-/// told by their paths alone.
+/// What holds of each frame of a tree: no other has its serial; its path is its parent's path and its serial,
+/// or for a root its serial alone; its parent is there, with a lower serial, and so is its root; and its
+/// children are the frames in whose paths its serial is the last but one.
 pub fn frames_stand_under_parents<T>()
     ensures rising { (frames : List (Frame T)) → IsTree frames → AreRising frames }
     ensures serial { (frames : List (Frame T)) (s : ℕ) (frame : Frame T) → frame_at frames s ≡ Some frame → frame.serial ≡ s }
@@ -20,8 +20,8 @@ pub fn frames_stand_under_parents<T>()
     ensures children { (frames : List (Frame T)) (s : ℕ) → IsTree frames → children_of frames s ≡ filter (λ frame. is_child_of s frame.path) frames }
 {}
 
-/// No frame is under itself. A child is under its parent, and under all that its parent is under: so
-/// the frames under one have all their children among them.
+/// No frame is under itself. A child is under its parent, under all frames that its parent is under, and under
+/// its root.
 pub fn children_go_where_parents_go<T>()
     ensures itself { (frames : List (Frame T)) (s : ℕ) (frame : Frame T) → IsTree frames → frame_at frames s ≡ Some frame → goes_under s frame.path ≡ false }
     ensures child { (frames : List (Frame T)) (p s : ℕ) (frame : Frame T) → IsTree frames → frame_at frames s ≡ Some frame → is_child_of p frame.path ≡ true → goes_under p frame.path ≡ true }
@@ -29,7 +29,8 @@ pub fn children_go_where_parents_go<T>()
     ensures below_root { (frames : List (Frame T)) (p : ℕ) (path : List ℕ) → parent_of path ≡ Some p → goes_under (root_of path) path ≡ true }
 {}
 
-/// An abort leaves a tree, with the frame itself and no child of it.
+/// An abort at a frame leaves a tree: the frame stays, without a child, and each frame that isn't under it
+/// stays as it was.
 pub fn aborts_leave_a_leaf<T>()
     ensures tree { (frames : List (Frame T)) (p : ℕ) → IsTree frames → IsTree (aborted p frames) }
     ensures found { (frames : List (Frame T)) (p s : ℕ) → IsTree frames → frame_at (aborted p frames) s ≡ if_kept (λ frame. not (goes_under p frame.path)) (frame_at frames s) }
@@ -37,7 +38,8 @@ pub fn aborts_leave_a_leaf<T>()
     ensures leaf { (frames : List (Frame T)) (p : ℕ) → IsTree frames → children_of (aborted p frames) p ≡ [] }
 {}
 
-/// A frame without a child can be removed, and so can one with all that is under it.
+/// A tree stays a tree where a frame without a child is removed, and where a frame is removed with all that are
+/// under it. The frame is gone then; without it the others are found as before.
 pub fn leaves_and_jobs_can_be_removed<T>()
     ensures leaf { (frames : List (Frame T)) (p : ℕ) → IsTree frames → children_of frames p ≡ [] → IsTree (frames_without p frames) }
     ensures with_all { (frames : List (Frame T)) (p : ℕ) → IsTree frames → IsTree (frames_without p (aborted p frames)) }
@@ -45,8 +47,8 @@ pub fn leaves_and_jobs_can_be_removed<T>()
     ensures others { (frames : List (Frame T)) (p s : ℕ) → p ≢ s → frame_at (frames_without p frames) s ≡ frame_at frames s }
 {}
 
-/// A frame of a serial above all can be added, as a root or under one that is there: it is then the
-/// last child of its parent.
+/// A tree stays a tree where a frame is added whose serial is above all, as a root or under a frame that is
+/// there: it is then the last child of its parent, and the others are found as before.
 pub fn frames_can_be_added<T>()
     ensures tree { (frames : List (Frame T)) (serial : ℕ) (parent : Option ℕ) (home : ℕ) (value : T) → IsTree frames → AllBelow serial frames → has_parent frames parent ≡ true →
         IsTree (frames ++ new_frame frames serial parent home value ∷ []) }
@@ -57,7 +59,8 @@ pub fn frames_can_be_added<T>()
         children_of (frames ++ new_frame frames serial parent home value ∷ []) s ≡ children_of frames s ++ filter (λ frame. is_child_of s frame.path) (new_frame frames serial parent home value ∷ []) }
 {}
 
-/// Another state in a frame changes nothing else.
+/// Putting a frame into another state changes nothing but that state: not the tree, the other frames, who is
+/// whose child, nor any value.
 pub fn states_change_alone<T>()
     ensures tree { (frames : List (Frame T)) (n : ℕ) (state : State) → IsTree frames → IsTree (with_state n state frames) }
     ensures itself { (frames : List (Frame T)) (n : ℕ) (state : State) (frame : Frame T) → frame_at frames n ≡ Some frame → frame_at (with_state n state frames) n ≡ Some (record frame { state = state }) }
@@ -66,7 +69,8 @@ pub fn states_change_alone<T>()
     ensures values { (frames : List (Frame T)) (n : ℕ) (state : State) → values_of (with_state n state frames) ≡ values_of frames }
 {}
 
-/// Frames with other values are the same tree, and each change of it comes to the same before or after.
+/// Applying a function to the value of each frame leaves the tree as it is, and may be done before or after a
+/// look-up or a change of the tree, with the same result.
 pub fn values_change_alone<T, U>()
     ensures tree { (change : T → U) (frames : List (Frame T)) → IsTree frames → IsTree (map_values change frames) }
     ensures from_tree { (change : T → U) (frames : List (Frame T)) → IsTree (map_values change frames) → IsTree frames }
@@ -83,8 +87,8 @@ pub fn values_change_alone<T, U>()
     ensures values { (change : T → U) (frames : List (Frame T)) → values_of (map_values change frames) ≡ map change (values_of frames) }
 {}
 
-/// The words of these laws on the tree of five frames: frame 5 is a child of 3 and of no other, and each
-/// value is changed alone.
+/// The definitions that the laws cite, tried on the tree of `rows`: frame 5 is a child of 3 and of no other,
+/// `map_values` changes values and no path, and `if_kept` keeps a frame only if its test holds.
 pub fn laws_on_five_frames()
     ensures child { is_child_of 3 (path_in five_frames 5) ≡ true }
     ensures grandchild { is_child_of 1 (path_in five_frames 5) ≡ false }

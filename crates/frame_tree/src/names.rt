@@ -6,29 +6,31 @@ ghost use Rattle.std.specs.Prelude.{◌≡◌};
 pub struct FrameId {
     /// The tenant whose frame it is.
     pub tenant: u64,
-    /// Rises with each frame that the tenant opens.
+    /// Its number at that tenant; a new frame's is above those of all the tenant's frames.
     pub serial: u64,
 }
 
-/// What a frame is doing. A home or a worker is a small number: 0 is the hall, 1 to 32 a worker.
+/// What a frame is doing. Workers are numbered 1 to 32. A ready frame's home is the worker that may take it
+/// without stealing, or 0, the hall, which is no worker's.
 #[derive(Clone, Copy, Debug, PartialEq, Eq)]
 pub enum State {
-    /// It may be run; its task lies with this home.
+    /// A worker may run it. The number is its home: a worker, or 0 for the hall.
     Ready(u8),
     /// This worker runs it.
     Running(u8),
-    /// This worker computes for it.
+    /// This worker computes the frame's input outside the core, and is to bring the answer.
     Computing(u8),
     /// It waits for its children.
     Waiting,
-    /// It has returned, and its result was not taken in yet.
+    /// It has returned. It stays until its parent takes its result in, or, for a root, until its job is
+    /// finished.
     Returned,
 }
 
 impl State {
     ghost use Rattle.frame_tree.specs.Frames.{is_ready as is_ready_of};
 
-    /// Whether a frame in this state waits for a worker to run it.
+    /// Whether the state is Ready: a worker may run the frame.
     pub fn is_ready(self) -> bool
         ensures { result ≡ is_ready_of self }
     {

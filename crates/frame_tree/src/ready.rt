@@ -11,7 +11,7 @@ use crate::names::State;
 use crate::window::ListWindow;
 use std::alloc::Allocator;
 
-/// A ready frame: its serial, and the home that its task lies with.
+/// A ready frame: its serial, and its home.
 #[derive(Clone, Copy)]
 pub(crate) struct ReadyFrame {
     pub(crate) serial: u64,
@@ -21,14 +21,14 @@ pub(crate) struct ReadyFrame {
 /// The ready frames of one tenant.
 pub(crate) type ReadyFrames<A> = ListWindow<ReadyFrame, A>;
 
-/// The one of the greatest serial.
+/// The ready frame of the greatest serial; None where none is ready.
 pub(crate) fn newest<A: Allocator>(ready: &ReadyFrames<A>) -> Option<ReadyFrame>
     ensures { result ≡ last_ready ready.now.list }
 {
     ready.as_slice().last().copied()
 }
 
-/// Where the frame with this serial stands, or would stand.
+/// The place of the frame with this serial, or the place to insert it at.
 fn place_for<A: Allocator>(ready: &ReadyFrames<A>, serial: u64) -> usize
     requires { AreRising (λ frame. frame.serial) ready.now.list }
     ensures within { result ≤ length ready.now.list }
@@ -37,7 +37,7 @@ fn place_for<A: Allocator>(ready: &ReadyFrames<A>, serial: u64) -> usize
     place_in(ready.as_slice(), serial)
 }
 
-/// Adds a frame that is not there.
+/// Adds a ready frame, which isn't in the list yet, at its place by serial.
 fn put<A: Allocator>(ready: &mut ReadyFrames<A>, serial: u64, home: u8)
     requires rise { AreRising (λ frame. frame.serial) ready.old.list }
     requires room { length ready.old.list < ready.old.places }
@@ -47,7 +47,7 @@ fn put<A: Allocator>(ready: &mut ReadyFrames<A>, serial: u64, home: u8)
     ready.insert(at, ReadyFrame { serial, home });
 }
 
-/// Removes the frame with this serial, where it is there.
+/// Removes the frame with this serial from the list, if it is there.
 #[inline(always)]
 fn forget<A: Allocator>(ready: &mut ReadyFrames<A>, serial: u64)
     requires { AreRising (λ frame. frame.serial) ready.old.list }
@@ -59,7 +59,7 @@ fn forget<A: Allocator>(ready: &mut ReadyFrames<A>, serial: u64)
     }
 }
 
-/// Removes a frame that is no longer in a state, where that was to be ready.
+/// Removes a frame from the list if the state that it leaves, `was`, is Ready; else nothing changes.
 #[inline(always)]
 pub(crate) fn leave<A: Allocator>(ready: &mut ReadyFrames<A>, serial: u64, was: State)
     requires { AreRising (λ frame. frame.serial) ready.old.list }
@@ -70,7 +70,8 @@ pub(crate) fn leave<A: Allocator>(ready: &mut ReadyFrames<A>, serial: u64, was: 
     }
 }
 
-/// Follows the frame with this serial from one state to another.
+/// Updates the list for a frame that goes from state `was` to `now`: it is removed if it was ready, and added
+/// if it is ready now.
 #[inline(always)]
 pub(crate) fn follow<A: Allocator>(ready: &mut ReadyFrames<A>, serial: u64, was: State, now: State)
     requires rise { AreRising (λ frame. frame.serial) ready.old.list }
@@ -83,7 +84,7 @@ pub(crate) fn follow<A: Allocator>(ready: &mut ReadyFrames<A>, serial: u64, was:
     }
 }
 
-/// Removes the frames from this serial on.
+/// Removes the ready frames of this serial and above.
 pub(crate) fn forget_from<A: Allocator>(ready: &mut ReadyFrames<A>, serial: u64)
     requires { AreRising (λ frame. frame.serial) ready.old.list }
     ensures { ready.new ≡ record ready.old { list = filter (λ frame. nat_lt frame.serial serial) ready.old.list } }
@@ -92,7 +93,8 @@ pub(crate) fn forget_from<A: Allocator>(ready: &mut ReadyFrames<A>, serial: u64)
     ready.truncate(at);
 }
 
-/// Where the frame with this serial stands among these, or would stand.
+/// The place of the frame with this serial among these, or the place to insert it at. Both ends are tried
+/// before a binary search.
 #[inline(always)]
 fn place_in(frames: &[ReadyFrame], serial: u64) -> usize
     requires { AreRising (λ frame. frame.serial) frames.now }

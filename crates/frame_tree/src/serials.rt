@@ -9,10 +9,11 @@ ghost use Rattle.frame_tree.specs.Places.{has_number};
 use crate::window::ListWindow;
 use std::alloc::Allocator;
 
-/// The serials of one tenant's frames.
+/// The serials of one tenant's frames, by rising number.
 pub(crate) type Serials<A> = ListWindow<u64, A>;
 
-/// Where a serial stands.
+/// The place of a serial in the list; None where it isn't there. The last and the second place are tried before
+/// a binary search.
 #[inline(always)]
 pub(crate) fn place_of<A: Allocator>(serials: &Serials<A>, serial: u64) -> Option<usize>
     requires { AreRising (λ n. n) serials.now.list }
@@ -30,7 +31,7 @@ pub(crate) fn place_of<A: Allocator>(serials: &Serials<A>, serial: u64) -> Optio
     search(serials, serial)
 }
 
-/// Where a serial stands, by halves.
+/// The place of a serial in the list, by binary search; None where it isn't there.
 #[cold]
 #[inline(never)]
 pub(crate) fn search<A: Allocator>(serials: &Serials<A>, serial: u64) -> Option<usize>
@@ -44,7 +45,7 @@ pub(crate) fn search<A: Allocator>(serials: &Serials<A>, serial: u64) -> Option<
     }
 }
 
-/// Where a serial stands that is there.
+/// The place of a serial that is in the list.
 #[inline(always)]
 pub(crate) fn known_place<A: Allocator>(serials: &Serials<A>, serial: u64) -> usize
     requires rise { AreRising (λ n. n) serials.now.list }

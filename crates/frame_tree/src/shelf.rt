@@ -27,21 +27,22 @@ use slab::Slab;
 use std::alloc::{AllocError, Allocator, Global};
 use std::marker::Model;
 
-/// How many places there are for guesses at least; else there are four for each slot, so that those
-/// of frames that live long seldom go to others.
+/// The least size of the table of guesses. Else it has four entries for each place, so that a frame that lives
+/// long seldom loses its entry to a frame of the same remainder.
 const FEWEST: usize = 64;
 
-/// One slot as the slab keeps it.
+/// One slot as the slab keeps it, with what an abort needs.
 #[derive(Clone, Copy)]
 pub(crate) struct KeptSlot<T> {
     pub(crate) slot: Slot<T>,
-    /// The key of the parent's slot.
+    /// The key of the parent's slot; None for a root.
     pub(crate) above: Option<usize>,
-    /// Whether the abort that goes on takes it.
+    /// Whether the abort under way removes it; false between aborts.
     pub(crate) marked: bool,
 }
 
-/// The slots of one tenant.
+/// The slots of one tenant, in a slab: `order` has their keys by rising serial, and `guesses` the key that a
+/// serial probably has.
 #[derive(Drop)]
 pub(crate) struct Shelf<T, A: Allocator = Global> {
     places: usize,
@@ -61,7 +62,7 @@ impl<T, A: Allocator> Model for Shelf<T, A> {
 }
 
 impl<T: Copy, A: Allocator> Shelf<T, A> {
-    /// An empty shelf with this many places.
+    /// An empty shelf with this many places. `AllocError` only where memory is refused.
     pub(crate) fn new(alloc: A, places: usize) -> Result<Self, AllocError>
     where
         A: Clone,
@@ -79,8 +80,8 @@ impl<T: Copy, A: Allocator> Shelf<T, A> {
         })
     }
 
-    /// Raises its places to this many, and guesses anew in a table of their size. Where a growth is refused
-    /// nothing has changed.
+    /// Raises its places to this many, with a new table of guesses of matching size, filled from the slots.
+    /// Where memory is refused nothing has changed.
     pub(crate) fn raise(&mut self, alloc: A, places: usize) -> Result<(), AllocError>
         requires more { self.old.places ≤ places }
         requires few { places ≤ 4096 }
@@ -96,7 +97,7 @@ impl<T: Copy, A: Allocator> Shelf<T, A> {
         Ok(())
     }
 
-    /// How many places it has.
+    /// How many slots it has places for.
     pub(crate) fn places(&self) -> usize
         ensures { result ≡ self.now.places }
     {
@@ -110,7 +111,7 @@ impl<T: Copy, A: Allocator> Shelf<T, A> {
         self.order.len()
     }
 
-    /// The slot at a place.
+    /// The slot at a place in the order of serials.
     #[inline(always)]
     pub(crate) fn at(&self, at: usize) -> Slot<T>
         requires { at < length self.now.slots }
@@ -120,7 +121,8 @@ impl<T: Copy, A: Allocator> Shelf<T, A> {
         self.slab[key].slot
     }
 
-    /// The slot with a serial.
+    /// The slot with this serial; None where there is none. The guessed key is tried first, then `serials` is
+    /// searched, the serials of all slots.
     #[inline(always)]
     pub(crate) fn find(&self, serials: &Serials<A>, serial: u64) -> Option<Slot<T>>
         requires index { serials.now.list ≡ serials_of self.now.slots }
@@ -140,7 +142,7 @@ impl<T: Copy, A: Allocator> Shelf<T, A> {
         }
     }
 
-    /// Adds the serials of the slots from a place on.
+    /// Appends to `serials` the serials of the slots from a place on.
     pub(crate) fn add_serials(&self, from: usize, serials: &mut Serials<A>)
         requires within { from ≤ length self.now.slots }
         requires room { length serials.old.list + length self.now.slots ≤ serials.old.places + from }
@@ -151,7 +153,7 @@ impl<T: Copy, A: Allocator> Shelf<T, A> {
         }
     }
 
-    /// Adds the ready frames among the slots from a place on.
+    /// Appends to `ready` the ready frames among the slots from a place on.
     pub(crate) fn add_ready(&self, from: usize, ready: &mut ReadyFrames<A>)
         requires within { from ≤ length self.now.slots }
         requires room { length ready.old.list + length self.now.slots ≤ ready.old.places + from }
@@ -168,7 +170,7 @@ impl<T: Copy, A: Allocator> Shelf<T, A> {
         }
     }
 
-    /// Puts another slot of the same name in the place of one.
+    /// Replaces the slot at a place by one of the same serial and parent.
     #[inline(always)]
     pub(crate) fn put(&mut self, at: usize, slot: Slot<T>)
         requires within { at < length self.old.slots }
@@ -180,7 +182,8 @@ impl<T: Copy, A: Allocator> Shelf<T, A> {
         put_kept(&mut self.slab, key, slot);
     }
 
-    /// Puts the slot with a serial that is there into another state, and gives the one that it was in.
+    /// Puts the slot with this serial, which is there, into another state, and returns the state that it was
+    /// in.
     #[inline(always)]
     pub(crate) fn set_state(&mut self, serials: &Serials<A>, serial: u64, state: State) -> State
         requires index { serials.now.list ≡ serials_of self.old.slots }
@@ -197,7 +200,8 @@ impl<T: Copy, A: Allocator> Shelf<T, A> {
         }
     }
 
-    /// Puts the slot of a ready frame after the others, and counts one more child of its parent.
+    /// Appends a slot for a new frame, ready at this home, and counts one more child at its parent, if it has
+    /// one.
     #[inline(always)]
     pub(crate) fn push(
         &mut self,
@@ -238,9 +242,8 @@ impl<T: Copy, A: Allocator> Shelf<T, A> {
         self.guesses.put(serial, key);
     }
 
-    /// Removes the slots under the one with this serial, which stands at a place, and adds their values
-    /// to `removed`: one pass by rising serial marks them, and a second removes the marked. Both begin
-    /// at that place.
+    /// Removes all slots below the one with serial `under`, which is at place `at` and stays, and appends their
+    /// values to `removed`: one pass from that place on marks them, and a second removes the marked.
     pub(crate) fn cut(&mut self, at: usize, under: u64, removed: &mut Vec<T, A>)
         requires within { at < length self.old.slots }
         requires named { slice_index (serials_of self.old.slots) at ≡ under }
@@ -254,7 +257,7 @@ impl<T: Copy, A: Allocator> Shelf<T, A> {
         sweep(&mut self.slab, &mut self.order, at, removed);
     }
 
-    /// Removes all slots, and adds their values to `removed`.
+    /// Removes all slots, and appends their values to `removed`.
     pub(crate) fn clear(&mut self, removed: &mut Vec<T, A>)
         requires { vec_len removed.old + length self.old.slots ≤ vec_capacity removed.old }
         ensures none { self.new ≡ record self.old { slots = [] } }
@@ -266,7 +269,7 @@ impl<T: Copy, A: Allocator> Shelf<T, A> {
         self.slab.clear();
     }
 
-    /// Adds the values of all slots to `values`.
+    /// Appends the values of all slots to `values`.
     fn add_values(&self, values: &mut Vec<T, A>)
         requires { vec_len values.old + length self.now.slots ≤ vec_capacity values.old }
         ensures items { values.new.items ≡ values.old.items ++ slot_values self.now.slots }
@@ -277,7 +280,8 @@ impl<T: Copy, A: Allocator> Shelf<T, A> {
         }
     }
 
-    /// Takes the slot at a place away, which is no slot's parent, and counts one child less of its own.
+    /// Removes and returns the slot at a place, which is no slot's parent, and counts one child less at its own
+    /// parent, if it has one.
     #[inline(always)]
     pub(crate) fn take(&mut self, at: usize) -> Slot<T>
         requires within { at < length self.old.slots }
@@ -294,7 +298,7 @@ impl<T: Copy, A: Allocator> Shelf<T, A> {
     }
 }
 
-/// Puts down the key of each slot.
+/// Enters the key of each slot into a table of guesses, by its serial.
 fn guess_all<T: Copy, A: Allocator>(
     slab: &Slab<KeptSlot<T>, A>,
     order: &ListWindow<usize, A>,
@@ -308,7 +312,7 @@ fn guess_all<T: Copy, A: Allocator>(
     }
 }
 
-/// Puts another slot under a key.
+/// Replaces the slot under a key; the key of its parent and its mark stay.
 fn put_kept<T: Copy, A: Allocator>(slab: &mut Slab<KeptSlot<T>, A>, key: usize, slot: Slot<T>)
     requires { ContainsKey slab.old key }
     ensures put { (kept : KeptSlot T) → get slab.old key ≡ Some kept → Updates slab.old slab.new key (Some (record kept { slot = slot })) }
@@ -319,7 +323,8 @@ fn put_kept<T: Copy, A: Allocator>(slab: &mut Slab<KeptSlot<T>, A>, key: usize, 
     slab[key] = KeptSlot { slot, ..kept };
 }
 
-/// The key of the slot with a serial, if it is the guessed one.
+/// The key of the slot with this serial, if the guess is right; None where it is wrong, or there is no such
+/// slot.
 #[inline(always)]
 fn guessed_key<T: Copy, A: Allocator>(
     slab: &Slab<KeptSlot<T>, A>,
@@ -339,7 +344,7 @@ fn guessed_key<T: Copy, A: Allocator>(
     None
 }
 
-/// The key of the slot with a serial that is there, wherever it was guessed.
+/// The key of the slot with this serial, which is there, by a search of the serials: for a wrong guess.
 #[cold]
 #[inline(never)]
 fn search_key<A: Allocator>(
@@ -355,7 +360,8 @@ fn search_key<A: Allocator>(
     order.at(known_place(serials, serial))
 }
 
-/// Counts one more child of a parent, and gives the root of the new frame, and the parent's key.
+/// Counts the new frame `serial` at its parent, if it has one. Returns the new frame's root (its parent's, or
+/// itself) and the parent's key (None for a root).
 #[inline(always)]
 fn adopt<T: Copy, A: Allocator>(
     slab: &mut Slab<KeptSlot<T>, A>,
@@ -389,7 +395,7 @@ fn adopt<T: Copy, A: Allocator>(
     }
 }
 
-/// Counts one more child of the frame whose slot stands under a key, and gives its root.
+/// Counts one more child at the frame whose slot has this key, and returns that frame's root.
 #[inline(always)]
 fn enroll<T: Copy, A: Allocator>(
     slab: &mut Slab<KeptSlot<T>, A>,
@@ -412,7 +418,7 @@ fn enroll<T: Copy, A: Allocator>(
     root
 }
 
-/// Counts one child less of a parent, whose slot stands under a key.
+/// Counts one child less at a parent, whose slot has the key `above`; nothing changes where there is no parent.
 #[inline(always)]
 fn disown<T: Copy, A: Allocator>(
     slab: &mut Slab<KeptSlot<T>, A>,
@@ -434,7 +440,7 @@ fn disown<T: Copy, A: Allocator>(
     }
 }
 
-/// Puts the slot under a key into another state, and gives the one that it was in.
+/// Puts the slot under a key into another state, and returns the state that it was in.
 #[inline(always)]
 fn put_state<T: Copy, A: Allocator>(
     slab: &mut Slab<KeptSlot<T>, A>,
@@ -476,7 +482,7 @@ fn count_less<T: Copy, A: Allocator>(slab: &mut Slab<KeptSlot<T>, A>, key: usize
     slab[key].slot.children = children - 1;
 }
 
-/// Marks a slot.
+/// Marks the slot under a key, for the abort under way to remove.
 fn mark<T: Copy, A: Allocator>(slab: &mut Slab<KeptSlot<T>, A>, key: usize)
     requires { ContainsKey slab.old key }
     ensures marked { (kept : KeptSlot T) → get slab.old key ≡ Some kept → Updates slab.old slab.new key (Some (record kept { marked = true })) }
@@ -490,7 +496,8 @@ fn mark<T: Copy, A: Allocator>(slab: &mut Slab<KeptSlot<T>, A>, key: usize)
     };
 }
 
-/// Whether an abort at `under` takes the slot under this key: its parent is that one, or is marked.
+/// Whether an abort at the frame `under` removes the slot under this key: its parent is that frame, or is
+/// marked.
 fn is_taken<T: Copy, A: Allocator>(slab: &Slab<KeptSlot<T>, A>, under: u64, key: usize) -> bool
     requires { HasLink slab.now (get slab.now key) }
     ensures { result ≡ is_taken_in slab.now under (get slab.now key) }
@@ -502,8 +509,8 @@ fn is_taken<T: Copy, A: Allocator>(slab: &Slab<KeptSlot<T>, A>, under: u64, key:
     }
 }
 
-/// Marks, in one pass by rising serial from a place on, each slot whose parent is the one aborted, or
-/// is marked. Those before the place stay.
+/// Marks what an abort at the frame `under` removes, in one pass by rising serial from a place on: each slot
+/// whose parent is that frame, or is marked. Slots before the place aren't looked at.
 fn mark_under<T: Copy, A: Allocator>(
     slab: &mut Slab<KeptSlot<T>, A>,
     order: &[usize],

@@ -2,7 +2,8 @@
 
 use crate::names::{Entry, FrameId, State};
 
-/// One frame as it is kept.
+/// One frame as it is kept: with its parent's serial (None for a root), the serial of the root above it (a
+/// root's own), and how many children it has.
 #[derive(Clone, Copy)]
 pub(crate) struct Slot<T> {
     pub(crate) serial: u64,
@@ -18,7 +19,7 @@ impl<T: Copy> Slot<T> {
     ghost use Rattle.frame_tree.specs.Frames.{name_of};
     ghost use Rattle.frame_tree.specs.Slots.{is_of_parent};
 
-    /// What `find` tells of the slot's frame.
+    /// What `TenantFrames::find` returns for the slot's frame.
     pub(crate) fn entry(&self, tenant: u64) -> Entry<T>
         ensures { result ≡ record { parent = name_of tenant self.now.parent; state = self.now.state; value = self.now.value } }
     {

@@ -41,7 +41,7 @@ impl<T, A: Allocator> Model for TenantFrames<T, A> {
     ghost invariant = { λ t. IsTenant t.shelf.slots t.shelf.places t.serials t.ready };
 }
 
-// A tree stands among all by its tenant's number.
+// Lists of trees are ordered by the tenants' numbers.
 impl<T: Copy, A: Allocator> Numbered for TenantFrames<T, A> {
     ghost use Rattle.frame_tree.specs.Frames.{owner_of};
 
@@ -72,7 +72,8 @@ impl<T: Copy, A: Allocator> TenantFrames<T, A> {
         })
     }
 
-    /// Raises its places to this many. It alone takes memory after `new`: `AllocError` only where a growth was refused.
+    /// Raises its places to this many. It alone takes memory after `new`: `AllocError` only where a growth was
+    /// refused, and then nothing has changed.
     pub fn raise(&mut self, alloc: A, places: usize) -> Result<(), AllocError>
         requires more { self.old.places ≤ places }
         requires few { places ≤ 4096 }
@@ -84,14 +85,14 @@ impl<T: Copy, A: Allocator> TenantFrames<T, A> {
         self.shelf.raise(alloc, places)
     }
 
-    /// The tenant.
+    /// The number of the tenant whose frames these are.
     pub fn tenant(&self) -> u64
         ensures { result ≡ self.now.tenant }
     {
         self.tenant
     }
 
-    /// How many places it has.
+    /// How many frames it has places for.
     pub fn places(&self) -> usize
         ensures { result ≡ self.now.places }
     {
@@ -105,14 +106,14 @@ impl<T: Copy, A: Allocator> TenantFrames<T, A> {
         self.shelf.len()
     }
 
-    /// How many of them are ready, from a kept count.
+    /// How many of the frames are ready: the length of a kept list.
     pub fn ready(&self) -> usize
         ensures { result ≡ length (ready_frames self.now.frames) }
     {
         self.ready.len()
     }
 
-    /// The slots.
+    /// The slots of its frames.
     pub(crate) fn shelf(&self) -> &Shelf<T, A>
         ensures frames { frames_from [] result.now.slots ≡ self.now.frames }
         ensures linked { IsLinked [] result.now.slots }
@@ -132,7 +133,7 @@ impl<T: Copy, A: Allocator> TenantFrames<T, A> {
         }
     }
 
-    /// The serial of the root above a frame, or of the frame itself.
+    /// The serial of the root above a frame that is there; the frame's own where it is a root.
     pub fn root(&self, serial: u64) -> u64
         requires { IsTrue (has_frame self.now.frames serial) }
         ensures { result ≡ root_of (path_in self.now.frames serial) }
@@ -141,7 +142,7 @@ impl<T: Copy, A: Allocator> TenantFrames<T, A> {
         self.shelf.at(at).root
     }
 
-    /// Whether a frame has a child, from a kept count.
+    /// Whether a frame has a child, by a count kept with the frame; false also where there is no such frame.
     #[inline(always)]
     pub fn has_child(&self, serial: u64) -> bool
         ensures child { IsTrue result ↔ (0 < length (children_of self.now.frames serial)) }
@@ -172,7 +173,7 @@ impl<T: Copy, A: Allocator> TenantFrames<T, A> {
         self.shelf.at(count - 1).serial < serial
     }
 
-    /// The ready frame of the greatest serial, with its home.
+    /// The name and the home of the ready frame of the greatest serial; None where none is ready.
     pub fn newest_ready(&self) -> Option<(FrameId, u8)>
         ensures value { result ≡ newest_ready_of self.now.tenant self.now.frames }
         ensures found { IfSome result (λ ready. (ready.0.tenant ≡ self.now.tenant) × IsReadyAt (frame_at self.now.frames ready.0.serial) ready.1) }
@@ -200,7 +201,7 @@ impl<T: Copy, A: Allocator> TenantFrames<T, A> {
         self.ready.push(ReadyFrame { serial, home });
     }
 
-    /// Puts a frame into another state, and gives the one that it was in.
+    /// Puts a frame into another state, and returns the state that it was in.
     #[inline(always)]
     pub fn set_state(&mut self, serial: u64, state: State) -> State
         requires { IsTrue (has_frame self.old.frames serial) }
@@ -253,7 +254,7 @@ impl<T: Copy, A: Allocator> TenantFrames<T, A> {
         self.ready.clear();
     }
 
-    /// Removes a frame that has no child, and gives the state that it was in, and its value.
+    /// Removes a frame that has no child, and returns its state and its value.
     #[inline(always)]
     pub fn remove(&mut self, serial: u64) -> (State, T)
         requires there { IsTrue (has_frame self.old.frames serial) }

@@ -10,10 +10,10 @@ ghost use Rattle.std.specs.List.{insert, remove};
 use std::alloc::{AllocError, Allocator, Global};
 use std::marker::Model;
 
-/// Room at the end beside two times the places, so that few places seldom need the list moved.
+/// Room beyond twice the places, so that a list of few places is seldom moved to the front of its memory.
 const SPARE: usize = 64;
 
-/// A list in reserved places.
+/// A list of at most `places` elements: those in `items` from `start` on. What is before `start` was removed.
 #[derive(Drop)]
 pub(crate) struct ListWindow<T, A: Allocator = Global> {
     places: usize,
@@ -33,7 +33,7 @@ impl<T, A: Allocator> Model for ListWindow<T, A> {
 }
 
 impl<T: Copy, A: Allocator> ListWindow<T, A> {
-    /// An empty list with this many places.
+    /// An empty list with this many places. `AllocError` only where memory is refused.
     pub(crate) fn new(alloc: A, places: usize) -> Result<Self, AllocError>
         requires { places ≤ 4096 }
         ensures { IfOk result (λ w. w ≡ record { places = places; list = [] }) }
@@ -46,7 +46,8 @@ impl<T: Copy, A: Allocator> ListWindow<T, A> {
         })
     }
 
-    /// Makes as many places as these at least. Where a growth is refused there are as many as before.
+    /// Raises the places to this many, if there are fewer. Where memory is refused there are as many as before.
+    /// The elements stay.
     pub(crate) fn raise(&mut self, places: usize) -> Result<(), AllocError>
         requires { places ≤ 4096 }
         ensures list { self.new.list ≡ self.old.list }
@@ -79,7 +80,7 @@ impl<T: Copy, A: Allocator> ListWindow<T, A> {
         self.items[self.start + at]
     }
 
-    /// The elements.
+    /// The elements, in order.
     #[inline(always)]
     pub(crate) fn as_slice(&self) -> &[T]
         ensures value { result.now ≡ self.now.list }
@@ -87,7 +88,7 @@ impl<T: Copy, A: Allocator> ListWindow<T, A> {
         &self.items[self.start..]
     }
 
-    /// Puts another element in the place of one.
+    /// Replaces the element at a place.
     pub(crate) fn put(&mut self, at: usize, element: T)
         requires { at < length self.old.list }
         ensures { self.new ≡ record self.old { list = set self.old.list at element } }
@@ -95,7 +96,8 @@ impl<T: Copy, A: Allocator> ListWindow<T, A> {
         self.items[self.start + at] = element;
     }
 
-    /// Adds an element at the end.
+    /// Adds an element at the end. Where no room is left there, the list is first moved to the front of its
+    /// memory.
     #[inline(always)]
     pub(crate) fn push(&mut self, element: T)
         requires { length self.old.list < self.old.places }
@@ -107,7 +109,7 @@ impl<T: Copy, A: Allocator> ListWindow<T, A> {
         self.items.push_reserved(element);
     }
 
-    /// Moves the list to the front, and adds an element at the end.
+    /// Moves the list to the front of its memory, and adds an element at the end.
     #[cold]
     #[inline(never)]
     fn push_from_front(&mut self, element: T)
@@ -119,7 +121,8 @@ impl<T: Copy, A: Allocator> ListWindow<T, A> {
         self.items.push_reserved(element);
     }
 
-    /// Removes the element at a place. The shorter of the two ends moves.
+    /// Removes the element at a place and returns it. Either those before it or those after it move, whichever
+    /// are fewer.
     #[inline(always)]
     pub(crate) fn remove(&mut self, at: usize) -> T
         requires { at < length self.old.list }
@@ -143,7 +146,7 @@ impl<T: Copy, A: Allocator> ListWindow<T, A> {
         self.items.remove(self.start + at)
     }
 
-    /// Removes the element at a place by moving those before it.
+    /// Removes the element at a place by moving those before it one place on.
     fn remove_near_front(&mut self, at: usize)
         requires { at < length self.old.list }
         ensures { self.new ≡ record self.old { list = remove self.old.list at } }
@@ -153,7 +156,7 @@ impl<T: Copy, A: Allocator> ListWindow<T, A> {
         self.start += 1;
     }
 
-    /// Puts an element before the one at a place, or after all.
+    /// Inserts an element so that it stands at this place: before the one there, or at the end.
     pub(crate) fn insert(&mut self, at: usize, element: T)
         requires within { at ≤ length self.old.list }
         requires room { length self.old.list < self.old.places }
@@ -167,7 +170,7 @@ impl<T: Copy, A: Allocator> ListWindow<T, A> {
         }
     }
 
-    /// Moves the list to the front, and puts an element before the one at a place, or after all.
+    /// Moves the list to the front of its memory, and inserts an element at this place.
     fn insert_from_front(&mut self, at: usize, element: T)
         requires within { at ≤ length self.old.list }
         requires room { length self.old.list < self.old.places }
@@ -180,7 +183,7 @@ impl<T: Copy, A: Allocator> ListWindow<T, A> {
         }
     }
 
-    /// Removes the elements from a place on.
+    /// Removes the elements from a place on; none where the list is shorter.
     pub(crate) fn truncate(&mut self, at: usize)
         ensures { self.new ≡ record self.old { list = take at self.old.list } }
     {
@@ -189,7 +192,7 @@ impl<T: Copy, A: Allocator> ListWindow<T, A> {
         }
     }
 
-    /// Removes all.
+    /// Removes all elements.
     pub(crate) fn clear(&mut self)
         ensures { self.new ≡ record self.old { list = [] } }
     {
@@ -198,7 +201,7 @@ impl<T: Copy, A: Allocator> ListWindow<T, A> {
     }
 }
 
-/// Moves the elements from a place on to the front, and lets those before them go.
+/// Moves the elements from place `start` on to the front, over those before them.
 fn move_to_front<T: Copy, A: Allocator>(items: &mut Vec<T, A>, start: usize)
     requires { start ≤ vec_len items.old }
     ensures moved { items.new.items ≡ drop start items.old.items }

@@ -10,22 +10,22 @@ use Rattle.sched_rules.specs.Trees.{Tenant}
 use Rattle.sched_rules.specs.Lone.{Outcome, staying}
 use Rattle.sched_rules.specs.Runs.{answer_of}
 
--- a step's answer is the one that is judged, and the core is what it leaves
+-- a step's answer is the one that judged gives, and after is the core that judged leaves
 pub record IsJudged {I A : Type 0} (functions : Functions I A) (before : Shared) (step : StepOf A) (answer : Result (DidOf I) Refusal) (after : Shared) : Type 0 where
   pub told : answer ≡ answer_of (judged functions before step)
   pub left : after ≡ shared_after before step (judged functions before step)
 
--- an admission is judged so, or memory runs out where it would be taken, and then nothing changes
+-- an admission is answered as judged says; or judged takes it, but it is refused by OutOfMemory, and nothing changes
 abbrev pub IsAdmitted : {I A : Type 0} → Functions I A → Shared → StepOf A → Result (DidOf I) Refusal → Shared → Type 0
 IsAdmitted functions before step answer after =
     IsJudged functions before step answer after
     ⊎ ((shared_refusal functions before step ≡ None) × (answer ≡ Err OutOfMemory) × (after ≡ before))
 
--- a tenant's step came to this, and what it did was told
+-- a step of this tenant had this outcome: did is what it did, and only the tenant changed, to the state of the outcome
 pub record IsCome {I : Type 0} (number : ℕ) (outcome : Outcome I) (before : Shared) (did : DidOf I) (after : Shared) : Type 0 where
   pub told : did ≡ outcome.1
   pub left : after ≡ record before { tenants = with_outcome number outcome.0 before.tenants }
 
--- the tenant with the frames that stay after an inlet
+-- the tenant with the frames that stay after an inlet of child into parent
 abbrev pub staying_with : ℕ → ℕ → Bool → Tenant → Tenant
 staying_with child parent abort tenant = record tenant { frames = staying tenant.frames child parent abort }

@@ -10,27 +10,28 @@ use Rattle.sched_laws.specs.Fitted.{CoreFits}
 use Rattle.sched_laws.specs.Newest.{IsNewestReady}
 use Rattle.sched_laws.specs.Shapes.{AreShaped, IsReservedWithin}
 
--- each tenant has its shape, and a number that was taken; and what all of them reserved is within the totals
+-- each tenant has its shape and a number up to the greatest so far; all reservations together are within the totals
 pub record IsKept (shared : Shared) : Type 0 where
   pub shaped : AreShaped shared.tenants
   pub known : IsKnown shared
   pub within : IsReservedWithin shared
 
--- every frame fits, and each job holds what it was asked, whatever that was
+-- there are lists of submitted words for which every frame fits, and each job holds what it was asked
 abbrev pub IsFitting : Fitting → Rooting → Shared → Type 0
 IsFitting fits rooted shared = (origins : ℕ → List (List ℕ)) × CoreFits fits rooted origins shared
 
--- the same of a core that may know that its frames fit
+-- the invariant of a Core (src/scheduler.rt): IsKept, and where it knows all frames to fit (fitting), they do
 pub record IsKeptFitting (fits : Fitting) (rooted : Rooting) (fitting : Bool) (shared : Shared) : Type 0 where
   pub kept : IsKept shared
   pub fit : fitting ≡ true → IsFitting fits rooted shared
 
--- what is left of a tenant that is there, and what it used, are what it reserved: nothing is cut off
+-- what a tenant has left and what it used add up to what it reserved, so that nothing was cut off at 0
 pub record IsRest (tenant : Tenant) (left : Left) : Type 0 where
   pub segments : left.segments + charged_for tenant.frames ≡ tenant.reserve.segments
   pub nodes : left.nodes + tenant.serials ≡ tenant.reserve.nodes
   pub steps : left.steps + tenant.steps ≡ 16 * tenant.reserve.nodes
 
+-- the tenant is there, and what it has left and what it used add up to what it reserved
 abbrev pub IsRestOf : Option Tenant → Left → Type 0
 IsRestOf None left = ⊥
 IsRestOf (Some tenant) left = IsRest tenant left

@@ -10,7 +10,8 @@ use Rattle.sched_rules.specs.Lone.{is_run_by, is_returned, is_bad_then, is_spawn
 use Rattle.sched_rules.specs.Cores.{Shared, tenant_in}
 use Rattle.sched_core.specs.declared.engine.Seen.{Seen}
 
--- what a look at a frame that is there tells: its parent's name, which a root alone has not, its state and what its tenant has left, whose frames are a tree
+-- what a look-up of a frame that is there tells: its parent's name (none exactly for a root), its state, and what its
+-- tenant has left; and the tenant's frames are a tree
 pub record IsSeen (shared : Shared) (name : FrameId) (tenant : Tenant) (frame : Frame (List ℕ)) (seen : Seen) : Type 0 where
   pub owner : tenant_in shared.tenants name.tenant ≡ Some tenant
   pub found : frame_at tenant.frames name.serial ≡ Some frame
@@ -26,19 +27,19 @@ pub record IsRunning (shared : Shared) (name : FrameId) (worker : ℕ) (tenant :
   pub runs : is_run_by worker seen.state ≡ true
   pub some : (seen.left.steps == 0) ≡ false
 
--- the frame that is seen has returned to this parent, and its tenant has a step left
+-- the frame that is seen has returned, this is its parent, and its tenant has a step left
 pub record IsReturnedUnder (shared : Shared) (name parent : FrameId) (tenant : Tenant) (frame : Frame (List ℕ)) (seen : Seen) : Type 0 where
   pub seen_so : IsSeen shared name tenant frame seen
   pub above : seen.parent ≡ Some parent
   pub returned : is_returned seen.state ≡ true
   pub some : (seen.left.steps == 0) ≡ false
 
--- why no frame of a tenant has this serial
+-- why a tenant has no frame of this serial: NoTenant or NoFrame; none where it has one
 abbrev pub missing_in : Option Tenant → ℕ → Option Refusal
 missing_in None serial = Some NoTenant
 missing_in (Some tenant) serial = if has_frame tenant.frames serial then None else Some NoFrame
 
--- why no frame has this name: its tenant isn't there, or the frame isn't
+-- why there is no frame of this name: NoTenant or NoFrame; none where there is one
 abbrev pub missing : Shared → FrameId → Option Refusal
 missing shared name = missing_in (tenant_in shared.tenants name.tenant) name.serial
 
@@ -51,7 +52,7 @@ pub record GoesOn (shared : Shared) (name : FrameId) (worker : ℕ) (after : The
   pub node : (is_spawn after && ((left_for tenant).nodes == 0)) ≡ false
   pub segments : nat_lt (left_for tenant).segments (segments_for frame after) ≡ false
 
--- a frame that may be taken in by its parent: no frame is under it
+-- the frame child is there, directly under parent, and has no child: so it can be removed
 pub record MayBeTakenIn (shared : Shared) (child parent : FrameId) (tenant : Tenant) (frame : Frame (List ℕ)) : Type 0 where
   pub owner : tenant_in shared.tenants child.tenant ≡ Some tenant
   pub found : frame_at tenant.frames child.serial ≡ Some frame

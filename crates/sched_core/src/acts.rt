@@ -21,7 +21,8 @@ use std::alloc::Allocator;
 use tenant_quota::Left;
 
 impl<P: Procedure, A: Allocator> Engine<P, A> {
-    /// A frame that the worker runs, where its tenant has a step left.
+    /// Looks up a frame for an Advance. Ok where this worker runs it and its tenant has a step left; else that
+    /// Advance's refusal: NoTenant, NoFrame, NotRunning or NoSteps.
     #[inline(always)]
     pub(crate) fn running(&self, worker: Worker, name: FrameId) -> Result<Found<'_>, Refusal>
         ensures frame { MatchResult result
@@ -40,7 +41,7 @@ impl<P: Procedure, A: Allocator> Engine<P, A> {
         Ok(found)
     }
 
-    /// Whether a frame that the worker runs may do its next act.
+    /// Ok where an Advance of this frame by this worker would be taken, else its refusal.
     pub(crate) fn may_advance(&self, worker: Worker, name: FrameId) -> Result<(), Refusal>
         ensures refusal { refusal_in result ≡ shared_refusal (P.functions self.now.procedure) self.now.store (AdvanceStep worker name) }
     {
@@ -49,7 +50,8 @@ impl<P: Procedure, A: Allocator> Engine<P, A> {
         may_do(&self.store, name, found.seen.left, &found.words, &act)
     }
 
-    /// What a frame that the worker computes stores of an answer, if it may be brought.
+    /// What the frame stores of an answer that this worker brings, or the refusal of that Answer. `fitting`
+    /// says that all frames are known to fit.
     pub(crate) fn accepted(
         &self,
         worker: Worker,
@@ -78,7 +80,8 @@ impl<P: Procedure, A: Allocator> Engine<P, A> {
         Ok(stores)
     }
 
-    /// A returned frame's words and its parent's name, where its tenant has a step left.
+    /// The words and the parent's name of a frame that an Inlet may take in; else the refusal: it isn't there,
+    /// hasn't returned or is a root, or no step is left. The inlet itself isn't tested yet.
     #[inline(always)]
     pub(crate) fn returned(&self, name: FrameId) -> Result<(Words<'_>, FrameId), Refusal>
         ensures frame { MatchResult result
@@ -99,7 +102,7 @@ impl<P: Procedure, A: Allocator> Engine<P, A> {
         Ok((found.words, parent))
     }
 
-    /// Whether a returned frame may be taken in by its parent.
+    /// Ok where an Inlet of this frame by this worker would be taken, else its refusal.
     pub(crate) fn may_inlet(&self, worker: Worker, name: FrameId) -> Result<(), Refusal>
         ensures refusal { refusal_in result ≡ shared_refusal (P.functions self.now.procedure) self.now.store (InletStep worker name) }
     {
@@ -109,7 +112,8 @@ impl<P: Procedure, A: Allocator> Engine<P, A> {
         may_take_in(&self.store, worker, &above, &act)
     }
 
-    /// Whether a frame's job may be given up: no step is left, or what the frame does next can't be done.
+    /// Whether the job of a frame that was looked up may be given up: no step is left, or it runs and can't do
+    /// its next act, or it has returned and its inlet can't be done.
     pub(crate) fn is_spendable(&self, name: FrameId, seen: Seen) -> bool
         requires { (tenant : Tenant) × (frame : Frame (List ℕ)) × IsSeen self.now.store name tenant frame seen }
         ensures { (tenant : Tenant) (frame : Frame (List ℕ)) → IsSeen self.now.store name tenant frame seen
@@ -130,7 +134,7 @@ impl<P: Procedure, A: Allocator> Engine<P, A> {
         }
     }
 
-    /// Whether the inlet of a frame, if it has a parent, stores outside.
+    /// Whether the inlet of this frame stores beyond its parent's words; false for a root.
     fn is_bad_inlet(&self, name: FrameId, seen: Seen) -> bool
         requires { (tenant : Tenant) × (frame : Frame (List ℕ)) × IsSeen self.now.store name tenant frame seen }
         ensures { (tenant : Tenant) (frame : Frame (List ℕ)) → IsSeen self.now.store name tenant frame seen
@@ -147,7 +151,8 @@ impl<P: Procedure, A: Allocator> Engine<P, A> {
     }
 }
 
-/// Whether a frame has a child, where what it does next asks for that: only a frame with none computes.
+/// Whether a frame has a child. It is looked up for Compute alone, which needs a frame without one; for any
+/// other act, where it doesn't matter, the answer is false.
 #[inline(always)]
 fn has_child_for<A: Allocator>(store: &Store<A>, name: FrameId, after: &Then) -> bool
     ensures { (words : ℕ) → is_bad_then_of words (has_child_in (frames_in store.now name.tenant) name.serial) after.now ≡ is_bad_then_of words result after.now }
@@ -158,7 +163,8 @@ fn has_child_for<A: Allocator>(store: &Store<A>, name: FrameId, after: &Then) ->
     }
 }
 
-/// Whether a frame that was looked up may do this act.
+/// Ok where a frame of these words may do this act with what its tenant has left; else BadAct, NoNodes or
+/// NoSegments.
 #[inline(always)]
 pub(crate) fn may_do<A: Allocator>(
     store: &Store<A>,
@@ -174,7 +180,8 @@ pub(crate) fn may_do<A: Allocator>(
     may_act(words, has_child, left, act)
 }
 
-/// Whether a parent of these words may take a child in so, by this worker.
+/// Ok where this worker may do this inlet on a parent of these words; BadAct where it stores beyond them, else
+/// Busy where the worker isn't free.
 #[inline(always)]
 pub(crate) fn may_take_in<A: Allocator>(
     store: &Store<A>,

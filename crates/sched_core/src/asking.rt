@@ -4,8 +4,8 @@ ghost use Rattle.sched_laws.specs.Fitted.{RootFits};
 
 use sched_rules::{Procedure, Step, StepOf};
 
-/// Whether all frames are known to fit after a step, if it is taken: they were before it, and the
-/// procedure tells that the new root of a Submit does.
+/// Whether all frames are known to fit after this step, if it is taken: they were known to before it, and the
+/// procedure says that the new root of a Submit does.
 #[inline(always)]
 pub(crate) fn stays_fitting<P: Procedure>(procedure: &P, fitting: bool, step: &Step<P>) -> bool
     ensures before { result ≡ true → fitting ≡ true }

@@ -14,7 +14,7 @@ use tenant_quota::Left;
 /// The most words of a frame.
 pub const MOST_WORDS: usize = 128;
 
-/// The refusal of the first test that applies, if one does.
+/// Err with the refusal of the first test that is true; Ok where none is.
 #[inline(always)]
 pub fn first_of(tests: &[(bool, Refusal)]) -> Result<(), Refusal>
     ensures { result ≡ unless tests.now tt }
@@ -27,7 +27,7 @@ pub fn first_of(tests: &[(bool, Refusal)]) -> Result<(), Refusal>
     Ok(())
 }
 
-/// The same of four tests.
+/// Err with the refusal of the first of these four tests that is true; Ok where none is.
 #[inline(always)]
 pub fn first_of_four(
     first: (bool, Refusal),
@@ -52,7 +52,8 @@ pub fn first_of_four(
     Ok(())
 }
 
-/// Whether a frame of this size can be opened with these words.
+/// Whether a frame of this size can be opened with these words: the size is 1 to 128, and no less than the
+/// words.
 pub fn is_frame_size(words: &[u64], size: usize) -> bool
     ensures { result ≡ is_frame_size_of words.now size }
 {
@@ -83,7 +84,8 @@ pub fn is_ready_at(state: State, home: u8) -> bool
     }
 }
 
-/// Whether a frame in this state isn't there to be stolen from this home, or the thief would steal from itself.
+/// Whether this worker can't steal a frame in this state from home `from`: it isn't ready there, or that home
+/// is the worker's own.
 pub fn is_out_of_reach(state: State, from: u8, worker: u8) -> bool
     ensures { result ≡ (not (is_ready_at_of from state) || (from == worker)) }
 {
@@ -117,7 +119,7 @@ pub fn is_returned(state: State) -> bool
     matches!(state, State::Returned)
 }
 
-/// Whether a frame in this state, a root or a child, is no returned root.
+/// Whether a frame in this state, a root or not, can't end its job: it hasn't returned, or it is no root.
 pub fn is_unfinished(state: State, is_root: bool) -> bool
     ensures { result ≡ (not (is_returned_of state) || not is_root) }
 {
@@ -150,7 +152,7 @@ pub fn is_bad_act(words: &Words, has_child: bool, act: &Act) -> bool
     is_outside(act.stores.as_slice(), words) || is_bad_then(words.len(), has_child, &act.after)
 }
 
-/// Whether a child is opened.
+/// Whether this opens a child.
 pub fn is_spawn(after: &Then) -> bool
     ensures { result ≡ is_spawn_of after.now }
 {
@@ -178,8 +180,8 @@ pub fn segments_for(words: usize, after: &Then) -> usize
     }
 }
 
-/// Whether a frame of these words, with a child or none (which is asked only of one that computes), may
-/// do this act with what its tenant has left.
+/// Ok where a frame of these words may do this act with what its tenant has left; else BadAct, NoNodes or
+/// NoSegments. `has_child` says whether the frame has a child, and matters for Compute alone.
 #[inline(always)]
 pub fn may_act(words: &Words, has_child: bool, left: Left, act: &Act) -> Result<(), Refusal>
     ensures { (tenant : Tenant) (frame : Frame (List ℕ)) → frame.value ≡ words.now

@@ -19,7 +19,7 @@ use sched_store::Store;
 use std::alloc::Allocator;
 
 impl<P: Procedure, A: Allocator> Engine<P, A> {
-    /// Whether the worker may end the job of a returned root.
+    /// Ok where a Finish of this frame by this worker would be taken, else its refusal.
     pub(crate) fn may_finish(&self, worker: Worker, name: FrameId) -> Result<(), Refusal>
         ensures refusal { refusal_in result ≡ shared_refusal (P.functions self.now.procedure) self.now.store (FinishStep worker name) }
     {
@@ -34,7 +34,7 @@ impl<P: Procedure, A: Allocator> Engine<P, A> {
         ])
     }
 
-    /// Whether a frame's job may be given up.
+    /// Ok where a Spend of this frame would be taken, else its refusal: NoTenant, NoFrame or NotSpent.
     pub(crate) fn may_spend(&self, name: FrameId) -> Result<(), Refusal>
         ensures refusal { refusal_in result ≡ shared_refusal (P.functions self.now.procedure) self.now.store (SpendStep name) }
     {
@@ -46,7 +46,8 @@ impl<P: Procedure, A: Allocator> Engine<P, A> {
         }
     }
 
-    /// The root of a tenant's live job.
+    /// The serial of the root of a tenant's live job. NoTenant where the tenant isn't there, NoJob where it has
+    /// no such job or the job has ended.
     pub(crate) fn live_root(&self, number: u64, job: u64) -> Result<u64, Refusal>
         ensures refusal { refusal_in result ≡ shared_refusal (P.functions self.now.procedure) self.now.store (CancelStep number job) }
         ensures root { IfOk result (λ root. job_of self.now.store number job ≡ Some (LiveJob root)) }
@@ -62,7 +63,7 @@ impl<P: Procedure, A: Allocator> Engine<P, A> {
         }
     }
 
-    /// Whether a tenant may leave.
+    /// Ok where the tenant is there, else NoTenant.
     pub(crate) fn may_leave(&self, number: u64) -> Result<(), Refusal>
         ensures refusal { refusal_in result ≡ shared_refusal (P.functions self.now.procedure) self.now.store (LeaveStep number) }
     {
@@ -73,7 +74,8 @@ impl<P: Procedure, A: Allocator> Engine<P, A> {
         }
     }
 
-    /// The job of a returned root is done, with the root's words.
+    /// Finish: the job of a returned root is done and keeps the root's first 76 words, and its frames are
+    /// removed.
     pub(crate) fn finish(&mut self, worker: Worker, name: FrameId) -> StepAnswer<P>
         requires { AreShaped self.old.store.tenants }
         ensures judged { IsJudged (P.functions self.old.procedure) self.old.store (FinishStep worker name) result self.new.store }
@@ -87,7 +89,7 @@ impl<P: Procedure, A: Allocator> Engine<P, A> {
         Ok(DidOf::Finished(job))
     }
 
-    /// A frame's job is given up.
+    /// Spend: a frame's job is given up, and all frames of the job are removed.
     pub(crate) fn spend(&mut self, name: FrameId) -> StepAnswer<P>
         requires { AreShaped self.old.store.tenants }
         ensures judged { IsJudged (P.functions self.old.procedure) self.old.store (SpendStep name) result self.new.store }
@@ -100,7 +102,7 @@ impl<P: Procedure, A: Allocator> Engine<P, A> {
         Ok(DidOf::Spent(job))
     }
 
-    /// A tenant's job is cancelled.
+    /// Cancel: a tenant's live job of this number is cancelled, and its frames are removed.
     pub(crate) fn cancel(&mut self, number: u64, job: u64) -> StepAnswer<P>
         requires { AreShaped self.old.store.tenants }
         ensures judged { IsJudged (P.functions self.old.procedure) self.old.store (CancelStep number job) result self.new.store }
@@ -115,7 +117,7 @@ impl<P: Procedure, A: Allocator> Engine<P, A> {
         Ok(DidOf::Cancelled)
     }
 
-    /// A tenant is gone.
+    /// Leave: a tenant is removed, with its jobs and frames.
     pub(crate) fn leave(&mut self, number: u64) -> StepAnswer<P>
         ensures judged { IsJudged (P.functions self.old.procedure) self.old.store (LeaveStep number) result self.new.store }
         ensures procedure { self.new.procedure ≡ self.old.procedure }
@@ -126,7 +128,7 @@ impl<P: Procedure, A: Allocator> Engine<P, A> {
     }
 }
 
-/// The job that lives under this root ends so, and all its frames are removed.
+/// Removes this root and all frames below it, and ends the job that lives under it: `ended` takes its place.
 fn end_at<A: Allocator>(store: &mut Store<A>, root: FrameId, ended: Job)
     requires there { IsSome (named store.old root) }
     requires over { is_live ended ≡ false }

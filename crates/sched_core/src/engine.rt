@@ -13,14 +13,14 @@ use sched_store::{Sighted, Store};
 use std::alloc::{Allocator, Global};
 use tenant_quota::Left;
 
-/// A core before its invariant: the procedure, and the store of all tenants.
+/// The procedure and the store of a core, without the core's invariant.
 #[derive(Drop)]
 pub(crate) struct Engine<P, A: Allocator = Global> {
     pub(crate) procedure: P,
     pub(crate) store: Store<A>,
 }
 
-/// What a step that names a frame reads of it.
+/// What a step reads of the frame that it names.
 #[derive(Clone, Copy, Drop)]
 pub(crate) struct Seen {
     /// The parent's name; a root has none.
@@ -31,10 +31,10 @@ pub(crate) struct Seen {
     pub(crate) left: Left,
 }
 
-/// What a step reads that asks the procedure about a frame.
+/// What a step reads of a frame about which it asks the procedure.
 #[derive(Drop)]
 pub(crate) struct Found<'a> {
-    /// The frame as any step sees it.
+    /// What any step reads of the frame that it names.
     pub(crate) seen: Seen,
     /// Its words.
     pub(crate) words: Words<'a>,
@@ -42,7 +42,8 @@ pub(crate) struct Found<'a> {
     pub(crate) sight: Sight<'a>,
 }
 
-/// What is there of a frame, or why there is none: its tenant isn't there, or it isn't.
+/// Looks a frame up: its parent, its state, and what its tenant has left. NoTenant or NoFrame where it isn't
+/// there.
 #[inline(always)]
 pub(crate) fn look<A: Allocator>(store: &Store<A>, name: FrameId) -> Result<Seen, Refusal>
     ensures { MatchResult result
@@ -62,7 +63,8 @@ pub(crate) fn look<A: Allocator>(store: &Store<A>, name: FrameId) -> Result<Seen
     })
 }
 
-/// The same with the frame's words and what it sees, by one look-up.
+/// Looks a frame up as `look` does, with its words and what it sees, by one look-up. NoTenant or NoFrame where
+/// it isn't there.
 #[inline(always)]
 pub(crate) fn look_in<A: Allocator>(store: &Store<A>, name: FrameId) -> Result<Found<'_>, Refusal>
     ensures frame { MatchResult result
@@ -103,7 +105,7 @@ pub(crate) fn own<A: Allocator>(store: &Store<A>, name: FrameId) -> Words<'_>
     }
 }
 
-/// What a frame that is there is doing, and its words.
+/// The state and the words of a frame that is there, by one look-up.
 #[inline(always)]
 pub(crate) fn known<A: Allocator>(store: &Store<A>, name: FrameId) -> (State, Words<'_>)
     requires { IsSome (named store.now name) }

@@ -25,7 +25,8 @@ use tenant_quota::Left;
 #[derive(Drop)]
 pub struct Core<P: Procedure, A: Allocator = Global> {
     engine: Engine<P, A>,
-    // Whether all frames are known to fit: the procedure told so of the root of each Submit that was offered.
+    // Whether all frames are known to fit: so far the procedure told so of the root of each Submit that was
+    // offered.
     fitting: bool,
 }
 
@@ -42,8 +43,8 @@ impl<P: Procedure, A: Allocator> Model for Core<P, A> {
 }
 
 impl<P: Procedure, A: Allocator> Core<P, A> {
-    /// A core of these totals that runs the procedure, with no tenant. It makes the places of the
-    /// stack and the book: `AllocError` only where a growth was refused.
+    /// A core of these totals that runs the procedure, with no tenant. Takes memory for its nodes and tenants:
+    /// `AllocError` only where a growth was refused.
     pub fn new(alloc: A, config: Config, procedure: P) -> Result<Core<P, A>, AllocError>
     where
         P: Drop,
@@ -58,8 +59,8 @@ impl<P: Procedure, A: Allocator> Core<P, A> {
         })
     }
 
-    /// One step: what it did, or why it is refused, and then nothing changes. Only an admission,
-    /// of a tenant or of more for it, takes memory.
+    /// Does one step: what it did, or why it is refused, and then nothing changes. Only an admission, of a
+    /// tenant or of more for it, takes memory.
     pub fn step(&mut self, step: &Step<P>) -> Result<Did<P>, Refusal>
     where
         A: Clone,
@@ -82,15 +83,16 @@ impl<P: Procedure, A: Allocator> Core<P, A> {
         self.engine.step(step, fitting)
     }
 
-    /// Why a step would be refused, where memory doesn't run out; it takes no step and no memory.
+    /// Why a step would be refused now; None where it would be taken, unless it is an admission that gets no
+    /// memory. Nothing changes.
     pub fn refusal(&self, step: &Step<P>) -> Option<Refusal>
         ensures { result ≡ shared_refusal (P.functions self.now.procedure) self.now.shared step.now }
     {
         self.engine.refusal(step)
     }
 
-    /// A list of steps, one after the other: one answer each is appended. The vector grows first: where
-    /// that is refused, no step is tried.
+    /// Does a list of steps, one after the other, and appends the answer to each to `answers`. That grows
+    /// first: `AllocError` where its growth is refused, and then no step was tried.
     pub fn run(
         &mut self,
         steps: &[Step<P>],
@@ -117,7 +119,7 @@ impl<P: Procedure, A: Allocator> Core<P, A> {
         Ok(())
     }
 
-    /// What a tenant has left; `None` where it isn't there. With what it uses that is what it reserved.
+    /// What a tenant has left, which with what it used is what it reserved; `None` where it isn't there.
     pub fn left(&self, tenant: u64) -> Option<Left>
         ensures is { result ≡ left_of self.now.shared tenant }
         ensures whole { IfSome result (λ left. IsRestOf (tenant_in self.now.shared.tenants tenant) left) }
@@ -146,14 +148,15 @@ impl<P: Procedure, A: Allocator> Core<P, A> {
         self.engine.store.words(name)
     }
 
-    /// How many frames a tenant has, and how many words they have. It looks at each frame.
+    /// How many frames a tenant has, and how many words they have; `None` where it isn't there. It looks at
+    /// each frame.
     pub fn live(&self, tenant: u64) -> Option<(usize, usize)>
         ensures { result ≡ live_of self.now.shared tenant }
     {
         self.engine.store.live(tenant)
     }
 
-    /// A tenant's ready frame of the greatest serial, with its home.
+    /// A tenant's ready frame of the greatest serial, with its home; `None` where none is ready.
     pub fn newest_ready(&self, tenant: u64) -> Option<(FrameId, u8)>
         ensures is { result ≡ newest_ready_in self.now.shared tenant }
         ensures newest { IfSome result (λ ready. IsNewestReadyOf (tenant_in self.now.shared.tenants tenant) tenant ready.0 ready.1) }
@@ -169,7 +172,7 @@ impl<P: Procedure, A: Allocator> Core<P, A> {
         self.engine.store.any_ready()
     }
 
-    /// How many segments are free. With those that all frames are charged for they are the total.
+    /// How many segments are free: the total less those that all frames are charged for.
     pub fn free_segments(&self) -> usize
         ensures is { result ≡ free_in self.now.shared }
         ensures whole { result + charged_in self.now.shared.tenants ≡ self.now.shared.totals.segments }

@@ -12,7 +12,7 @@ use std::alloc::Allocator;
 pub(crate) type StepAnswer<P> = Result<Did<P>, Refusal>;
 
 impl<P: Procedure, A: Allocator> Engine<P, A> {
-    /// Takes a step, or refuses it, where all frames may be known to fit.
+    /// Does one step: what it did, or its refusal. `fitting` says that all frames are known to fit.
     #[inline(always)]
     pub(crate) fn step(&mut self, step: &Step<P>, fitting: bool) -> StepAnswer<P>
     where
@@ -37,8 +37,8 @@ impl<P: Procedure, A: Allocator> Engine<P, A> {
         }
     }
 
-    /// Why a step would be refused now, or None where it would be taken; that an admission may lack memory is left aside.
-    /// The `false` of Answer: frames aren't assumed to fit, which changes no result.
+    /// Why a step would be refused now, or None where it would be taken; that an admission may lack memory is
+    /// left aside. The `false` for Answer: frames aren't assumed to fit, which changes no result.
     pub(crate) fn refusal(&self, step: &Step<P>) -> Option<Refusal>
         ensures { result ≡ shared_refusal (P.functions self.now.procedure) self.now.store step.now }
     {

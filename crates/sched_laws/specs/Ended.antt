@@ -11,7 +11,7 @@ HasEnded (Done words) = Unit {0}
 HasEnded Spent = Unit {0}
 HasEnded Cancelled = Unit {0}
 
--- a tenant, if it is left, has each job that had ended, under its number, as it was
+-- each of these jobs that has ended is the same, under the same number, in the tenant, if that is still there
 abbrev pub KeepsEnded : List Job → Option Tenant → Type 0
 KeepsEnded jobs None = Unit {0}
 KeepsEnded jobs (Some tenant) = (number : ℕ) (job : Job) → HasEnded job → job_at jobs number ≡ Some job → job_at tenant.jobs number ≡ Some job

@@ -22,19 +22,19 @@ JobFits fits rooted tree origin (Done words) = (all : List ℕ) × (kept_words a
 JobFits fits rooted tree origin SpentJob = Unit {0}
 JobFits fits rooted tree origin CancelledJob = Unit {0}
 
--- as many jobs as origins, each with its own, in order
+-- there are as many jobs as origins, and each job holds what its origin, at the same place, asked
 abbrev pub JobsFit : Fitting → Rooting → Tree → List (List ℕ) → List Job → Type 0
 JobsFit fits rooted tree [] [] = Unit {0}
 JobsFit fits rooted tree [] (job ∷ jobs) = ⊥
 JobsFit fits rooted tree (origin ∷ origins) [] = ⊥
 JobsFit fits rooted tree (origin ∷ origins) (job ∷ jobs) = JobFits fits rooted tree origin job × JobsFit fits rooted tree origins jobs
 
--- a tenant fits: every frame does, and each job holds what it was asked, in the order of these origins
+-- a tenant fits: every frame does, and its jobs hold what these origins asked, in order
 pub record TenantFits (fits : Fitting) (rooted : Rooting) (origins : List (List ℕ)) (tenant : Tenant) : Type 0 where
   pub frames : EveryFrameFits fits tenant.frames
   pub jobs : JobsFit fits rooted tenant.frames origins tenant.jobs
 
--- a core fits: each tenant that is there does, with the origins under its number, of which a number that wasn't taken has none
+-- a core fits: each tenant does, with the origins of its number; a number above the greatest so far has none
 pub record CoreFits (fits : Fitting) (rooted : Rooting) (origins : ℕ → List (List ℕ)) (shared : Shared) : Type 0 where
   pub tenants : (number : ℕ) (tenant : Tenant) → tenant_in shared.tenants number ≡ Some tenant → TenantFits fits rooted (origins number) tenant
   pub unused : (number : ℕ) → shared.newest < number → origins number ≡ []
@@ -54,12 +54,12 @@ abbrev pub RootFits : {A : Type 0} → Fitting → Rooting → StepOf A → Type
 RootFits fits rooted (Submit number words size) = fits (padded words size) [] Neither × rooted words (padded words size)
 RootFits fits rooted _ = Unit {0}
 
--- so does that of each step of a list
+-- RootFits holds of each step of a list
 abbrev pub RootsFit : {A : Type 0} → Fitting → Rooting → List (StepOf A) → Type 0
 RootsFit fits rooted [] = Unit {0}
 RootsFit fits rooted (step ∷ steps) = RootFits fits rooted step × RootsFit fits rooted steps
 
--- the origins under each number after a step that was answered so: a taken Submit's words are its tenant's next
+-- the origins of each number after a step with this answer: a taken Submit's words are added to its tenant's
 abbrev pub origins_after : {I A : Type 0} → (ℕ → List (List ℕ)) → StepOf A → Result (DidOf I) Refusal → ℕ → List (List ℕ)
 origins_after origins step answer number = if is_ok answer && (tenant_of step == number) then origins number ++ submits step else origins number
 

@@ -4,7 +4,7 @@ use Rattle.frame_tree.specs.declared.names.FrameId.{FrameId}
 use Rattle.frame_tree.specs.Frames.{Frame, frame_at, is_ready, IsReadyAt}
 use Rattle.sched_rules.specs.Trees.{Tree}
 
--- this name is a ready frame's with its home, and no ready frame has a greater serial
+-- the name and the home of a ready frame of this tenant, and no ready frame of it has a greater serial
 pub record IsNewestReady (tenant : ℕ) (frames : Tree) (name : FrameId) (home : ℕ) : Type 0 where
   pub own : name.tenant ≡ tenant
   pub ready : IsReadyAt (frame_at frames name.serial) home

@@ -8,7 +8,7 @@ use Rattle.sched_rules.specs.Trees.{Tree, Tenant, charged_for, has_child, is_roo
 use Rattle.sched_rules.specs.Laws.{Neither, mark_of}
 use Rattle.sched_rules.specs.Cores.{Shared, accounts_in, charged_in}
 
--- each of these frames that computes or has returned has no child in this tree
+-- each of these frames that is computed or has returned has no child in this tree
 abbrev pub AreMarkedChildless : Tree → List (Frame (List ℕ)) → Type 0
 AreMarkedChildless tree [] = Unit {0}
 AreMarkedChildless tree (frame ∷ frames) = ((mark_of frame.state ≡ Neither) ⊎ (has_child tree frame.serial ≡ false)) × AreMarkedChildless tree frames
@@ -22,14 +22,14 @@ abbrev pub AreRootsLive : List Job → Tree → Type 0
 AreRootsLive jobs [] = Unit {0}
 AreRootsLive jobs (frame ∷ frames) = (is_root frame.path ≡ true → live_count frame.serial jobs ≡ 1) × AreRootsLive jobs frames
 
--- the root of a live job is a root frame of the tree
+-- the root of a job that lives is a root frame of the tree
 abbrev pub IsRootThere : Tree → Job → Type 0
 IsRootThere frames (Live root) = path_in frames root ≡ root ∷ []
 IsRootThere frames (Done words) = Unit {0}
 IsRootThere frames Spent = Unit {0}
 IsRootThere frames Cancelled = Unit {0}
 
--- so it is for each of these jobs
+-- the root of each of these jobs that lives is a root frame of the tree
 abbrev pub AreLiveRootsThere : Tree → List Job → Type 0
 AreLiveRootsThere frames [] = Unit {0}
 AreLiveRootsThere frames (job ∷ jobs) = IsRootThere frames job × AreLiveRootsThere frames jobs

@@ -8,18 +8,18 @@ use Rattle.sched_rules.specs.Functions.{Functions}
 use Rattle.sched_rules.specs.Trees.{Tenant, left}
 use Rattle.sched_rules.specs.Lone.{lone_refusal}
 
--- a refusal of what an act can't do: 15, or for want of a node or of segments, 11 or 10
+-- a refusal of an act itself: it can't be done (BadAct), or there is no node or too few segments for it
 abbrev pub IsActRefusal : Refusal → Type 0
 IsActRefusal refusal = (refusal ≡ BadAct) ⊎ ((refusal ≡ NoNodes) ⊎ (refusal ≡ NoSegments))
 
--- some worker's Advance of the frame would be refused so
+-- some worker's Advance of the frame would be refused by BadAct, NoNodes or NoSegments
 abbrev pub IsStuck : {I A : Type 0} → Functions I A → Tenant → FrameId → Type 0
 IsStuck {A = A} functions tenant name = (worker : ℕ) × (refusal : Refusal) × IsActRefusal refusal × (lone_refusal {A = A} functions (Some tenant) (Advance worker name) ≡ Some refusal)
 
--- every worker's Inlet of the frame would be refused by 15
+-- every worker's Inlet of the frame would be refused by BadAct
 abbrev pub IsBadInlet : {I A : Type 0} → Functions I A → Tenant → FrameId → Type 0
 IsBadInlet {A = A} functions tenant name = (worker : ℕ) → lone_refusal {A = A} functions (Some tenant) (Inlet worker name) ≡ Some BadAct
 
--- no step is left, or an Advance would be refused by 15, 11 or 10, or an Inlet by 15
+-- no step is left, or an Advance of the frame would be refused by the act itself, or its Inlet by BadAct
 abbrev pub MayBeSpent : {I A : Type 0} → Functions I A → Tenant → FrameId → Type 0
 MayBeSpent functions tenant name = ((left tenant).steps ≡ 0) ⊎ (IsStuck functions tenant name ⊎ IsBadInlet functions tenant name)

@@ -17,7 +17,8 @@ ghost use Rattle.sched_laws.specs.Fitted.{TenantFits, CoreFits, RootsFit, StaysF
 
 use sched_rules::Procedure;
 
-/// Whatever a step is answered, each tenant has its shape after it; and so it is after a list of steps.
+/// If each tenant has its shape (`IsShaped`), each has it after any step, whatever the answer, and after any
+/// list of steps.
 pub fn every_tenant_keeps_its_shape<P: Procedure>()
     ensures step { (procedure : P) (before : Shared) (step : StepOf P.Answer) (answer : Result (DidOf P.Input) Refusal) →
         AreShaped before.tenants → AreShaped (after_answer (P.functions procedure) before step answer).tenants }
@@ -25,9 +26,9 @@ pub fn every_tenant_keeps_its_shape<P: Procedure>()
         AreShaped before.tenants → AreShaped (after_answers (P.functions procedure) before steps answers).tenants }
 {}
 
-/// What the shape of a tenant gives: a frame that has returned, or is computed, has no child; the root
-/// of a live job is there; a root frame's job is found under it, and lives; above each frame there is
-/// its root; and neither frames nor charges pass what is reserved.
+/// What follows from a tenant's shape (`IsShaped`): a frame that has returned, or is computed, has no child;
+/// the root of a live job is there; a root frame's job is found by its serial, and lives; above each frame
+/// there is its root; and neither the charges nor the number of frames are beyond what is reserved.
 pub fn what_the_shape_gives()
     ensures returned { (tenant : Tenant) (s : ℕ) (frame : Frame (List ℕ)) → IsShaped tenant → frame_at tenant.frames s ≡ Some frame → frame.state ≡ Returned → children_of tenant.frames s ≡ [] }
     ensures computing { (tenant : Tenant) (s worker : ℕ) (frame : Frame (List ℕ)) → IsShaped tenant → frame_at tenant.frames s ≡ Some frame → frame.state ≡ Computing worker → children_of tenant.frames s ≡ [] }
@@ -38,15 +39,16 @@ pub fn what_the_shape_gives()
     ensures few { (tenant : Tenant) → IsShaped tenant → length tenant.frames ≤ tenant.reserve.segments }
 {}
 
-/// Whatever a step is rightly answered, no tenant is there under a number that wasn't taken.
+/// If no tenant has a number above the greatest so far (`IsKnown`), none has one after any step with a right
+/// answer.
 pub fn every_number_stays_taken<P: Procedure>()
     ensures { (procedure : P) (before : Shared) (step : StepOf P.Answer) (answer : Result (DidOf P.Input) Refusal) →
         IsKnown before → IsAnswerTo (P.functions procedure) before step answer → IsKnown (after_answer (P.functions procedure) before step answer) }
 {}
 
-/// Where the new root of each taken Submit fits, and belongs to the words that were submitted, a core
-/// whose frames fit and whose jobs hold what they were asked is such a core before and after each step
-/// of a list, and at its end with the words of the taken Submits added. A core of nobody is one.
+/// A core fits (`CoreFits`) where every frame fits and each job holds what it was asked. A core that fits still
+/// does after each step of a list, with the words of taken Submits added to the origins, as long as the new
+/// root of each taken Submit fits and belongs to the words submitted. A core with no tenant fits.
 pub fn every_frame_fits<P: Procedure>()
     ensures each_step { (procedure : P) (origins : ℕ → List (List ℕ)) (before : Shared) (steps : List (StepOf P.Answer)) (answers : List (Result (DidOf P.Input) Refusal)) →
         IsKnown before → AreShaped before.tenants → CoreFits (P.fits procedure) (P.rooted procedure) origins before → AreAnswersTo (P.functions procedure) before steps answers →
@@ -58,10 +60,10 @@ pub fn every_frame_fits<P: Procedure>()
     ensures nobody { (procedure : P) (totals : Quota) → CoreFits (P.fits procedure) (P.rooted procedure) (λ number. []) (shared_by_nobody totals) }
 {}
 
-/// After any list of steps from nobody, whose taken Submits submit roots that fit: every frame of a
-/// tenant fits, and its jobs are one to one with its taken Submits, in order. A live job's root still
-/// belongs to the words of its Submit, and a done one kept the words of a root that had returned, had
-/// no child, fitted, and belonged to them.
+/// After any list of steps on a new core whose taken Submits have roots that fit: every frame of a tenant fits,
+/// and its jobs are one to one with its taken Submits, in order. The root of a live job still belongs to the
+/// words of its Submit, and a job that is done kept the first words of a root that had returned, had no child,
+/// fitted, and belonged to them.
 pub fn each_job_holds_what_it_was_asked<P: Procedure>()
     ensures { (procedure : P) (totals : Quota) (steps : List (StepOf P.Answer)) (answers : List (Result (DidOf P.Input) Refusal)) (number : ℕ) (tenant : Tenant) →
         AreAnswersTo (P.functions procedure) (shared_by_nobody totals) steps answers →

@@ -20,8 +20,9 @@ ghost use Rattle.sched_laws.specs.Newest.{IsNewestReady};
 
 use sched_rules::Procedure;
 
-/// What a tenant alone comes to by a list of steps, and what it is answered, is that of the first part
-/// and then of the rest; and a tenant's own steps of a list are those of each part.
+/// A list of steps may be cut in two: a tenant alone comes to the same state with the same answers by the first
+/// part and then the second, and its own steps of the list are those of the first part, then those of the
+/// second.
 pub fn steps_in_parts<P: Procedure>()
     ensures state { (procedure : P) (before : Option Tenant) (steps more : List (StepOf P.Answer)) →
         alone_from (P.functions procedure) before (steps ++ more) ≡ alone_from (P.functions procedure) (alone_from (P.functions procedure) before steps) more }
@@ -30,8 +31,8 @@ pub fn steps_in_parts<P: Procedure>()
     ensures own { (number : ℕ) (steps more : List (StepOf P.Answer)) → only number (steps ++ more) ≡ only number steps ++ only number more }
 {}
 
-/// Job k of a tenant is that of its k-th taken Submit: it has as many jobs as its Submits that were
-/// taken, and a taken Submit is answered one more than it had.
+/// Job k of a tenant is that of its k-th taken Submit: a tenant has as many jobs as taken Submits, and a taken
+/// Submit is answered with the next number, one more than the tenant had jobs.
 pub fn jobs_are_numbered_by_their_submits<P: Procedure>()
     ensures count { (procedure : P) (totals : Quota) (steps : List (StepOf P.Answer)) (answers : List (Result (DidOf P.Input) Refusal)) (number : ℕ) (tenant : Tenant) →
         AreAnswersTo (P.functions procedure) (shared_by_nobody totals) steps answers →
@@ -49,7 +50,7 @@ pub fn the_newest_ready_frame_has_the_greatest_serial()
     ensures none { (tenant : Tenant) (number s : ℕ) (frame : Frame (List ℕ)) → IsShaped tenant → newest_ready_of number tenant.frames ≡ None → frame_at tenant.frames s ≡ Some frame → is_ready frame.state ≡ false }
 {}
 
-/// Whatever a tenant does but leave, a job that has ended stays as it is, under its number.
+/// After any taken step of a tenant but Leave, each job that had ended is as it was, under its number.
 pub fn ended_jobs_stay<P: Procedure>()
     ensures { (procedure : P) (tenant : Tenant) (step : StepOf P.Answer) (outcome : Outcome P.Input) →
         lone_step (P.functions procedure) tenant step ≡ Ok outcome → KeepsEnded tenant.jobs outcome.0 }

@@ -12,7 +12,8 @@ ghost use Rattle.sched_laws.specs.Shapes.{IsShaped, AreShaped, IsReservedWithin,
 
 use sched_rules::Procedure;
 
-/// Whatever a step is answered, what all tenants have reserved stays within the totals.
+/// If all reservations together are within the totals (`IsReservedWithin`), they are after any step, whatever
+/// the answer, and after any list of steps. With no tenant they are.
 pub fn reservations_stay_within_the_totals<P: Procedure>()
     ensures step { (procedure : P) (before : Shared) (step : StepOf P.Answer) (answer : Result (DidOf P.Input) Refusal) →
         IsReservedWithin before → IsReservedWithin (after_answer (P.functions procedure) before step answer) }
@@ -21,14 +22,15 @@ pub fn reservations_stay_within_the_totals<P: Procedure>()
     ensures nobody { (totals : Quota) → IsReservedWithin (shared_by_nobody totals) }
 {}
 
-/// A further reservation is refused for the totals exactly where all reservations, with it in the place
-/// of the tenant's own, would pass one of them.
+/// A raised reservation is beyond the totals (`is_beyond`) exactly where all reservations together, this one in
+/// the place of the tenant's own, would pass one of them.
 pub fn more_is_beyond_exactly_where_a_total_is_passed()
     ensures { (before : Shared) (number : ℕ) (tenant : Tenant) (quota : Quota) → tenant_in before.tenants number ≡ Some tenant →
         (is_beyond (reservations_in before) tenant.reserve quota ≡ false ↔ IsReservedWithin (record before { tenants = with_tenant number (record tenant { reserve = quota }) before.tenants })) }
 {}
 
-/// What is left and what is used make up what is reserved; what is free and what is charged, the total.
+/// What a tenant has left and what it used add up to what it reserved, and the free and the charged segments to
+/// the total. So no subtraction in `left` and `free_in` is cut off at 0.
 pub fn nothing_is_cut_off()
     ensures segments { (tenant : Tenant) → IsShaped tenant → (left tenant).segments + charged_for tenant.frames ≡ tenant.reserve.segments }
     ensures nodes { (tenant : Tenant) → IsShaped tenant → (left tenant).nodes + tenant.serials ≡ tenant.reserve.nodes }

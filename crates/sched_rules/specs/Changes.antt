@@ -6,31 +6,31 @@ use Rattle.sched_rules.specs.declared.job.Job.{Job}
 use Rattle.sched_rules.specs.Trees.{Tenant, with_ended}
 use Rattle.sched_rules.specs.Cores.{Shared}
 
--- the tenants, the one of this number changed so
+-- the tenants, the one of this number changed by change
 abbrev pub with_change : ℕ → (Tenant → Tenant) → List (ℕ × Tenant) → List (ℕ × Tenant)
 with_change number change [] = []
 with_change number change (entry ∷ entries) = if entry.0 == number then (entry.0, change entry.1) ∷ entries else entry ∷ with_change number change entries
 
--- the core, the tenant of this number changed so
+-- the core, its tenant of this number changed by change
 abbrev pub on_tenant : ℕ → (Tenant → Tenant) → Shared → Shared
 on_tenant number change shared = record shared { tenants = with_change number change shared.tenants }
 
--- the tenant with another reservation
+-- the tenant with this reservation
 abbrev pub with_reserve : Quota → Tenant → Tenant
 with_reserve quota tenant = record tenant { reserve = quota }
 
--- the tenant without one frame
+-- the tenant without the frame of this serial
 abbrev pub without_frame : ℕ → Tenant → Tenant
 without_frame serial tenant = record tenant { frames = frames_without serial tenant.frames }
 
--- the tenant without the frames under one, which stays
+-- the tenant without the frames under the one of this serial, which stays
 abbrev pub without_under : ℕ → Tenant → Tenant
 without_under serial tenant = record tenant { frames = aborted serial tenant.frames }
 
--- the tenant with one job more
+-- the tenant with this job added after the others
 abbrev pub with_job : Job → Tenant → Tenant
 with_job job tenant = record tenant { jobs = tenant.jobs ++ job ∷ [] }
 
--- the tenant, the job that lives under this root ended so
+-- the tenant, the job that lives under this root replaced by job, which says how it ended; its frames stay
 abbrev pub ending_job : ℕ → Job → Tenant → Tenant
 ending_job root job tenant = record tenant { jobs = with_ended root job tenant.jobs }

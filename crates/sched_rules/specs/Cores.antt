@@ -34,17 +34,17 @@ abbrev pub tenant_in : List (ℕ × Tenant) → ℕ → Option Tenant
 tenant_in [] number = None
 tenant_in (entry ∷ entries) number = if entry.0 == number then Some entry.1 else tenant_in entries number
 
--- the tenants with this one in another state
+-- the tenants with this one under this number: in the place of the one there, else at the end
 abbrev pub with_tenant : ℕ → Tenant → List (ℕ × Tenant) → List (ℕ × Tenant)
 with_tenant number tenant [] = (number, tenant) ∷ []
 with_tenant number tenant (entry ∷ entries) = if entry.0 == number then (number, tenant) ∷ entries else entry ∷ with_tenant number tenant entries
 
--- the tenants without this one
+-- the tenants without the one of this number
 abbrev pub without_tenant : ℕ → List (ℕ × Tenant) → List (ℕ × Tenant)
 without_tenant number [] = []
 without_tenant number (entry ∷ entries) = if entry.0 == number then without_tenant number entries else entry ∷ without_tenant number entries
 
--- the tenants after one of them came to this, or to nothing
+-- the tenants after a step of one of them: it has this state now, or is gone
 abbrev pub with_outcome : ℕ → Option Tenant → List (ℕ × Tenant) → List (ℕ × Tenant)
 with_outcome number None entries = without_tenant number entries
 with_outcome number (Some tenant) entries = with_tenant number tenant entries
@@ -55,11 +55,11 @@ is_busy_elsewhere worker number [] = false
 is_busy_elsewhere worker number (entry ∷ entries) =
     (not (entry.0 == number) && is_busy_in worker entry.1.frames) || is_busy_elsewhere worker number entries
 
--- the same as a fact
+-- the worker runs or computes a frame of a tenant other than this one, as a fact
 abbrev pub IsBusyElsewhere : ℕ → ℕ → List (ℕ × Tenant) → Type 0
 IsBusyElsewhere worker number entries = IsTrue (is_busy_elsewhere worker number entries)
 
--- the steps that ask for a free worker: Take, Steal, Inlet and Finish; whether theirs is busy elsewhere
+-- whether a step needs a free worker (Take, Steal, Inlet and Finish do) and its worker is busy elsewhere
 abbrev pub meets_busy : {A : Type 0} → StepOf A → List (ℕ × Tenant) → Bool
 meets_busy (Take worker name) entries = is_busy_elsewhere worker name.tenant entries
 meets_busy (Steal worker from name) entries = is_busy_elsewhere worker name.tenant entries
@@ -72,51 +72,51 @@ abbrev pub accounts_in : List (ℕ × Tenant) → List (ℕ × Account)
 accounts_in [] = []
 accounts_in (entry ∷ entries) = (entry.0, account_in entry.1) ∷ accounts_in entries
 
--- what all tenants have reserved, and the totals
+-- the book of reservations: the totals, and the accounts of all tenants
 abbrev pub reservations_in : Shared → Reservations
 reservations_in shared = record { segments = shared.totals.segments; nodes = shared.totals.nodes; accounts = accounts_in shared.tenants }
 
--- whether 64 tenants are there, or a total doesn't allow the reservation
+-- whether there is no room for a new tenant's reservation: 64 tenants are there, or a total would be passed
 abbrev pub is_full : Reservations → Quota → Bool
 is_full book quota =
     nat_le 64 (length book.accounts)
     || nat_lt book.segments (reserved_segments book.accounts + quota.segments)
     || nat_lt book.nodes (reserved_nodes book.accounts + quota.nodes)
 
--- Admit: the number is 0, isn't above every number so far, or is over 2^62; no room for the reservation
+-- the tests of Admit: the number is 0, not above every number so far, or over 2^62; no room for the reservation
 abbrev pub admit_tests : Shared → ℕ → Quota → List (Bool × Refusal)
 admit_tests shared number quota =
     ((number == 0) || nat_le number shared.newest || nat_lt (2 ^ 62) number, OldTenant)
     ∷ (is_full (reservations_in shared) quota, Full)
     ∷ []
 
--- what a tenant that is there reserves, which frees as much for a further reservation of its own
+-- what a tenant reserves; nothing where it isn't there
 abbrev pub reserved_by : Option Tenant → Quota
 reserved_by None = record { segments = 0; nodes = 0 }
 reserved_by (Some tenant) = tenant.reserve
 
--- AdmitMore: whether a total doesn't allow the reservation in the place of the tenant's own
+-- AdmitMore: whether a total would be passed if this reservation took the place of the tenant's own
 abbrev pub is_beyond : Reservations → Quota → Quota → Bool
 is_beyond book own quota =
     nat_lt (book.segments + own.segments) (reserved_segments book.accounts + quota.segments)
     || nat_lt (book.nodes + own.nodes) (reserved_nodes book.accounts + quota.nodes)
 
--- what its own tenant's state makes of a step, unless the totals don't allow it
+-- a step's result for its tenant alone, but Full where it would be taken and the totals don't allow it
 abbrev pub unless_beyond : {I : Type 0} → Bool → Result (Outcome I) Refusal → Result (Outcome I) Refusal
 unless_beyond beyond (Err refusal) = Err refusal
 unless_beyond beyond (Ok outcome) = if beyond then Err Full else Ok outcome
 
--- what its own tenant's state makes of a step, unless its worker is busy elsewhere
+-- a step's result for its tenant alone, but Busy where it would be taken and its worker is busy elsewhere
 abbrev pub unless_busy : {I : Type 0} → Bool → Result (Outcome I) Refusal → Result (Outcome I) Refusal
 unless_busy busy (Err refusal) = Err refusal
 unless_busy busy (Ok outcome) = if busy then Err Busy else Ok outcome
 
--- a step that is no admission
+-- one step among several tenants that is neither Admit nor AdmitMore
 abbrev pub step_among : {I A : Type 0} → Functions I A → Shared → StepOf A → Result (Outcome I) Refusal
 step_among functions shared step =
     unless_busy (meets_busy step shared.tenants) (lone functions (tenant_in shared.tenants (tenant_of step)) step)
 
--- one step among several tenants, where memory doesn't run out: what its tenant comes to with what it did, or one refusal
+-- the result of a step among several tenants, unless memory runs out: its tenant's state and what it did, or a refusal
 abbrev pub judged : {I A : Type 0} → Functions I A → Shared → StepOf A → Result (Outcome I) Refusal
 judged functions shared (Admit number quota) = unless (admit_tests shared number quota) (Some (admitted_with quota), Admitted)
 judged functions shared (AdmitMore number quota) =
@@ -129,7 +129,7 @@ abbrev pub newest_after : {A : Type 0} → ℕ → StepOf A → ℕ
 newest_after newest (Admit number quota) = number
 newest_after newest _ = newest
 
--- the core after its tenant came to this
+-- the core after a taken step, whose tenant has this state now, or is gone
 abbrev pub shared_with : {A : Type 0} → Shared → StepOf A → Option Tenant → Shared
 shared_with shared step tenant =
     record { totals = shared.totals; newest = newest_after shared.newest step; tenants = with_outcome (tenant_of step) tenant shared.tenants }
@@ -139,7 +139,7 @@ abbrev pub shared_after : {I A : Type 0} → Shared → StepOf A → Result (Out
 shared_after shared step (Ok outcome) = shared_with shared step outcome.0
 shared_after shared step (Err refusal) = shared
 
--- the core after a list of steps
+-- the core after a list of steps, where memory doesn't run out
 abbrev pub shared_run : {I A : Type 0} → Functions I A → Shared → List (StepOf A) → Shared
 shared_run functions shared [] = shared
 shared_run functions shared (step ∷ steps) = shared_run functions (shared_after shared step (judged functions shared step)) steps
@@ -149,6 +149,6 @@ abbrev pub charged_in : List (ℕ × Tenant) → ℕ
 charged_in [] = 0
 charged_in (entry ∷ entries) = charged_for entry.1.frames + charged_in entries
 
--- why a step among several tenants is refused, if it is, where memory doesn't run out
+-- why a step among several tenants is refused, if memory doesn't run out; none where it is taken
 abbrev pub shared_refusal : {I A : Type 0} → Functions I A → Shared → StepOf A → Option Refusal
 shared_refusal functions shared step = refusal_in (judged functions shared step)

@@ -12,35 +12,35 @@ use Rattle.sched_rules.specs.Lone.{lone, lone_refusal}
 use Rattle.sched_rules.specs.Runs.{tenant_of, only, answer_of, alone_from, answers_from}
 use Rattle.sched_rules.specs.Cores.{Shared, tenant_in, meets_busy, judged, shared_after, shared_refusal}
 
--- the first half of 'refused only for its own state or a busy worker': what its tenant alone is refused, a step is refused by the same number
+-- a step that would be refused if its tenant had the core to itself is refused here by the same refusal
 abbrev pub IsRefusedForOwnState : {I A : Type 0} → Functions I A → Shared → StepOf A → Result (DidOf I) Refusal → Type 0
 IsRefusedForOwnState functions before step answer =
     (refusal : Refusal) → lone_refusal functions (tenant_in before.tenants (tenant_of step)) step ≡ Some refusal → answer ≡ Err refusal
 
--- the second half: what its tenant alone would take is refused, by Busy, where the worker of a Take, Steal, Inlet or Finish is busy elsewhere
+-- a Take, Steal, Inlet or Finish that its tenant alone would be granted gets Busy if its worker is busy elsewhere
 abbrev pub IsRefusedForBusyWorker : {I A : Type 0} → Functions I A → Shared → StepOf A → Result (DidOf I) Refusal → Type 0
 IsRefusedForBusyWorker functions before step answer =
     lone_refusal functions (tenant_in before.tenants (tenant_of step)) step ≡ None → meets_busy step before.tenants ≡ true → answer ≡ Err Busy
 
--- and else it is taken, and did what it does for its tenant alone
+-- a step that its tenant alone would be granted, and no busy worker hinders, is taken, with the same answer
 abbrev pub IsElseTaken : {I A : Type 0} → Functions I A → Shared → StepOf A → Result (DidOf I) Refusal → Type 0
 IsElseTaken functions before step answer =
     lone_refusal functions (tenant_in before.tenants (tenant_of step)) step ≡ None → meets_busy step before.tenants ≡ false →
     answer ≡ answer_of (lone functions (tenant_in before.tenants (tenant_of step)) step)
 
--- a step of an admitted tenant is refused only for its own state or a busy worker
+-- the answer to a step that is no admission is right: it is refused for its own state or a busy worker, else taken
 pub record IsAnswerToStep {I A : Type 0} (functions : Functions I A) (before : Shared) (step : StepOf A) (answer : Result (DidOf I) Refusal) : Type 0 where
   pub own_state : IsRefusedForOwnState functions before step answer
   pub busy_worker : IsRefusedForBusyWorker functions before step answer
   pub else_taken : IsElseTaken functions before step answer
 
--- an admission stands apart: it is refused by OldTenant, else by Full, where these apply (one of more by NoTenant, Lower, Full), and
--- else it is taken, or memory ran out
+-- the answer to an admission is right: it is refused by OldTenant or Full where these apply (an AdmitMore by NoTenant,
+-- Lower or Full), and else it is taken, or memory ran out
 pub record IsAnswerToAdmit {I A : Type 0} (functions : Functions I A) (before : Shared) (step : StepOf A) (answer : Result (DidOf I) Refusal) : Type 0 where
   pub refused : (refusal : Refusal) → shared_refusal functions before step ≡ Some refusal → answer ≡ Err refusal
   pub else_taken : shared_refusal functions before step ≡ None → (answer ≡ answer_of (judged functions before step)) ⊎ (answer ≡ Err OutOfMemory)
 
--- whether a step is an admission: of a new tenant, or of more for one that is there
+-- whether a step is an admission: of a new tenant (Admit), or of more for one that is there (AdmitMore)
 abbrev pub is_admission : {A : Type 0} → StepOf A → Bool
 is_admission (Admit number quota) = true
 is_admission (AdmitMore number quota) = true
@@ -52,23 +52,23 @@ IsAnswerTo functions before step answer =
     (is_admission step ≡ true → IsAnswerToAdmit functions before step answer)
     × (is_admission step ≡ false → IsAnswerToStep functions before step answer)
 
--- the core after a step that was answered so: a refused step changes nothing, and a taken one its tenant alone
+-- the core after a step with this answer: a refused step changes nothing, a taken one only its own tenant
 abbrev pub after_answer : {I A : Type 0} → Functions I A → Shared → StepOf A → Result (DidOf I) Refusal → Shared
 after_answer functions before step (Ok did) = shared_after before step (judged functions before step)
 after_answer functions before step (Err refusal) = before
 
--- what one call of the core does
+-- one call of the core's step: the answer is right, and the core after it is what the answer says
 pub record IsOneStep {I A : Type 0} (functions : Functions I A) (before : Shared) (step : StepOf A) (answer : Result (DidOf I) Refusal) (after : Shared) : Type 0 where
   pub answered : IsAnswerTo functions before step answer
   pub left : after ≡ after_answer functions before step answer
 
--- the core after a list of steps that were answered so
+-- the core after a list of steps with these answers
 abbrev pub after_answers : {I A : Type 0} → Functions I A → Shared → List (StepOf A) → List (Result (DidOf I) Refusal) → Shared
 after_answers functions before [] answers = before
 after_answers functions before (step ∷ steps) [] = before
 after_answers functions before (step ∷ steps) (answer ∷ answers) = after_answers functions (after_answer functions before step answer) steps answers
 
--- each answer of a list is right, the core being where the steps before it left it; there are as many answers as steps
+-- there is an answer to each step of a list, and it is right for the core as the steps before left it
 abbrev pub AreAnswersTo : {I A : Type 0} → Functions I A → Shared → List (StepOf A) → List (Result (DidOf I) Refusal) → Type 0
 AreAnswersTo functions before [] [] = Unit {0}
 AreAnswersTo functions before [] (answer ∷ answers) = ⊥
@@ -100,11 +100,11 @@ pub record IsHeadline {I A : Type 0} (functions : Functions I A) (before : Share
   pub refused : AreAnswersTo functions before steps answers
   pub left : after ≡ after_answers functions before steps answers
 
--- each tenant's number was taken, so it is at most the greatest so far
+-- each tenant's number is at most newest, the greatest number so far
 abbrev pub AreNumbersTaken : ℕ → List (ℕ × Tenant) → Type 0
 AreNumbersTaken newest [] = Unit {0}
 AreNumbersTaken newest (entry ∷ entries) = (entry.0 ≤ newest) × AreNumbersTaken newest entries
 
--- no tenant has a number that wasn't taken
+-- no tenant has a number above the greatest number so far
 abbrev pub IsKnown : Shared → Type 0
 IsKnown shared = AreNumbersTaken shared.newest shared.tenants

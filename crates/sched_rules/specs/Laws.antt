@@ -27,11 +27,11 @@ mark_of _ = Neither
 abbrev pub Fitting : Type 1
 Fitting = List ℕ → List (List ℕ) → Mark → Type 0
 
--- that a root's words belong to the words that its job was submitted with (the first words here)
+-- that a root's words (the second list) belong to the words that its job was submitted with (the first)
 abbrev pub Rooting : Type 1
 Rooting = List ℕ → List ℕ → Type 0
 
--- each of these children fits, with some children of its own and some mark
+-- each of these lists is the words of a frame that fits, with some children and some mark
 abbrev pub AllFit : Fitting → List (List ℕ) → Type 0
 AllFit fits [] = Unit {0}
 AllFit fits (child ∷ children) = ((below : List (List ℕ)) × (mark : Mark) × fits child below mark) × AllFit fits children
@@ -43,11 +43,11 @@ abbrev pub ParentFits : Fitting → Rooting → List ℕ → List (List ℕ) →
 ParentFits fits rooted origin [] older own younger = rooted origin own
 ParentFits fits rooted origin (parent ∷ above) older own younger = fits parent (older ++ own ∷ younger) Neither
 
--- whether there is a child
+-- whether there is a child, by the list of the children's words
 abbrev pub has_one : List (List ℕ) → Bool
 has_one children = nat_lt 0 (length children)
 
--- the words of a frame after an act: the stores, and the zeros that it grows by
+-- the words of a frame after an act, from its words after the stores: with zeros at the end where it grows
 abbrev pub grown : Then → List ℕ → List ℕ
 grown (Grow more) words = words ++ replicate more 0
 grown (Spawn given size) words = words
@@ -56,7 +56,7 @@ grown Wait words = words
 grown Compute words = words
 grown Return words = words
 
--- the words of its children after an act: those of a new child are the last
+-- the words of a frame's children after an act: those of a new child are the last
 abbrev pub children_after : Then → List (List ℕ) → List (List ℕ)
 children_after (Grow more) children = children
 children_after (Spawn given size) children = children ++ padded given size ∷ []
@@ -65,7 +65,7 @@ children_after Wait children = children
 children_after Compute children = children
 children_after Return children = children
 
--- its mark after an act: a frame that returns with a child waits
+-- the mark of a frame after an act: one that returns while it has a child waits, so it has neither mark
 abbrev pub mark_after : Then → List (List ℕ) → Mark
 mark_after (Grow more) children = Neither
 mark_after (Spawn given size) children = Neither
@@ -74,7 +74,7 @@ mark_after Wait children = Neither
 mark_after Compute children = Computes
 mark_after Return children = if has_one children then Neither else HasReturned
 
--- a new child fits
+-- the child that an act opens, if it opens one, fits
 abbrev pub NewChildFits : Fitting → Then → Type 0
 NewChildFits fits (Grow more) = Unit {0}
 NewChildFits fits (Spawn given size) = fits (padded given size) [] Neither
@@ -83,7 +83,7 @@ NewChildFits fits Wait = Unit {0}
 NewChildFits fits Compute = Unit {0}
 NewChildFits fits Return = Unit {0}
 
--- what an act leaves: the frame fits, its parent fits, and a new child fits
+-- what holds after an act: the frame fits, what stands above it fits, and a new child fits
 abbrev pub ActFits : Fitting → Rooting → List ℕ → List ℕ → List (List ℕ) → List (List ℕ) → List (List ℕ) → List (List ℕ) → Act → Type 0
 ActFits fits rooted origin own above older younger children act =
     fits (grown act.after (stored act.stores own)) (children_after act.after children) (mark_after act.after children)
@@ -101,7 +101,7 @@ NextKeeps functions fits rooted =
     is_bad_act own (has_one children) (functions.next (own ∷ above)) ≡ false →
     ActFits fits rooted origin own above older younger children (functions.next (own ∷ above))
 
--- the words of the children that stay after an inlet
+-- the words of the children that stay after an inlet, from those of all but the one taken in: none at an abort
 abbrev pub children_left : Bool → List (List ℕ) → List (List ℕ)
 children_left abort children = if abort then [] else children
 

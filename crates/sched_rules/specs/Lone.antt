@@ -32,11 +32,11 @@ abbrev pub applies : List (Bool × Refusal) → Bool
 applies [] = false
 applies (test ∷ tests) = test.0 || applies tests
 
--- what a step gives: a tenant, or nothing after a Leave, with what the step did
+-- what a taken step gives: the tenant after it (none after a Leave), and what the step did
 abbrev pub Outcome : Type 0 → Type 0
 Outcome I = Option Tenant × DidOf I
 
--- the test that no step is left
+-- the test that the tenant has no step left
 abbrev pub no_step : Tenant → Bool × Refusal
 no_step tenant = ((left tenant).steps == 0, NoSteps)
 
@@ -48,11 +48,11 @@ not_free tenant worker = (is_busy_in worker tenant.frames, Busy)
 abbrev pub counted : Tenant → Tenant
 counted tenant = record tenant { steps = tenant.steps + 1 }
 
--- the tenant with a frame in another state
+-- the tenant, the frame with this serial put into this state
 abbrev pub in_state : ℕ → State → Tenant → Tenant
 in_state serial state tenant = record tenant { frames = with_state serial state tenant.frames }
 
--- the tenant with other words in a frame
+-- the tenant, the frame with this serial having these words
 abbrev pub holding : ℕ → List ℕ → Tenant → Tenant
 holding serial words tenant = record tenant { frames = with_words serial words tenant.frames }
 
@@ -61,7 +61,7 @@ abbrev pub opened : Option ℕ → List ℕ → ℕ → ℕ → Tenant → Tenan
 opened parent words size home tenant =
     record tenant { serials = tenant.serials + 1; frames = tenant.frames ++ new_frame tenant.frames (tenant.serials + 1) parent home (padded words size) ∷ [] }
 
--- the tenant with the job under this root ended so, and all its frames removed
+-- the tenant, the job that lives under this root replaced by job (how it ended), and all its frames removed
 abbrev pub ended : ℕ → Job → Tenant → Tenant
 ended root job tenant = record tenant { jobs = with_ended root job tenant.jobs; frames = without_job root tenant.frames }
 
@@ -69,16 +69,16 @@ ended root job tenant = record tenant { jobs = with_ended root job tenant.jobs; 
 abbrev pub is_frame_size : List ℕ → ℕ → Bool
 is_frame_size words size = nat_le 1 size && nat_le size 128 && nat_le (length words) size
 
--- whether a further reservation is below this one, or not above it
+-- whether the second reservation is no raise of the first: less in segments or nodes, or the same in both
 abbrev pub is_lower : Quota → Quota → Bool
 is_lower now quota =
     nat_lt quota.segments now.segments || nat_lt quota.nodes now.nodes || ((quota.segments == now.segments) && (quota.nodes == now.nodes))
 
--- AdmitMore: what is reserved is this from now on
+-- AdmitMore: the tenant with this reservation
 abbrev pub raised : {I : Type 0} → Tenant → Quota → Outcome I
 raised tenant quota = (Some (record tenant { reserve = quota }), AdmittedMore)
 
--- Submit: what is no frame, the 257th job, no node, too few segments
+-- the tests of Submit: the root is no frame, it is the 257th job, no node is left, too few segments are left
 abbrev pub submit_tests : Tenant → List ℕ → ℕ → List (Bool × Refusal)
 submit_tests tenant words size =
     (not (is_frame_size words size), BadAct)
@@ -102,7 +102,7 @@ is_ready_at home (Computing worker) = false
 is_ready_at home Waiting = false
 is_ready_at home Returned = false
 
--- Take: not ready, its home is another, no step left, the worker isn't free
+-- the tests of Take: the frame isn't ready, its home isn't this worker, no step is left, the worker isn't free
 abbrev pub take_tests : Tenant → ℕ → Frame (List ℕ) → List (Bool × Refusal)
 take_tests tenant worker frame =
     (not (is_ready frame.state), NotReady)
@@ -111,7 +111,7 @@ take_tests tenant worker frame =
     ∷ not_free tenant worker
     ∷ []
 
--- Steal: not ready, its home is another than the one named or the thief's own, no step left, the worker isn't free
+-- the tests of Steal: the frame isn't ready, its home isn't from or from is the thief, no step, the thief isn't free
 abbrev pub steal_tests : Tenant → ℕ → ℕ → Frame (List ℕ) → List (Bool × Refusal)
 steal_tests tenant worker from frame =
     (not (is_ready frame.state), NotReady)
@@ -144,7 +144,7 @@ abbrev pub is_returned : State → Bool
 is_returned Returned = true
 is_returned _ = false
 
--- the next act of a frame
+-- the next act of a frame, by what it sees
 abbrev pub act_of : {I A : Type 0} → Functions I A → Tenant → Frame (List ℕ) → Act
 act_of functions tenant frame = functions.next (sight tenant.frames frame.path)
 
@@ -162,7 +162,7 @@ is_bad_then words has_one Return = false
 abbrev pub is_bad_act : List ℕ → Bool → Act → Bool
 is_bad_act words has_one act = is_outside act.stores words || is_bad_then (length words) has_one act.after
 
--- whether a child is opened
+-- whether an act opens a child
 abbrev pub is_spawn : Then → Bool
 is_spawn (Grow more) = false
 is_spawn (Spawn given size) = true
@@ -171,7 +171,7 @@ is_spawn Wait = false
 is_spawn Compute = false
 is_spawn Return = false
 
--- how many segments more are needed
+-- how many more segments an act takes: for a growth, or for a new child
 abbrev pub segments_for : Frame (List ℕ) → Then → ℕ
 segments_for frame (Grow more) = growth_charge (length frame.value) more
 segments_for frame (Spawn given size) = charge size
@@ -180,7 +180,7 @@ segments_for frame Wait = 0
 segments_for frame Compute = 0
 segments_for frame Return = 0
 
--- an act: a store outside or what can't be done, no node for a child, too few segments
+-- the tests of an act: it can't be done on these words, no node is left for a child, too few segments are left
 abbrev pub act_tests : Tenant → Frame (List ℕ) → Act → List (Bool × Refusal)
 act_tests tenant frame act =
     (is_bad_act frame.value (has_child tenant.frames frame.serial) act, BadAct)
@@ -188,14 +188,14 @@ act_tests tenant frame act =
     ∷ (nat_lt (left tenant).segments (segments_for frame act.after), NoSegments)
     ∷ []
 
--- Advance: the worker doesn't run the frame, no step left, what the act can't do
+-- the tests of Advance: the worker doesn't run the frame, no step is left, and those of the act
 abbrev pub advance_tests : Tenant → ℕ → Frame (List ℕ) → Act → List (Bool × Refusal)
 advance_tests tenant worker frame act =
     (not (is_run_by worker frame.state), NotRunning)
     ∷ no_step tenant
     ∷ act_tests tenant frame act
 
--- what comes after the stores, which left these words in the frame
+-- the rest of an act after its stores, which left these words in the frame
 abbrev pub then_done : {I A : Type 0} → Functions I A → Tenant → ℕ → FrameId → List ℕ → List ℕ → Then → Outcome I
 then_done functions tenant worker name path words (Grow more) = (Some (holding name.serial (words ++ replicate more 0) tenant), Grew)
 then_done functions tenant worker name path words (Spawn given size) =
@@ -215,7 +215,7 @@ advanced functions tenant worker name frame act =
     let words = stored act.stores frame.value in
     then_done functions (counted (holding frame.serial words tenant)) worker name frame.path words act.after
 
--- Answer: the worker doesn't compute the frame, the answer is to another input, no step left, a store outside
+-- the tests of Answer: the worker doesn't compute the frame, the answer is to another input, no step, a store outside
 abbrev pub answer_tests : {I A : Type 0} → Functions I A → Tenant → ℕ → Frame (List ℕ) → A → List (Bool × Refusal)
 answer_tests functions tenant worker frame answer =
     (not (is_computed_by worker frame.state), NotComputing)
@@ -224,12 +224,12 @@ answer_tests functions tenant worker frame answer =
     ∷ (is_outside (functions.accept frame.value answer) frame.value, BadAct)
     ∷ []
 
--- Answer: the stores, and the worker runs the frame
+-- Answer: the frame stores what the procedure makes of the answer, and the worker runs it
 abbrev pub answered : {I A : Type 0} → Functions I A → Tenant → ℕ → Frame (List ℕ) → A → Outcome I
 answered functions tenant worker frame answer =
     (Some (counted (in_state frame.serial (Running worker) (holding frame.serial (stored (functions.accept frame.value answer) frame.value) tenant))), Answered)
 
--- Inlet of a frame under this parent: the frame hasn't returned, no step left, a store outside, the worker isn't free
+-- the tests of Inlet, of a frame under this parent: it hasn't returned, no step, a store outside, the worker isn't free
 abbrev pub inlet_tests : Tenant → ℕ → Frame (List ℕ) → ℕ → InletAct → List (Bool × Refusal)
 inlet_tests tenant worker frame parent act =
     (not (is_returned frame.state), NotReturned)
@@ -251,11 +251,11 @@ abbrev pub does_wait : Option (Frame (List ℕ)) → Bool
 does_wait None = false
 does_wait (Some frame) = is_waiting frame.state
 
--- the frames that stay: all but the one taken in, and at an abort all but those below the parent
+-- the frames that stay after an inlet: all but the one taken in, and at an abort all but those below the parent
 abbrev pub staying : Tree → ℕ → ℕ → Bool → Tree
 staying frames child parent abort = if abort then aborted parent frames else frames_without child frames
 
--- how many frames an abort removes beside the one taken in
+-- how many frames an inlet removes beside the one taken in: where it aborts, all others below the parent, else 0
 abbrev pub aborted_beside : Tree → ℕ → ℕ → Bool → ℕ
 aborted_beside frames child parent abort = if abort then length (frames_under parent (frames_without child frames)) else 0
 
@@ -271,14 +271,14 @@ taken_in tenant worker name parent act =
     then (Some (in_state parent (Ready worker) after), TakenIn (Some (record name { serial = parent })) gone)
     else (Some after, TakenIn None gone)
 
--- Inlet, by the frame's parent: a root is taken in by nobody
+-- Inlet of a frame with this parent; a root has none, and is refused by NotReturned
 abbrev pub inlet_under : {I A : Type 0} → Functions I A → Tenant → ℕ → FrameId → Frame (List ℕ) → Option ℕ → Result (Outcome I) Refusal
 inlet_under functions tenant worker name frame None = Err NotReturned
 inlet_under functions tenant worker name frame (Some parent) =
     let act = functions.inlet (words_in tenant.frames parent) frame.value in
     unless (inlet_tests tenant worker frame parent act) (taken_in tenant worker name parent act)
 
--- Finish: the frame hasn't returned or is no root, no step left, the worker isn't free
+-- the tests of Finish: the frame hasn't returned or is no root, no step is left, the worker isn't free
 abbrev pub finish_tests : Tenant → ℕ → Frame (List ℕ) → List (Bool × Refusal)
 finish_tests tenant worker frame =
     (not (is_returned frame.state) || not (is_root frame.path), NotReturned)
@@ -286,12 +286,12 @@ finish_tests tenant worker frame =
     ∷ not_free tenant worker
     ∷ []
 
--- Finish: the job is done with the root's words, and the root is removed
+-- Finish: the job is done and keeps the root's first words, and all its frames are removed
 abbrev pub finished : {I : Type 0} → Tenant → Frame (List ℕ) → Outcome I
 finished tenant frame =
     (Some (counted (ended frame.serial (Done (kept_words frame.value)) tenant)), Finished (job_under frame.serial tenant.jobs))
 
--- whether the inlet of a returned frame under this parent stores outside
+-- whether the inlet of a frame under this parent stores beyond the parent's words; false for a root
 abbrev pub is_bad_inlet : {I A : Type 0} → Functions I A → Tenant → Frame (List ℕ) → Option ℕ → Bool
 is_bad_inlet functions tenant frame None = false
 is_bad_inlet functions tenant frame (Some parent) =
@@ -305,15 +305,15 @@ is_spendable functions tenant frame =
     || (is_run frame.state && applies (act_tests tenant frame (act_of functions tenant frame)))
     || (is_returned frame.state && is_bad_inlet functions tenant frame (parent_of frame.path))
 
--- the same as a fact
+-- a frame's job may be given up (is_spendable), as a fact
 abbrev pub IsSpendable : {I A : Type 0} → Functions I A → Tenant → Frame (List ℕ) → Type 0
 IsSpendable functions tenant frame = IsTrue (is_spendable functions tenant frame)
 
--- Spend: the frame's job is spent, and all its frames are removed
+-- Spend: the frame's job is given up, and all its frames are removed
 abbrev pub spent : {I : Type 0} → Tenant → Frame (List ℕ) → Outcome I
 spent tenant frame = let root = root_of frame.path in (Some (ended root SpentJob tenant), Spent (job_under root tenant.jobs))
 
--- Cancel: the job, where it lives, is cancelled, and all its frames are removed
+-- Cancel: a job that lives is cancelled, and all its frames are removed; else NoJob
 abbrev pub cancelled : {I : Type 0} → Tenant → Option Job → Result (Outcome I) Refusal
 cancelled tenant None = Err NoJob
 cancelled tenant (Some (Live root)) = Ok (Some (ended root CancelledJob tenant), Cancelled)
@@ -321,12 +321,12 @@ cancelled tenant (Some (Done words)) = Err NoJob
 cancelled tenant (Some SpentJob) = Err NoJob
 cancelled tenant (Some CancelledJob) = Err NoJob
 
--- what a step gives that names a frame, if there is one of that serial
+-- a step that names a frame: NoFrame where it isn't there, else what the step gives for it
 abbrev pub at_frame : {X : Type 0} → Option (Frame (List ℕ)) → (Frame (List ℕ) → Result X Refusal) → Result X Refusal
 at_frame None step = Err NoFrame
 at_frame (Some frame) step = step frame
 
--- a step of a tenant that is there
+-- one step of a tenant that is there and has the core to itself
 abbrev pub lone_step : {I A : Type 0} → Functions I A → Tenant → StepOf A → Result (Outcome I) Refusal
 lone_step functions tenant (Admit number quota) = Err OldTenant
 lone_step functions tenant (AdmitMore number quota) = unless ((is_lower tenant.reserve quota, Lower) ∷ []) (raised tenant quota)
@@ -350,21 +350,21 @@ lone_step functions tenant (Spend name) =
 lone_step functions tenant (Cancel number job) = cancelled tenant (job_at tenant.jobs job)
 lone_step functions tenant (Leave number) = Ok (None, Left)
 
--- a step from nothing: an admission is taken, and nothing else
+-- one step of a tenant that isn't there: Admit is taken, every other step is refused by NoTenant
 abbrev pub first_step : {I A : Type 0} → StepOf A → Result (Outcome I) Refusal
 first_step (Admit number quota) = Ok (Some (admitted_with quota), Admitted)
 first_step _ = Err NoTenant
 
--- one step of a tenant that has the core to itself: what comes of it with what it did, or one refusal
+-- one step of a tenant that has the core to itself, if it is there: its state after it and what it did, or a refusal
 abbrev pub lone : {I A : Type 0} → Functions I A → Option Tenant → StepOf A → Result (Outcome I) Refusal
 lone functions None step = first_step step
 lone functions (Some tenant) step = lone_step functions tenant step
 
--- the refusal in a result, if it is one
+-- the refusal in a result; none where it is Ok
 abbrev pub refusal_in : {X : Type 0} → Result X Refusal → Option Refusal
 refusal_in (Ok value) = None
 refusal_in (Err refusal) = Some refusal
 
--- why a tenant that has the core to itself is refused a step, if it is
+-- why a step of a tenant that has the core to itself is refused; none where it is taken
 abbrev pub lone_refusal : {I A : Type 0} → Functions I A → Option Tenant → StepOf A → Option Refusal
 lone_refusal functions tenant step = refusal_in (lone functions tenant step)

@@ -8,7 +8,7 @@ use Rattle.sched_rules.specs.Functions.{Functions}
 use Rattle.sched_rules.specs.Trees.{Tenant}
 use Rattle.sched_rules.specs.Lone.{Outcome, lone}
 
--- whose step it is
+-- the number of the tenant whose step this is
 abbrev pub tenant_of : {A : Type 0} → StepOf A → ℕ
 tenant_of (Admit number quota) = number
 tenant_of (AdmitMore number quota) = number
@@ -27,27 +27,27 @@ tenant_of (Leave number) = number
 abbrev pub only : {A : Type 0} → ℕ → List (StepOf A) → List (StepOf A)
 only number steps = filter (λ step. tenant_of step == number) steps
 
--- the tenant after a step; a refused step changes nothing
+-- the tenant after a step with this result; a refused step changes nothing
 abbrev pub state_after : {I : Type 0} → Option Tenant → Result (Outcome I) Refusal → Option Tenant
 state_after before (Ok outcome) = outcome.0
 state_after before (Err refusal) = before
 
--- what a step is answered
+-- the answer to a step, from its result: what it did, or the refusal
 abbrev pub answer_of : {I : Type 0} → Result (Outcome I) Refusal → Result (DidOf I) Refusal
 answer_of (Ok outcome) = Ok outcome.1
 answer_of (Err refusal) = Err refusal
 
--- the tenant after a list of steps
+-- what a tenant is after a list of steps, if it has the core to itself
 abbrev pub alone_from : {I A : Type 0} → Functions I A → Option Tenant → List (StepOf A) → Option Tenant
 alone_from functions before [] = before
 alone_from functions before (step ∷ steps) = alone_from functions (state_after before (lone functions before step)) steps
 
--- what the steps of a list are answered
+-- the answers to a list of steps of a tenant that has the core to itself
 abbrev pub answers_from : {I A : Type 0} → Functions I A → Option Tenant → List (StepOf A) → List (Result (DidOf I) Refusal)
 answers_from functions before [] = []
 answers_from functions before (step ∷ steps) =
     answer_of (lone functions before step) ∷ answers_from functions (state_after before (lone functions before step)) steps
 
--- the tenant after a list of steps, from nothing
+-- what a tenant that wasn't there is after a list of steps, if it has the core to itself
 abbrev pub alone : {I A : Type 0} → Functions I A → List (StepOf A) → Option Tenant
 alone functions steps = alone_from functions None steps

@@ -24,7 +24,7 @@ pub record Tenant : Type 0 where
   pub jobs : List Job
   pub frames : Tree
 
--- a tenant as it is admitted
+-- a tenant as it is admitted, with this reservation: without a job or a frame, and nothing used
 abbrev pub admitted_with : Quota → Tenant
 admitted_with quota = record { reserve = quota; serials = 0; steps = 0; jobs = []; frames = [] }
 
@@ -33,7 +33,7 @@ abbrev pub words_of : Option (Frame (List ℕ)) → List ℕ
 words_of None = []
 words_of (Some frame) = frame.value
 
--- the words of the frame with this serial
+-- the words of the frame with this serial; none where it isn't there
 abbrev pub words_in : Tree → ℕ → List ℕ
 words_in frames serial = words_of (frame_at frames serial)
 
@@ -41,11 +41,11 @@ words_in frames serial = words_of (frame_at frames serial)
 abbrev pub sight : Tree → List ℕ → List (List ℕ)
 sight frames path = reverse (map (λ serial. words_in frames serial) path)
 
--- the charges of all frames
+-- the segments that all frames together take
 abbrev pub charged_for : Tree → ℕ
 charged_for frames = sum_by (λ frame. charge (length frame.value)) frames
 
--- the tenant's account: what it reserved, the charges of its frames, the serials given as nodes opened, and its steps
+-- the tenant's account: what it reserved, what its frames are charged, the nodes it opened (one a serial), its steps
 abbrev pub account_in : Tenant → Account
 account_in tenant = record { reserve = tenant.reserve; charged = charged_for tenant.frames; opened = tenant.serials; ticks = tenant.steps }
 
@@ -53,12 +53,12 @@ account_in tenant = record { reserve = tenant.reserve; charged = charged_for ten
 abbrev pub left : Tenant → Left
 left tenant = left_in (account_in tenant)
 
--- the frames with these words in the frame of this serial
+-- the frames, the one with this serial having these words
 abbrev pub with_words : ℕ → List ℕ → Tree → Tree
 with_words serial words [] = []
 with_words serial words (frame ∷ frames) = (if frame.serial == serial then record frame { value = words } else frame) ∷ with_words serial words frames
 
--- the words after stores, done in order
+-- the words after these stores, each of a word at a place, done in order
 abbrev pub stored : List (ℕ × ℕ) → List ℕ → List ℕ
 stored [] words = words
 stored (store ∷ stores) words = stored stores (slice_set words store.0 store.1)
@@ -85,15 +85,15 @@ abbrev pub is_busy_in : ℕ → Tree → Bool
 is_busy_in worker [] = false
 is_busy_in worker (frame ∷ frames) = is_held_by worker frame.state || is_busy_in worker frames
 
--- whether the frame is a root: its path has one serial
+-- whether a frame with this path is a root: the path has one serial
 abbrev pub is_root : List ℕ → Bool
 is_root path = length path == 1
 
--- the frames without this root and all that is below it
+-- the frames without this root and all frames below it
 abbrev pub without_job : ℕ → Tree → Tree
 without_job root frames = frames_without root (aborted root frames)
 
--- the job with this number, from 1 on
+-- the job with this number, the first being 1; none where there is no such job
 abbrev pub job_at : List Job → ℕ → Option Job
 job_at [] number = None
 job_at (job ∷ jobs) number = if number == 1 then Some job else job_at jobs (number - 1)
@@ -105,16 +105,16 @@ is_live_at root (Done words) = false
 is_live_at root Spent = false
 is_live_at root Cancelled = false
 
--- the number of the job that lives under this root, the first job having this number
+-- the number of the job that lives under this root, if the first job has number first; 0 where there is none
 abbrev pub number_from : ℕ → ℕ → List Job → ℕ
 number_from first root [] = 0
 number_from first root (job ∷ jobs) = if is_live_at root job then first else number_from (first + 1) root jobs
 
--- the number of the job that lives under this root
+-- the number of the job that lives under this root, the first being 1; 0 where there is none
 abbrev pub job_under : ℕ → List Job → ℕ
 job_under root jobs = number_from 1 root jobs
 
--- the jobs, with the one that lives under this root ended so
+-- the jobs, the one that lives under this root replaced by ended
 abbrev pub with_ended : ℕ → Job → List Job → List Job
 with_ended root ended [] = []
 with_ended root ended (job ∷ jobs) = (if is_live_at root job then ended else job) ∷ with_ended root ended jobs

@@ -8,7 +8,7 @@ use Rattle.sched_rules.specs.declared.job.Job.{Job}
 use Rattle.sched_rules.specs.Trees.{Tenant, left, job_at}
 use Rattle.sched_rules.specs.Cores.{Shared, tenant_in, charged_in}
 
--- what a tenant has left, if it is there
+-- what a tenant has left; none where it isn't there
 abbrev pub left_of : Shared → ℕ → Option Left
 left_of shared number = option_map left (tenant_in shared.tenants number)
 
@@ -20,23 +20,23 @@ job_of shared number job = option_and_then (λ tenant. job_at tenant.jobs job) (
 abbrev pub named : Shared → FrameId → Option (Frame (List ℕ))
 named shared name = option_and_then (λ tenant. frame_at tenant.frames name.serial) (tenant_in shared.tenants name.tenant)
 
--- its parent's name, which a root has not, and its state
+-- the parent's name, if it has a parent, and the state of the frame of this name, if it is there
 abbrev pub frame_of : Shared → FrameId → Option (Option FrameId × State)
 frame_of shared name = option_map (λ frame. (name_of name.tenant (parent_of frame.path), frame.state)) (named shared name)
 
--- its words
+-- the words of the frame of this name, if it is there
 abbrev pub words_of_frame : Shared → FrameId → Option (List ℕ)
 words_of_frame shared name = option_map (λ frame. frame.value) (named shared name)
 
--- how many frames a tenant has, and how many words they have
+-- how many frames a tenant has, and how many words they have; none where it isn't there
 abbrev pub live_of : Shared → ℕ → Option (ℕ × ℕ)
 live_of shared number = option_map (λ tenant. (length tenant.frames, sum_by (λ frame. length frame.value) tenant.frames)) (tenant_in shared.tenants number)
 
--- a tenant's ready frame of the greatest serial, with its home
+-- a tenant's ready frame of the greatest serial, with its home; none where none is ready
 abbrev pub newest_ready_in : Shared → ℕ → Option (FrameId × ℕ)
 newest_ready_in shared number = option_and_then (λ tenant. newest_ready_of number tenant.frames) (tenant_in shared.tenants number)
 
--- how many frames are ready
+-- how many frames of all tenants are ready
 abbrev pub ready_count : List (ℕ × Tenant) → ℕ
 ready_count [] = 0
 ready_count (entry ∷ entries) = length (ready_frames entry.1.frames) + ready_count entries

@@ -35,7 +35,7 @@ impl Config {
     /// The most nodes of a core.
     pub const MAX_NODES: u32 = 4194304;
 
-    /// A core of so many segments and nodes, or None outside the limits.
+    /// The totals of so many segments and nodes; None where one of them is 0 or above its limit.
     pub fn new(segments: u32, nodes: u32) -> Option<Config>
         ensures within { IsSome result ↔ IsWithinTotals (record { segments = segments; nodes = nodes }) }
         ensures value { IfSome result (λ c. c ≡ record { segments = segments; nodes = nodes }) }
@@ -46,7 +46,7 @@ impl Config {
         Some(Config { segments, nodes })
     }
 
-    /// The segments in all.
+    /// The total of segments.
     pub fn segments(&self) -> u32
         ensures value { result ≡ self.now.segments }
         ensures limits { IsWithinTotals self.now }
@@ -54,7 +54,7 @@ impl Config {
         self.segments
     }
 
-    /// The nodes in all.
+    /// The total of nodes.
     pub fn nodes(&self) -> u32
         ensures value { result ≡ self.now.nodes }
         ensures limits { IsWithinTotals self.now }

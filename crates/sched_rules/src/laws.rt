@@ -16,31 +16,33 @@ ghost use Rattle.sched_rules.specs.Lone.{IsSpendable, is_lower, lone_refusal};
 
 use crate::procedure::Procedure;
 
-/// Where each answer of a list of steps is right, the headline holds of the list: no tenant is disturbed.
+/// Where each answer to a list of steps is right (`AreAnswersTo`), the headline holds of the list: each tenant
+/// is what its own taken steps make of it, as if no other tenant were there.
 pub fn no_tenant_is_disturbed<P: Procedure>()
     ensures { (procedure : P) (before : Shared) (steps : List (StepOf P.Answer)) (answers : List (Result (DidOf P.Input) Refusal)) →
         IsKnown before → AreAnswersTo (P.functions procedure) before steps answers →
         IsHeadline (P.functions procedure) before steps answers (after_answers (P.functions procedure) before steps answers) }
 {}
 
-/// Each step has a right answer, at any core: the one that is judged.
+/// At any core each step has a right answer: that of `judged`.
 pub fn each_step_has_a_right_answer<P: Procedure>()
     ensures { (procedure : P) (before : Shared) (step : StepOf P.Answer) →
         IsAnswerTo (P.functions procedure) before step (answer_of (judged (P.functions procedure) before step)) }
 {}
 
-/// The test of an admission is that of the book of reservations.
+/// `is_full`, by which an admission is refused, is the same test as `IsFull` of `tenant_quota`.
 pub fn fullness_is_the_book_s()
     ensures { (book : Reservations) (quota : Quota) → IsTrue (is_full book quota) ↔ IsFull book quota }
 {}
 
-/// The tests of an admission of more are those of the book of reservations.
+/// `is_lower` and `is_beyond`, by which a raise of a reservation is refused, are the same tests as `IsNotAbove`
+/// and `IsBeyond` of `tenant_quota`.
 pub fn more_is_tested_as_by_the_book()
     ensures lower { (now quota : Quota) → IsTrue (is_lower now quota) ↔ IsNotAbove now quota }
     ensures beyond { (book : Reservations) (now quota : Quota) → IsTrue (is_beyond book now quota) ↔ IsBeyond book now quota }
 {}
 
-/// A tenant's job is given up exactly where the frame that is named is spendable.
+/// A Spend of a frame that is there is taken exactly where the frame is spendable (`IsSpendable`).
 pub fn spent_exactly_where_spendable<P: Procedure>()
     ensures { (procedure : P) (tenant : Tenant) (name : FrameId) (frame : Frame (List ℕ)) → frame_at tenant.frames name.serial ≡ Some frame →
         ((lone_refusal (P.functions procedure) (Some tenant) (Spend name) ≡ None) ↔ IsSpendable (P.functions procedure) tenant frame) }

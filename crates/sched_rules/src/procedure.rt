@@ -13,42 +13,43 @@ pub trait Procedure {
     ghost use Rattle.sched_rules.specs.Functions.{Functions};
     ghost use Rattle.sched_rules.specs.Laws.{Fitting, Rooting, Neither, AllFit, NextKeeps, InletKeeps, AcceptKeeps};
 
-    /// What a frame is computed from.
+    /// What a frame gives out to be computed outside the core.
     type Input: Copy + Eq;
-    /// What a computation gives.
+    /// What such a computation brings back.
     type Answer;
 
-    // The five functions, and when two inputs are the same.
+    // The five functions below as functions of lists of words, and when two inputs are the same.
     ghost functions: { Self → Functions Self.Input Self.Answer };
 
-    // That a frame of these words fits, with the words of its children and its mark.
+    // The procedure's invariant: when a frame fits, by its words, its children's words and its mark
+    // (`Fitting`).
     ghost fits: { Self → Fitting };
 
     // That a root's words belong to the words that its job was submitted with.
     ghost rooted: { Self → Rooting };
 
-    /// The next act of a running frame.
+    /// The next act of a running frame, by its own words and those of the frames above it.
     fn next(&self, sight: &Sight) -> Act
         ensures { result ≡ (functions self.now).next sight.now };
 
-    /// What a parent does about a child that has returned.
+    /// What a parent with the words `own` does about a child that has returned with the words `child`.
     fn inlet(&self, own: &Words, child: &Words) -> InletAct
         ensures { result ≡ (functions self.now).inlet own.now child.now };
 
-    /// What a computing frame is computed from.
+    /// The input that is to be computed for a frame with these words.
     fn input(&self, own: &Words) -> Self::Input
         ensures { result ≡ (functions self.now).input own.now };
 
-    /// What an answer was computed from.
+    /// The input that an answer was computed from.
     fn asked(&self, answer: &Self::Answer) -> Self::Input
         ensures { result ≡ (functions self.now).asked answer.now };
 
-    /// What a computing frame stores of an answer.
+    /// What a computing frame with these words stores of an answer.
     fn accept(&self, own: &Words, answer: &Self::Answer) -> Stores
         ensures { result ≡ (functions self.now).accept own.now answer.now };
 
-    /// Whether a root of this size that begins with these words fits, as far as the procedure can
-    /// tell: where it answers false, nothing is said.
+    /// Whether a root of this size that begins with these words fits. False means that the procedure can't
+    /// tell.
     fn is_fitting_root(&self, words: &[u64], size: usize) -> bool
         ensures { result ≡ true → fits self.now (padded words.now size) [] Neither × rooted self.now words.now (padded words.now size) }
     {
@@ -57,8 +58,8 @@ pub trait Procedure {
         false
     }
 
-    /// The same answer as that of `next`. Where `fitting` is true the frame fits, as do all those
-    /// above it, and need not be tested.
+    /// The act that `next` gives. `fitting` says that the frame and all above it are known to fit, so that
+    /// their words need not be tested.
     #[inline(always)]
     fn next_of(&self, fitting: bool, sight: &Sight) -> Act
         requires { fitting ≡ true → AllFit (fits self.now) sight.now }
@@ -68,7 +69,8 @@ pub trait Procedure {
         self.next(sight)
     }
 
-    /// The same answer as that of `inlet`. Where `fitting` is true both frames fit.
+    /// What `inlet` gives. `fitting` says that both frames are known to fit, so that their words need not be
+    /// tested.
     #[inline(always)]
     fn inlet_of(&self, fitting: bool, own: &Words, child: &Words) -> InletAct
         requires { fitting ≡ true → AllFit (fits self.now) (own.now ∷ child.now ∷ []) }
@@ -78,7 +80,8 @@ pub trait Procedure {
         self.inlet(own, child)
     }
 
-    /// The same answer as that of `accept`. Where `fitting` is true the frame fits.
+    /// What `accept` gives. `fitting` says that the frame is known to fit, so that its words need not be
+    /// tested.
     #[inline(always)]
     fn accept_of(&self, fitting: bool, own: &Words, answer: &Self::Answer) -> Stores
         requires { fitting ≡ true → AllFit (fits self.now) (own.now ∷ []) }
@@ -88,18 +91,18 @@ pub trait Procedure {
         self.accept(own, answer)
     }
 
-    // Two inputs are the same where `==` says so: an Answer compares them.
+    // `same` is the `==` of inputs, by which an Answer's input is compared with the frame's.
     ghost compares: { (p : Self) → (functions p).same ≡ Self.Input.PartialEq.eq };
 
-    // And then they are one: an answer to an input of another value is never taken.
+    // Two inputs that compare as the same are equal, so that an answer to another input is never taken.
     ghost same_is_equal: { (p : Self) → (one other : Self.Input) → (functions p).same one other ≡ true → one ≡ other };
 
-    // An Advance leaves frames fitting.
+    // After an Advance frames that fitted still fit.
     ghost next_keeps: { (p : Self) → NextKeeps (functions p) (fits p) (rooted p) };
 
-    // An Inlet leaves frames fitting, also after an abort.
+    // After an Inlet frames that fitted still fit, also where it aborts.
     ghost inlet_keeps: { (p : Self) → InletKeeps (functions p) (fits p) (rooted p) };
 
-    // An Answer leaves frames fitting.
+    // After an Answer frames that fitted still fit.
     ghost accept_keeps: { (p : Self) → AcceptKeeps (functions p) (fits p) (rooted p) };
 }

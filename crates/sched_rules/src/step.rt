@@ -9,29 +9,29 @@ use tenant_quota::Reserve;
 /// A step, for a procedure whose answers are of type A.
 #[derive(Drop)]
 pub enum StepOf<A> {
-    /// The tenant is there from now on, with this reservation.
+    /// A new tenant of this number is there from now on, with this reservation.
     Admit(u64, Reserve),
-    /// The tenant's reservation becomes this, which is more than it was.
+    /// The tenant's reservation is raised to this.
     AdmitMore(u64, Reserve),
     /// A new job of the tenant, whose root has this size and begins with these words.
     Submit(u64, GivenWords, usize),
-    /// The worker runs a ready frame of its own.
+    /// The worker runs a ready frame whose home it is.
     Take(Worker, FrameId),
-    /// The worker runs a ready frame whose home is another's (a worker's number, or 0 for the hall).
+    /// The worker runs a ready frame whose home is this other worker, or 0, the hall.
     Steal(Worker, u8, FrameId),
-    /// The worker's running frame does its next act.
+    /// A frame that the worker runs does its next act.
     Advance(Worker, FrameId),
-    /// The worker brings the answer that its frame computes.
+    /// The worker brings the answer to the input of the frame that it computes; the frame runs again.
     Answer(Worker, FrameId, A),
-    /// The returned frame is taken in by its parent.
+    /// A frame that has returned is taken in by its parent; this worker does it.
     Inlet(Worker, FrameId),
-    /// The returned root ends its job.
+    /// The worker ends the job of this root, which has returned: the job is done.
     Finish(Worker, FrameId),
-    /// The frame's job ends, as it can't go on.
+    /// The job of this frame is given up, as the frame can't go on or the tenant has no step left.
     Spend(FrameId),
-    /// The job ends.
+    /// The tenant's job of this number is cancelled. The tenant's number comes first.
     Cancel(u64, u64),
-    /// The tenant is gone.
+    /// The tenant leaves, with its jobs and frames.
     Leave(u64),
 }
 
@@ -42,31 +42,31 @@ pub enum DidOf<I> {
     Admitted,
     /// The tenant has reserved more.
     AdmittedMore,
-    /// The job of this number, with this root.
+    /// A job was begun: its number, and its root.
     Submitted(u64, FrameId),
-    /// The worker runs the frame.
+    /// The worker runs the frame (Take or Steal).
     Took,
-    /// The frame goes on.
+    /// The frame did its stores and runs on.
     Went,
-    /// The frame has grown.
+    /// The frame has more words and runs on.
     Grew,
-    /// This child was opened.
+    /// This child was opened, and the frame runs on.
     Spawned(FrameId),
-    /// The frame waits.
+    /// The frame waits for its children, after Wait, or after Return while it has one.
     Waited,
-    /// The frame is computed, from this input.
+    /// The worker is to compute this input for the frame.
     Computing(I),
-    /// The frame has returned; whether it is a root.
+    /// The frame has returned; true where it is a root.
     Returned(bool),
-    /// The answer was accepted.
+    /// The frame took the answer and runs again.
     Answered,
     /// The child was taken in: the parent, if it was woken, and how many other frames were aborted.
     TakenIn(Option<FrameId>, u64),
     /// The job of this number is done.
     Finished(u64),
-    /// The job of this number is spent.
+    /// The job of this number was given up.
     Spent(u64),
-    /// The job is cancelled.
+    /// The job was cancelled.
     Cancelled,
     /// The tenant is gone.
     Left,

@@ -4,10 +4,10 @@ use Rattle.tenant_quota.specs.Quota.{Quota}
 use Rattle.sched_rules.specs.Trees.{admitted_with}
 use Rattle.sched_rules.specs.Cores.{Shared, without_tenant}
 
--- the core with a new tenant after all others
+-- the core with a new tenant after all others, whose number is the greatest so far
 abbrev pub with_admitted : ℕ → Quota → Shared → Shared
 with_admitted number reserve shared = record shared { newest = number; tenants = shared.tenants ++ (number, admitted_with reserve) ∷ [] }
 
--- the core without a tenant
+-- the core without the tenant of this number
 abbrev pub with_departed : ℕ → Shared → Shared
 with_departed number shared = record shared { tenants = without_tenant number shared.tenants }

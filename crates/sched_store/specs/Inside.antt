@@ -2,6 +2,6 @@
 use Rattle.sched_store.specs.declared.store.Store.TheInside.{Inside}
 use Rattle.sched_store.specs.Parts.{Parts}
 
--- its fields, but for the allocator
+-- the fields of a store but for the allocator
 abbrev pub parts_of : {A : Type 0} → Inside A → Parts
 parts_of s = record { nodes = s.stack; book = s.book; trees = s.table; ledgers = s.ledgers; places = s.places; newest = s.newest }

@@ -13,7 +13,7 @@ Ledger = ℕ × List Job
 abbrev pub number_in : Ledger → ℕ
 number_in ledger = ledger.0
 
--- the jobs of a tenant; none where it isn't there
+-- the jobs of the tenant of this number; none where it isn't there
 abbrev pub jobs_of : List Ledger → ℕ → List Job
 jobs_of ledgers number = said_of number_in (λ ledger. ledger.1) [] number ledgers
 
@@ -48,10 +48,10 @@ abbrev pub AreLiveOnce : List Job → Type 0
 AreLiveOnce [] = Unit {0}
 AreLiveOnce (job ∷ jobs) = ((root : ℕ) → is_live_at root job ≡ true → is_live_in root jobs ≡ false) × AreLiveOnce jobs
 
--- the ledgers, one tenant's jobs changed so
+-- the ledgers, the jobs of the tenant of this number changed by change
 abbrev pub with_jobs : ℕ → (List Job → List Job) → List Ledger → List Ledger
 with_jobs number change ledgers = with_thing number_in number (λ ledger. (ledger.0, change ledger.1)) ledgers
 
--- the ledgers without one tenant's
+-- the ledgers without that of the tenant of this number
 abbrev pub without_ledger : ℕ → List Ledger → List Ledger
 without_ledger number ledgers = without_thing number_in number ledgers

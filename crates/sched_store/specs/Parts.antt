@@ -21,15 +21,15 @@ pub record Parts : Type 0 where
   pub places : List (Option FrameId)
   pub newest : ℕ
 
--- the frames, each with its node's words in place of the node
+-- the frames, each with the words of its node as its value in place of the node's number
 abbrev pub worded : Nodes → List (Frame ℕ) → Tree
 worded nodes frames = map_values (node_words nodes) frames
 
--- the tenant that an account stands for
+-- the tenant of this number, by its account and the parts of the store
 abbrev pub tenant_from : Parts → ℕ → Account → Tenant
 tenant_from parts number account = record { reserve = account.reserve; serials = account.opened; steps = account.ticks; jobs = jobs_of parts.ledgers number; frames = worded parts.nodes (frames_of parts.trees number) }
 
--- the tenants that accounts stand for
+-- the tenants of these accounts, by the parts of the store
 abbrev pub tenants_from : Parts → List (ℕ × Account) → List (ℕ × Tenant)
 tenants_from parts [] = []
 tenants_from parts (entry ∷ entries) = (entry.0, tenant_from parts entry.0 entry.1) ∷ tenants_from parts entries

@@ -11,34 +11,34 @@ use Rattle.sched_rules.specs.Lone.{is_lower}
 use Rattle.sched_rules.specs.Cores.{Shared, tenant_in}
 use Rattle.sched_rules.specs.Views.{left_of, named}
 
--- the frames of a tenant, and none where it isn't there
+-- the frames of a tenant; none where it isn't there
 abbrev pub tree_of : Option Tenant → Tree
 tree_of None = []
 tree_of (Some tenant) = tenant.frames
 
--- its jobs
+-- the jobs of a tenant; none where it isn't there
 abbrev pub jobs_kept : Option Tenant → List Job
 jobs_kept None = []
 jobs_kept (Some tenant) = tenant.jobs
 
--- how many serials it was given
+-- how many serials a tenant was given; 0 where it isn't there
 abbrev pub serials_given : Option Tenant → ℕ
 serials_given None = 0
 serials_given (Some tenant) = tenant.serials
 
--- the frames of the tenant of this number
+-- the frames of the tenant of this number; none where it isn't there
 abbrev pub frames_in : Shared → ℕ → Tree
 frames_in shared number = tree_of (tenant_in shared.tenants number)
 
--- the jobs of the tenant of this number
+-- the jobs of the tenant of this number; none where it isn't there
 abbrev pub jobs_in : Shared → ℕ → List Job
 jobs_in shared number = jobs_kept (tenant_in shared.tenants number)
 
--- how many serials the tenant of this number was given
+-- how many serials the tenant of this number was given; 0 where it isn't there
 abbrev pub serials_in : Shared → ℕ → ℕ
 serials_in shared number = serials_given (tenant_in shared.tenants number)
 
--- the path of a frame, and no serial where there is none
+-- the path of a frame; empty where there is none
 abbrev pub path_of : Option (Frame (List ℕ)) → List ℕ
 path_of None = []
 path_of (Some frame) = frame.path
@@ -47,7 +47,7 @@ path_of (Some frame) = frame.path
 abbrev pub sight_of : Shared → FrameId → List (List ℕ)
 sight_of shared name = sight (frames_in shared name.tenant) (path_of (named shared name))
 
--- the words of the frame of this name, and none where it isn't there
+-- the words of the frame of this name; none where it isn't there
 abbrev pub words_under : Shared → FrameId → List ℕ
 words_under shared name = words_of (named shared name)
 
@@ -56,22 +56,22 @@ abbrev pub is_busy_among : ℕ → List (ℕ × Tenant) → Bool
 is_busy_among worker [] = false
 is_busy_among worker (entry ∷ entries) = is_busy_in worker entry.1.frames || is_busy_among worker entries
 
--- whether the worker holds the frame, if it is there
+-- whether there is a frame, and this worker runs or computes it
 abbrev pub holds : ℕ → Option (Frame (List ℕ)) → Bool
 holds worker None = false
 holds worker (Some frame) = is_held_by worker frame.state
 
--- whether the worker may run or compute the frame of this name: it is free, or it is this very frame that it holds
+-- whether the worker may run or compute the frame of this name: it holds no frame, or this very one
 abbrev pub may_hold : Shared → ℕ → FrameId → Bool
 may_hold shared worker name = not (is_busy_among worker shared.tenants) || holds worker (named shared name)
 
--- whether a state names a worker that runs or computes the frame
+-- whether a state is Running or Computing, and so names a worker
 abbrev pub is_held : State → Bool
 is_held (Running worker) = true
 is_held (Computing worker) = true
 is_held _ = false
 
--- the tenant is there, and this is above what it reserves
+-- the tenant is there, and this is a raise of what it reserves: more segments or nodes, and of neither less
 abbrev pub IsAboveOwn : Option Tenant → Quota → Type 0
 IsAboveOwn None quota = ⊥
 IsAboveOwn (Some tenant) quota = is_lower tenant.reserve quota ≡ false
@@ -84,7 +84,7 @@ HasLeft shared number segments nodes = IsSomeAnd (left_of shared number) (λ lef
 abbrev pub HasStepLeft : Shared → ℕ → Type 0
 HasStepLeft shared number = IsSomeAnd (left_of shared number) (λ left. 1 ≤ left.steps)
 
--- this number is below those of all these tenants
+-- each of these tenants has a number above this one
 abbrev pub AreAfter : ℕ → List (ℕ × Tenant) → Type 0
 AreAfter number [] = Unit {0}
 AreAfter number (entry ∷ entries) = (number + 1 ≤ entry.0) × AreAfter number entries

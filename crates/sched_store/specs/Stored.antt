@@ -12,16 +12,16 @@ use Rattle.sched_rules.specs.Trees.{charged_for, is_held_by}
 use Rattle.sched_store.specs.Ledgers.{numbers_of}
 use Rattle.sched_store.specs.Parts.{Parts, worded}
 
--- the frames of all tenants: under a tenant's number and a serial the frame, if there is one
+-- the frame of this serial in the tree of the tenant of this number, if there is one
 abbrev pub frame_in : List (TenantTree ℕ) → ℕ → ℕ → Option (Frame ℕ)
 frame_in trees number serial = frame_at (frames_of trees number) serial
 
--- the node of a frame
+-- the node of a frame, if there is one
 abbrev pub node_of : Option (Frame ℕ) → Option ℕ
 node_of None = None
 node_of (Some frame) = Some frame.value
 
--- the node of the parent, if there is one
+-- the node of the frame that is the parent, if there is a parent
 abbrev pub node_above : List (Frame ℕ) → Option ℕ → Option ℕ
 node_above frames None = None
 node_above frames (Some parent) = node_of (frame_at frames parent)
@@ -31,20 +31,20 @@ pub record IsFrameNode (nodes : Nodes) (frames : List (Frame ℕ)) (frame : Fram
   pub is_open : IsOpen nodes frame.value
   pub parent : node_parent nodes frame.value ≡ node_above frames (parent_of frame.path)
 
--- the frame that has this node
+-- some frame of some tenant has this node
 pub record HasFrame (trees : List (TenantTree ℕ)) (node : ℕ) : Type 0 where
   pub number : ℕ
   pub serial : ℕ
   pub there : node_of (frame_in trees number serial) ≡ Some node
 
--- frames and open nodes belong to one another, one to one
+-- frames and open nodes are one to one: each frame has an open node, no two share one, and each open node is a frame's
 pub record AreFramesNodes (nodes : Nodes) (trees : List (TenantTree ℕ)) : Type 0 where
   pub nodes_of_frames : (number serial : ℕ) (frame : Frame ℕ) → frame_in trees number serial ≡ Some frame → IsFrameNode nodes (frames_of trees number) frame
   pub once : (number serial other_number other_serial node : ℕ) → node_of (frame_in trees number serial) ≡ Some node → node_of (frame_in trees other_number other_serial) ≡ Some node →
       (number ≡ other_number) × (serial ≡ other_serial)
   pub no_other : (node : ℕ) → IsOpen nodes node → HasFrame trees node
 
--- an open node has 1 to 128 words
+-- each open node has 1 to 128 words
 pub record AreSized (nodes : Nodes) : Type 0 where
   pub some : (node : ℕ) → IsOpen nodes node → 1 ≤ length (node_words nodes node)
   pub most : (node : ℕ) → IsOpen nodes node → length (node_words nodes node) ≤ 128
@@ -60,16 +60,16 @@ abbrev pub ArePlaces : List (TenantTree ℕ) → List (Option FrameId) → Type 
 ArePlaces trees places = (worker number serial : ℕ) (frame : Frame ℕ) → frame_in trees number serial ≡ Some frame → is_held_by worker frame.state ≡ true →
     (1 ≤ worker) × (worker ≤ 32) × (slice_index_or places worker None ≡ Some (record { tenant = number; serial = serial }))
 
--- the numbers of tenants
+-- the tenants' numbers, in the order of their accounts
 abbrev pub numbers_in : List (ℕ × Account) → List ℕ
 numbers_in [] = []
 numbers_in (entry ∷ entries) = entry.0 ∷ numbers_in entries
 
--- each number is at most this
+-- each account's number is at most this
 abbrev pub AreAtMost : ℕ → List (ℕ × Account) → Type 0
 AreAtMost most entries = AllByRecursion (λ entry. entry.0 ≤ most) entries
 
--- what a store keeps true
+-- the invariant of a Store (src/store.rt), by its parts
 pub record IsStored (parts : Parts) : Type 0 where
   -- each account within its reservation, all within the totals
   pub book : IsSoundBook parts.book
@@ -79,17 +79,17 @@ pub record IsStored (parts : Parts) : Type 0 where
   pub sized : AreSized parts.nodes
   -- each tenant's account agrees with its frames
   pub accounts : (number : ℕ) (account : Account) → account_of number parts.book.accounts ≡ Some account → IsAccountFor parts.nodes parts.trees number account
-  -- without an account no places for frames
+  -- a number without an account has no places for frames
   pub nobody : (number : ℕ) → account_of number parts.book.accounts ≡ None → places_of parts.trees number ≡ 0
-  -- without an account no frame
+  -- a number without an account has no frame
   pub nothing : (number : ℕ) → account_of number parts.book.accounts ≡ None → frames_of parts.trees number ≡ []
   -- each tenant's frames are a tree
   pub forest : (number : ℕ) → IsTree (frames_of parts.trees number)
-  -- as many lists of frames as accounts
+  -- as many trees of frames as accounts
   pub tenants : tenant_count parts.trees ≡ length parts.book.accounts
   -- the segments of all nodes are those charged to all accounts
   pub charges : total_charge parts.nodes ≡ charged_segments parts.book.accounts
-  -- a place for a node at each segment of the book's total
+  -- as many places for nodes as segments in the total
   pub segments : length parts.nodes ≡ parts.book.segments
   -- a ledger for each account, in the same order
   pub ledgers : numbers_of parts.ledgers ≡ numbers_in parts.book.accounts
@@ -99,5 +99,5 @@ pub record IsStored (parts : Parts) : Type 0 where
   pub places : ArePlaces parts.trees parts.places
   -- no tenant's number is above the greatest so far
   pub taken : AreAtMost parts.newest parts.book.accounts
-  -- and numbers end at 2^62
+  -- the greatest number so far is at most 2^62
   pub newest : parts.newest ≤ 2 ^ 62

@@ -11,7 +11,7 @@ use std::marker::Model;
 /// How many jobs a tenant can have.
 pub(crate) const JOBS: usize = 256;
 
-/// A tenant's jobs, from number 1 on, in the places that were made for all of them.
+/// A tenant's number and its jobs, job 1 first. Memory for all 256 was taken when it was made.
 #[derive(Drop)]
 pub(crate) struct Ledger<A: Allocator = Global> {
     number: u64,
@@ -44,7 +44,8 @@ impl<A: Allocator> Numbered for Ledger<A> {
 }
 
 impl<A: Allocator> Ledger<A> {
-    /// The ledger of a tenant that has no job yet. It makes places for 256.
+    /// The ledger of a tenant that has no job yet. Takes memory for 256 jobs: `AllocError` only where it is
+    /// refused.
     pub(crate) fn new(alloc: A, number: u64) -> Result<Ledger<A>, AllocError>
         ensures { IfOk result (λ ledger. ledger ≡ (number, [])) }
     {
@@ -60,7 +61,7 @@ impl<A: Allocator> Ledger<A> {
         self.jobs.len()
     }
 
-    /// The job of this number, from 1 on.
+    /// The job of this number, the first being 1; None where there is none.
     pub(crate) fn job(&self, number: u64) -> Option<&Job>
         ensures { option_copied result ≡ job_at self.now.1 number }
     {
@@ -89,7 +90,7 @@ impl<A: Allocator> Ledger<A> {
         0
     }
 
-    /// One more job, which lives under this root.
+    /// Adds a job, which lives under this root, as no other does.
     pub(crate) fn begin(&mut self, root: u64)
         requires room { length self.old.1 < JOBS }
         requires fresh { job_under root self.old.1 ≡ 0 }
@@ -98,7 +99,7 @@ impl<A: Allocator> Ledger<A> {
         self.jobs.push_reserved(Job::Live(root));
     }
 
-    /// Ends the job that lives under this root, if there is one: it becomes `ended`.
+    /// Ends the job that lives under this root, if there is one: `ended` takes its place.
     pub(crate) fn end(&mut self, root: u64, ended: Job)
         requires { is_live ended ≡ false }
         ensures { self.new ≡ (self.old.0, with_ended root ended self.old.1) }

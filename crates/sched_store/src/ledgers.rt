@@ -12,7 +12,7 @@ use std::marker::Model;
 /// How many tenants can be there.
 const TENANTS: usize = 64;
 
-/// The ledgers of all tenants, by rising number, in the places that were made for 64.
+/// The ledgers of all tenants, by rising number. Memory for 64 was taken when it was made.
 #[derive(Drop)]
 pub(crate) struct Ledgers<A: Allocator = Global> {
     all: Vec<Ledger<A>, A>,
@@ -35,7 +35,7 @@ impl<A: Allocator> Model for Ledgers<A> {
 }
 
 impl<A: Allocator> Ledgers<A> {
-    /// No ledger, with places for 64.
+    /// No ledger. Takes memory for 64: `AllocError` only where it is refused.
     pub(crate) fn new(alloc: A) -> Result<Ledgers<A>, AllocError>
         ensures { IfOk result (λ ledgers. ledgers ≡ []) }
     {
@@ -46,7 +46,7 @@ impl<A: Allocator> Ledgers<A> {
         })
     }
 
-    /// Adds the ledger of a tenant whose number is above all others.
+    /// Adds the ledger of a tenant whose number is above all that are there.
     pub(crate) fn add(&mut self, ledger: Ledger<A>)
         requires room { length self.old < TENANTS }
         requires above { AreBelow ledger.0 (numbers_of self.old) }
@@ -56,7 +56,7 @@ impl<A: Allocator> Ledgers<A> {
         self.index.guess_anew(self.all.as_slice());
     }
 
-    /// Takes out the ledger of a tenant that is there.
+    /// Removes the ledger of a tenant that is there.
     pub(crate) fn remove(&mut self, number: u64)
         requires { is_there number self.old ≡ true }
         ensures { self.new ≡ without_ledger number self.old }
@@ -66,7 +66,7 @@ impl<A: Allocator> Ledgers<A> {
         self.index.guess_anew(self.all.as_slice());
     }
 
-    /// How many jobs a tenant has.
+    /// How many jobs a tenant has; 0 where it isn't there.
     pub(crate) fn job_count(&self, number: u64) -> usize
         ensures count { result ≡ length (jobs_of self.now number) }
         ensures few { result ≤ 256 }
@@ -77,7 +77,7 @@ impl<A: Allocator> Ledgers<A> {
         }
     }
 
-    /// A tenant's job by its number, from 1 on.
+    /// A tenant's job by its number, the first being 1; None where there is none.
     pub(crate) fn job(&self, number: u64, job: u64) -> Option<&Job>
         ensures { option_copied result ≡ job_at (jobs_of self.now number) job }
     {
@@ -97,7 +97,8 @@ impl<A: Allocator> Ledgers<A> {
         }
     }
 
-    /// Adds a job of a tenant that is there: it lives under the root of this serial.
+    /// Adds a job of a tenant that is there: it lives under the root of this serial, as no other of the tenant
+    /// does.
     pub(crate) fn begin(&mut self, number: u64, root: u64)
         requires there { is_there number self.old ≡ true }
         requires room { length (jobs_of self.old number) < 256 }
@@ -109,7 +110,8 @@ impl<A: Allocator> Ledgers<A> {
         ledger.begin(root);
     }
 
-    /// Of a tenant that is there, ends the job that lives under this root, if there is one: it becomes `ended`.
+    /// Ends a job of a tenant that is there: the one that lives under this root, if there is one. `ended` takes
+    /// its place.
     pub(crate) fn end(&mut self, number: u64, root: u64, ended: Job)
         requires there { is_there number self.old ≡ true }
         requires ended { is_live ended ≡ false }
@@ -120,7 +122,7 @@ impl<A: Allocator> Ledgers<A> {
         ledger.end(root, ended);
     }
 
-    /// A tenant's ledger, if it is there.
+    /// A tenant's ledger; None where the tenant isn't there.
     fn find(&self, number: u64) -> Option<&Ledger<A>>
         ensures found { IfSome result (λ ledger. jobs_of self.now number ≡ ledger.now.1) }
         ensures none { IfNone result (jobs_of self.now number ≡ []) }

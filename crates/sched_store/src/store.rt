@@ -22,7 +22,8 @@ use tenant_quota::Book;
 /// How many workers there are, and one place more: workers are numbered from 1.
 const PLACES: usize = 33;
 
-/// The tenants of a core, with their frames, jobs and what they have left.
+/// The tenants of a core, with their frames, jobs and what they have left. `places` has, by a worker's number,
+/// the frame that the worker held last; `newest` is the greatest number of a tenant so far.
 pub struct Store<A: Allocator = Global> {
     alloc: A,
     stack: Stack<A>,

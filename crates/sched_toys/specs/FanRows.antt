@@ -45,7 +45,7 @@ one_job reserve serials steps frames = record { reserve = reserve; serials = ser
 abbrev pub answer : ℕ → ℕ → FanAnswer
 answer asked value = record { asked = asked; value = value }
 
--- one job, whose root opens frames 2, 3 and 4 and waits
+-- tenant 1 submits a job, whose root opens frames 2, 3 and 4 and waits
 abbrev pub fan_opens : List (StepOf FanAnswer)
 fan_opens =
     Submit 1 (0 ∷ 0 ∷ []) 4 ∷ Steal 1 0 (one 1) ∷ Advance 1 (one 1) ∷ Advance 1 (one 1) ∷ Advance 1 (one 1) ∷ Advance 1 (one 1) ∷ []
@@ -68,35 +68,36 @@ fan_answers =
     ∷ Advance 2 (one 2)
     ∷ []
 
--- tenant 1 is admitted with so much
+-- tenant 1 is admitted with so many segments and nodes
 abbrev pub one_with : ℕ → ℕ → List (StepOf FanAnswer)
 one_with segments nodes = Admit 1 (quota segments nodes) ∷ []
 
--- all of this
+-- one_with, fan_opens, fan_opens_five and fan_answers, and then frame 2 is taken in
 abbrev pub fan_steps : List (StepOf FanAnswer)
 fan_steps = one_with 8 8 ++ fan_opens ++ fan_opens_five ++ fan_answers ++ Inlet 2 (one 2) ∷ []
 
--- all but the last step
+-- fan_steps without the last step, the inlet of frame 2
 abbrev pub fan_steps_before_inlet : List (StepOf FanAnswer)
 fan_steps_before_inlet = one_with 8 8 ++ fan_opens ++ fan_opens_five ++ fan_answers
 
--- what tenant 2 does in between
+-- what tenant 2 does between steps of tenant 1: it is admitted, submits a job, and worker 4 advances its root once
 abbrev pub steps_between : List (StepOf FanAnswer)
 steps_between = Admit 2 (quota 8 8) ∷ Submit 2 (0 ∷ 0 ∷ []) 4 ∷ Steal 4 0 (two 1) ∷ Advance 4 (two 1) ∷ []
 
--- all of this, with tenant 2's steps put in after the root of tenant 1 waits
+-- fan_steps, with tenant 2's steps put in after the root of tenant 1 waits
 abbrev pub mixed_steps : List (StepOf FanAnswer)
 mixed_steps = one_with 8 8 ++ fan_opens ++ steps_between ++ fan_opens_five ++ fan_answers ++ Inlet 2 (one 2) ∷ []
 
--- with three segments: two children are opened, frame 2 is computed and returns, and is taken in
+-- tenant 1 with 3 segments: its root opens two children
 abbrev pub narrow_opens : List (StepOf FanAnswer)
 narrow_opens = one_with 3 8 ++ Submit 1 (0 ∷ 0 ∷ []) 4 ∷ Steal 1 0 (one 1) ∷ Advance 1 (one 1) ∷ Advance 1 (one 1) ∷ []
 
+-- narrow_opens, and then frame 2 is computed, returns, and is taken in
 abbrev pub narrow_returns : List (StepOf FanAnswer)
 narrow_returns =
     narrow_opens ++ Steal 2 1 (one 2) ∷ Advance 2 (one 2) ∷ Answer 2 (one 2) (answer 1 7) ∷ Advance 2 (one 2) ∷ Inlet 2 (one 2) ∷ []
 
--- a core of 32 segments and 32 nodes before the last inlet of Fan's row
+-- a new core of 32 segments and 32 nodes after fan_steps_before_inlet
 abbrev pub before_inlet : Shared
 before_inlet = shared_run fan (shared_by_nobody (quota 32 32)) fan_steps_before_inlet
 
@@ -104,7 +105,7 @@ before_inlet = shared_run fan (shared_by_nobody (quota 32 32)) fan_steps_before_
 abbrev pub used_up : Shared
 used_up = shared_run fan (shared_by_nobody (quota 16 32)) (Admit 1 (quota 5 8) ∷ Admit 2 (quota 3 8) ∷ fan_opens ++ fan_opens_five)
 
--- and then reserves more
+-- used_up once tenant 1 has raised its reservation to this
 abbrev pub with_more : ℕ → ℕ → Shared
 with_more segments nodes = shared_run fan used_up (AdmitMore 1 (quota segments nodes) ∷ [])
 
@@ -112,6 +113,6 @@ with_more segments nodes = shared_run fan used_up (AdmitMore 1 (quota segments n
 abbrev pub some_steps : List (StepOf FanAnswer)
 some_steps = Admit 1 (quota 1 1) ∷ Admit 2 (quota 1 1) ∷ Take 1 (one 9) ∷ Leave 2 ∷ []
 
--- and their answers
+-- the answers to some_steps on a new core
 abbrev pub some_answers : List (Result (DidOf ℕ) Refusal)
 some_answers = Ok Admitted ∷ Ok Admitted ∷ Err NoFrame ∷ Ok IsGone ∷ []

@@ -21,10 +21,10 @@ with_jobs jobs frames = record (fresh frames) { jobs = jobs }
 abbrev pub ended_jobs : List Job
 ended_jobs = Done (2 ∷ 1 ∷ []) ∷ Spent ∷ Cancelled ∷ []
 
--- every root's first word is that of what was submitted
+-- a root belongs to what was submitted where their first words are the same
 abbrev pub SameFirstWord : Rooting
 SameFirstWord origin own = word_at own 0 ≡ word_at origin 0
 
--- a frame fits that has returned, without a child
+-- a frame fits exactly where it has returned and has no child
 abbrev pub FitsReturned : Fitting
 FitsReturned own children mark = (children ≡ []) × (mark ≡ HasReturned)

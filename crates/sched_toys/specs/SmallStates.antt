@@ -18,32 +18,32 @@ use Rattle.sched_toys.specs.Toys.{word_at}
 use Rattle.sched_rules.specs.Cores.{Shared, shared_refusal}
 use Rattle.sched_toys.specs.FanRows.{frame, one_job, quota}
 
--- a procedure that does this act and this inlet at any words, and stores this of any answer; an answer asks for itself
+-- a procedure with this act and this inlet at any words, and these stores of any answer, which is itself its input
 abbrev pub always : Act → InletAct → List (ℕ × ℕ) → Functions ℕ ℕ
 always act inlet stores =
     record { next = λ sight. act; inlet = λ own child. inlet; input = λ own. word_at own 0; asked = λ answer. answer; accept = λ own answer. stores; same = λ one other. one == other }
 
--- an act after these stores
+-- an act: these stores, and what is done after them
 abbrev pub act : List (ℕ × ℕ) → Then → Act
 act stores after = record { stores = stores; after = after }
 
--- an inlet
+-- an inlet with these stores, and whether it aborts and whether it wakes the parent
 abbrev pub inlet : List (ℕ × ℕ) → Bool → Bool → InletAct
 inlet stores abort wake = record { stores = stores; abort = abort; wake = wake }
 
--- a procedure that goes on, takes in and accepts without a store
+-- a procedure whose frames go on for ever, and whose inlets and answers do nothing
 abbrev pub idle : Functions ℕ ℕ
 idle = always (act [] Go) (inlet [] false false) []
 
--- a procedure that acts so
+-- a procedure of which every frame's next act is this one; its inlets and answers store nothing
 abbrev pub acting : List (ℕ × ℕ) → Then → Functions ℕ ℕ
 acting stores after = always (act stores after) (inlet [] false false) []
 
--- a procedure whose inlets store at a place that a frame of 4 words hasn't
+-- a procedure whose inlets and answers store at place 4, which a frame of 4 words hasn't
 abbrev pub storing_outside : Functions ℕ ℕ
 storing_outside = always (act [] Go) (inlet ((4, 1) ∷ []) false false) ((4, 1) ∷ [])
 
--- a tenant with 4 segments and 4 nodes, one job, and 3 of the 4 nodes opened
+-- a tenant with 4 segments and 4 nodes, of which 3 were opened, and one job, after so many steps
 abbrev pub tenant_with : ℕ → Tree → Tenant
 tenant_with steps frames = one_job (quota 4 4) 3 steps frames
 
@@ -67,15 +67,15 @@ wide segments frames = one_job (quota segments 4) 3 0 frames
 abbrev pub tenant_of_jobs : ℕ → ℕ → Tenant
 tenant_of_jobs jobs serials = record { reserve = quota 4 4; serials = serials; steps = 0; jobs = replicate jobs Cancelled; frames = [] }
 
--- a root of 4 words under serial 1
+-- a root of 4 words with serial 1
 abbrev pub root : State → Frame (List ℕ)
 root state = frame 1 (1 ∷ []) state (0 ∷ 0 ∷ 0 ∷ 0 ∷ [])
 
--- a child of that root
+-- a child of that root with this serial, of 4 words
 abbrev pub child : ℕ → State → Frame (List ℕ)
 child serial state = frame serial (1 ∷ serial ∷ []) state (7 ∷ 0 ∷ 0 ∷ 0 ∷ [])
 
--- why a tenant in this state is refused a step, if it is
+-- why a step of a tenant in this state is refused; none where it is taken
 abbrev pub refusal : Functions ℕ ℕ → Tenant → StepOf ℕ → Option Refusal
 refusal functions tenant step = lone_refusal functions (Some tenant) step
 
@@ -83,7 +83,7 @@ refusal functions tenant step = lone_refusal functions (Some tenant) step
 abbrev pub core_of : List (ℕ × Tenant) → Shared
 core_of tenants = record { totals = quota 8 32; newest = 7; tenants = tenants }
 
--- why a step among these tenants is refused, if it is
+-- why a step among these tenants is refused; none where it is taken
 abbrev pub among : List (ℕ × Tenant) → StepOf ℕ → Option Refusal
 among tenants step = shared_refusal idle (core_of tenants) step
 
@@ -91,7 +91,7 @@ among tenants step = shared_refusal idle (core_of tenants) step
 abbrev pub beside : Tree → List (ℕ × Tenant)
 beside frames = (1, fresh frames) ∷ (2, fresh (root (Running 5) ∷ [])) ∷ []
 
--- as many tenants, each with 1 segment and 1 node
+-- so many tenants, all under number 7, each with 1 segment and 1 node
 abbrev pub crowd : ℕ → List (ℕ × Tenant)
 crowd count = replicate count (7, admitted_with (quota 1 1))
 
@@ -99,11 +99,11 @@ crowd count = replicate count (7, admitted_with (quota 1 1))
 abbrev pub roomy : List (ℕ × Tenant) → Shared
 roomy tenants = record { totals = quota 128 128; newest = 7; tenants = tenants }
 
--- a procedure whose inlets are so
+-- a procedure whose every inlet has these stores and aborts or wakes as said; its frames go on without a store
 abbrev pub taking_in : List (ℕ × ℕ) → Bool → Bool → Functions ℕ ℕ
 taking_in stores abort wake = always (act [] Go) (inlet stores abort wake) []
 
--- what a step gives a tenant in this state
+-- what a step of a tenant in this state gives: the tenant after it and what it did, or a refusal
 abbrev pub outcome : Functions ℕ ℕ → Tenant → StepOf ℕ → Result (Outcome ℕ) Refusal
 outcome functions tenant step = lone functions (Some tenant) step
 
@@ -111,7 +111,7 @@ outcome functions tenant step = lone functions (Some tenant) step
 abbrev pub bare : ℕ → List ℕ → State → Frame (List ℕ)
 bare serial path state = frame serial path state []
 
--- two jobs, and frames of three generations below the first root
+-- the frames of two jobs, under roots 1 and 3: four generations below root 1, of which frame 2 is in this state
 abbrev pub family : State → Tree
 family state =
     bare 1 (1 ∷ []) Waiting
@@ -125,11 +125,11 @@ family state =
     ∷ bare 9 (3 ∷ 9 ∷ []) (Ready 0)
     ∷ []
 
--- a tenant with the family, after so many steps, with these jobs and frames
+-- a tenant of 16 segments and 16 nodes that was given 9 serials, after so many steps, with these jobs and frames
 abbrev pub housed : ℕ → List Job → Tree → Tenant
 housed steps jobs frames = record { reserve = quota 16 16; serials = 9; steps = steps; jobs = jobs; frames = frames }
 
--- both jobs live
+-- two jobs that live, under roots 1 and 3
 abbrev pub two_jobs : List Job
 two_jobs = Live 1 ∷ Live 3 ∷ []
 

@@ -7,7 +7,7 @@ use Rattle.sched_rules.specs.declared.act.Then.TheVariants.{Spawn, Go, Wait, Com
 use Rattle.sched_toys.specs.declared.fan.FanAnswer.{FanAnswer}
 use Rattle.sched_rules.specs.Functions.{Functions}
 
--- the words nearest in a sight
+-- the nearest words that a frame sees, its own; none in an empty sight
 abbrev pub nearest : List (List ℕ) → List ℕ
 nearest sight = unwrap_or (slice_get sight 0) []
 
@@ -28,14 +28,14 @@ toy act inlet asked stored =
       same = λ one other. one == other;
     }
 
--- a line of Fan's table: at this kind and this count, this is the new count, and this comes then
+-- a line of Fan's table: a frame of this kind and count stores the next count, and then does what after says
 pub record Line : Type 0 where
   pub kind : ℕ
   pub count : ℕ
   pub next_count : ℕ
   pub after : Then
 
--- a line that opens a child of this kind
+-- opening a child of this kind, with count 0 and 4 words
 abbrev pub spawns : ℕ → Then
 spawns kind = Spawn (kind ∷ 0 ∷ []) 4
 
@@ -53,7 +53,7 @@ fan_table =
     ∷ record { kind = 2; count = 1; next_count = 2; after = Wait }
     ∷ []
 
--- the act at this kind and count
+-- the act of a frame of this kind and count: that of its line in the table, or to return where it has none
 abbrev pub fan_act : List Line → ℕ → ℕ → Act
 fan_act [] kind count = record { stores = []; after = Return }
 fan_act (line ∷ lines) kind count =
@@ -61,18 +61,18 @@ fan_act (line ∷ lines) kind count =
     then record { stores = (1, line.next_count) ∷ []; after = line.after }
     else fan_act lines kind count
 
--- what a parent in Fan does about a returned child: one of kind 0 counts it in word 2 (0 after the greatest word) and aborts
+-- what a parent in Fan does about a returned child: one of kind 0 adds 1 to word 2 (modulo 2^64) and aborts
 abbrev pub fan_inlet : List ℕ → List ℕ → InletAct
 fan_inlet own child =
     if word_at own 0 == 0
     then record { stores = (2, (word_at own 2 + 1) % 2 ^ 64) ∷ []; abort = true; wake = false }
     else record { stores = []; abort = false; wake = false }
 
--- what a frame of Fan stores of an answer: count 2, and the value in word 2
+-- what a frame of Fan stores of an answer: count 2 in word 1, and the value in word 2
 abbrev pub fan_stored : FanAnswer → List (ℕ × ℕ)
 fan_stored answer = (1, 2) ∷ (2, answer.value) ∷ []
 
--- Fan
+-- the procedure Fan
 abbrev pub fan : Functions ℕ FanAnswer
 fan = toy (fan_act fan_table) fan_inlet (λ answer. answer.asked) fan_stored
 
@@ -88,11 +88,11 @@ chain_act count stage =
 abbrev pub chain_inlet : List ℕ → List ℕ → InletAct
 chain_inlet own child = record { stores = (2, word_at child 0) ∷ []; abort = false; wake = false }
 
--- Chain, whose answers ask for themselves and store nothing
+-- the procedure Chain; an answer is itself the input that it was computed from, and nothing is stored of it
 abbrev pub chain : Functions ℕ ℕ
 chain = toy chain_act chain_inlet (λ answer. answer) (λ answer. [])
 
--- Spin: a frame of one word goes on for ever, without a store; answers ask for themselves and store nothing
+-- the procedure Spin: a frame goes on for ever, without a store; an answer is itself its input and stores nothing
 abbrev pub spin : Functions ℕ ℕ
 spin =
     toy (λ count stage. record { stores = []; after = Go }) (λ own child. record { stores = []; abort = false; wake = false })

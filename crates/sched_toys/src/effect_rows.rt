@@ -76,8 +76,8 @@ pub fn aborting()
         ) }
 {}
 
-/// More that is reserved is there to be used from then on; nothing else of the tenant changes, and a job
-/// that was spent stays so.
+/// What AdmitMore adds to a reservation can be used from then on. Nothing else of the tenant changes, and a job
+/// that was given up stays so.
 pub fn reserving_more()
     ensures raised { outcome idle (resting 16 16) (AdmitMore 1 (quota 17 18)) ≡ Ok (Some (resting 17 18), AdmittedMore) }
     ensures left_before { left (resting 16 16) ≡ some_left 15 7 0 }

@@ -51,7 +51,8 @@ impl Play for FanPlay {
 
     ghost takes_in = { fan_inlet };
 
-    /// The line of the table for the frame's kind and count; a frame of no line returns.
+    /// What the table says for the frame's kind and count, with the next count stored in word 1; where it has
+    /// no line the frame returns.
     fn act(kind: u64, count: u64) -> Act {
         let after = match (kind, count) {
             (0, 0) => child(1),
@@ -68,7 +69,8 @@ impl Play for FanPlay {
         counted(count + 1, after)
     }
 
-    /// A parent of kind 0 counts the child in word 2, and aborts.
+    /// A parent of kind 0 counts the child in word 2, and aborts all other frames below it; any other does
+    /// nothing.
     fn inlet(own: &Words, _child: &Words) -> InletAct {
         if word(own, 0) == 0 {
             InletAct {
@@ -82,7 +84,7 @@ impl Play for FanPlay {
     }
 }
 
-/// A child of this kind.
+/// Opening a child of this kind, with count 0.
 fn child(kind: u64) -> Then
     ensures { result ≡ spawns kind }
 {

@@ -17,16 +17,17 @@ ghost use Rattle.sched_toys.specs.SmallStates.{idle, acting, storing_outside, fr
 ghost use Rattle.sched_toys.specs.LawRows.{parent_in, with_jobs, ended_jobs, SameFirstWord, FitsReturned};
 ghost use Rattle.sched_toys.specs.ToyLaws.{AlwaysFits};
 
-/// A tenant with a job, its root and two children, and one whose jobs have all ended, have their shape.
+/// Tenants that are shaped (`IsShaped`): one with a job, its root and two children, one whose jobs have all
+/// ended, and one with 256 jobs.
 pub fn shaped_tenants()
     ensures family { IsShaped (fresh (parent_in Waiting)) }
     ensures ended { IsShaped (with_jobs ended_jobs []) }
     ensures jobs { IsShaped (tenant_of_jobs 256 0) }
 {}
 
-/// What has not its shape: a child under a frame that computes or has returned, or without its parent;
-/// a serial that wasn't given; a root without a job or with two; a job without its root; a frame of no
-/// word; the 257th job; and segments, nodes or steps beyond what is reserved.
+/// Tenants that aren't shaped: with a child under a frame that computes or has returned, or without its parent;
+/// a serial that wasn't given; a root without a job or with two; a job without its root; a frame of no word; a
+/// 257th job; segments, nodes or steps used beyond what is reserved.
 pub fn misshapen_tenants()
     ensures under_returned { IsShaped (fresh (parent_in Returned)) → ⊥ }
     ensures under_computing { IsShaped (fresh (parent_in (Computing 1))) → ⊥ }
@@ -43,8 +44,8 @@ pub fn misshapen_tenants()
     ensures steps { IsShaped (tenant_with 65 (parent_in Waiting)) → ⊥ }
 {}
 
-/// The words that jobs were submitted with, in order; a refused Submit and another tenant's count for
-/// nothing.
+/// The words that a tenant's jobs were submitted with, in order: a refused Submit adds none, nor does another
+/// tenant's.
 pub fn words_of_submits()
     ensures fan { origins_of fan_steps ≡ (0 ∷ 0 ∷ []) ∷ [] }
     ensures chain { origins_of (chain_begins 6 3) ≡ (2 ∷ 0 ∷ []) ∷ [] }
@@ -65,8 +66,8 @@ pub fn what_jobs_hold()
     ensures no_job { JobsFit AlwaysFits SameFirstWord (parent_in Waiting) ((0 ∷ []) ∷ []) [] → ⊥ }
 {}
 
-/// A frame may be given up where no step is left, where its Advance stores outside, and where its Inlet
-/// does; not where it goes on, nor where it waits for a child whose inlet is good.
+/// A frame's job may be given up where no step is left, where the frame's Advance stores outside, and where its
+/// Inlet does; not where its next act or its Inlet can be done, nor while it is ready.
 pub fn what_may_be_spent()
     ensures tired { MayBeSpent idle (tired (parent_in Waiting)) (one 2) }
     ensures stuck { MayBeSpent (acting ((4, 1) ∷ []) Go) (fresh (root (Running 1) ∷ [])) (one 1) }
@@ -76,8 +77,8 @@ pub fn what_may_be_spent()
     ensures ready { MayBeSpent (acting [] (Grow 999)) (fresh (root (Ready 0) ∷ [])) (one 1) → ⊥ }
 {}
 
-/// Of ready frames the one of the greatest serial is newest; two tenants of 4 segments each fill a core
-/// of 8, and three don't go into it.
+/// Of ready frames the one of the greatest serial is the newest. Two tenants that reserve 4 segments each are
+/// within a total of 8, and three aren't.
 pub fn newest_and_within()
     ensures newest { IsNewestReady 1 (parent_in (Ready 5)) (one 2) 1 }
     ensures older { IsNewestReady 1 (parent_in (Ready 5)) (one 1) 5 → ⊥ }

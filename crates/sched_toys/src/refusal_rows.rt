@@ -10,7 +10,8 @@ ghost use Rattle.sched_rules.specs.Cores.{shared_refusal};
 ghost use Rattle.sched_toys.specs.FanRows.{one, two, quota, frame};
 ghost use Rattle.sched_toys.specs.SmallStates.{idle, acting, storing_outside, fresh, tired, nodeless, wide, tenant_of_jobs, root, child, refusal, roomy, among, beside, crowd};
 
-/// From nothing an admission is taken, and all else is refused by NoTenant; one that is there isn't admitted again.
+/// A tenant that isn't there can be admitted, and all its other steps are refused by NoTenant. One that is
+/// there isn't admitted again.
 pub fn no_tenant()
     ensures admit { lone_refusal idle None (Admit 1 (quota 1 1)) ≡ None }
     ensures admit_more { lone_refusal idle None (AdmitMore 1 (quota 1 1)) ≡ Some NoTenant }
@@ -27,7 +28,7 @@ pub fn no_tenant()
     ensures again { refusal idle (fresh []) (Admit 1 (quota 1 1)) ≡ Some OldTenant }
 {}
 
-/// A frame that isn't there is NoFrame before all else, here before NoSteps.
+/// A step that names a frame that isn't there is refused by NoFrame, also where the tenant has no step left.
 pub fn no_frame()
     ensures take { refusal idle (tired []) (Take 1 (one 9)) ≡ Some NoFrame }
     ensures steal { refusal idle (tired []) (Steal 1 0 (one 9)) ≡ Some NoFrame }
@@ -38,7 +39,7 @@ pub fn no_frame()
     ensures spend { refusal idle (tired []) (Spend (one 9)) ≡ Some NoFrame }
 {}
 
-/// Submit: BadAct, NoJobsLeft, NoNodes, NoSegments.
+/// The refusals of Submit, in the order of their tests: BadAct, NoJobsLeft, NoNodes, NoSegments.
 pub fn submit_refusals()
     ensures no_size { refusal idle (fresh []) (Submit 1 [] 0) ≡ Some BadAct }
     ensures great_size { refusal idle (wide 16 []) (Submit 1 [] 129) ≡ Some BadAct }
@@ -56,7 +57,7 @@ pub fn submit_refusals()
     ensures without_steps { refusal idle (tired []) (Submit 1 [] 4) ≡ None }
 {}
 
-/// Take: NotReady, NotHere, NoSteps, Busy.
+/// The refusals of Take, in the order of their tests: NotReady, NotHere, NoSteps, Busy.
 pub fn take_refusals()
     ensures running { refusal idle (fresh (root (Running 1) ∷ [])) (Take 1 (one 1)) ≡ Some NotReady }
     ensures computing { refusal idle (fresh (root (Computing 1) ∷ [])) (Take 1 (one 1)) ≡ Some NotReady }
@@ -73,7 +74,7 @@ pub fn take_refusals()
     ensures another_runs { refusal idle (fresh (root (Ready 1) ∷ child 2 (Running 2) ∷ [])) (Take 1 (one 1)) ≡ None }
 {}
 
-/// Steal: NotReady, NotHere, NoSteps, Busy.
+/// The refusals of Steal, in the order of their tests: NotReady, NotHere, NoSteps, Busy.
 pub fn steal_refusals()
     ensures running { refusal idle (fresh (root (Running 1) ∷ [])) (Steal 2 1 (one 1)) ≡ Some NotReady }
     ensures ready_before_here { refusal idle (fresh (root (Running 1) ∷ [])) (Steal 1 1 (one 1)) ≡ Some NotReady }
@@ -87,7 +88,7 @@ pub fn steal_refusals()
     ensures from_the_hall { refusal idle (fresh (root (Ready 0) ∷ [])) (Steal 2 0 (one 1)) ≡ None }
 {}
 
-/// Advance: NotRunning, NoSteps, BadAct, NoNodes, NoSegments.
+/// The refusals of Advance, in the order of their tests: NotRunning, NoSteps, BadAct, NoNodes, NoSegments.
 pub fn advance_refusals()
     ensures ready { refusal idle (fresh (root (Ready 1) ∷ [])) (Advance 1 (one 1)) ≡ Some NotRunning }
     ensures another_runs { refusal idle (fresh (root (Running 2) ∷ [])) (Advance 1 (one 1)) ≡ Some NotRunning }
@@ -105,7 +106,7 @@ pub fn advance_refusals()
     ensures goes { refusal idle (fresh (root (Running 1) ∷ [])) (Advance 1 (one 1)) ≡ None }
 {}
 
-/// What makes an act a BadAct, and what just doesn't.
+/// Acts that are refused by BadAct, and for each limit an act that just keeps it.
 pub fn bad_acts()
     ensures store_outside { refusal (acting ((4, 1) ∷ []) Go) (fresh (root (Running 1) ∷ [])) (Advance 1 (one 1)) ≡ Some BadAct }
     ensures second_store_outside { refusal (acting ((3, 1) ∷ (4, 1) ∷ []) Go) (fresh (root (Running 1) ∷ [])) (Advance 1 (one 1)) ≡ Some BadAct }
@@ -123,7 +124,8 @@ pub fn bad_acts()
     ensures computing { refusal (acting [] Compute) (nodeless (root (Running 1) ∷ [])) (Advance 1 (one 1)) ≡ None }
 {}
 
-/// Answer: NotComputing, Mismatch, NoSteps, BadAct. The input of these frames is 0.
+/// The refusals of Answer, in the order of their tests: NotComputing, Mismatch, NoSteps, BadAct. The input of
+/// these frames is 0.
 pub fn answer_refusals()
     ensures running { refusal idle (fresh (root (Running 1) ∷ [])) (Answer 1 (one 1) 0) ≡ Some NotComputing }
     ensures another_computes { refusal idle (fresh (root (Computing 2) ∷ [])) (Answer 1 (one 1) 0) ≡ Some NotComputing }
@@ -136,7 +138,7 @@ pub fn answer_refusals()
     ensures accepted { refusal idle (fresh (root (Computing 1) ∷ [])) (Answer 1 (one 1) 0) ≡ None }
 {}
 
-/// Inlet: NotReturned, NoSteps, BadAct, Busy.
+/// The refusals of Inlet, in the order of their tests: NotReturned, NoSteps, BadAct, Busy.
 pub fn inlet_refusals()
     ensures running { refusal idle (fresh (root Waiting ∷ child 2 (Running 1) ∷ [])) (Inlet 1 (one 2)) ≡ Some NotReturned }
     ensures root { refusal idle (fresh (root Returned ∷ [])) (Inlet 1 (one 1)) ≡ Some NotReturned }
@@ -150,7 +152,7 @@ pub fn inlet_refusals()
     ensures taken_in { refusal idle (fresh (root Waiting ∷ child 2 Returned ∷ child 3 (Running 2) ∷ [])) (Inlet 1 (one 2)) ≡ None }
 {}
 
-/// Finish: NotReturned, NoSteps, Busy.
+/// The refusals of Finish, in the order of their tests: NotReturned, NoSteps, Busy.
 pub fn finish_refusals()
     ensures waiting { refusal idle (fresh (root Waiting ∷ [])) (Finish 1 (one 1)) ≡ Some NotReturned }
     ensures child { refusal idle (fresh (root Waiting ∷ child 2 Returned ∷ [])) (Finish 1 (one 2)) ≡ Some NotReturned }
@@ -162,7 +164,7 @@ pub fn finish_refusals()
     ensures done { refusal idle (fresh (root Returned ∷ [])) (Finish 1 (one 1)) ≡ None }
 {}
 
-/// Spend: NotSpent, but where no step is left, or the frame can't do its next act or its inlet.
+/// Spend is refused by NotSpent, unless no step is left or the frame can't do its next act or its inlet.
 pub fn spend_refusals()
     ensures ready { refusal (acting [] (Grow 0)) (fresh (root (Ready 1) ∷ [])) (Spend (one 1)) ≡ Some NotSpent }
     ensures running { refusal idle (fresh (root (Running 1) ∷ [])) (Spend (one 1)) ≡ Some NotSpent }
@@ -178,7 +180,7 @@ pub fn spend_refusals()
     ensures bad_inlet { refusal storing_outside (fresh (root Waiting ∷ child 2 Returned ∷ [])) (Spend (one 2)) ≡ None }
 {}
 
-/// Cancel: NoJob, for 0, for a number over that of the last job, and for a job that has ended.
+/// Cancel is refused by NoJob for number 0, for a number above the last job's, and for a job that has ended.
 pub fn cancel_refusals()
     ensures zero { refusal idle (fresh (root Waiting ∷ [])) (Cancel 1 0) ≡ Some NoJob }
     ensures over { refusal idle (fresh (root Waiting ∷ [])) (Cancel 1 2) ≡ Some NoJob }
@@ -187,7 +189,7 @@ pub fn cancel_refusals()
     ensures without_steps { refusal idle (tired (root Waiting ∷ [])) (Cancel 1 1) ≡ None }
 {}
 
-/// An admission among several tenants: OldTenant, then Full.
+/// The refusals of Admit among several tenants, in the order of their tests: OldTenant, Full.
 pub fn admit_refusals()
     ensures zero { among [] (Admit 0 (quota 1 1)) ≡ Some OldTenant }
     ensures old { among [] (Admit 7 (quota 1 1)) ≡ Some OldTenant }
@@ -204,8 +206,9 @@ pub fn admit_refusals()
     ensures last_place { shared_refusal idle (roomy (crowd 63)) (Admit 8 (quota 1 1)) ≡ None }
 {}
 
-/// An admission of more: NoTenant, Lower, then Full. What the tenant itself reserves isn't counted twice,
-/// and as many tenants as there may be are no hindrance. These tenants reserve 4 segments and 4 nodes.
+/// The refusals of AdmitMore, in the order of their tests: NoTenant, Lower, Full. What the tenant itself
+/// reserves isn't counted twice, and it doesn't matter that 64 tenants are there. These tenants reserve 4
+/// segments and 4 nodes.
 pub fn admit_more_refusals()
     ensures nobody { among [] (AdmitMore 7 (quota 9 1)) ≡ Some NoTenant }
     ensures fewer_segments { refusal idle (fresh []) (AdmitMore 1 (quota 3 9)) ≡ Some Lower }
@@ -225,7 +228,8 @@ pub fn admit_more_refusals()
     ensures beyond { shared_refusal idle (roomy (crowd 64)) (AdmitMore 7 (quota 66 65)) ≡ Some Full }
 {}
 
-/// A worker that is busy elsewhere: only what its own tenant would take is refused by Busy, and only where a free worker is asked for.
+/// A worker that is busy with another tenant's frame: a step that its own tenant alone would take is refused by
+/// Busy, if it needs a free worker.
 pub fn busy_elsewhere()
     ensures take { among (beside (root (Ready 5) ∷ [])) (Take 5 (one 1)) ≡ Some Busy }
     ensures steal { among (beside (root (Ready 1) ∷ [])) (Steal 5 1 (one 1)) ≡ Some Busy }

@@ -21,7 +21,7 @@ pub trait ToyAnswer {
         ensures { result ≡ stored self.now };
 }
 
-/// An answer that asks for itself, and of which nothing is stored.
+/// A number as an answer: it is the input that it was computed from, and nothing is stored of it.
 impl ToyAnswer for u64 {
     ghost asks_for = { λ answer. answer };
 
@@ -36,7 +36,7 @@ impl ToyAnswer for u64 {
     }
 }
 
-/// What a toy procedure has of its own.
+/// What makes one toy procedure differ from another: its acts, its inlets and its answers.
 pub trait Play {
     ghost use Rattle.sched_rules.specs.declared.act.Act.{Act as ActOf};
     ghost use Rattle.sched_rules.specs.declared.act.InletAct.{InletAct as InletOf};
@@ -64,7 +64,7 @@ pub struct Toy<T> {
 }
 
 impl<T> Toy<T> {
-    /// The procedure.
+    /// The procedure, which holds no data.
     pub fn new() -> Toy<T> {
         Toy { play: PhantomData }
     }

@@ -11,7 +11,7 @@ pub fn word(words: &Words, place: usize) -> u64
     words.get(place).unwrap_or(0)
 }
 
-/// The word at a place of a frame's own words, and 0 where there is none.
+/// The word at a place of the frame's own words, which it sees first; 0 where there is none.
 pub(crate) fn own_word(sight: &Sight, place: usize) -> u64
     ensures { result ≡ word_at (nearest sight.now) place }
 {

@@ -15,8 +15,8 @@ use frame_tree::FrameId;
 use std::alloc::Allocator;
 
 impl<A: Allocator> Store<A> {
-    /// Opens the tenant's next frame, under a parent or as a root: of `size` words, 1 to 128, the
-    /// given ones first and then zeros, and ready at this home (0 is the hall).
+    /// Opens the tenant's next frame, under a parent or as a root, and returns its name. It has `size` words, 1
+    /// to 128, the given ones first and then zeros, and is ready at this home (0 is the hall).
     pub fn open(
         &mut self,
         tenant: u64,
@@ -42,7 +42,7 @@ impl<A: Allocator> Store<A> {
     }
 }
 
-/// The name of a parent, if there is one.
+/// The name of a parent, by its serial; None for a root.
 fn parent_name(tenant: u64, parent: Option<u64>) -> Option<FrameId>
     ensures { result ≡ name_of tenant parent }
 {
@@ -52,7 +52,7 @@ fn parent_name(tenant: u64, parent: Option<u64>) -> Option<FrameId>
     }
 }
 
-/// The node of a parent, if there is one.
+/// The node of a parent, by its serial; None for a root.
 fn parent_node<A: Allocator>(
     table: &FrameTable<NodeNo, A>,
     tenant: u64,

@@ -50,7 +50,7 @@ impl<A: Allocator> Store<A> {
         self.newest
     }
 
-    /// Whether 64 tenants are there, or a total doesn't allow the reservation.
+    /// Whether an admission has no room: 64 tenants are there, or a total doesn't allow this reservation.
     pub fn is_full(&self, reserve: Reserve) -> bool
         ensures { result ≡ is_full_for (reservations_in self.now) reserve }
     {
@@ -73,7 +73,7 @@ impl<A: Allocator> Store<A> {
         self.book.reserved(tenant)
     }
 
-    /// Whether a total doesn't allow the reservation in the place of `now`, which a tenant has reserved.
+    /// Whether a total would be passed if `reserve` took the place of `now`, which a tenant has reserved.
     pub fn is_beyond(&self, now: Reserve, reserve: Reserve) -> bool
         ensures { result ≡ is_beyond_for (reservations_in self.now) now reserve }
     {
@@ -152,7 +152,7 @@ impl<A: Allocator> Store<A> {
         }
     }
 
-    /// The root above a frame that is there, or the frame itself.
+    /// The root above a frame that is there; the frame itself where it is a root.
     pub fn root(&self, name: FrameId) -> FrameId
         requires { IsSome (named self.now name) }
         ensures { result ≡ record { tenant = name.tenant; serial = root_of (path_of (named self.now name)) } }
@@ -160,7 +160,7 @@ impl<A: Allocator> Store<A> {
         self.table.root(name)
     }
 
-    /// Whether a frame has a child, from a kept count.
+    /// Whether a frame has a child, by a kept count; false also where there is no such frame.
     #[inline(always)]
     pub fn has_child(&self, name: FrameId) -> bool
         ensures { result ≡ has_child_in (frames_in self.now name.tenant) name.serial }
@@ -168,7 +168,7 @@ impl<A: Allocator> Store<A> {
         self.table.has_child(name)
     }
 
-    /// Whether a worker runs or computes a frame of some tenant: one look at its place.
+    /// Whether a worker runs or computes a frame of some tenant. Only the frame that it held last is looked up.
     #[inline(always)]
     pub fn is_busy(&self, worker: Worker) -> bool
         ensures busy { result ≡ is_busy_among worker self.now.tenants }
@@ -188,7 +188,7 @@ impl<A: Allocator> Store<A> {
         self.ledgers.job(tenant, number)
     }
 
-    /// How many jobs a tenant has had, at most 256.
+    /// How many jobs a tenant has had, at most 256; 0 where it isn't there.
     pub fn job_count(&self, tenant: u64) -> usize
         ensures count { result ≡ length (jobs_in self.now tenant) }
         ensures few { result ≤ 256 }
@@ -203,7 +203,8 @@ impl<A: Allocator> Store<A> {
         self.ledgers.job_under(tenant, root)
     }
 
-    /// How many frames a tenant has, and how many words they have. It looks at each frame.
+    /// How many frames a tenant has, and how many words they have; `None` where it isn't there. It looks at
+    /// each frame.
     pub fn live(&self, tenant: u64) -> Option<(usize, usize)>
         ensures { result ≡ live_of self.now tenant }
     {
@@ -217,7 +218,7 @@ impl<A: Allocator> Store<A> {
         Some((self.table.frame_count(tenant), words))
     }
 
-    /// A tenant's ready frame of the greatest serial, with its home.
+    /// A tenant's ready frame of the greatest serial, with its home; `None` where none is ready.
     pub fn newest_ready(&self, tenant: u64) -> Option<(FrameId, u8)>
         ensures { result ≡ newest_ready_in self.now tenant }
     {
@@ -239,7 +240,7 @@ impl<A: Allocator> Store<A> {
         self.stack.free_count()
     }
 
-    /// Whether this frame is there and held by this worker.
+    /// Whether this frame is there, and this worker runs or computes it.
     #[inline(always)]
     fn is_held_by(&self, name: FrameId, worker: Worker) -> bool
         ensures { result ≡ holds worker (named self.now name) }
@@ -250,7 +251,7 @@ impl<A: Allocator> Store<A> {
         }
     }
 
-    /// How many words a frame has.
+    /// How many words a frame has; 0 where it isn't there.
     fn word_count(&self, name: FrameId) -> usize
         ensures { result ≡ length (words_under self.now name) }
     {

@@ -11,7 +11,7 @@ use frame_tree::FrameId;
 use std::alloc::Allocator;
 
 impl<A: Allocator> Store<A> {
-    /// Removes a frame that has no child.
+    /// Removes a frame that has no child, and gives its segments back to the tenant.
     pub fn remove(&mut self, name: FrameId)
         requires there { IsSome (named self.old name) }
         requires leaf { has_child_in (frames_in self.old name.tenant) name.serial ≡ false }

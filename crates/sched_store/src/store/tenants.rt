@@ -15,8 +15,8 @@ use std::alloc::{AllocError, Allocator};
 use tenant_quota::Reserve;
 
 impl<A: Allocator> Store<A> {
-    /// A new tenant with its reservation, after all others. It makes the places for the tenant's
-    /// frames and for 256 jobs: `AllocError` only where a growth was refused.
+    /// Adds a tenant whose number is above all so far, with this reservation and no job. Takes memory for its
+    /// frames and for 256 jobs: `AllocError` only where that is refused, and then nothing has changed.
     pub fn admit(&mut self, number: u64, reserve: Reserve) -> Result<(), AllocError>
     where
         A: Clone,
@@ -34,8 +34,8 @@ impl<A: Allocator> Store<A> {
         Ok(())
     }
 
-    /// The tenant's reservation becomes this, which is above what it was. It makes the places for more
-    /// frames: `AllocError` only where a growth was refused, and then nothing has changed.
+    /// Raises a tenant's reservation to this, which is above what it was. Takes memory for more frames:
+    /// `AllocError` only where that is refused, and then nothing has changed.
     pub fn raise(&mut self, tenant: u64, reserve: Reserve) -> Result<(), AllocError>
     where
         A: Clone,
@@ -49,7 +49,7 @@ impl<A: Allocator> Store<A> {
         Ok(())
     }
 
-    /// The tenant is gone, with its reservation, its jobs and its frames: all their segments are free.
+    /// Removes a tenant with its reservation, its jobs and its frames, whose segments are free then.
     pub fn leave(&mut self, tenant: u64)
         requires { IsSome (tenant_in self.old.tenants tenant) }
         ensures { self.new ≡ with_departed tenant self.old }
@@ -61,7 +61,7 @@ impl<A: Allocator> Store<A> {
         self.book.release(tenant);
     }
 
-    /// One more step of the tenant is counted.
+    /// Counts one more step of a tenant that has one left.
     #[inline(always)]
     pub fn count_step(&mut self, tenant: u64)
         requires { HasStepLeft self.old tenant }
@@ -70,7 +70,7 @@ impl<A: Allocator> Store<A> {
         self.book.tick(tenant).unwrap();
     }
 
-    /// The tenant's next job lives under this root, under which no job lives.
+    /// Adds a job of a tenant: it lives under this root, as no other of the tenant does.
     pub fn begin_job(&mut self, tenant: u64, root: u64)
         requires there { IsSome (tenant_in self.old.tenants tenant) }
         requires room { length (jobs_in self.old tenant) < 256 }
@@ -80,7 +80,8 @@ impl<A: Allocator> Store<A> {
         self.ledgers.begin(tenant, root);
     }
 
-    /// The tenant's job that lives under this root, if there is one, ends so.
+    /// Ends the tenant's job that lives under this root, if there is one: `ended` takes its place. The frames
+    /// stay.
     pub fn end_job(&mut self, tenant: u64, root: u64, ended: Job)
         requires there { IsSome (tenant_in self.old.tenants tenant) }
         requires ended { is_live ended ≡ false }
