@@ -105,7 +105,8 @@ impl<P: Procedure, A: Allocator> Engine<P, A> {
         }
     }
 
-    /// A returned frame is taken in by its parent, which is woken if it waits for that.
+    /// A returned frame is taken in by its parent and removed, at an abort with all other frames below the parent. A
+    /// parent that waits is woken at an abort, where the inlet says so, or where it has no child left.
     pub(crate) fn inlet(&mut self, worker: Worker, name: FrameId, fitting: bool) -> StepAnswer<P>
         requires { IsKeptFitting (P.fits self.old.procedure) (P.rooted self.old.procedure) fitting self.old.store }
         ensures judged { IsJudged (P.functions self.old.procedure) self.old.store (InletStep worker name) result self.new.store }

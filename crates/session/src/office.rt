@@ -33,7 +33,7 @@ pub trait Office {
     fn get(&mut self, job: u64) -> Result<Standing, Refusal>
         ensures { does self.old (Get job) (reply_of (Told job) result) self.new };
 
-    /// Waits until a job has ended, and tells how it stands.
+    /// Waits until a job has ended or the desk is closed, and tells how it stands then.
     fn wait(&mut self, job: u64) -> Result<Standing, Refusal>
         ensures { does self.old (Wait job) (reply_of (Told job) result) self.new };
 

@@ -18,7 +18,7 @@ pub record DequeSeatIn (A : Type 0) : Type 0 where
   pub deque : DequeIn A
   pub tally : Tally
 
--- a deque whose memory is of the allocator `Global`
+-- a deque whose memory is of the allocator `Global`, as in the worked examples (Rows.antt)
 abbrev pub Deque : Type 0
 Deque = DequeIn Global
 
