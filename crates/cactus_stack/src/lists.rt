@@ -1,4 +1,4 @@
-//! Lists of words under numbers, kept in chains of segments.
+//! Numbered lists of words, each stored in a chain of segments.
 ghost use Rattle.std.specs.Prelude.{◌≡◌, ◌↔◌, ◌+◌, ◌<◌, ◌≤◌, ℕ, ◌++◌, length, replicate, Some, None, IsSome, IfOk, OnOk, OnErr, IsErr, slice_set, sum_by};
 ghost use Rattle.cactus_stack.specs.Nodes.{charge as charge_of_words, padded};
 ghost use Rattle.cactus_stack.specs.Lists.{Lists as ListsValue, list_at, list_charge, words_of_list};
@@ -11,11 +11,12 @@ use segment_region::Region;
 use std::alloc::{AllocError, Allocator, Global};
 use std::marker::Model;
 
-/// Lists of 1 to 128 words. A list's number is that of the first segment of its chain.
+/// Lists of 1 to 128 words, each stored in a chain of segments of 16 words. A list's number is that of its first
+/// segment.
 #[derive(Drop)]
 pub struct Lists<A: Allocator = Global> {
     region: Region<A>,
-    // The words of each list, at most 128, and 0 where there is none.
+    // By segment number: the length of the list that begins in this segment, 1 to 128; 0 where none does.
     lens: Vec<u8, A>,
 }
 
@@ -32,7 +33,8 @@ impl<A: Allocator> Model for Lists<A> {
 }
 
 impl<A: Allocator> Lists<A> {
-    /// No list yet, in a region of so many segments, all free.
+    /// No list yet, in this region of `segments` segments, all free. Takes memory for the lists' lengths:
+    /// `AllocError` only where that is refused.
     pub fn of(region: Region<A>, segments: usize, alloc: A) -> Result<Lists<A>, AllocError>
         requires { region ≡ replicate segments None }
         ensures { IfOk result (λ lists. lists ≡ replicate segments None) }
@@ -41,7 +43,8 @@ impl<A: Allocator> Lists<A> {
         Ok(Lists { region, lens })
     }
 
-    /// Adds a list of the given words and then zeros.
+    /// Adds a list of `size` words, 1 to 128: the given ones, then zeros. Returns its number. `NoSegment` where fewer
+    /// segments are free than the list takes; nothing has changed then.
     pub fn open(&mut self, words: &[u64], size: usize) -> Result<NodeNo, NoSegment>
         requires some { 1 ≤ size }
         requires in_limits { size ≤ 128 }
@@ -64,7 +67,8 @@ impl<A: Allocator> Lists<A> {
         }
     }
 
-    /// Adds so many zeros to the end of a list.
+    /// Appends so many zeros to a list, up to 128 words in all. `NoSegment` where fewer segments are free than that
+    /// takes; nothing has changed then.
     pub fn grow(&mut self, node: NodeNo, more: usize) -> Result<(), NoSegment>
         requires is_open { IsSome (list_at self.old node) }
         requires in_limits { length (words_of_list (list_at self.old node)) + more ≤ 128 }
@@ -86,7 +90,7 @@ impl<A: Allocator> Lists<A> {
         Ok(())
     }
 
-    /// Writes one word of a list.
+    /// Overwrites the word at place `at` of a list, counted from 0.
     #[inline(always)]
     pub fn store(&mut self, node: NodeNo, at: usize, word: u64)
         requires is_open { IsSome (list_at self.old node) }
@@ -97,7 +101,7 @@ impl<A: Allocator> Lists<A> {
         self.region.words_mut(segment)[at % 16] = word;
     }
 
-    /// Removes a list.
+    /// Removes a list; its segments are free then.
     #[inline(always)]
     pub fn close(&mut self, node: NodeNo)
         requires { IsSome (list_at self.old node) }
@@ -116,16 +120,16 @@ impl<A: Allocator> Lists<A> {
         ListsView::of(self.region.view(), &self.lens)
     }
 
-    /// Each list has 1 to 128 words: a law, the call does nothing.
+    /// For proofs alone: each list has 1 to 128 words. The call does nothing.
     pub fn lens_are_in_limits(&self)
         ensures some { (n : ℕ) → IsSome (list_at self.now n) → 1 ≤ length (words_of_list (list_at self.now n)) }
         ensures at_most { (n : ℕ) → IsSome (list_at self.now n) → length (words_of_list (list_at self.now n)) ≤ 128 }
     {
-        // Who looks inside has the invariant.
+        // This read makes the invariant of the lists known to the prover.
         let _lens = &self.lens;
     }
 
-    /// How many segments are free.
+    /// How many segments are free, that is, in no list.
     pub fn free_count(&self) -> usize
         ensures { result + sum_by list_charge self.now ≡ length self.now }
     {

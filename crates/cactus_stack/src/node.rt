@@ -1,4 +1,4 @@
-//! The numbers of nodes, and the one refusal.
+//! The numbers of nodes, and the only refusal of a stack.
 use segment_region::SegNo;
 use std::marker::Model;
 
@@ -28,7 +28,7 @@ impl NodeNo {
         NodeNo { first }
     }
 
-    /// Its first segment, which has its number.
+    /// The first segment of the node's words. Its number is the node's.
     pub(crate) fn first(self) -> SegNo
         ensures { result ≡ self }
     {
@@ -43,7 +43,7 @@ pub struct NoSegment;
 impl NoSegment {
     ghost use Rattle.std.specs.Prelude.{◌≡◌};
 
-    /// Its number among refusals.
+    /// The number of the refusal: 1, as a stack has no other.
     pub fn number(self) -> u8
         ensures { result ≡ 1 }
     {

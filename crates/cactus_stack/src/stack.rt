@@ -11,14 +11,16 @@ use segment_region::Region;
 use std::alloc::{AllocError, Allocator, Global};
 use std::marker::Model;
 
-/// Where a node stands in the tree: its parent, and how many nodes are above it and itself.
+/// A node's place in its tree: its parent (None for a root), and how many nodes the path from its root to it has,
+/// both counted (1 for a root).
 #[derive(Clone, Copy, Drop)]
 pub struct Above {
     pub(crate) parent: Option<NodeNo>,
     depth: usize,
 }
 
-/// A cactus stack: nodes with words of their own, each under its parent.
+/// A cactus stack: nodes of 1 to 128 words, each a root or under a parent that is open. The words stand in segments
+/// of 16 words. `above` has the place of each open node by its number; its other entries mean nothing.
 #[derive(Drop)]
 pub struct Stack<A: Allocator = Global> {
     lists: Lists<A>,
@@ -38,8 +40,8 @@ impl<A: Allocator> Model for Stack<A> {
 }
 
 impl<A: Allocator> Stack<A> {
-    /// A stack with room for so many segments of 16 words, 1 to 65,536, and no node. It fails only
-    /// for want of memory.
+    /// A stack with no node and so many free segments of 16 words, 1 to 65,536. `AllocError` only where memory is
+    /// refused.
     pub fn new(alloc: A, segments: usize) -> Result<Stack<A>, AllocError>
     where
         A: Clone,
@@ -57,8 +59,8 @@ impl<A: Allocator> Stack<A> {
         Ok(Stack { lists, above })
     }
 
-    /// Opens a node of `size` words, 1 to 128, under a parent or none: the given words first, then
-    /// zeros. It is refused where fewer segments are free than its words take.
+    /// Opens a node of `size` words, 1 to 128, under an open parent or as a root: the given words first, then zeros.
+    /// Returns its number. `NoSegment` where fewer segments are free than its words take; nothing has changed then.
     pub fn open(
         &mut self,
         parent: Option<NodeNo>,
@@ -83,8 +85,8 @@ impl<A: Allocator> Stack<A> {
         Ok(node)
     }
 
-    /// Makes a node longer by so many zero words, to at most 128. It is refused where fewer
-    /// segments are free than that takes.
+    /// Appends so many zero words to a node, up to 128 in all. `NoSegment` where fewer segments are free than that
+    /// takes; nothing has changed then.
     pub fn grow(&mut self, node: NodeNo, more: usize) -> Result<(), NoSegment>
         requires is_open { IsOpen self.old node }
         requires in_limits { length (node_words self.old node) + more ≤ 128 }
@@ -95,7 +97,7 @@ impl<A: Allocator> Stack<A> {
         self.lists.grow(node, more)
     }
 
-    /// Writes the word at a place of a node, counted from 0.
+    /// Overwrites the word at place `at` of a node, counted from 0.
     pub fn store(&mut self, node: NodeNo, at: usize, word: u64)
         requires is_open { IsOpen self.old node }
         requires in_bounds { at < length (node_words self.old node) }
@@ -121,14 +123,14 @@ impl<A: Allocator> Stack<A> {
         Sight::of(self.view(), node, depth)
     }
 
-    /// The stack as its readers see it.
+    /// Borrows the nodes for reading only.
     pub(crate) fn view(&self) -> StackView<'_>
         ensures { result ≡ self.now }
     {
         StackView::of(self.lists.view(), &self.above)
     }
 
-    /// Closes a node that no open node has as its parent.
+    /// Closes a node that has no open child. Its segments are free then, and a new node may get its number.
     #[inline(always)]
     pub fn close(&mut self, node: NodeNo)
         requires is_open { IsOpen self.old node }
@@ -138,8 +140,8 @@ impl<A: Allocator> Stack<A> {
         self.lists.close(node);
     }
 
-    /// Closes all nodes of a list, which stand there in any order, each once, with all their open
-    /// children.
+    /// Closes all these nodes, whose segments are free then. They stand in any order, each once, and all open
+    /// children of each are among them.
     pub fn close_all(&mut self, nodes: &[NodeNo])
         requires are_open { All (IsOpen self.old) nodes.now }
         requires once { AllPairs ◌≢◌ nodes.now }
@@ -151,7 +153,7 @@ impl<A: Allocator> Stack<A> {
         }
     }
 
-    /// Each open node has 1 to 128 words: a law, the call does nothing.
+    /// For proofs alone: each open node has 1 to 128 words. The call does nothing.
     pub fn sizes_are_in_limits(&self)
         ensures some { (n : ℕ) → IsOpen self.now n → 1 ≤ length (node_words self.now n) }
         ensures at_most { (n : ℕ) → IsOpen self.now n → length (node_words self.now n) ≤ 128 }
