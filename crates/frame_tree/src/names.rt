@@ -20,10 +20,10 @@ pub enum State {
     Running(u8),
     /// This worker computes the frame's input outside the core, and is to bring the answer.
     Computing(u8),
-    /// It waits for its children.
+    /// It waits for its children: until one that has returned is taken in and wakes it.
     Waiting,
-    /// It has returned. It stays until its parent takes its result in, or, for a root, until its job is
-    /// finished.
+    /// It has returned. It stays until its parent takes its result in, or, for a root, until its job is finished,
+    /// unless it is removed before: by an abort, or with its job or its tenant.
     Returned,
 }
 
@@ -38,13 +38,13 @@ impl State {
     }
 }
 
-/// What is known of a frame: what a look-up by its name tells.
+/// What a look-up of a frame by its name gives.
 #[derive(Clone, Copy, Debug, PartialEq, Eq)]
 pub struct Entry<T> {
     /// The parent's name; a root has none.
     pub parent: Option<FrameId>,
     /// What the frame is doing.
     pub state: State,
-    /// The value that is kept with the frame.
+    /// The value that the frame was added with.
     pub value: T,
 }

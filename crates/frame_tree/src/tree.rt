@@ -19,7 +19,7 @@ use std::alloc::{AllocError, Allocator, Global};
 use std::marker::Model;
 
 /// The frames of one tenant, each with a value: no more than it has places, of which there are at most
-/// 4,096.
+/// 4,096. The frames are in `shelf`; `serials` and `ready` list all serials and the ready frames, for look-ups.
 #[derive(Drop)]
 pub struct TenantFrames<T, A: Allocator = Global> {
     tenant: u64,
@@ -41,7 +41,7 @@ impl<T, A: Allocator> Model for TenantFrames<T, A> {
     ghost invariant = { λ t. IsTenant t.shelf.slots t.shelf.places t.serials t.ready };
 }
 
-// Lists of trees are ordered by the tenants' numbers.
+// Lists of trees are ordered and searched by the tenants' numbers.
 impl<T: Copy, A: Allocator> Numbered for TenantFrames<T, A> {
     ghost use Rattle.frame_tree.specs.Frames.{owner_of};
 
@@ -54,7 +54,7 @@ impl<T: Copy, A: Allocator> Numbered for TenantFrames<T, A> {
 }
 
 impl<T: Copy, A: Allocator> TenantFrames<T, A> {
-    /// No frames, with places for this many. Takes memory: `AllocError` only where a growth was refused.
+    /// No frames, and places for this many, at most 4,096. Takes memory: `AllocError` only where that is refused.
     pub fn new(alloc: A, tenant: u64, places: usize) -> Result<Self, AllocError>
     where
         A: Clone,
@@ -72,8 +72,8 @@ impl<T: Copy, A: Allocator> TenantFrames<T, A> {
         })
     }
 
-    /// Raises its places to this many. It alone takes memory after `new`: `AllocError` only where a growth was
-    /// refused, and then nothing has changed.
+    /// Raises the number of places to this, at most 4,096. After `new` no other call takes memory. `AllocError` only
+    /// where memory is refused; no frame and no place has changed then.
     pub fn raise(&mut self, alloc: A, places: usize) -> Result<(), AllocError>
         requires more { self.old.places ≤ places }
         requires few { places ≤ 4096 }
@@ -106,7 +106,7 @@ impl<T: Copy, A: Allocator> TenantFrames<T, A> {
         self.shelf.len()
     }
 
-    /// How many of the frames are ready: the length of a kept list.
+    /// How many of the frames are ready. The frames aren't gone over: the ready ones are listed.
     pub fn ready(&self) -> usize
         ensures { result ≡ length (ready_frames self.now.frames) }
     {
@@ -188,7 +188,8 @@ impl<T: Copy, A: Allocator> TenantFrames<T, A> {
         }
     }
 
-    /// Adds a frame that is ready at this home, in one of the places. Takes no memory.
+    /// Adds a frame under this parent, or as a root, ready at this home (a worker, or 0 for the hall). Its serial is
+    /// above those of all frames, the parent is there, and a place is free. Takes no memory.
     #[inline(always)]
     pub fn add(&mut self, serial: u64, parent: Option<u64>, home: u8, value: T)
         requires above { AllBelow serial self.old.frames }
@@ -201,7 +202,7 @@ impl<T: Copy, A: Allocator> TenantFrames<T, A> {
         self.ready.push(ReadyFrame { serial, home });
     }
 
-    /// Puts a frame into another state, and returns the state that it was in.
+    /// Puts a frame into this state, and returns the state that it was in before.
     #[inline(always)]
     pub fn set_state(&mut self, serial: u64, state: State) -> State
         requires { IsTrue (has_frame self.old.frames serial) }
@@ -213,8 +214,8 @@ impl<T: Copy, A: Allocator> TenantFrames<T, A> {
         was
     }
 
-    /// Removes the frames under one, which stays: those whose path goes through it to a further serial.
-    /// Adds their values to `removed`, each once, by rising serial. Takes no memory.
+    /// Removes all frames below this one (its children, theirs, and so on); the frame itself stays. Appends their
+    /// values, by rising serial, to `removed`, which has room for them. Takes no memory.
     pub fn remove_under(&mut self, serial: u64, removed: &mut Vec<T, A>)
         requires there { IsTrue (has_frame self.old.frames serial) }
         requires room { vec_len removed.old + length self.old.frames ≤ vec_capacity removed.old }
@@ -241,8 +242,8 @@ impl<T: Copy, A: Allocator> TenantFrames<T, A> {
         self.shelf.add_ready(at, &mut self.ready);
     }
 
-    /// Removes all frames, whose places stay, and adds their values to `removed`, each once, by rising
-    /// serial. Takes no memory.
+    /// Removes all frames; the number of places stays. Appends the frames' values, by rising serial, to `removed`,
+    /// which has room for them. Takes no memory.
     pub fn remove_all(&mut self, removed: &mut Vec<T, A>)
         requires { vec_len removed.old + length self.old.frames ≤ vec_capacity removed.old }
         ensures left { self.new ≡ record self.old { frames = [] } }

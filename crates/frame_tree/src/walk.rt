@@ -11,18 +11,19 @@ use crate::tree::TenantFrames;
 use std::alloc::{Allocator, Global};
 use std::marker::Model;
 
-/// The names of a tenant's frames, or of a frame's children alone, by rising serial; seen as the list of
-/// those that are left.
+/// An iterator over the names of a tenant's frames, or of one frame's children, by rising serial. Contracts see it as
+/// the list of the names that are still to come. Without a shelf there are none; `at` is the place of the next slot
+/// to look at.
 #[derive(Drop)]
 pub struct Frames<'a, T, A: Allocator = Global> {
     tenant: u64,
-    // The frame whose children alone are named, if there is one.
+    // The serial of the frame whose children are asked for; None where all frames are.
     parent: Option<u64>,
     shelf: Option<&'a Shelf<T, A>>,
     at: usize,
 }
 
-/// The names of a frame's children.
+/// An iterator over the names of a frame's children, by rising serial.
 pub type Children<'a, T, A> = Frames<'a, T, A>;
 
 impl<'a, T, A: Allocator> Model for Frames<'a, T, A> {
@@ -37,7 +38,7 @@ impl<'a, T, A: Allocator> Model for Frames<'a, T, A> {
 }
 
 impl<'a, T, A: Allocator> Frames<'a, T, A> {
-    /// The names of the frames of a tenant's tree, and none where it has no tree.
+    /// The names of all frames of a tenant, whose tree this is; no name without a tree.
     pub fn of(tenant: u64, tree: Option<&'a TenantFrames<T, A>>) -> Self
     where
         T: Copy,
@@ -52,7 +53,7 @@ impl<'a, T, A: Allocator> Frames<'a, T, A> {
         }
     }
 
-    /// The names of a frame's children in its tenant's tree, and none where it has no tree.
+    /// The names of a frame's children in its tenant's tree; no name without a tree, or where the frame isn't there.
     pub fn of_parent(parent: FrameId, tree: Option<&'a TenantFrames<T, A>>) -> Children<'a, T, A>
     where
         T: Copy,
@@ -88,7 +89,7 @@ impl<'a, T: Copy, A: Allocator> Iterator for Frames<'a, T, A> {
     }
 }
 
-/// The shelf of a tree, and none where there is no tree.
+/// The shelf (the slots) of a tree; None without a tree.
 fn shelf_of<'a, T: Copy, A: Allocator>(
     tree: Option<&'a TenantFrames<T, A>>,
 ) -> Option<&'a Shelf<T, A>>
@@ -101,8 +102,8 @@ fn shelf_of<'a, T: Copy, A: Allocator>(
     }
 }
 
-/// The serial of the first slot from a place on that is of this parent, if one is named, and the place
-/// after it.
+/// The serial of the first slot from place `from` on that is a child of `parent` (of any slot, where that is None),
+/// and the place after it. Without such a slot the serial is None, and no slot is left after the place.
 fn next_serial<T: Copy, A: Allocator>(
     shelf: &Shelf<T, A>,
     from: usize,
