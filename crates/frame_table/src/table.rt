@@ -21,7 +21,9 @@ pub const TENANTS: usize = 64;
 /// How many places a tenant can have.
 pub const PLACES: usize = 4096;
 
-/// The frames of many tenants, each with a value.
+/// The frames of up to 64 tenants, each frame with a value. `trees` has a tree for each tenant with places, by rising
+/// number; `index` guesses where a tenant's tree stands there; `removed` is the buffer for the values that
+/// `remove_under` and `remove_all` return; `ready` is the number of ready frames of all tenants.
 #[derive(Drop)]
 pub struct FrameTable<T, A: Allocator = Global> {
     alloc: A,
@@ -46,7 +48,7 @@ impl<T, A: Allocator> Model for FrameTable<T, A> {
 impl<T: Copy, A: Allocator> FrameTable<T, A> {
     ghost use Rattle.frame_table.specs.Ending.{EndsAborted, EndsEmptied};
 
-    /// A table with no tenant. Takes memory: `AllocError` only where a growth was refused.
+    /// A table with no tenant. Takes memory for 64 trees: `AllocError` only where that is refused.
     pub fn new(alloc: A) -> Result<Self, AllocError>
     where
         A: Clone,
@@ -83,7 +85,7 @@ impl<T: Copy, A: Allocator> FrameTable<T, A> {
         }
     }
 
-    /// How many frames a tenant has.
+    /// How many frames a tenant has; 0 also where it has no places.
     pub fn frame_count(&self, tenant: u64) -> usize
         ensures { result ≡ length (frames_of self.now tenant) }
     {
@@ -93,7 +95,7 @@ impl<T: Copy, A: Allocator> FrameTable<T, A> {
         }
     }
 
-    /// Whether a tenant has no frame.
+    /// Whether a tenant has no frame; true also where it has no places.
     pub fn is_empty(&self, tenant: u64) -> bool
         ensures some { result ≡ false → 0 < length (frames_of self.now tenant) }
         ensures none { IsTrue result → frames_of self.now tenant ≡ [] }
@@ -101,7 +103,7 @@ impl<T: Copy, A: Allocator> FrameTable<T, A> {
         self.frame_count(tenant) == 0
     }
 
-    /// How many of a tenant's frames are ready, from a kept count.
+    /// How many of a tenant's frames are ready; 0 also where it has no places. The frames aren't gone over.
     pub fn ready_count(&self, tenant: u64) -> usize
         ensures { result ≡ length (ready_frames (frames_of self.now tenant)) }
     {
@@ -133,8 +135,8 @@ impl<T: Copy, A: Allocator> FrameTable<T, A> {
         }
     }
 
-    /// Whether `add` may be called with this name under this parent: the serial is above those of
-    /// the tenant's frames, a parent is one of them, and a place is left.
+    /// Whether `add` may be called with this name under this parent (None: as a root): the serial is above
+    /// those of the tenant's frames, the parent is one of them, and a place is left.
     pub fn can_add(&self, f: FrameId, parent: Option<FrameId>) -> bool
         ensures above { IsTrue result → AllBelow f.serial (frames_of self.now f.tenant) }
         ensures parent { IsTrue result → IsParentIn (frames_of self.now f.tenant) f.tenant parent }
@@ -152,7 +154,7 @@ impl<T: Copy, A: Allocator> FrameTable<T, A> {
         }
     }
 
-    /// The root above a frame, or the frame itself.
+    /// The root above a frame that is there; the frame itself where it is a root.
     pub fn root(&self, f: FrameId) -> FrameId
         requires { IsTrue (has_frame (frames_of self.now f.tenant) f.serial) }
         ensures { result ≡ record { tenant = f.tenant; serial = root_of (path_in (frames_of self.now f.tenant) f.serial) } }
@@ -165,7 +167,7 @@ impl<T: Copy, A: Allocator> FrameTable<T, A> {
         }
     }
 
-    /// Whether a frame has a child, from a kept count.
+    /// Whether a frame has a child, by its count of children; false also where there is no such frame.
     #[inline(always)]
     pub fn has_child(&self, f: FrameId) -> bool
         ensures child { IsTrue result ↔ (0 < length (children_of (frames_of self.now f.tenant) f.serial)) }
@@ -180,8 +182,9 @@ impl<T: Copy, A: Allocator> FrameTable<T, A> {
         }
     }
 
-    /// A tenant's tree, if it stands where it is guessed to. A step asks by this, and leaves the search to
-    /// a function that is called: else what a search finds is tested a second time on its way.
+    /// A tenant's tree, if it stands where the index guesses; None says nothing, as the tree may stand elsewhere.
+    /// `find` and `has_child` inline this and call `search_tree` after None: were the search inlined too, what it
+    /// finds would be tested twice.
     #[inline(always)]
     fn guessed_tree(&self, tenant: u64) -> Option<&TenantFrames<T, A>>
         ensures { IfSome result (λ tree. IsTreeOf self.now tenant tree.now) }
@@ -193,7 +196,7 @@ impl<T: Copy, A: Allocator> FrameTable<T, A> {
         }
     }
 
-    /// A tenant's tree, wherever it was guessed.
+    /// A tenant's tree, searched for where the guess is wrong; None where the tenant has no places.
     #[cold]
     #[inline(never)]
     fn search_tree(&self, tenant: u64) -> Option<&TenantFrames<T, A>>
@@ -203,14 +206,14 @@ impl<T: Copy, A: Allocator> FrameTable<T, A> {
         find_tree(self.trees.as_slice(), &self.index, tenant)
     }
 
-    /// The names of a frame's children, by rising serial.
+    /// The names of a frame's children, by rising serial; none where there is no such frame.
     pub fn children(&self, f: FrameId) -> Children<'_, T, A>
         ensures { result ≡ names_of f.tenant (children_of (frames_of self.now f.tenant) f.serial) }
     {
         Children::of_parent(f, find_tree(self.trees.as_slice(), &self.index, f.tenant))
     }
 
-    /// The names of a tenant's frames, by rising serial.
+    /// The names of a tenant's frames, by rising serial; none where it has no places.
     pub fn frames(&self, tenant: u64) -> Frames<'_, T, A>
         ensures names { result ≡ names_of tenant (frames_of self.now tenant) }
         ensures tree { IsTree (frames_of self.now tenant) }
@@ -221,7 +224,7 @@ impl<T: Copy, A: Allocator> FrameTable<T, A> {
         )
     }
 
-    /// A tenant's ready frame of the greatest serial, with its home.
+    /// A tenant's ready frame of the greatest serial, with its home; `None` where none is ready.
     pub fn newest_ready(&self, tenant: u64) -> Option<(FrameId, u8)>
         ensures { result ≡ newest_ready_of tenant (frames_of self.now tenant) }
     {
@@ -231,7 +234,8 @@ impl<T: Copy, A: Allocator> FrameTable<T, A> {
         }
     }
 
-    /// A ready frame of some tenant, with its home. Where none is ready a kept count says so.
+    /// A ready frame of some tenant, with its home; `None` exactly where none is ready, which a count tells without a
+    /// search.
     pub fn any_ready(&self) -> Option<(FrameId, u8)>
         ensures found { IfSome result (λ ready. IsReadyAt (frame_at (frames_of self.now ready.0.tenant) ready.0.serial) ready.1) }
         ensures none { IsNone result ↔ ((tenant : ℕ) → ready_frames (frames_of self.now tenant) ≡ []) }
@@ -242,9 +246,10 @@ impl<T: Copy, A: Allocator> FrameTable<T, A> {
         first_ready(self.trees.as_slice())
     }
 
-    /// Makes places for that many frames of a tenant, and for their values at an abort: of a new tenant,
-    /// or more of them for one that has places. It alone takes memory after `new`: `AllocError` only where
-    /// a growth was refused.
+    /// Gives a tenant places for this many frames, 1 to 4,096 and no fewer than it has. A tenant without places gets
+    /// some only while fewer than 64 tenants have any. (It is the tenant's number of segments: a frame takes at least
+    /// one.) Takes memory, also for the values that `remove_under` and `remove_all` give; after `new` no other call
+    /// does. `AllocError` only where memory is refused; no frame and no place has changed then.
     pub fn reserve(&mut self, tenant: u64, segments: usize) -> Result<(), AllocError>
     where
         A: Clone,
@@ -267,7 +272,7 @@ impl<T: Copy, A: Allocator> FrameTable<T, A> {
         }
     }
 
-    /// Makes places for that many frames of a new tenant.
+    /// Makes this many places for a tenant that has none. Where memory is refused no place has changed.
     fn reserve_first(&mut self, tenant: u64, segments: usize) -> Result<(), AllocError>
     where
         A: Clone,
@@ -293,7 +298,7 @@ impl<T: Copy, A: Allocator> FrameTable<T, A> {
         Ok(())
     }
 
-    /// Raises the number of a tenant's places. Where a growth is refused nothing has changed.
+    /// Raises the number of places of a tenant that has some to this. Where memory is refused no place has changed.
     fn reserve_more(&mut self, tenant: u64, segments: usize) -> Result<(), AllocError>
     where
         A: Clone,
@@ -315,7 +320,7 @@ impl<T: Copy, A: Allocator> FrameTable<T, A> {
         Ok(())
     }
 
-    /// Gives back the places of a tenant that has no frame.
+    /// Removes a tenant that has no frame, with its places.
     pub fn release(&mut self, tenant: u64)
         requires there { 0 < places_of self.old tenant }
         requires empty { frames_of self.old tenant ≡ [] }
@@ -329,7 +334,8 @@ impl<T: Copy, A: Allocator> FrameTable<T, A> {
         self.index.guess_anew(self.trees.as_slice());
     }
 
-    /// Adds a frame that is ready at this home, in one of its tenant's places. Takes no memory.
+    /// Adds a frame under this parent, or as a root, ready at this home (a worker, or 0 for the hall). What `can_add`
+    /// tests must be true. Takes no memory.
     #[inline(always)]
     pub fn add(&mut self, f: FrameId, parent: Option<FrameId>, home: u8, value: T)
         requires above { AllBelow f.serial (frames_of self.old f.tenant) }
@@ -337,7 +343,7 @@ impl<T: Copy, A: Allocator> FrameTable<T, A> {
         requires room { length (frames_of self.old f.tenant) < places_of self.old f.tenant }
         ensures frames { frames_of self.new f.tenant ≡ frames_of self.old f.tenant ++ new_frame (frames_of self.old f.tenant) f.serial (serial_of parent) home value ∷ [] }
 
-        // A name that is gone is not found again.
+        // Of the tenant's other serials the same are there as before: no removed frame comes back.
         ensures others { (serial : ℕ) → serial ≢ f.serial → has_frame (frames_of self.new f.tenant) serial ≡ has_frame (frames_of self.old f.tenant) serial }
         ensures kept { KeepsOthers self.old self.new f.tenant }
     {
@@ -348,7 +354,7 @@ impl<T: Copy, A: Allocator> FrameTable<T, A> {
         self.ready += 1;
     }
 
-    /// Puts a frame into another state.
+    /// Puts a frame into this state.
     #[inline(always)]
     pub fn set_state(&mut self, f: FrameId, state: State)
         requires { IsTrue (has_frame (frames_of self.old f.tenant) f.serial) }
@@ -361,8 +367,8 @@ impl<T: Copy, A: Allocator> FrameTable<T, A> {
         self.ready = recount(self.ready, was, state);
     }
 
-    /// Removes the frames under one, which stays: those whose path goes through it to a further
-    /// serial. Gives their values, each once, by rising serial. Takes no memory.
+    /// Removes all frames below this one (its children, theirs, and so on); the frame itself stays. Returns the
+    /// removed frames' values, by rising serial. Takes no memory.
     pub fn remove_under(&mut self, f: FrameId) -> &[T]
         requires { IsTrue (has_frame (frames_of self.old f.tenant) f.serial) }
         ensures* ends { sem 𝓛 (EndsAborted T.row A.row A.Allocator self.entry f) }
@@ -377,7 +383,7 @@ impl<T: Copy, A: Allocator> FrameTable<T, A> {
         self.removed.as_slice()
     }
 
-    /// Removes all frames of a tenant, whose places stay. Gives their values, each once, by rising
+    /// Removes all frames of a tenant; it has as many places as before. Returns the removed frames' values, by rising
     /// serial. Takes no memory.
     pub fn remove_all(&mut self, tenant: u64) -> &[T]
         requires { 0 < places_of self.old tenant }
@@ -393,7 +399,7 @@ impl<T: Copy, A: Allocator> FrameTable<T, A> {
         self.removed.as_slice()
     }
 
-    /// Removes a frame that has no child, and gives its value.
+    /// Removes a frame that has no child, and returns its value.
     #[inline(always)]
     pub fn remove(&mut self, f: FrameId) -> T
         requires there { IsTrue (has_frame (frames_of self.old f.tenant) f.serial) }
@@ -410,7 +416,7 @@ impl<T: Copy, A: Allocator> FrameTable<T, A> {
     }
 }
 
-/// The serial of a parent, where there is one.
+/// The serial of a parent; None without a parent.
 fn parent_serial(parent: Option<FrameId>) -> Option<u64>
     ensures { result ≡ serial_of parent }
 {
@@ -420,7 +426,8 @@ fn parent_serial(parent: Option<FrameId>) -> Option<u64>
     }
 }
 
-/// Whether a parent, if one is named, is a frame of this tenant.
+/// Whether this may be the parent of a new frame of the tenant: None (the frame is a root), or a frame in the
+/// tenant's tree.
 fn may_follow<T: Copy, A: Allocator>(
     tree: &TenantFrames<T, A>,
     tenant: u64,
@@ -435,7 +442,7 @@ fn may_follow<T: Copy, A: Allocator>(
     }
 }
 
-/// How many frames are ready after one went from a state to another.
+/// How many frames are ready after one went from state `was` to state `now`; before, `ready` were.
 #[inline(always)]
 fn recount(ready: usize, was: State, now: State) -> usize
     requires few { ready ≤ 262144 }
@@ -452,7 +459,7 @@ fn recount(ready: usize, was: State, now: State) -> usize
     count
 }
 
-/// A tenant's tree.
+/// A tenant's tree; None where the tenant has no places.
 fn find_tree<'a, T: Copy, A: Allocator>(
     trees: &'a [TenantFrames<T, A>],
     index: &TenantIndex,
@@ -465,7 +472,7 @@ fn find_tree<'a, T: Copy, A: Allocator>(
     index.find(trees, tenant)
 }
 
-/// Where the tree of a tenant stands that has places.
+/// The place, among these trees, of the tree of a tenant that has one.
 #[inline(always)]
 fn known_tenant<T: Copy, A: Allocator>(
     trees: &[TenantFrames<T, A>],
@@ -480,7 +487,8 @@ fn known_tenant<T: Copy, A: Allocator>(
     index.place_of(trees, tenant)
 }
 
-/// The newest ready frame of the first tenant that has one.
+/// Of the first tenant that has a ready frame, the one of the greatest serial, with its home; None where none is
+/// ready.
 fn first_ready<T: Copy, A: Allocator>(trees: &[TenantFrames<T, A>]) -> Option<(FrameId, u8)>
     requires { AreApartTrees trees.now }
     ensures value { result ≡ first_ready_of trees.now }
