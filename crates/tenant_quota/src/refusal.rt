@@ -3,13 +3,14 @@ use thiserror::Error;
 /// Why the book refuses a call. A refused call changes nothing.
 #[derive(Clone, Copy, Debug, PartialEq, Eq, Error)]
 pub enum Refusal {
-    /// A total doesn't allow the reservation, or 64 tenants are there and it is of another.
+    /// All reservations together would be more segments or nodes than the book has; or, of a new tenant alone, 64
+    /// tenants are there.
     #[error("the book has no room for the reservation")]
     Full = 1,
-    /// The tenant hasn't as much left as is asked for.
+    /// The tenant hasn't as many segments or nodes left as the call charges, or no step left.
     #[error("the tenant hasn't as much left")]
     Short,
-    /// A further reservation is below the tenant's own, or not above it.
+    /// A raise is to fewer segments or nodes than the tenant has reserved, or to no more of either.
     #[error("no more is reserved than before")]
     Lower,
 }
