@@ -1,12 +1,12 @@
-//! Why a line asks for nothing.
+//! Why a line is no valid request.
 ghost use Rattle.std.specs.Prelude.{◌≡◌};
 ghost use Rattle.protocol.specs.Faults.{fault_number, position_fault};
 
 use position_text::TextFault;
 use thiserror::Error;
 
-/// Why a line of `solve` or of a session asks for nothing: its first fault. The answer to it is `ERR` and the fault's
-/// number. Numbers below these are those of the scheduling core's refusals.
+/// Why a line of `solve` or of a session is no valid request: its first fault, in the order of `docs/PROTOCOL.md`.
+/// The answer is `ERR` and the fault's number. The numbers 1 to 20 are those of the scheduling core's refusals.
 #[derive(Clone, Copy, Debug, PartialEq, Eq, Error)]
 pub enum ProtocolFault {
     /// 21: in a line of `solve` there is no space; in one of a session the word is unknown, or has another number of
@@ -31,10 +31,10 @@ pub enum ProtocolFault {
     /// 27: the depth is over 12.
     #[error("the depth is over 12")]
     TooDeep,
-    /// 28: no tenant is there, and the line is neither HELLO nor BYE.
+    /// 28: the session has no tenant yet, and the line is neither HELLO nor BYE.
     #[error("no HELLO yet")]
     NoHello,
-    /// 29: the line is HELLO, and a tenant is there.
+    /// 29: the line is HELLO, and the session has its tenant already.
     #[error("HELLO again")]
     HelloAgain,
 }

@@ -16,7 +16,7 @@ pub fn push_number<const ROOM: usize>(text: &mut ArrayVec<u8, ROOM>, number: u64
     push_digits(text, Buffer::new().format(number));
 }
 
-/// Appends a value in decimal, with `-` where it is negative: at most 11 bytes.
+/// Appends a signed number in decimal, with `-` where it is negative: at most 11 bytes.
 pub fn push_value<const ROOM: usize>(text: &mut ArrayVec<u8, ROOM>, value: i32)
     requires { length text.old.items + 11 ≤ ROOM }
     ensures text { text.new.items ≡ text.old.items ++ signed_decimal value }
@@ -25,7 +25,7 @@ pub fn push_value<const ROOM: usize>(text: &mut ArrayVec<u8, ROOM>, value: i32)
     push_digits(text, Buffer::new().format(value));
 }
 
-/// Appends digits, as they are.
+/// Appends this text, a number in decimal, as it is.
 fn push_digits<const ROOM: usize>(text: &mut ArrayVec<u8, ROOM>, digits: &str)
     requires { length text.old.items + length digits.now ≤ ROOM }
     ensures { text.new.items ≡ text.old.items ++ digits.now }
@@ -33,7 +33,7 @@ fn push_digits<const ROOM: usize>(text: &mut ArrayVec<u8, ROOM>, digits: &str)
     text.try_extend_from_slice(digits.as_bytes()).unwrap();
 }
 
-/// Appends a move: a1 to h8, pass, or - for none.
+/// Appends a move: `a1` to `h8`, `pass`, or `-` for None. At most 4 bytes.
 pub fn push_move<const ROOM: usize>(text: &mut ArrayVec<u8, ROOM>, choice: Option<Choice>)
     requires { length text.old.items + 4 ≤ ROOM }
     ensures text { text.new.items ≡ text.old.items ++ move_text choice }
@@ -49,7 +49,7 @@ pub fn push_move<const ROOM: usize>(text: &mut ArrayVec<u8, ROOM>, choice: Optio
     }
 }
 
-/// Appends a fault: `ERR` and its number.
+/// Appends `ERR`, a space and this number, of a fault or a refusal: at most 7 bytes.
 pub fn push_error<const ROOM: usize>(text: &mut ArrayVec<u8, ROOM>, fault: u8)
     requires { length text.old.items + 7 ≤ ROOM }
     ensures text { text.new.items ≡ text.old.items ++ error_text fault }
