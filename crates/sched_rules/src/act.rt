@@ -29,7 +29,7 @@ impl Stores {
         }
     }
 
-    /// These stores, and one more after them.
+    /// These stores, fewer than 8, and one more after them.
     pub fn then(self, place: usize, word: u64) -> Stores
         requires { length self < 8 }
         ensures { result ≡ self ++ (place, word) ∷ [] }
@@ -39,7 +39,7 @@ impl Stores {
         stores
     }
 
-    /// One more store, after these.
+    /// Adds a store after these, which are fewer than 8.
     #[inline(always)]
     pub fn push(&mut self, place: usize, word: u64)
         requires { length self.old < 8 }
@@ -125,39 +125,42 @@ impl GivenWords {
     }
 }
 
-/// What a frame does after its stores.
+/// What a frame does after its stores. "Runs on" means that its worker may advance it again.
 #[derive(Drop)]
 pub enum Then {
-    /// So many words more, each 0; the frame goes on.
+    /// The frame gets so many words more, each 0, at least 1 and up to 128 words in all. It runs on.
     Grow(usize),
-    /// A child of that size, which begins with these words; the frame goes on.
+    /// Opens a child of so many words, 1 to 128: these first, then zeros. It is ready, and its home is the frame's
+    /// worker. The frame runs on.
     Spawn(GivenWords, usize),
-    /// The frame goes on.
+    /// Nothing more. The frame runs on.
     Go,
-    /// The frame waits for a child, if it has one.
+    /// The frame waits for its children; without a child it runs on.
     Wait,
-    /// The frame is computed outside.
+    /// The frame's worker gets its input, to be computed outside the core. Allowed only without a child.
     Compute,
-    /// The frame has its result.
+    /// The frame returns: its words are its result. With a child it waits instead, and is asked for its next act again
+    /// once it is woken and runs.
     Return,
 }
 
-/// What a running frame does when it is advanced.
+/// What a running frame does at an Advance.
 #[derive(Drop)]
 pub struct Act {
-    /// Done first.
+    /// The stores in the frame, done first.
     pub stores: Stores,
-    /// What comes then.
+    /// What the frame does after them.
     pub after: Then,
 }
 
-/// What an inlet does.
+/// What a parent does when it takes in a child that has returned (an inlet, as in Cilk).
 #[derive(Drop)]
 pub struct InletAct {
-    /// Done on the parent.
+    /// The stores in the parent.
     pub stores: Stores,
-    /// Whether all other frames below the parent end.
+    /// Whether all other frames below the parent are removed.
     pub abort: bool,
-    /// Whether the parent, if it waits, is woken.
+    /// Whether the parent, if it waits, becomes ready even with children left. At an abort, or without a child left,
+    /// it does so anyway.
     pub wake: bool,
 }

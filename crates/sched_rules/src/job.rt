@@ -9,17 +9,18 @@ use std::marker::Model;
 /// A job of a tenant. A tenant's jobs are numbered from 1 in the order in which they were submitted.
 #[derive(Drop)]
 pub enum Job {
-    /// It has frames, under the root of this serial.
+    /// It hasn't ended: its frames are the root of this serial and those below it.
     Live(u64),
-    /// It is done, with the words of its root.
+    /// It is done. The first words of its root are kept as its result.
     Done(JobWords),
-    /// It was given up for want of quota, or as its frame couldn't go on.
+    /// It was given up: its tenant had no step left, or one of its frames couldn't go on (its next act or its inlet
+    /// can't be done, or the tenant has too few segments or nodes left for the act).
     Spent,
-    /// It was cancelled.
+    /// It was ended by a Cancel.
     Cancelled,
 }
 
-/// How many words of its root a finished job keeps, or all where it has fewer.
+/// The most words of its root that a finished job keeps.
 const KEPT: usize = 76;
 
 /// What a finished job keeps: the first 76 words of its root, or all where it has fewer.
@@ -38,7 +39,7 @@ impl Model for JobWords {
 }
 
 impl JobWords {
-    /// What a job keeps of these words of its root.
+    /// What a finished job keeps of its root's words: the first 76, or all where there are fewer.
     pub fn of(root: &Words) -> JobWords
         ensures { result ≡ kept_words root.now }
     {
