@@ -15,8 +15,9 @@ use frame_tree::FrameId;
 use std::alloc::Allocator;
 
 impl<A: Allocator> Store<A> {
-    /// Opens the tenant's next frame, under a parent or as a root, and returns its name. It has `size` words, 1
-    /// to 128, the given ones first and then zeros, and is ready at this home (0 is the hall).
+    /// Opens the tenant's next frame, under a parent or as a root, and returns its name. It has `size` words, 1 to
+    /// 128, the given ones first and then zeros, and is ready at this home (0 is the hall). The tenant is charged one
+    /// node and the segments of the words; it has as many left.
     pub fn open(
         &mut self,
         tenant: u64,

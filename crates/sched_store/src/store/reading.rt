@@ -1,5 +1,5 @@
-//! The calls that only read: the tests by which steps are decided, and what a core shows. Each is
-//! total or asks for a frame that is there; none takes memory.
+//! The calls that only read: the tests by which steps are decided, and what a core shows. They may be called at any
+//! time, except those for a frame that must be there. None takes memory.
 ghost use Rattle.std.specs.Prelude.{◌≡◌, ◌↔◌, ◌+◌, ◌≤◌, ◌^◌, ℕ, [], length, not, is_some, IfSome, IsSome, IsNone, Some, option_copied, option_map};
 ghost use Rattle.frame_tree.specs.declared.names.State.TheVariants.{Ready};
 ghost use Rattle.frame_tree.specs.Frames.{root_of, IsTree};
@@ -40,7 +40,7 @@ impl<A: Allocator> Store<A> {
         self.book.left(number).is_some()
     }
 
-    /// The greatest number of a tenant so far, 0 to 2^62.
+    /// The greatest number of all tenants so far, also of those that left: at most 2^62, and 0 where none came yet.
     pub fn newest(&self) -> u64
         ensures newest { result ≡ self.now.newest }
         ensures within { result ≤ 2 ^ 62 }
@@ -89,7 +89,7 @@ impl<A: Allocator> Store<A> {
     pub fn left(&self, tenant: u64) -> Option<Left>
         ensures left { result ≡ left_of self.now tenant }
 
-        // What the tenant has left is free, whatever others hold.
+        // As many segments as the tenant has left are free, however many others use.
         ensures free { IfSome result (λ left. left.segments ≤ free_in self.now) }
     {
         self.book.left(tenant)
@@ -160,7 +160,7 @@ impl<A: Allocator> Store<A> {
         self.table.root(name)
     }
 
-    /// Whether a frame has a child, by a kept count; false also where there is no such frame.
+    /// Whether a frame has a child, by its count of children; false also where there is no such frame.
     #[inline(always)]
     pub fn has_child(&self, name: FrameId) -> bool
         ensures { result ≡ has_child_in (frames_in self.now name.tenant) name.serial }
@@ -168,7 +168,8 @@ impl<A: Allocator> Store<A> {
         self.table.has_child(name)
     }
 
-    /// Whether a worker runs or computes a frame of some tenant. Only the frame that it held last is looked up.
+    /// Whether a worker runs or computes a frame of some tenant. Only the last frame that it ran or computed is
+    /// looked up.
     #[inline(always)]
     pub fn is_busy(&self, worker: Worker) -> bool
         ensures busy { result ≡ is_busy_among worker self.now.tenants }
@@ -233,7 +234,7 @@ impl<A: Allocator> Store<A> {
         self.table.any_ready()
     }
 
-    /// How many segments are free.
+    /// How many segments are free: all but those that the frames of all tenants take.
     pub fn free_segments(&self) -> usize
         ensures { result ≡ free_in self.now }
     {

@@ -11,7 +11,7 @@ use frame_tree::FrameId;
 use std::alloc::Allocator;
 
 impl<A: Allocator> Store<A> {
-    /// Removes a frame that has no child, and gives its segments back to the tenant.
+    /// Removes a frame that has no child. Its tenant has the frame's segments left again, but not its node.
     pub fn remove(&mut self, name: FrameId)
         requires there { IsSome (named self.old name) }
         requires leaf { has_child_in (frames_in self.old name.tenant) name.serial ≡ false }
@@ -24,8 +24,8 @@ impl<A: Allocator> Store<A> {
         self.book.give_back(name.tenant, freed as u32);
     }
 
-    /// Removes all frames below this one, which itself stays, and gives their segments back to the tenant.
-    /// Returns how many frames were removed.
+    /// Removes all frames below this one, which itself stays. Their tenant has the frames' segments left again, but
+    /// not their nodes. Returns how many frames were removed.
     pub fn abort(&mut self, name: FrameId) -> usize
         requires { IsSome (named self.old name) }
         ensures aborted { self.new ≡ on_tenant name.tenant (without_under name.serial) self.old }

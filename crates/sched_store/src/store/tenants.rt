@@ -34,8 +34,8 @@ impl<A: Allocator> Store<A> {
         Ok(())
     }
 
-    /// Raises a tenant's reservation to this, which is above what it was. Takes memory for more frames:
-    /// `AllocError` only where that is refused, and then nothing has changed.
+    /// Raises a tenant's reservation to this: no fewer segments and nodes than before, and more of one or both. Takes
+    /// memory for more frames: `AllocError` only where that is refused, and then nothing has changed.
     pub fn raise(&mut self, tenant: u64, reserve: Reserve) -> Result<(), AllocError>
     where
         A: Clone,
@@ -70,7 +70,8 @@ impl<A: Allocator> Store<A> {
         self.book.tick(tenant).unwrap();
     }
 
-    /// Adds a job of a tenant: it lives under this root, as no other of the tenant does.
+    /// Adds a live job of a tenant, with the root of this serial; no other live job of the tenant has this root, and
+    /// the tenant has had fewer than 256 jobs.
     pub fn begin_job(&mut self, tenant: u64, root: u64)
         requires there { IsSome (tenant_in self.old.tenants tenant) }
         requires room { length (jobs_in self.old tenant) < 256 }
@@ -80,8 +81,8 @@ impl<A: Allocator> Store<A> {
         self.ledgers.begin(tenant, root);
     }
 
-    /// Ends the tenant's job that lives under this root, if there is one: `ended` takes its place. The frames
-    /// stay.
+    /// Replaces the tenant's live job with this root, if there is one, by `ended`, which says how it ended. The
+    /// frames aren't removed.
     pub fn end_job(&mut self, tenant: u64, root: u64, ended: Job)
         requires there { IsSome (tenant_in self.old.tenants tenant) }
         requires ended { is_live ended ≡ false }

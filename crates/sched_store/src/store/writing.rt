@@ -14,8 +14,8 @@ use sched_rules::Worker;
 use std::alloc::Allocator;
 
 impl<A: Allocator> Store<A> {
-    /// Stores words at places of a frame that has these places, in order. Where there is none, the frame
-    /// isn't looked up.
+    /// Stores words in a frame that is there, each at its place, in order; the frame has all these places. Without
+    /// stores the frame isn't looked up.
     #[inline(always)]
     pub fn store_all(&mut self, name: FrameId, stores: &[(usize, u64)])
         requires there { IsSome (named self.old name) }
@@ -30,7 +30,7 @@ impl<A: Allocator> Store<A> {
         self.store_some(name, stores);
     }
 
-    /// The same, where there may be some.
+    /// `store_all` without its test for an empty list: the frame is looked up in any case.
     #[inline(always)]
     fn store_some(&mut self, name: FrameId, stores: &[(usize, u64)])
         requires there { IsSome (named self.old name) }
@@ -41,7 +41,8 @@ impl<A: Allocator> Store<A> {
         store_words(&mut self.stack, node, stores);
     }
 
-    /// Makes a frame longer by so many words, each 0, to at most 128.
+    /// Appends so many words, each 0, to a frame, up to 128 in all. The tenant is charged the segments that this
+    /// takes; it has as many left.
     pub fn grow(&mut self, name: FrameId, more: usize)
         requires there { IsSome (named self.old name) }
         requires size { length (words_under self.old name) + more ≤ 128 }
@@ -54,7 +55,7 @@ impl<A: Allocator> Store<A> {
         self.book.charge(name.tenant, added as u32, 0).unwrap();
     }
 
-    /// Puts a frame into a state that names no worker: Ready, Waiting or Returned.
+    /// Puts a frame into a state in which no worker runs or computes it: Ready, Waiting or Returned.
     #[inline(always)]
     pub fn set_state(&mut self, name: FrameId, state: State)
         requires there { IsSome (named self.old name) }
@@ -64,8 +65,8 @@ impl<A: Allocator> Store<A> {
         self.table.set_state(name, state);
     }
 
-    /// The worker that holds a frame lets it go into a state that names no worker: Ready, Waiting or
-    /// Returned. Its place is empty then, so that it is seen to be free at one look.
+    /// Puts a frame that this worker runs or computes into a state in which no worker does: Ready, Waiting or
+    /// Returned. The worker's entry in `places` becomes None, so that `is_busy` needs no look-up of a frame.
     #[inline(always)]
     pub fn let_go(&mut self, worker: Worker, name: FrameId, state: State)
         requires there { IsSome (named self.old name) }
@@ -79,8 +80,8 @@ impl<A: Allocator> Store<A> {
         table.set_state(name, state);
     }
 
-    /// The worker holds the frame, in a state that names the worker: Running or Computing. It held none
-    /// before, or this one.
+    /// Puts a frame into Running or Computing by this worker, and notes it in `places` as the worker's. Before, the
+    /// worker ran or computed no frame, or this one.
     #[inline(always)]
     pub fn hold(&mut self, worker: Worker, name: FrameId, state: State)
         requires there { IsSome (named self.old name) }
@@ -94,7 +95,7 @@ impl<A: Allocator> Store<A> {
     }
 }
 
-/// Stores words at places of a node that has these places, in order.
+/// Stores words in an open node, each at its place, in order; the node has all these places.
 fn store_words<A: Allocator>(stack: &mut Stack<A>, node: NodeNo, stores: &[(usize, u64)])
     requires is_open { IsOpen stack.old node }
     requires inside { is_outside stores.now (node_words stack.old node) ≡ false }
