@@ -50,8 +50,9 @@ impl<P: Procedure, A: Allocator> Engine<P, A> {
         may_do(&self.store, name, found.seen.left, &found.words, &act)
     }
 
-    /// What the frame stores of an answer that this worker brings, or the refusal of that Answer. `fitting`
-    /// says that all frames are known to fit.
+    /// What the frame stores of an answer that this worker brings; else the Answer's refusal: NoTenant, NoFrame,
+    /// NotComputing, Mismatch, NoSteps or BadAct. `fitting` says that all frames are known to fit (the procedure's
+    /// invariant holds of them); the result is the same without.
     pub(crate) fn accepted(
         &self,
         worker: Worker,
@@ -80,8 +81,9 @@ impl<P: Procedure, A: Allocator> Engine<P, A> {
         Ok(stores)
     }
 
-    /// The words and the parent's name of a frame that an Inlet may take in; else the refusal: it isn't there,
-    /// hasn't returned or is a root, or no step is left. The inlet itself isn't tested yet.
+    /// The words and the parent's name of a frame that has returned, isn't a root, and whose tenant has a step left;
+    /// else the Inlet's refusal: NoTenant, NoFrame, NotReturned or NoSteps. What the inlet stores, and whether the
+    /// worker is free, is tested by `may_take_in`.
     #[inline(always)]
     pub(crate) fn returned(&self, name: FrameId) -> Result<(Words<'_>, FrameId), Refusal>
         ensures frame { MatchResult result
@@ -112,8 +114,9 @@ impl<P: Procedure, A: Allocator> Engine<P, A> {
         may_take_in(&self.store, worker, &above, &act)
     }
 
-    /// Whether the job of a frame that was looked up may be given up: no step is left, or it runs and can't do
-    /// its next act, or it has returned and its inlet can't be done.
+    /// Whether the job of a frame that was looked up may be given up: no step is left; or the frame runs and its next
+    /// act can't be done, or needs more nodes or segments than are left; or it has returned and its inlet can't be
+    /// done.
     pub(crate) fn is_spendable(&self, name: FrameId, seen: Seen) -> bool
         requires { (tenant : Tenant) × (frame : Frame (List ℕ)) × IsSeen self.now.store name tenant frame seen }
         ensures { (tenant : Tenant) (frame : Frame (List ℕ)) → IsSeen self.now.store name tenant frame seen

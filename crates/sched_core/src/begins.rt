@@ -1,4 +1,4 @@
-//! Admit, AdmitMore and Submit: a tenant comes, reserves more, and has a job.
+//! Admit, AdmitMore and Submit: a tenant comes, reserves more, and begins a job.
 ghost use Rattle.std.specs.Prelude.{◌≡◌, Ok, Err, MatchResult};
 ghost use Rattle.sched_rules.specs.declared.refusal.Refusal.TheVariants.{OutOfMemory};
 ghost use Rattle.sched_rules.specs.Cores.{shared_refusal};
@@ -15,14 +15,14 @@ use sched_rules::{DidOf, Procedure, Refusal};
 use std::alloc::{AllocError, Allocator};
 use tenant_quota::Reserve;
 
-/// The greatest number of a tenant.
+/// The greatest number that a tenant may have.
 const MOST_TENANT: u64 = 1 << 62;
 
-/// The most jobs of a tenant.
+/// The most jobs that a tenant may begin, those that ended counted.
 const MOST_JOBS: usize = 256;
 
 impl<P: Procedure, A: Allocator> Engine<P, A> {
-    /// Whether a tenant of this number may come, with this reservation.
+    /// Ok where an Admit of this number and reservation would be taken, if there is memory; else OldTenant or Full.
     pub(crate) fn may_admit(&self, number: u64, reserve: Reserve) -> Result<(), Refusal>
         ensures refusal { refusal_in result ≡ shared_refusal (P.functions self.now.procedure) self.now.store (AdmitStep number reserve) }
         ensures known { IsKnown self.now.store }
@@ -37,7 +37,7 @@ impl<P: Procedure, A: Allocator> Engine<P, A> {
         ])
     }
 
-    /// Whether a tenant may reserve this in the place of what it has reserved.
+    /// Ok where an AdmitMore to this reservation would be taken, if there is memory; else NoTenant, Lower or Full.
     pub(crate) fn may_admit_more(&self, number: u64, reserve: Reserve) -> Result<(), Refusal>
         ensures refusal { refusal_in result ≡ shared_refusal (P.functions self.now.procedure) self.now.store (AdmitMoreStep number reserve) }
     {
@@ -53,7 +53,8 @@ impl<P: Procedure, A: Allocator> Engine<P, A> {
         Ok(())
     }
 
-    /// Whether a tenant may have a new job, whose root has this size and begins with these words.
+    /// Ok where a Submit of a root of this size that begins with these words would be taken; else NoTenant, BadAct,
+    /// NoJobsLeft, NoNodes or NoSegments.
     pub(crate) fn may_submit(&self, number: u64, words: &[u64], size: usize) -> Result<(), Refusal>
         ensures refusal { refusal_in result ≡ shared_refusal (P.functions self.now.procedure) self.now.store (SubmitStep number words.now size) }
     {
@@ -73,7 +74,8 @@ impl<P: Procedure, A: Allocator> Engine<P, A> {
         ])
     }
 
-    /// A new job of a tenant.
+    /// Submit: begins a new job of a tenant, whose root is ready in the hall. Tells the job's number and the root's
+    /// name. No step of the tenant is counted.
     pub(crate) fn submit(&mut self, number: u64, words: &[u64], size: usize) -> StepAnswer<P>
         requires { AreShaped self.old.store.tenants }
         ensures judged { IsJudged (P.functions self.old.procedure) self.old.store (SubmitStep number words.now size) result self.new.store }
@@ -89,7 +91,7 @@ impl<P: Procedure, A: Allocator> Engine<P, A> {
 
 // The admissions: these two steps alone take memory.
 impl<P: Procedure, A: Allocator + Clone> Engine<P, A> {
-    /// A tenant comes.
+    /// Admit: a new tenant with this reservation is there from now on. OutOfMemory where memory is refused.
     pub(crate) fn admit(&mut self, number: u64, reserve: Reserve) -> StepAnswer<P>
         ensures admitted { IsAdmitted (P.functions self.old.procedure) self.old.store (AdmitStep number reserve) result self.new.store }
         ensures procedure { self.new.procedure ≡ self.old.procedure }
@@ -98,7 +100,7 @@ impl<P: Procedure, A: Allocator + Clone> Engine<P, A> {
         as_memory_allows(self.store.admit(number, reserve), DidOf::Admitted)
     }
 
-    /// A tenant's reservation becomes this, if it is above what it was.
+    /// AdmitMore: raises a tenant's reservation to this. OutOfMemory where memory is refused.
     pub(crate) fn admit_more(&mut self, number: u64, reserve: Reserve) -> StepAnswer<P>
         ensures admitted { IsAdmitted (P.functions self.old.procedure) self.old.store (AdmitMoreStep number reserve) result self.new.store }
         ensures procedure { self.new.procedure ≡ self.old.procedure }
@@ -108,7 +110,7 @@ impl<P: Procedure, A: Allocator + Clone> Engine<P, A> {
     }
 }
 
-/// What an admission answers: that it was done, or that its memory was refused.
+/// The answer to an admission, by what the store's call gave: `done`, or OutOfMemory where its memory was refused.
 fn as_memory_allows<I: Copy>(
     taken: Result<(), AllocError>,
     done: DidOf<I>,

@@ -1,5 +1,5 @@
-//! The tests that decide a step, as functions over values: each answers what the definition of its
-//! name does.
+//! The tests that decide a step, as functions over values: each gives what the definition of the same name in
+//! `specs/Lone.antt` of `sched_rules` gives, where there is one.
 ghost use Rattle.std.specs.Prelude.{◌≡◌, ◌+◌, ◌≤◌, ◌==◌, ◌||◌, ◌∷◌, [], not, ℕ, false, List, length};
 ghost use Rattle.cactus_stack.specs.Nodes.{charge as charge_for};
 ghost use Rattle.frame_tree.specs.Frames.{Frame};
@@ -133,7 +133,8 @@ pub fn is_waiting(state: State) -> bool
     matches!(state, State::Waiting)
 }
 
-/// Whether what comes after the stores can't be done by a frame of so many words, with a child or none.
+/// Whether what comes after the stores can't be done by a frame of so many words: a growth by 0 or beyond 128 words,
+/// a child of an invalid size, or Compute where `has_child`. What the tenant has left isn't asked.
 pub fn is_bad_then(words: usize, has_child: bool, after: &Then) -> bool
     ensures { result ≡ is_bad_then_of words has_child after.now }
 {
@@ -145,14 +146,15 @@ pub fn is_bad_then(words: usize, has_child: bool, after: &Then) -> bool
     }
 }
 
-/// Whether an act can't be done on these words, by a frame with a child or none.
+/// Whether an act can't be done by a frame of these words, with a child where `has_child`: a store is beyond the
+/// words, or what comes after the stores can't be done. What the tenant has left isn't asked.
 pub fn is_bad_act(words: &Words, has_child: bool, act: &Act) -> bool
     ensures { result ≡ is_bad_act_of words.now has_child act.now }
 {
     is_outside(act.stores.as_slice(), words) || is_bad_then(words.len(), has_child, &act.after)
 }
 
-/// Whether this opens a child.
+/// Whether this is Spawn, which opens a child.
 pub fn is_spawn(after: &Then) -> bool
     ensures { result ≡ is_spawn_of after.now }
 {

@@ -19,7 +19,8 @@ use sched_store::Store;
 use std::alloc::Allocator;
 
 impl<P: Procedure, A: Allocator> Engine<P, A> {
-    /// Ok where a Finish of this frame by this worker would be taken, else its refusal.
+    /// Ok where a Finish of this frame by this worker would be taken; else NoTenant, NoFrame, NotReturned, NoSteps or
+    /// Busy.
     pub(crate) fn may_finish(&self, worker: Worker, name: FrameId) -> Result<(), Refusal>
         ensures refusal { refusal_in result ≡ shared_refusal (P.functions self.now.procedure) self.now.store (FinishStep worker name) }
     {
@@ -74,8 +75,8 @@ impl<P: Procedure, A: Allocator> Engine<P, A> {
         }
     }
 
-    /// Finish: the job of a returned root is done and keeps the root's first 76 words, and its frames are
-    /// removed.
+    /// Finish: the job of a returned root is done and keeps the root's first 76 words, and its frames are removed. A
+    /// step is counted. Tells the job's number.
     pub(crate) fn finish(&mut self, worker: Worker, name: FrameId) -> StepAnswer<P>
         requires { AreShaped self.old.store.tenants }
         ensures judged { IsJudged (P.functions self.old.procedure) self.old.store (FinishStep worker name) result self.new.store }
@@ -89,7 +90,7 @@ impl<P: Procedure, A: Allocator> Engine<P, A> {
         Ok(DidOf::Finished(job))
     }
 
-    /// Spend: a frame's job is given up, and all frames of the job are removed.
+    /// Spend: a frame's job is given up, and all frames of the job are removed. Tells the job's number.
     pub(crate) fn spend(&mut self, name: FrameId) -> StepAnswer<P>
         requires { AreShaped self.old.store.tenants }
         ensures judged { IsJudged (P.functions self.old.procedure) self.old.store (SpendStep name) result self.new.store }

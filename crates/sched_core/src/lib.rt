@@ -19,24 +19,25 @@
 //! functions there: one decides, by the tests of the definitions in their order, and `refusal` asks
 //! it; the other decides by the same tests and does the change, which can't be refused any more
 //! (`moves`: Take and Steal; `acts` and `performing`: Advance, Answer and Inlet; `begins`: Admit,
-//! AdmitMore and Submit; `ends`: Finish, Spend, Cancel and Leave). What a step makes of the procedure's answer it
-//! does where that answer stands: an act is large, and handing it back would copy it. The invariant
+//! AdmitMore and Submit; `ends`: Finish, Spend, Cancel and Leave). The function that asks the procedure for an act
+//! also does it: an act is large, and returning it would copy it. The invariant
 //! (`specs/Keeping.antt`) is that each tenant has its shape, which every step keeps: a tree by rising
 //! serial, no frame under one that computes or has returned, live jobs and roots one to one, nothing
-//! used beyond what is reserved. A core knows besides that all its frames fit, as long as its procedure
-//! told so of the root of each Submit that was offered (`asking`), and the procedure is told; no clause
-//! speaks of that, and the answers are the same either way.
+//! used beyond what is reserved. Besides, a core knows that all its frames fit (that the procedure's own
+//! invariant holds of them) as long as `Procedure::is_fitting_root` was true of each Submit so far, taken or
+//! refused (`asking`). The procedure is told this, so that it need not test words; no contract of a [`Core`]
+//! speaks of it, and the answers are the same either way.
 //!
 //! How a step is proved. Each test of `specs/Lone.antt` of `sched_rules` is a small function over values that
-//! the store was asked for, and the chain of them is `unless`. A segment that a tenant has left is there,
-//! since the reservations together are within the totals, so that what wasn't refused can't be: that is the
-//! only place where totals are looked at outside an admission. What a step does to its own tenant is one or
+//! the store was asked for, and the chain of them is `unless`. A segment that a tenant has left is free, since
+//! the reservations together are within the totals, so that no call of the store fails after the tests: that is
+//! the only place where totals are looked at outside an admission. What a step does to its own tenant is one or
 //! two equations of the store, whose shape says that no other tenant changes. Along a list,
 //! `no_tenant_is_disturbed` turns the right answers into the headline; the laws of fitting go by cases on the
 //! step, since a step changes the words of one frame and the children of one.
 //!
 //! What a step costs: one look-up for all that it decides by, one more for each change of the frame, and one
-//! call of the procedure. Frames, accounts and jobs stand where they are guessed to, or are searched for. An
+//! call of the procedure. Frames, accounts and jobs are looked for at a guessed place, and else searched for. An
 //! abort goes over the tenant's frames from its frame on, [`Core::live`] and the end of a job over all of them.
 //!
 //! ```text

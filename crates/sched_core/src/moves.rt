@@ -17,7 +17,8 @@ use sched_rules::{DidOf, Procedure, Refusal, Worker};
 use std::alloc::Allocator;
 
 impl<P: Procedure, A: Allocator> Engine<P, A> {
-    /// Whether the worker may run a ready frame of its own.
+    /// Ok where a Take of this frame by this worker would be taken; else NoTenant, NoFrame, NotReady, NotHere,
+    /// NoSteps or Busy.
     pub(crate) fn may_take(&self, worker: Worker, name: FrameId) -> Result<(), Refusal>
         ensures refusal { refusal_in result ≡ shared_refusal (P.functions self.now.procedure) self.now.store (TakeStep worker name) }
         ensures free { IfOk result (λ _. is_busy_among worker self.now.store.tenants ≡ false) }
@@ -31,7 +32,8 @@ impl<P: Procedure, A: Allocator> Engine<P, A> {
         )
     }
 
-    /// Whether the worker may run a ready frame whose home is another's.
+    /// Ok where a Steal of this frame from home `from` by this worker would be taken; else NoTenant, NoFrame,
+    /// NotReady, NotHere, NoSteps or Busy.
     pub(crate) fn may_steal(&self, worker: Worker, from: u8, name: FrameId) -> Result<(), Refusal>
         ensures refusal { refusal_in result ≡ shared_refusal (P.functions self.now.procedure) self.now.store (StealStep worker from name) }
         ensures free { IfOk result (λ _. is_busy_among worker self.now.store.tenants ≡ false) }
@@ -48,7 +50,7 @@ impl<P: Procedure, A: Allocator> Engine<P, A> {
         )
     }
 
-    /// The worker runs a ready frame of its own.
+    /// Take: the worker runs a ready frame whose home it is. A step is counted.
     pub(crate) fn take(&mut self, worker: Worker, name: FrameId) -> StepAnswer<P>
         ensures judged { IsJudged (P.functions self.old.procedure) self.old.store (TakeStep worker name) result self.new.store }
         ensures procedure { self.new.procedure ≡ self.old.procedure }
@@ -58,7 +60,8 @@ impl<P: Procedure, A: Allocator> Engine<P, A> {
         Ok(DidOf::Took)
     }
 
-    /// The worker runs a ready frame whose home is another's.
+    /// Steal: the worker runs a ready frame whose home is `from`, another worker or 0 for the hall. A step is
+    /// counted.
     pub(crate) fn steal(&mut self, worker: Worker, from: u8, name: FrameId) -> StepAnswer<P>
         ensures judged { IsJudged (P.functions self.old.procedure) self.old.store (StealStep worker from name) result self.new.store }
         ensures procedure { self.new.procedure ≡ self.old.procedure }
@@ -68,7 +71,8 @@ impl<P: Procedure, A: Allocator> Engine<P, A> {
         Ok(DidOf::Took)
     }
 
-    /// The worker runs the frame, and this step is counted. It held none before, or this one.
+    /// Puts a frame into Running by this worker, and counts a step of the tenant. Before, the worker ran or computed
+    /// no frame, or this one.
     #[inline(always)]
     pub(crate) fn run(&mut self, worker: Worker, name: FrameId)
         requires there { IsSome (named self.old.store name) }

@@ -1,7 +1,7 @@
 //! Advance, Answer and Inlet, done: what a procedure makes of a frame is stored, and the frame goes on.
 //!
-//! `fitting` says that all frames are known to fit, so that the procedure need not test their words
-//! (`Procedure::next_of`); the answers are the same either way.
+//! `fitting` says that all frames are known to fit (the procedure's invariant holds of them), so that the procedure
+//! need not test their words (`Procedure::next_of`); the answers are the same either way.
 ghost use Rattle.std.specs.Prelude.{◌≡◌, ◌||◌, ◌&&◌, not, true, ℕ, List, Some};
 ghost use Rattle.frame_tree.specs.Frames.{Frame, frame_at};
 ghost use Rattle.sched_rules.specs.Trees.{Tenant, has_child as has_child_in, is_root as is_root_path};
@@ -24,8 +24,8 @@ use sched_store::Store;
 use std::alloc::Allocator;
 
 impl<P: Procedure, A: Allocator> Engine<P, A> {
-    /// The worker brings the answer to what its frame asked to have computed: the frame stores what the
-    /// procedure makes of it, and runs again.
+    /// Answer: the worker brings the answer to the input of the frame that it computes; the frame stores what the
+    /// procedure makes of it, and runs again. A step is counted.
     pub(crate) fn answer(
         &mut self,
         worker: Worker,
@@ -43,7 +43,8 @@ impl<P: Procedure, A: Allocator> Engine<P, A> {
         Ok(DidOf::Answered)
     }
 
-    /// A running frame does its next act.
+    /// Advance: a frame that this worker runs does its next act, the stores and then what comes after them. A step is
+    /// counted.
     pub(crate) fn advance(&mut self, worker: Worker, name: FrameId, fitting: bool) -> StepAnswer<P>
         requires { IsKeptFitting (P.fits self.old.procedure) (P.rooted self.old.procedure) fitting self.old.store }
         ensures judged { IsJudged (P.functions self.old.procedure) self.old.store (AdvanceStep worker name) result self.new.store }
@@ -58,7 +59,8 @@ impl<P: Procedure, A: Allocator> Engine<P, A> {
         Ok(self.go_on(worker, name, is_root, &act.after))
     }
 
-    /// What comes after the stores of an act, of a root or a child.
+    /// Does what comes after the stores of an act, and tells what was done. `is_root` says whether the frame is a
+    /// root.
     #[inline(always)]
     fn go_on(&mut self, worker: Worker, name: FrameId, is_root: bool, after: &Then) -> Did<P>
         requires { (tenant : Tenant) × (frame : Frame (List ℕ)) × GoesOn self.old.store name worker after.now tenant frame }
@@ -105,8 +107,10 @@ impl<P: Procedure, A: Allocator> Engine<P, A> {
         }
     }
 
-    /// A returned frame is taken in by its parent and removed, at an abort with all other frames below the parent. A
-    /// parent that waits is woken at an abort, where the inlet says so, or where it has no child left.
+    /// Inlet: a returned frame is taken in by its parent, which does the inlet's stores, and is removed, at an abort
+    /// with all other frames below the parent. A parent that waits becomes ready at this worker at an abort, where
+    /// the inlet says so, or where it has no child left. A step is counted. Tells the parent if it was woken, and how
+    /// many other frames were removed.
     pub(crate) fn inlet(&mut self, worker: Worker, name: FrameId, fitting: bool) -> StepAnswer<P>
         requires { IsKeptFitting (P.fits self.old.procedure) (P.rooted self.old.procedure) fitting self.old.store }
         ensures judged { IsJudged (P.functions self.old.procedure) self.old.store (InletStep worker name) result self.new.store }
@@ -129,7 +133,8 @@ impl<P: Procedure, A: Allocator> Engine<P, A> {
     }
 }
 
-/// Removes a returned frame, and at an abort all other frames below its parent; how many these were.
+/// Removes a returned frame, and at an abort all other frames below its parent. Returns how many these others were; 0
+/// without an abort.
 fn take_out<A: Allocator>(store: &mut Store<A>, child: FrameId, parent: FrameId, abort: bool) -> u64
     requires { (tenant : Tenant) × (frame : Frame (List ℕ)) × MayBeTakenIn store.old child parent tenant frame }
     ensures left { store.new ≡ on_tenant child.tenant (staying_with child.serial parent.serial abort) store.old }
@@ -142,7 +147,8 @@ fn take_out<A: Allocator>(store: &mut Store<A>, child: FrameId, parent: FrameId,
     0
 }
 
-/// Whether a frame waits, and an inlet wakes it: it says so, or no child is left.
+/// Whether an inlet wakes this parent, after the child that it took in was removed: the parent waits, and the inlet
+/// aborts or says so, or no child is left.
 #[inline(always)]
 fn is_to_wake<A: Allocator>(
     store: &Store<A>,

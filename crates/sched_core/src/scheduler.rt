@@ -25,8 +25,8 @@ use tenant_quota::Left;
 #[derive(Drop)]
 pub struct Core<P: Procedure, A: Allocator = Global> {
     engine: Engine<P, A>,
-    // Whether all frames are known to fit: so far the procedure told so of the root of each Submit that was
-    // offered.
+    // Whether all frames are known to fit (the procedure's invariant holds of them): so far the procedure said that
+    // the root of each Submit fits, also of those that were refused.
     fitting: bool,
 }
 
@@ -73,7 +73,9 @@ impl<P: Procedure, A: Allocator> Core<P, A> {
         ensures kept_before { IsKept self.old.shared }
         ensures kept { IsKept self.new.shared }
 
-        // Where the new root of a taken Submit fits, so does every frame, and each job holds what it was asked.
+        // If all frames fit before the step, and so does the new root of a taken Submit, then all fit after it. The
+        // same holds of jobs: each live root, and what each done job keeps, belongs to the words that the job was
+        // submitted with (`Procedure::rooted`).
         ensures fitting { (origins : ℕ → List (List ℕ)) → CoreFits (P.fits self.old.procedure) (P.rooted self.old.procedure) origins self.old.shared
             → (is_ok result ≡ true → RootFits (P.fits self.old.procedure) (P.rooted self.old.procedure) step.now)
             → CoreFits (P.fits self.old.procedure) (P.rooted self.old.procedure) (origins_after origins step.now result) self.new.shared }

@@ -12,7 +12,8 @@ use std::alloc::Allocator;
 pub(crate) type StepAnswer<P> = Result<Did<P>, Refusal>;
 
 impl<P: Procedure, A: Allocator> Engine<P, A> {
-    /// Does one step: what it did, or its refusal. `fitting` says that all frames are known to fit.
+    /// Does one step: what it did, or its refusal. `fitting` says that all frames are known to fit (the procedure's
+    /// invariant holds of them); the result is the same without.
     #[inline(always)]
     pub(crate) fn step(&mut self, step: &Step<P>, fitting: bool) -> StepAnswer<P>
     where
@@ -37,8 +38,8 @@ impl<P: Procedure, A: Allocator> Engine<P, A> {
         }
     }
 
-    /// Why a step would be refused now, or None where it would be taken; that an admission may lack memory is
-    /// left aside. The `false` for Answer: frames aren't assumed to fit, which changes no result.
+    /// Why a step would be refused now; None where it would be taken, if an admission gets its memory. Nothing
+    /// changes. The `false` for Answer: frames aren't assumed to fit, which changes no result.
     pub(crate) fn refusal(&self, step: &Step<P>) -> Option<Refusal>
         ensures { result ≡ shared_refusal (P.functions self.now.procedure) self.now.store step.now }
     {
