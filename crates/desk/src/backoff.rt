@@ -14,7 +14,7 @@ const MOST: u32 = 32_768;
 /// The wait of a worker without a task: some 130 microseconds.
 const IDLE: u32 = 8_192;
 
-/// Each time the lock was free at the first try, the wait gets shorter by one part in so many: a 16th of itself.
+/// Each time the lock was free at the first try, the wait gets shorter by 1/16 of itself.
 const EASING: u32 = 16;
 
 /// How long a worker waits between two tries to take the lock.
@@ -34,7 +34,7 @@ impl Backoff {
         Backoff { pauses: IDLE }
     }
 
-    /// How long it waits, in pauses of the processor.
+    /// How long the worker waits before its next try, in pauses of the processor.
     pub(crate) fn pauses(self) -> u32 {
         self.pauses
     }

@@ -9,9 +9,9 @@ use hall::{DidOf, StepAnswer};
 pub(crate) enum Change {
     /// Nothing that anybody waits for.
     Nothing,
-    /// A frame became ready.
+    /// A frame became ready: a child was opened, or a waiting parent was woken.
     InReady,
-    /// A job ended.
+    /// A job ended: it was finished or spent.
     Job,
 }
 

@@ -23,9 +23,9 @@ use tenant_quota::{Left, Reserve};
 /// The hall under a lock, and the conditions that workers and seats wait for. `A` is the hall's allocator.
 pub struct Desk<L: Hands, A: Allocator = Global> {
     lock: Mutex<Kept<L, A>>,
-    /// Where workers wait for a frame to become ready.
+    /// Where workers wait until a frame is ready or the desk is closed.
     ready: Condvar,
-    /// Where seats wait for a job to end.
+    /// Where seats wait until their job has ended or the desk is closed.
     ended: Condvar,
 }
 
@@ -99,9 +99,10 @@ impl<L: Hands, A: Allocator + Clone> Desk<L, A> {
         self.enter(rt).reserve(seat, reserve)
     }
 
-    /// Submits a search of this position to a depth of 0 to 12 plies, wakes a worker, and returns the job's number,
-    /// which is the new length of the seat's list. Refused with `NoJobsLeft` where that list has 256 entries, else only
-    /// with `NoNodes`, `NoSegments` or `NoTenant`; then seat and hall are unchanged.
+    /// Submits a search of this position to a depth of 0 to 12 plies, and returns the job's number without waiting for
+    /// the job. The number is the new length of the seat's list. Wakes one worker that waits for a frame. Refused with
+    /// `NoJobsLeft` where that list has 256 entries, else only with `NoNodes`, `NoSegments` or `NoTenant`; then seat
+    /// and hall are unchanged.
     pub fn ask<R: Wait>(
         &self,
         rt: &R,
@@ -118,16 +119,17 @@ impl<L: Hands, A: Allocator + Clone> Desk<L, A> {
         Ok(job)
     }
 
-    /// How a job stands. `NoJob` exactly where its number is 0 or above the length of the seat's list; there is no
-    /// other refusal. It is `Done` only with a reply to the board and the depth at its place in that list.
+    /// How a job stands now, without waiting for it. `NoJob` exactly where its number is 0 or above the length of the
+    /// seat's list; there is no other refusal. It is `Done` only with a reply to the board and the depth at its place
+    /// in that list.
     pub fn get<R: Wait>(&self, rt: &R, seat: &Seat<L>, job: u64) -> Result<Outcome, Refusal>
         ensures { IsShown (seat_asked_at seat.now.asked job) result }
     {
         self.enter(rt).get(seat, job)
     }
 
-    /// Waits until a job has ended or the desk is closed, and answers as `get` does then. It doesn't wait for a job
-    /// that isn't there.
+    /// Waits until a job has ended or the desk is closed, and answers as `get` does then: `Pending` where the desk was
+    /// closed first. Where the hall has no such job it answers at once.
     pub fn wait<R: Wait>(&self, rt: &R, seat: &Seat<L>, job: u64) -> Result<Outcome, Refusal>
         ensures { IsShown (seat_asked_at seat.now.asked job) result }
     {
@@ -138,8 +140,9 @@ impl<L: Hands, A: Allocator + Clone> Desk<L, A> {
         kept.get(seat, job)
     }
 
-    /// Cancels a job, and wakes the seats that wait. `NoJob` where its number is 0 or above the length of the seat's
-    /// list, or it has ended; the only other refusal is `NoTenant`.
+    /// Cancels a job that hasn't ended: its frames are removed, and all seats that wait are woken, to look at their
+    /// jobs again. `NoJob` where its number is 0 or above the length of the seat's list, or it has ended; the only
+    /// other refusal is `NoTenant`.
     pub fn cancel<R: Wait>(&self, rt: &R, seat: &mut Seat<L>, job: u64) -> Result<(), Refusal>
         ensures share { MatchResult result (λ _. seat.new ≡ stepped seat.old) (λ _. seat.new ≡ seat.old) }
         ensures none { seat_asked_at seat.old.asked job ≡ None → result ≡ Err NoJob }
@@ -165,8 +168,9 @@ impl<L: Hands, A: Allocator + Clone> Desk<L, A> {
         self.enter(rt).live(seat.tenant())
     }
 
-    /// The seat's tenant leaves: its jobs, its frames and its reservation are gone. The seat's share is added to the
-    /// spare one, so its steps stay counted.
+    /// The seat's tenant leaves: its jobs, ended or not, its frames and its reservation are gone, and the seat is used
+    /// up. The seat's share is added to the spare one, so its steps stay counted. All seats that wait are woken, to
+    /// look at their jobs again.
     pub fn leave<R: Wait>(&self, rt: &R, seat: Seat<L>)
         requires { L.all ≡ L.parts }
     {
@@ -181,8 +185,9 @@ impl<L: Hands, A: Allocator + Clone> Desk<L, A> {
         self.enter(rt).badge()
     }
 
-    /// Offers a worker's step to the hall, and returns what it did or why it is refused. The badge's share is raised by
-    /// 1 exactly where the step was taken.
+    /// Locks the desk and offers a worker's step to the hall. Returns what the step did or why it is refused, which is
+    /// never `OutOfMemory`. The badge's share is raised by 1 exactly where the step was taken. A frame that became
+    /// ready wakes a worker that sleeps, if one does, and the end of a job all seats that wait.
     pub fn offer<R: Wait>(&self, rt: &R, badge: &mut Badge<L>, step: &Step<Jamboree>) -> StepAnswer
         requires { is_worker_step step.now ≡ true }
         ensures share { MatchResult result (λ _. badge.new ≡ badge.old + 1) (λ _. badge.new ≡ badge.old) }
@@ -195,7 +200,8 @@ impl<L: Hands, A: Allocator + Clone> Desk<L, A> {
     }
 
     /// Locks the desk for several steps of the worker with this badge: until [`Held::release`] all other threads wait.
-    /// This worker's waits for the lock get longer where it was taken, else a little shorter.
+    /// If the lock is free at the first try, the badge's backoff gets a little shorter; else it is doubled, and the
+    /// worker waits that long before each further try.
     pub fn hold<R: Wait>(&self, rt: &R, badge: &mut Badge<L>) -> Held<'_, L, A>
         ensures share { badge.new ≡ badge.old }
     {
@@ -218,8 +224,9 @@ impl<L: Hands, A: Allocator + Clone> Desk<L, A> {
         }
     }
 
-    /// A frame that is ready, with its home (a worker's number, or 0 for the hall). Waits until there is one or the
-    /// desk is closed; `None` only where it is closed.
+    /// Waits until a frame is ready or the desk is closed, and returns a ready frame with its home (a worker's number,
+    /// or 0 for the hall); `None` only where the desk is closed. The frame isn't taken: by the time that this worker
+    /// offers to take it, another may have it.
     pub fn next_ready<R: Wait>(&self, rt: &R) -> Option<(FrameId, u8)> {
         let mut kept = match self.lock.try_lock() {
             Some(kept) => kept,
@@ -233,21 +240,22 @@ impl<L: Hands, A: Allocator + Clone> Desk<L, A> {
         kept.next_ready()
     }
 
-    /// Closes the desk, so that nobody waits any more: `next_ready` answers `None`, and `wait` what `get` does. All
-    /// other calls go on as before.
+    /// Closes the desk for good, and wakes all who wait. From then on nobody waits: `next_ready` returns `None`, and
+    /// `wait` what `get` does. All other calls work as before, and no job or tenant is ended by this.
     pub fn close<R: Wait>(&self, rt: &R) {
         self.enter(rt).close();
         self.ready.notify_all();
         self.ended.notify_all();
     }
 
-    /// How many steps were taken since the hall was made.
+    /// How many steps the hall has taken since it was made, those before the desk included.
     pub fn count<R: Wait>(&self, rt: &R) -> u128 {
         self.enter(rt).count()
     }
 
-    /// Takes the hall out of the desk, and tells whether this badge has all parts of the ledger that were given out and
-    /// not returned. Where it has, all steps in the hall are those that the hall keeps and those of the badge.
+    /// Takes the hall out of the desk. True where this badge has all parts of the ledger that are out: every seat has
+    /// left, and every other badge was joined to this one. Then the hall's count of steps is its number `kept` (the
+    /// steps before the desk and those of the seats that have left) plus the badge's share.
     pub fn into_hall(self, badge: Badge<L>) -> (Hall<A>, bool)
         requires { L.all ≡ L.parts }
         ensures { result.1 ≡ true → count_of result.0 ≡ result.0.kept + badge }
@@ -261,7 +269,7 @@ impl<L: Hands, A: Allocator + Clone> Desk<L, A> {
     }
 }
 
-/// Spins as long as this backoff says.
+/// Spins as long as this backoff says; the thread doesn't sleep.
 fn pause(backoff: Backoff) {
     for _ in 0..backoff.pauses() {
         spin_loop();

@@ -26,8 +26,9 @@ pub struct Held<'d, L: Hands, A: Allocator = Global> {
 }
 
 impl<'d, L: Hands, A: Allocator + Clone> Held<'d, L, A> {
-    /// Offers a worker's step to the hall, and returns what it did or why it is refused. The badge's share is raised by
-    /// 1 exactly where the step was taken.
+    /// Offers a worker's step to the hall, and returns what it did or why it is refused, which is never `OutOfMemory`.
+    /// The badge's share is raised by 1 exactly where the step was taken. Nobody is woken before `release`. With a
+    /// badge whose share is 2^64 - 1 or more the call never returns.
     pub fn offer<R: Wait>(
         &mut self,
         rt: &R,

@@ -65,7 +65,8 @@ impl<L: Hands, A: Allocator> Model for Kept<L, A> {
 }
 
 impl<L: Hands, A: Allocator + Clone> Kept<L, A> {
-    /// A hall with a new ledger. The steps that it has taken so far are noted as kept (`Hall::keep`).
+    /// A hall with a new ledger. The number of steps that it has taken so far is stored in the hall as its number
+    /// `kept` (`Hall::keep`).
     pub(crate) fn new(hall: Hall<A>, blank: Blank) -> Kept<L, A>
         requires name { blank.name ≡ L.name }
         requires parts { (blank.parts ≡ L.parts) × (L.all ≡ L.parts) × (L.all ≡ PARTS) }
@@ -89,7 +90,7 @@ impl<L: Hands, A: Allocator + Clone> Kept<L, A> {
         }
     }
 
-    /// Offers a step to the hall; the share `mine` counts it if the hall took it.
+    /// Offers a step to the hall. If the hall takes it, the share `mine` and the book count it.
     fn take(&mut self, mine: &mut Share<L>, step: &Step<Jamboree>) -> StepAnswer
         requires search { IsSearch step.now }
         requires part { 0 < mine.old.parts }
@@ -123,8 +124,9 @@ impl<L: Hands, A: Allocator + Clone> Kept<L, A> {
         answer
     }
 
-    /// Admits a tenant under the number after the greatest so far, and returns its seat, whose share of 1 counts the
-    /// admission.
+    /// Admits a tenant under the number after the greatest so far, and returns its seat. The seat's share, with one
+    /// part of the spare one, is 1: it counts the admission. The refusals are the hall's: `Full`, `OldTenant`,
+    /// `OutOfMemory`.
     pub(crate) fn admit(&mut self, reserve: Reserve) -> Result<Seat<L>, Refusal>
         ensures seat { IfOk result (λ seat. seat ≡ record { tenant = self.old.hall.shared.newest + 1; share = 1; asked = [] }) }
         ensures step { MatchResult result
@@ -157,7 +159,8 @@ impl<L: Hands, A: Allocator + Clone> Kept<L, A> {
         }
     }
 
-    /// Raises the reservation of a seat's tenant to this one.
+    /// Raises the reservation of a seat's tenant to this one. The refusals are the hall's: `NoTenant`, `Lower`, `Full`,
+    /// `OutOfMemory`; then nothing changes.
     pub(crate) fn reserve(&mut self, seat: &mut Seat<L>, reserve: Reserve) -> Result<(), Refusal>
         ensures share { MatchResult result (λ _. seat.new ≡ stepped seat.old) (λ _. seat.new ≡ seat.old) }
         ensures step { MatchResult result
@@ -171,8 +174,9 @@ impl<L: Hands, A: Allocator + Clone> Kept<L, A> {
         Ok(())
     }
 
-    /// Submits the search of a position for a seat, and returns the job's number. Where the seat has 256 jobs the hall
-    /// isn't asked, and the refusal is `NoJobsLeft`.
+    /// Submits the search of a position for a seat, adds it to the seat's list, and returns the job's number, the
+    /// list's new length. Where the list has 256 entries the hall isn't asked, and the refusal is `NoJobsLeft`. At any
+    /// refusal nothing changes.
     pub(crate) fn ask(
         &mut self,
         seat: &mut Seat<L>,
@@ -201,7 +205,7 @@ impl<L: Hands, A: Allocator + Clone> Kept<L, A> {
     }
 
     /// Cancels a seat's job. Where the seat asked for no job of this number the hall isn't asked, and the refusal is
-    /// `NoJob`.
+    /// `NoJob`; the hall refuses with `NoJob` where the job has ended, and with `NoTenant`.
     pub(crate) fn cancel(&mut self, seat: &mut Seat<L>, job: u64) -> Result<(), Refusal>
         ensures share { MatchResult result (λ _. seat.new ≡ stepped seat.old) (λ _. seat.new ≡ seat.old) }
         ensures none { seat_asked_at seat.old.asked job ≡ None → (result ≡ Err NoJob) × (self.new ≡ self.old) }
@@ -264,7 +268,8 @@ impl<L: Hands, A: Allocator + Clone> Kept<L, A> {
         self.closed || self.hall.core().any_ready().is_some()
     }
 
-    /// A frame that is ready, with its home. `None` where no frame is ready or the desk is closed.
+    /// A frame that is ready, with its home; `None` where no frame is ready or the desk is closed. The frame isn't
+    /// taken: it stays ready until a worker's step takes it.
     pub(crate) fn next_ready(&self) -> Option<(FrameId, u8)>
         ensures { IsNext self.now result }
     {
@@ -296,14 +301,14 @@ impl<L: Hands, A: Allocator + Clone> Kept<L, A> {
         self.sleepers > 0
     }
 
-    /// Closes the desk: nobody waits any more.
+    /// Marks the desk as closed. To wake those who wait is the caller's part.
     pub(crate) fn close(&mut self)
         ensures { self.new ≡ record self.old { closed = true } }
     {
         self.closed = true;
     }
 
-    /// How many steps were taken since the hall was made.
+    /// How many steps the hall has taken since it was made, those before the desk included.
     pub(crate) fn count(&self) -> u128
         ensures { result ≡ count_of self.now.hall }
     {
@@ -324,7 +329,7 @@ impl<L: Hands, A: Allocator + Clone> Kept<L, A> {
         self.hall.core().live(tenant).ok_or(Refusal::NoTenant)
     }
 
-    /// A new badge, with one part and a share of 0. `None` only after 2^62 badges.
+    /// A new badge with a share of 0, which has one part of the spare share. `None` only after 2^62 badges.
     pub(crate) fn badge(&mut self) -> Option<Badge<L>>
         ensures share { IfSome result (λ badge. badge ≡ 0) }
         ensures same { self.new ≡ self.old }
@@ -345,7 +350,8 @@ impl<L: Hands, A: Allocator + Clone> Kept<L, A> {
         })
     }
 
-    /// A seat's tenant leaves. The hall keeps the seat's steps, and this one where it was taken.
+    /// A seat's tenant leaves: its jobs, frames and reservation are removed. The seat's steps, and this one where it
+    /// was taken, are added to the hall's number `kept`, and the seat's share to the spare one.
     pub(crate) fn leave(&mut self, seat: Seat<L>)
         requires { L.all ≡ L.parts }
         ensures step { IsLeft self.old.hall seat self.new.hall }
@@ -363,7 +369,7 @@ impl<L: Hands, A: Allocator + Clone> Kept<L, A> {
         }
     }
 
-    /// Adds the share of a seat that has left to the spare one, and its steps to those that the hall keeps.
+    /// Adds the share of a seat that has left to the spare one, and its number of steps to the hall's number `kept`.
     fn keep_share(&mut self, mine: Share<L>, steps: u128)
         requires all { L.all ≡ L.parts }
         requires amount { mine.amount ≡ steps }
@@ -379,8 +385,8 @@ impl<L: Hands, A: Allocator + Clone> Kept<L, A> {
         self.hall.keep(kept + steps);
     }
 
-    /// Takes the hall out, and tells whether this badge has all parts that are out. Where it has, all steps in the hall
-    /// are those that it keeps and those of the badge.
+    /// Takes the hall out. True where this badge has all parts of the ledger that the spare share hasn't. Then the
+    /// hall's count of steps is its number `kept` plus the badge's share.
     pub(crate) fn closed(self, badge: Badge<L>) -> (Hall<A>, bool)
         requires { L.all ≡ L.parts }
         ensures same { result.0 ≡ self.hall }
@@ -422,8 +428,8 @@ fn seat_asked_at(asked: &[SeatAsked], job: u64) -> Option<&SeatAsked>
     }
 }
 
-/// How a job that asked this is shown, by what the hall tells of it: `Pending` in place of a reply to another board or
-/// depth, and where the hall has no such job.
+/// What a seat is told of a job by which it asked this, where `told` is the hall's outcome of it: that outcome, but
+/// `Pending` in place of a reply to another board or depth, and where the hall has no such job (`None`).
 fn shown(asked: &SeatAsked, told: Option<Outcome>) -> Outcome
     ensures fits { Shows asked.now result }
     ensures told { IsShownOf asked.now told result }

@@ -1,15 +1,15 @@
 //! The lock with the hall in it, and who may take steps.
 //!
-//! A [`Desk`] is shared by all threads. A [`Seat`] is one tenant's: it asks for positions, shows what
-//! became of them, cancels, and leaves. A [`Badge`] is one worker's: it offers the steps of workers
-//! ([`Desk::offer`], or several by [`Desk::hold`]). Each call locks the hall, does its steps there,
-//! counts them, and lets go: nothing is computed under the lock. Who waits, waits by one of two condition
-//! variables: a worker until some frame is ready ([`Desk::next_ready`]), a seat until its job has ended
-//! ([`Desk::wait`]); a step wakes only those who wait for what it changed.
+//! A [`Desk`] is shared by all threads. A [`Seat`] is one tenant's: it asks for positions, shows what became of them,
+//! cancels, and leaves. A [`Badge`] is one worker's: it offers the steps of workers ([`Desk::offer`], or several by
+//! [`Desk::hold`]). Each call locks the hall, does its steps there, counts them, and lets go: nothing is computed under
+//! the lock. There are two condition variables to wait at: a worker waits until some frame is ready
+//! ([`Desk::next_ready`]), a seat until its job has ended ([`Desk::wait`]); a step wakes only those who wait for what
+//! it changed.
 //!
-//! What a call did to the hall, no contract of a call that locks can say. So each call's step is the
-//! contract of the method of what lies under the lock (`kept`), and tests show that the desk calls it. What
-//! the threads carry says the rest: a seat's and a badge's share count their own taken steps, as
+//! The contract of a call that locks can't say what the call did to the hall. That is said by the contract of a method
+//! of what lies under the lock (`kept`), and tests show that the call calls that method. What the
+//! threads carry says the rest: a seat's and a badge's share count their own taken steps, as
 //! shares of one ledger (`std::sync::ledger`) whose book lies under the lock. So at the end, where
 //! [`Desk::into_hall`] answers true, all steps in the hall are those that it keeps and those of the
 //! badge: no taken call was dropped, and nobody else took a step.

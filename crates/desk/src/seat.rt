@@ -29,8 +29,8 @@ impl Default for SeatAsked {
     }
 }
 
-/// What a tenant calls the desk with. Contracts see the tenant's number, the seat's share, which counts its own taken
-/// steps, and the list of what it asked.
+/// A tenant's place at the desk, which its calls are made with. Contracts see the tenant's number, the seat's share,
+/// which counts its own taken steps, and the list of what it asked.
 #[derive(Drop)]
 pub struct Seat<L: Hands> {
     pub(crate) tenant: u64,
@@ -70,7 +70,7 @@ impl<L: Hands> Seat<L> {
         self.asked.as_slice()
     }
 
-    /// Its share: its own steps that were taken, from its admission on.
+    /// Its share: how many of its own steps were taken, its admission included.
     pub fn share(&self) -> u128
         ensures { result ≡ self.now.share }
     {

@@ -1,4 +1,4 @@
-//! Shares of the steps that were taken.
+//! A worker's badge, and the ledger of which its share is a part.
 ghost use Rattle.std.specs.Prelude.{◌≡◌, ℕ, ◌+◌, ◌*◌, ◌<◌, ◌≤◌};
 
 use crate::backoff::Backoff;
@@ -7,12 +7,13 @@ use std::sync::ledger::{Ledger, Share};
 
 /// A type that stands for the ledger of one desk.
 pub trait Hands: Ledger {
-    /// How many parts the ledger has, as `parts` of `Ledger` says: the invariants of `Badge` and `Kept` are stated by
-    /// this.
+    /// How many parts the ledger has. The invariants of `Badge` and `Kept` speak of this number; most calls require
+    /// that it is the `parts` of `Ledger`.
     ghost all: { ℕ };
 }
 
-// A call may pass `Brand` for `L`; its proof then picks the members, in place of these.
+// So that a call may pass `Brand` for `L`. The proof of that call then chooses the ghost members; the 0 here isn't
+// used.
 impl Hands for Brand {
     ghost all = { 0 };
 }
@@ -52,7 +53,7 @@ impl<L: Hands> Badge<L> {
         self.steps
     }
 
-    /// One badge in place of two, with the sum of their shares.
+    /// One badge in place of two, with the sums of their shares and of their parts, and the waits of the first.
     pub fn join(self, other: Badge<L>) -> Badge<L>
         requires { L.all ≡ L.parts }
         ensures { result ≡ self + other }

@@ -48,7 +48,8 @@ impl<L: Hands, R: Wait, A: Allocator + Clone> Office for DeskOffice<'_, L, R, A>
 
     ghost ready = { L.all == L.parts };
 
-    /// `OldTenant` where a tenant is there already, else what the desk's `admit` answers.
+    /// Takes a seat at the desk for a new tenant. `OldTenant` where a tenant is there already; else the refusals are
+    /// those of the desk's `admit`: `Full`, `OutOfMemory`, and `OldTenant` after 2^62 tenants.
     fn hello(&mut self, reserve: Reserve) -> Result<(), Refusal> {
         if self.seat.is_some() {
             return Err(Refusal::OldTenant);
@@ -57,7 +58,8 @@ impl<L: Hands, R: Wait, A: Allocator + Clone> Office for DeskOffice<'_, L, R, A>
         Ok(())
     }
 
-    /// `NoTenant` where no tenant is there, else what the desk answers.
+    /// Raises the reservation. `NoTenant` where no tenant is there; else the refusals are those of the desk's
+    /// `reserve`: `Lower`, `Full`, `OutOfMemory`, `NoTenant`.
     fn reserve(&mut self, reserve: Reserve) -> Result<(), Refusal> {
         match &mut self.seat {
             Some(seat) => self.desk.reserve(self.rt, seat, reserve),
@@ -65,7 +67,8 @@ impl<L: Hands, R: Wait, A: Allocator + Clone> Office for DeskOffice<'_, L, R, A>
         }
     }
 
-    /// `NoTenant` where no tenant is there, else what the desk answers.
+    /// Submits the question's search and returns the job's number, without waiting for it. `NoTenant` where no tenant
+    /// is there; else the refusals are those of the desk's `ask`: `NoJobsLeft`, `NoNodes`, `NoSegments`, `NoTenant`.
     fn ask(&mut self, question: &Question) -> Result<u64, Refusal> {
         match &mut self.seat {
             Some(seat) => self
@@ -75,7 +78,8 @@ impl<L: Hands, R: Wait, A: Allocator + Clone> Office for DeskOffice<'_, L, R, A>
         }
     }
 
-    /// `NoJob` where no tenant is there, else what the desk answers.
+    /// How the job stands now, without waiting for it. `NoJob` where no tenant is there, or the number is 0 or above
+    /// that of the tenant's last job; there is no other refusal.
     fn get(&mut self, job: u64) -> Result<Standing, Refusal> {
         match &self.seat {
             Some(seat) => told_answer(self.desk.get(self.rt, seat, job)),
@@ -83,7 +87,9 @@ impl<L: Hands, R: Wait, A: Allocator + Clone> Office for DeskOffice<'_, L, R, A>
         }
     }
 
-    /// `NoJob` where no tenant is there, else what the desk answers once the job has ended or the desk is closed.
+    /// How the job stands once it has ended or the desk is closed (`Pending` where it was closed first). `NoJob`, at
+    /// once, where no tenant is there, or the number is 0 or above that of the tenant's last job; there is no other
+    /// refusal.
     fn wait(&mut self, job: u64) -> Result<Standing, Refusal> {
         match &self.seat {
             Some(seat) => told_answer(self.desk.wait(self.rt, seat, job)),
@@ -91,7 +97,8 @@ impl<L: Hands, R: Wait, A: Allocator + Clone> Office for DeskOffice<'_, L, R, A>
         }
     }
 
-    /// `NoJob` where no tenant is there, else what the desk answers.
+    /// Cancels the job and removes its frames. `NoJob` where no tenant is there, or the tenant has no job of this
+    /// number that hasn't ended; else the desk can only refuse with `NoTenant`.
     fn cancel(&mut self, job: u64) -> Result<(), Refusal> {
         match &mut self.seat {
             Some(seat) => self.desk.cancel(self.rt, seat, job),
@@ -99,7 +106,7 @@ impl<L: Hands, R: Wait, A: Allocator + Clone> Office for DeskOffice<'_, L, R, A>
         }
     }
 
-    /// `NoTenant` where no tenant is there, else what the desk answers.
+    /// What the tenant has left of its reservation now. `NoTenant` where no tenant is there; there is no other refusal.
     fn quota(&mut self) -> Result<Left, Refusal> {
         match &self.seat {
             Some(seat) => self.desk.quota(self.rt, seat),
@@ -107,7 +114,7 @@ impl<L: Hands, R: Wait, A: Allocator + Clone> Office for DeskOffice<'_, L, R, A>
         }
     }
 
-    /// `NoTenant` where no tenant is there, else what the desk answers.
+    /// How many frames and words the tenant has now. `NoTenant` where no tenant is there; there is no other refusal.
     fn live(&mut self) -> Result<Live, Refusal> {
         let Some(seat) = &self.seat else {
             return Err(Refusal::NoTenant);
@@ -119,7 +126,8 @@ impl<L: Hands, R: Wait, A: Allocator + Clone> Office for DeskOffice<'_, L, R, A>
         })
     }
 
-    /// The tenant leaves the desk, if one is there; else nothing happens.
+    /// The tenant leaves the desk, with its jobs, frames and reservation, and the office has no seat then. Nothing
+    /// happens where no tenant is there.
     fn leave(&mut self) {
         if let Some(seat) = self.seat.take() {
             self.desk.leave(self.rt, seat);

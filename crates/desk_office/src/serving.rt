@@ -9,10 +9,12 @@ use session::{End, SessionFault, each_done_line_is_true, serve_lines};
 use std::alloc::Allocator;
 use std::sync::Wait;
 
-/// Serves one session of one tenant at a desk (`serve_lines`). Each line `DONE k` that it writes has the minimax value
-/// and the best choice of the position and the depth of the k-th `ASK` line that was answered by `JOB`, and each line
-/// `TABLE k` with entries their table. The lines alone can't tell which steps led to a QUOTA, a LIVE, a SPENT or a
-/// refusal by 10 or 11: the contracts of what lies under the desk's lock do (`desk`, `hall`).
+/// Serves one session of one tenant at a desk, up to a line `BYE`, the end of the source, or a failure of source or
+/// sink (`serve_lines`); in each case the tenant has left when it returns. Each line `DONE k` that it writes has the
+/// minimax value and the best choice of the position and the depth of the k-th `ASK` line that was answered by `JOB`,
+/// and each line `TABLE k` with entries their table. The lines alone can't tell which steps led to a QUOTA, a LIVE, a
+/// SPENT or a refusal by 10 or 11 (`NoSegments`, `NoNodes`): the contracts of what lies under the desk's lock do
+/// (`desk`, `hall`).
 pub fn serve_desk<S: Source, K: Sink, L: Hands, R: Wait, A: Allocator + Clone>(
     rt: &R,
     source: &mut S,

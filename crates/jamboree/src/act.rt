@@ -16,7 +16,8 @@ use jamboree_rules::sched_rules::{Act, InletAct, Stores, Then};
 use othello_board::Board;
 
 impl NewChild {
-    /// To open it, and that its choice stands so then, after these stores.
+    /// The order to open this child. Adds the store of its choice's new entry, with this status and this rest, at the
+    /// end of the stores.
     #[inline(always)]
     fn open(&self, stores: &mut Stores, status: Status, rest: EntryRest) -> Then
         requires { length stores.old ≤ 7 }
@@ -29,7 +30,7 @@ impl NewChild {
 }
 
 impl Plan {
-    /// The act.
+    /// The act that carries out the plan: what the frame stores, and what it does after that.
     #[inline(always)]
     pub(crate) fn act(self) -> Act
         ensures { result ≡ act_for self }
@@ -83,7 +84,7 @@ impl Plan {
     }
 }
 
-/// The board of a new frame, after these stores.
+/// Adds the two stores of a frame's board at the end of the stores.
 #[inline(always)]
 fn set_board(stores: &mut Stores, board: Board)
     requires { length stores.old ≤ 6 }
@@ -93,8 +94,8 @@ fn set_board(stores: &mut Stores, board: Board)
     set(stores, Change::OppBits(board.opp));
 }
 
-/// The best score and that a choice is settled, after these stores; where a code is given, it is that of
-/// the choice with this score.
+/// Adds, at the end of the stores, those for a choice that is settled: the frame's best score, its best choice where
+/// this one's code is given, and the choice's entry.
 #[inline(always)]
 fn settle(stores: &mut Stores, told: Settling, code: Option<u64>)
     requires { length stores.old ≤ 5 }
@@ -111,7 +112,7 @@ fn settle(stores: &mut Stores, told: Settling, code: Option<u64>)
     );
 }
 
-/// To do this, and to store nothing.
+/// The act of a frame that stores nothing and does this.
 #[inline(always)]
 fn without_stores(after: Then) -> Act
     ensures { result ≡ record { stores = []; after = after } }
@@ -123,7 +124,7 @@ fn without_stores(after: Then) -> Act
 }
 
 impl Said {
-    /// The rest of the choice's entry then.
+    /// What is now known of the choice, as the rest of its entry (all but the status).
     #[inline(always)]
     fn rest(&self) -> EntryRest
         ensures { result.word ≡ rest_said self.now }
@@ -133,7 +134,7 @@ impl Said {
 }
 
 impl Verdict {
-    /// What is stored of it.
+    /// The stores on the frame's words by which the verdict is carried out.
     #[inline(always)]
     fn stores(self) -> Stores
         ensures { result ≡ stores_for self }
@@ -166,7 +167,8 @@ impl Verdict {
 }
 
 impl Intake {
-    /// The inlet.
+    /// The act of the frame's inlet: the verdict's stores, whether all else below the frame is aborted, and that the
+    /// frame is woken.
     #[inline(always)]
     pub(crate) fn inlet(self) -> InletAct
         ensures { result ≡ inlet_for self }

@@ -6,36 +6,40 @@ ghost use Rattle.jamboree.specs.Numbers.{frame_by};
 use crate::phases::{Phase, Role};
 use othello_board::Board;
 
-/// How a board is searched.
+/// How a board is searched: to which depth, and with which window.
 #[derive(Clone, Copy)]
 pub(crate) struct Goal {
-    /// The depth left.
+    /// The remaining depth, in plies.
     pub(crate) depth: u8,
-    /// The window.
+    /// The lower end of the window.
     pub(crate) alpha: i32,
+    /// The upper end of the window.
     pub(crate) beta: i32,
 }
 
 /// A frame: what its first twelve words say.
 #[derive(Drop)]
 pub(crate) struct View {
-    /// The board, seen by the player to move. A new child doesn't know its own yet.
+    /// The board, seen by the player to move. A child in phase `New` has none yet: both words are 0.
     pub(crate) board: Board,
-    /// How it is searched.
+    /// The remaining depth, and the window.
     pub(crate) goal: Goal,
     /// What the frame is to its parent.
     pub(crate) role: Role,
-    /// The number of its choice among the parent's.
+    /// The number of the choice that it searches, from 0, among its parent's. A root's isn't used.
     pub(crate) number: u64,
     /// How far it has come.
     pub(crate) phase: Phase,
-    /// The best score so far; -1,000,000 before the first search.
+    /// The best score so far: -1,000,000 in the phases `New` and `Computing`, and -200,000 in `First`.
     pub(crate) best: i32,
-    /// The code of the choice that has it: 0 to 63 a square, 64 a pass, 65 none.
+    /// The code of the best choice: 0 to 63 a square, 64 a pass, 65 none. It is the last choice whose child's score was
+    /// above the floor (alpha and the best score before it), or that of a computation's answer. It means nothing in the
+    /// phases `New` and `Computing`.
     pub(crate) choice: u64,
-    /// How many choices it searches.
+    /// How many entries of choices stand after the twelve words: one for each choice of the board in the phases `First`
+    /// and `Tests`, none in `New` and `Computing`.
     pub(crate) count: usize,
-    /// How many of them were spawned.
+    /// For how many of these choices, from the first on, a child was opened.
     pub(crate) spawned: usize,
     ghost form: { is_frame (frame_by board.own board.opp goal.depth goal.alpha goal.beta role number phase best choice count spawned [] []) ≡ true },
     ghost few: { count ≤ 116 },

@@ -1,9 +1,10 @@
-//! What an inlet does, in few words: it is made of them once, at the end.
+//! What an inlet does, as a small value: the inlet's act, which is large, is made of it once, at the end.
 ghost use Rattle.std.specs.Prelude.{◌≤◌, ◌≤ℤ◌, pos, negsuc};
 
 use crate::entry::Known;
 
-/// What a child says of its choice: the number of the choice, and what is known of it now.
+/// What a returned child tells its parent: the number of the choice that it searched, and what is known of that choice
+/// by the child's score.
 #[derive(Drop)]
 pub(crate) struct Said {
     pub(crate) number: usize,
@@ -13,7 +14,8 @@ pub(crate) struct Said {
     ghost high: { known.score ≤ℤ pos 1000000 },
 }
 
-/// What a child says of its choice, which is settled by it, and the frame's best score from then on.
+/// What a returned child tells its parent of a choice that needs no more search, and the parent's best score from then
+/// on.
 #[derive(Drop)]
 pub(crate) struct Settling {
     pub(crate) best: i32,
@@ -22,17 +24,18 @@ pub(crate) struct Settling {
     ghost high: { best ≤ℤ pos 1000000 },
 }
 
-/// What a frame does about a returned child, by the child's score. The number in `Ended` and `Raised` is the code
-/// of the child's choice.
+/// What a frame does about a returned child, by the child's score as the frame sees it (negated). The number in `Ended`
+/// and `Raised` is the code of the choice that the child searched, which becomes the frame's best choice. "Settled"
+/// means that the choice needs no more search.
 #[derive(Drop)]
 pub(crate) enum Verdict {
     /// Nothing: the words aren't those of a frame and of a child of it.
     Nothing,
     /// The score is at least the frame's beta: the frame is done.
     Ended(Settling, u64),
-    /// A test's score isn't above its window: the choice is settled.
+    /// A test's score is at or below the lower end of its window: the choice is settled.
     Low(Settling),
-    /// A test's score is above its window: the choice is to be searched again.
+    /// A test's score is above the lower end of its window: the choice is to be searched again.
     Failed(Said),
     /// A full search's score is above the floor, the greater of alpha and the best score: its choice is settled,
     /// and the best so far.

@@ -8,8 +8,8 @@
 //! frame's words once into a typed view (`view`, the one module that knows places; `entry` takes the
 //! entry of a choice apart), decides by it on a plan or an intake (`plan`, `intake`), and answers with
 //! just these acts, each made once (`act`).
-//! Words that have not the form of a frame return, and their inlet only wakes; of frames that are
-//! known to fit the form isn't tested.
+//! A frame whose words don't have the form of a frame returns, and its inlet only wakes it. Where frames
+//! are known to fit, their form isn't tested.
 //!
 //! `Jamboree` is a lawful procedure: whatever the order of spawns, steals, inlets and aborts, each
 //! frame fits its children (`AreFitting`), and the words that a job keeps of its returned root give a

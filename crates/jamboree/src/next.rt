@@ -156,7 +156,7 @@ fn test(frame: &View, number: usize, rest: EntryRest) -> Plan
     Plan::Starts(child, rest)
 }
 
-/// What a frame that isn't new, and has these words, does next: it goes by the phase.
+/// What a frame that isn't new does next, by its phase. `words` are all of its words. One that is done returns.
 #[inline(always)]
 pub(crate) fn later(frame: &View, words: &Words) -> Plan
     requires later { (frame_in frame.now).phase ≢ 0 }
@@ -171,8 +171,8 @@ pub(crate) fn later(frame: &View, words: &Words) -> Plan
     }
 }
 
-/// What a root with these words does next. Whatever the grain, one worker computes it by itself only at depth 0
-/// or where the game is over; else it has an entry for each choice.
+/// What a root does next; `words` are all of its words. Whatever the grain, one worker computes it by itself only at
+/// depth 0 or where the game is over; else it gets an entry for each choice at its first act.
 #[inline(always)]
 pub(crate) fn of_root(grain: u8, frame: &View, words: &Words) -> Plan
     requires { length words.now ≡ 12 + frame.now.count }

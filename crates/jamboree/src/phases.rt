@@ -13,7 +13,7 @@ pub(crate) enum Phase {
     First,
     /// Its other choices are tested, and searched again where a test failed.
     Tests,
-    /// It is done: its best score is a bound of its minimax value.
+    /// It is done: its best score is its minimax value, or a bound of it where the score isn't inside the window.
     Done,
 }
 

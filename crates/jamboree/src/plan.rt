@@ -1,6 +1,7 @@
-//! What a frame does next, in few words.
+//! What a frame does next, as a small value.
 //!
-//! An act is a large value, so what decides answers a plan, and the act is made of it once, at the end.
+//! An act is a large value. So the functions that decide return a plan, and the act is made of the plan once, at the
+//! end.
 ghost use Rattle.std.specs.Prelude.{◌≤◌, ◌≤ℤ◌, pos, negsuc};
 
 use crate::entry::EntryRest;
@@ -11,11 +12,11 @@ use othello_board::Board;
 /// A child to open.
 #[derive(Drop)]
 pub(crate) struct NewChild {
-    /// How it is searched.
+    /// The remaining depth and the window of its search.
     pub(crate) goal: Goal,
     /// What it is to its parent.
     pub(crate) role: Role,
-    /// The number of its choice.
+    /// The number of the choice that it searches, from 0, among its parent's.
     pub(crate) number: usize,
     ghost low: { negsuc 999999 ≤ℤ goal.alpha },
     ghost high: { goal.alpha ≤ℤ pos 1000000 },
@@ -24,23 +25,25 @@ pub(crate) struct NewChild {
     ghost few: { number ≤ 128 },
 }
 
-/// What a frame does next.
+/// What a frame does next. "Computed" means: searched by one worker without children, outside the scheduler's lock.
 #[derive(Drop)]
 pub(crate) enum Plan {
-    /// It returns.
+    /// It returns, and stores nothing.
     Returns,
-    /// It waits for a child.
+    /// It waits for a child, and stores nothing.
     Waits,
-    /// It is computed outside.
+    /// It is computed, and stores nothing.
     Computes,
-    /// It is done, and returns.
+    /// All its choices are settled: it stores that it is done, and returns.
     Ends,
-    /// It has this board, and is computed outside.
+    /// It stores this board, as its own, and is computed.
     Computed(Board),
-    /// It has this board, and so many choices to search.
+    /// It stores this board, as its own, and grows by an entry for each of the board's choices, whose count is given.
     Counts(Board, usize),
-    /// The first search of a choice, or its test, starts. What is known of the choice stays.
+    /// It opens this child, for the first search of a choice or its test. The choice's entry keeps its rest (what is
+    /// known of the choice); its status is `Runs`.
     Starts(NewChild, EntryRest),
-    /// A choice is searched again. What is known of it stays.
+    /// It opens this child, to search a choice again. The choice's entry keeps its rest (what is known of the choice);
+    /// its status is `RunsAgain`.
     Again(NewChild, EntryRest),
 }

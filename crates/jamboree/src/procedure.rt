@@ -26,8 +26,9 @@ use jamboree_rules::sched_rules::{Act, InletAct, Procedure, Stores};
 use jamboree_rules::{Leaf, LeafAnswer};
 use othello_moves::choice_count;
 
-/// Jamboree search. A frame of a remaining depth of at most `grain` is searched serially by one worker. With a
-/// root that is done only at depth 0 or in a finished game; any other root has an entry for each of its choices.
+/// Jamboree search. A frame that isn't a root is searched by one worker, without children, where its remaining depth is
+/// at most `grain` or its game is over; a root only at depth 0 or where its game is over. Any other frame gets an entry
+/// for each of its choices, and a child for each that is searched.
 #[derive(Clone, Copy, Debug, PartialEq, Eq)]
 pub struct Jamboree {
     /// The greatest depth that one worker searches by itself, 0 to 6.
@@ -102,8 +103,8 @@ fn plan_under(grain: u8, frame: &View, own: &Words, parent: &View) -> Plan
     }
 }
 
-/// What a frame in the words `own` does next under a parent in the words `above`, whose form is checked. It
-/// returns where they don't have the form of a frame, or it can't be a child of that parent.
+/// What a frame in the words `own` does next under a parent in the words `above`, whose form is checked. It returns
+/// where `above` doesn't have the form of a frame, or the frame can't be a child of that parent.
 fn plan_below(grain: u8, frame: &View, own: &Words, above: &Words) -> Plan
     requires { length own.now ≡ 12 + frame.now.count }
     ensures { act_for result ≡ (if is_formed above.now && may_be_child (frame_of above.now) (frame_in frame.now) then act_of grain (frame_with frame.now (entries_of own.now)) (Some (frame_of above.now)) else returns) }
@@ -251,8 +252,9 @@ impl Procedure for Jamboree {
         plan_seen(self.grain, sight).act()
     }
 
-    /// Stores what the child's score says of its choice, and wakes the frame. Where the words don't have the form
-    /// of a frame and of a child of it, it only wakes.
+    /// Stores what the child's score says of its choice, and wakes the frame. At a score of at least the frame's beta
+    /// it also stores that the frame is done, and aborts all else below it. Where the words don't have the form of a
+    /// frame and of a child of it, it only wakes.
     fn inlet(&self, own: &Words, child: &Words) -> InletAct {
         intake_seen(own, child).inlet()
     }
@@ -276,24 +278,28 @@ impl Procedure for Jamboree {
         answered(answer)
     }
 
-    /// Whether it is the root of a board to a depth of at most 12 with the full window.
+    /// Whether a root with these first words and this size searches a board to a depth of at most 12 with the full
+    /// window: they are as `root_words` makes them, and the size is 12.
     fn is_fitting_root(&self, words: &[u64], size: usize) -> bool {
         size == SIZE && are_root_words(words)
     }
 
-    /// The act of `next`. Where `fitting` is true the words fit, so that their form isn't checked.
+    /// The act of `next`. Where `fitting` is true the words are known to fit (`AreFitting`), and their form isn't
+    /// checked.
     #[inline(always)]
     fn next_of(&self, fitting: bool, sight: &Sight) -> Act {
         plan_of(self.grain, fitting, sight).act()
     }
 
-    /// The act of `inlet`. Where `fitting` is true the words fit, so that their form isn't checked.
+    /// The act of `inlet`. Where `fitting` is true the words are known to fit (`AreFitting`), and their form isn't
+    /// checked.
     #[inline(always)]
     fn inlet_of(&self, fitting: bool, own: &Words, child: &Words) -> InletAct {
         intake_of(fitting, own, child).inlet()
     }
 
-    /// The stores of `accept`. Where `fitting` is true the words fit, so that their form isn't checked.
+    /// The stores of `accept`. Where `fitting` is true the words are known to fit (`AreFitting`), and their form isn't
+    /// checked.
     #[inline(always)]
     fn accept_of(&self, fitting: bool, own: &Words, answer: &LeafAnswer) -> Stores {
         if !fitting {

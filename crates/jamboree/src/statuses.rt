@@ -75,7 +75,8 @@ pub(crate) fn has_failed(words: &Words, number: usize) -> bool
     }
 }
 
-/// What is known of the choice of this number: the rest of its entry, or 0 where there is none.
+/// What is known of the choice of this number, as its entry without the status; 0 where nothing is known or there is no
+/// such choice.
 #[inline(always)]
 pub(crate) fn rest_at(words: &Words, number: usize) -> EntryRest
     requires { number ≤ 128 }

@@ -111,7 +111,8 @@ fn read_head(words: &Words) -> Head
     head_in(words.segment(0))
 }
 
-/// The entries of choices in a segment: in the first they stand after the twelve words.
+/// The entries of choices in the segment of this number, from 0: the whole segment, but in segment 0 only what follows
+/// the first twelve words.
 pub(crate) fn entries<'a>(words: &Words<'a>, number: usize) -> &'a [u64]
     requires { 12 ≤ length words.now }
     ensures { result.now ≡ entries_in words.now number }
@@ -124,7 +125,7 @@ pub(crate) fn entries<'a>(words: &Words<'a>, number: usize) -> &'a [u64]
     }
 }
 
-/// The number of the first choice whose entry stands in a segment.
+/// The number of the first choice, from 0, whose entry stands in the segment of this number.
 pub(crate) fn first_number(number: usize) -> usize
     requires { number ≤ 8 }
     ensures { result ≡ 16 * number - 12 }
@@ -132,7 +133,7 @@ pub(crate) fn first_number(number: usize) -> usize
     (16 * number).saturating_sub(SIZE)
 }
 
-/// The entry of a choice.
+/// The entry of the choice of this number, from 0; `None` where there is none.
 pub(crate) fn entry(words: &Words, number: usize) -> Option<u64>
     requires { number ≤ 128 }
     ensures { result ≡ slice_get words.now (12 + number) }
@@ -141,7 +142,8 @@ pub(crate) fn entry(words: &Words, number: usize) -> Option<u64>
 }
 
 impl Head {
-    /// Whether the numbers of the goal are in their ranges.
+    /// Whether these words can be searched: no square of the board has two discs, the depth is at most 12, and the
+    /// window isn't empty and lies within -200,000 to 200,000.
     fn is_leaf(&self) -> bool
         ensures { result ≡ is_leaf self.now.own self.now.opp self.now.depth (score_of self.now.alpha) (score_of self.now.beta) }
     {
@@ -152,7 +154,8 @@ impl Head {
             && self.beta <= 1_200_000
     }
 
-    /// The leaf of the goal, or the empty board to depth 0 where its numbers are out of range.
+    /// The board, depth and window as a leaf to compute; where they can't be searched (`is_leaf`), the empty board to
+    /// depth 0.
     fn leaf(self) -> Leaf
         ensures { result ≡ leaf_from self.own self.opp self.depth (score_of self.alpha) (score_of self.beta) }
     {
@@ -170,7 +173,7 @@ impl Head {
         }
     }
 
-    /// Whether the count of choices is that of the board, at least 1, at a depth of at least 1.
+    /// Whether the depth is at least 1, and the count of choices is at least 1 and right for the board.
     fn counts_choices(&self) -> bool
         requires { bit_and self.now.own self.now.opp ≡ 0 }
         ensures { result ≡ counts_choices (frame_from self.now []) }
@@ -182,7 +185,8 @@ impl Head {
         0 < self.depth && 0 < self.count && self.count == choice_count(board) as u64
     }
 
-    /// Whether best score and count are as the phase asks.
+    /// Whether best score and count are as the phase asks. In the phases `New` and `Computing` both words are 0; later
+    /// the score is within -200,000 to 200,000, and in `First` and `Tests` the count is right (`counts_choices`).
     fn is_in_phase(&self) -> bool
         requires { bit_and self.now.own self.now.opp ≡ 0 }
         ensures { result ≡ is_in_phase (frame_from self.now []) }
@@ -199,7 +203,7 @@ impl Head {
         true
     }
 
-    /// Whether the numbers of the frame are in their ranges.
+    /// Whether each of the twelve words is in its range, and best score and count are as the phase asks.
     fn is_frame(&self) -> bool
         ensures { result ≡ is_frame (frame_from self.now []) }
     {
@@ -211,7 +215,7 @@ impl Head {
             && self.is_in_phase()
     }
 
-    /// The frame of these first words, after which so many entries stand.
+    /// The typed view of these twelve words, after which `count` entries stand.
     #[inline(always)]
     fn view(self, count: usize) -> View
         requires form { is_frame (frame_from self []) ≡ true }
@@ -241,7 +245,8 @@ impl Head {
     }
 }
 
-/// Whether these words have the form of a frame.
+/// Whether these words have the form of a frame: twelve words in their ranges (`is_frame`), and after them as many
+/// valid entries as they count.
 pub(crate) fn is_formed(words: &Words) -> bool
     ensures { result ≡ is_formed words.now }
 {
@@ -282,14 +287,15 @@ fn empty_leaf() -> Leaf
     }
 }
 
-/// The leaf in these words, or the empty board to depth 0 where they hold none.
+/// The board, depth and window in these words as a leaf to compute; where they can't be searched (`is_leaf`), the empty
+/// board to depth 0.
 pub(crate) fn read_leaf(words: &Words) -> Leaf
     ensures { result ≡ leaf_in words.now }
 {
     read_any_head(words).leaf()
 }
 
-/// One store on a frame, by what it sets.
+/// What one store sets in a frame's words.
 #[derive(Drop)]
 pub(crate) enum Change {
     /// The bits of the mover's discs.
@@ -300,17 +306,17 @@ pub(crate) enum Change {
     Phase(Phase),
     /// The best score, from -1,000,000 to 1,000,000.
     Best(i32),
-    /// The code of the choice that has it.
+    /// The code of the best choice.
     Chosen(u64),
     /// The count of choices.
     Count(usize),
     /// The count of choices that were spawned.
     Spawned(usize),
-    /// The status of the choice of this number, and what is known of it.
+    /// The whole entry of the choice of this number: its status, and what is known of it.
     Status(usize, Status, EntryRest),
 }
 
-/// One store more, done after these.
+/// Adds the store that makes this change at the end of these stores, which have room for 8.
 #[inline(always)]
 pub(crate) fn set(stores: &mut Stores, change: Change)
     requires room { length stores.old < 8 }
@@ -333,7 +339,8 @@ pub(crate) fn set(stores: &mut Stores, change: Change)
     }
 }
 
-/// To open this child.
+/// The order to open this child with twelve words: its depth, window, role and number, and 0 in all other places. Its
+/// board is set at its first act.
 #[inline(always)]
 pub(crate) fn spawn(child: &NewChild) -> Then
     ensures { result ≡ spawn_of child.now }
@@ -386,8 +393,8 @@ fn root_of(own: u64, opp: u64, depth: u64) -> [u64; 8]
     ]
 }
 
-/// Whether these are the words of a root whose board has no square with two discs, to a depth of at
-/// most 12.
+/// Whether these are the eight words of a root, as `root_words` makes them: of a board with no square that has two
+/// discs, to a depth of at most 12, with the full window.
 pub(crate) fn are_root_words(words: &[u64]) -> bool
     ensures fits { result ≡ true → AreFitting (padded words.now frame_size) [] Neither }
     ensures rooted { result ≡ true → IsRoot words.now (padded words.now frame_size) }
@@ -398,8 +405,8 @@ pub(crate) fn are_root_words(words: &[u64]) -> bool
         && words == root_of(words[0], words[1], words[2]).as_slice()
 }
 
-/// The words that a job is submitted with, of a position to a depth of 0 to 12 plies: with size 12
-/// its root searches the board with the full window.
+/// The words to submit a job with, for a search of this position to a depth of 0 to 12 plies with the full window. The
+/// size to submit with them is 12.
 pub fn root_words(position: &Position, depth: u8) -> [u64; 8]
     requires { depth ≤ 12 }
     ensures words { result ≡ root_words position.now.board.own position.now.board.opp depth }

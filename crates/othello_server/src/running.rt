@@ -19,9 +19,10 @@ use std::sync::ledger::Blank;
 use std::thread::Threads;
 use tcp_server::desk::PARTS;
 
-/// Does what the words ask for, and gives the exit status. Answers, help and the version go to the output, and all
-/// else that there is to say to the errors. A status doesn't change where a text of help or of refusal can't be
-/// written.
+/// Does what the words of the command line ask for, and returns the exit status: 0 where all went well, 1 where input,
+/// output or server failed or there was no memory to read the words, 2 where the words are refused. Answers, help, the
+/// version and a server's two lines go to the output, and all else that there is to say to the errors. The status stays
+/// the same where a text of help or of refusal can't be written.
 pub fn run<R, T: AsStr, S: Input, K: Output, E: Sink>(
     rt: &R,
     alloc: Global,

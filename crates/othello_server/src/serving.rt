@@ -1,5 +1,5 @@
-//! The command `serve`: a listener on 127.0.0.1, a hall under a desk, and what is said once the workers were started and
-//! at the end.
+//! The command `serve`: a listener on 127.0.0.1, a hall under a desk, and what is said once the workers were started
+//! and at the end.
 ghost use Rattle.std.specs.Prelude.{◌≡◌, ◌≤◌, true, IfOk, Ok};
 ghost use Rattle.line_io.specs.Writes.{IsWritten};
 ghost use Rattle.othello_server.specs.Running.{IsServed, ended_text, listening_text};
@@ -20,18 +20,18 @@ use tcp_server::desk::{Config, Desk, Hall, Hands, PARTS};
 use tcp_server::steal_pool::{Announce, Open};
 use tcp_server::{ServeFault, ServerConfig, serve_announced};
 
-/// Why there is no server, or no more of it.
+/// Why the command `serve` failed.
 #[derive(Debug, Drop)]
 enum Unserved {
-    /// The port can't be listened at.
+    /// The system refused to let it listen at this port.
     Port(u16, io::Error),
-    /// Where it listens can't be told.
+    /// The system didn't tell the listener's address.
     Address(io::Error),
     /// There was no memory for the hall.
     OutOfMemory,
-    /// A line could not be written.
+    /// The line `listening` or `ended` could not be written, or there was no memory for it.
     Unwritten,
-    /// The server has ended before its sessions did.
+    /// The server failed while it began or served.
     Ended(ServeFault),
 }
 
@@ -60,8 +60,8 @@ impl Service {
     ghost use Rattle.command_line.specs.CommandLine.{IsWithinLimits};
     ghost use Rattle.othello_server.specs.Running.{IsAskedBy};
 
-    /// What a server is asked to be by these options: each amount as it was read. `None` exactly where they ask for
-    /// no server.
+    /// The server that these options ask for, with each amount as it was read; `None` exactly where they ask for
+    /// `solve`.
     pub fn of(options: Options) -> Option<Service>
         requires { IsWithinLimits options }
         ensures { IsAskedBy options result }
@@ -86,7 +86,7 @@ impl Service {
     }
 }
 
-/// An output that is told where a server listens.
+/// Announces a server: its `announce` writes the line `listening` with this address on this output.
 #[derive(Drop)]
 pub(crate) struct Listening<'k, K> {
     alloc: Global,
@@ -103,9 +103,10 @@ impl<K: Sink> Announce for Listening<'_, K> {
     }
 }
 
-/// Serves so many sessions, and gives the exit status. The output gets `listening 127.0.0.1:port` once the listener
-/// listens and all workers were started, and `ended k` after the last session: at status 0 both were written, and nothing
-/// else. Where there is no port, no memory, no thread or no output, the errors get why.
+/// Runs the server that is asked for, and returns the exit status when all its sessions have ended or it has failed.
+/// The output gets `listening 127.0.0.1:port` once the listener listens and all workers were started, and `ended k`
+/// after the last of the k sessions. At status 0 both lines were written, and nothing else; else the status is 1, and
+/// the reason is written on the errors.
 pub fn serve_as_asked<L, R, K: Sink, E: Sink>(
     rt: &R,
     alloc: Global,
@@ -131,7 +132,8 @@ where
     }
 }
 
-/// The same, but for the status: listens, and makes the hall and its desk.
+/// Listens at the port that is asked for, makes a hall and its desk, and serves there (`serve_from`). `Ok` where both
+/// lines `listening` and `ended` were written.
 fn serve_at<L, R, K: Sink>(
     rt: &R,
     alloc: Global,
@@ -157,7 +159,9 @@ where
     serve_from(rt, alloc, &desk, listener, asked, sink)
 }
 
-/// The same at a desk: `Ok` where both lines were written.
+/// Serves the sessions that are asked for at this desk, and returns when they have ended or the server has failed.
+/// Writes the line `listening` once all workers were started, and `ended` after the last session; `Ok` where both were
+/// written.
 fn serve_from<L, R, K: Sink>(
     rt: &R,
     alloc: Global,
@@ -191,7 +195,8 @@ where
     }
 }
 
-/// Writes where the server listens, by one call, and tells whether it was written.
+/// Writes the line `listening` with this address, which the first write offers as a whole, and returns whether all of
+/// it was written. False also where there is no memory for the line.
 fn is_begun<K: Sink>(alloc: Global, sink: &mut K, address: SocketAddr) -> bool
     ensures { result ≡ true → IsWritten K.takes sink.old (listening_text address) sink.new (Ok tt) }
 {
@@ -201,7 +206,8 @@ fn is_begun<K: Sink>(alloc: Global, sink: &mut K, address: SocketAddr) -> bool
     }
 }
 
-/// Writes how many sessions have ended, by one call, and tells whether it was written.
+/// Writes the line `ended` with the number of sessions, which the first write offers as a whole, and returns whether
+/// all of it was written. False also where there is no memory for the line.
 fn is_ended<K: Sink>(alloc: Global, sink: &mut K, sessions: u16) -> bool
     ensures { result ≡ true → IsWritten K.takes sink.old (ended_text sessions) sink.new (Ok tt) }
 {

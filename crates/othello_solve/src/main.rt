@@ -1,4 +1,4 @@
-//! `othello_solve`: the command `solve` of `othello` alone, for who needs no server.
+//! `othello_solve`: the command `solve` of `othello` alone, for use without a server.
 //!
 //! What is done with the words and the streams is `solve_command`'s `run_solve`. It stands on fewer crates than
 //! `othello_server`, so it is proved in two thirds of the time: `./othello solve` builds it where the whole program

@@ -2,21 +2,22 @@
 ghost use Rattle.std.specs.Prelude.{◌≡◌, ◌+◌, ◌<◌};
 ghost use Rattle.pool_rules.specs.Counts.{begun, greatest_count};
 
-/// How many computations were begun; it stays at the greatest u64.
+/// How many computations were begun. At 2^64 - 1 the count stays as it is.
 #[derive(Drop)]
 pub struct Computations {
     begun: u64,
 }
 
 impl Computations {
-    /// None was begun.
+    /// The count of a new pool: 0.
     pub fn new() -> Computations
         ensures { begun result ≡ 0 }
     {
         Computations { begun: 0 }
     }
 
-    /// Counts one more, and answers its number, from 1 on.
+    /// Counts a computation that begins now, and returns its number: the new count, from 1 on. All computations from
+    /// the one numbered 2^64 - 1 on get that number.
     pub fn begin(&mut self) -> u64
         ensures number { result ≡ begun self.new }
         ensures rises { begun self.old < greatest_count → begun self.new ≡ begun self.old + 1 }

@@ -1,4 +1,5 @@
-//! What follows from the table of the worker's turn and the definitions of steps.
+//! What follows from the table of the worker's turn (`specs/Turns.antt`) and the definitions of steps. The functions
+//! here do nothing: each one's contract is a law, for others to use.
 ghost use Rattle.std.specs.Prelude.{◌≡◌, ◌+◌, ℕ, Some};
 ghost use Rattle.frame_tree.specs.Frames.{AllBelow, IsTree};
 ghost use Rattle.sched_rules.specs.declared.step.StepOf.{StepOf};
@@ -10,16 +11,16 @@ ghost use Rattle.pool_rules.specs.declared.turn.Holding.{Holding};
 ghost use Rattle.pool_rules.specs.Readied.{PushesWhatItReadied, PushesWhatIsReady};
 ghost use Rattle.pool_rules.specs.Turns.{offered};
 
-/// No ready frame is forgotten: each frame that becomes ready by the step that a worker offers is the
-/// task of that worker's turn, at its home. So where the pushes find room, every ready frame of a root
-/// that was taken from the hall has been a task of the pool.
+/// Law: where the step that a worker offers is taken, each frame of the tenant that is ready after it was ready at the
+/// same home before it, or is the frame of the task of that worker's turn. So as far as the deques have room, each
+/// frame that a worker's step makes ready becomes a task of the pool.
 pub fn each_readied_frame_is_a_task()
     ensures { (functions : Functions Leaf LeafAnswer) (tenant : Tenant) (worker : ℕ) (held : Holding) (step : StepOf LeafAnswer) →
         IsTree tenant.frames → offered worker held ≡ Some step → PushesWhatItReadied functions tenant worker held step }
 {}
 
-/// And no other frame is: the task of a worker's turn is of a frame that is ready then, at the task's
-/// home. What makes it ready later no more is another's step: another worker has it, or it is gone.
+/// Law: where the step that a worker offers is taken and the worker's turn has a task, the task's frame is ready after
+/// the step, at the task's home. Only a later step can change that: another worker gets the frame, or it is removed.
 pub fn each_task_is_a_ready_frame()
     ensures { (functions : Functions Leaf LeafAnswer) (tenant : Tenant) (worker : ℕ) (held : Holding) (step : StepOf LeafAnswer) →
         AllBelow (tenant.serials + 1) tenant.frames → offered worker held ≡ Some step → PushesWhatIsReady functions tenant worker held step }

@@ -18,15 +18,16 @@ use std::convert::AsStr;
 /// threshold to this size, so that smaller blocks stay with the process when freed, their pages mapped. Speed only.
 const KEPT: usize = 16 << 20;
 
-/// What somebody is told who types the lines.
+/// What `solve` writes on the errors at its start where the input is a terminal.
 const HINT: &str = "reading lines `depth position`; `othello solve --help` explains them";
 
-/// What is said where a server is asked for.
+/// What `run_solve` writes on the errors where a server is asked for.
 const NO_SERVER: &str = "this program has the command `solve` alone";
 
-/// Does what the words ask for, but for a server, and gives the exit status: 1 where a server is asked for. Answers,
-/// help and the version go to the output, and all else that there is to say to the errors. A status doesn't change
-/// where a text of help or of refusal can't be written.
+/// Does what the words of the command line ask for, and returns the exit status: 0 where all went well, 1 where the
+/// input or the output failed, a server is asked for, or there was no memory to read the words, 2 where the words are
+/// refused. No server is run. Answers, help and the version go to the output, and all else that there is to say to the
+/// errors. The status stays the same where a text of help or of refusal can't be written.
 pub fn run_solve<T: AsStr, S: Input, K: Output, E: Sink>(
     alloc: Global,
     words: &[T],
@@ -45,8 +46,10 @@ pub fn run_solve<T: AsStr, S: Input, K: Output, E: Sink>(
     }
 }
 
-/// Answers the lines of the input, with the counts of `--visited` or without, and gives the exit status: 1 where the
-/// input or the output failed. An output that nobody reads any more ends the run without a word.
+/// Answers the lines of the input until it ends, and returns the exit status: 0, or 1 where the input or the output
+/// failed. Where `visited` is true each answer has the number of positions visited too, and `grain` isn't used. The
+/// reason of a failure is written on the errors, but not where the reader of the output closed it. Where the input is a
+/// terminal the errors get a hint first.
 pub fn answer<S: Input, K: Output, E: Sink>(
     alloc: Global,
     grain: u8,
@@ -76,8 +79,8 @@ pub fn answer<S: Input, K: Output, E: Sink>(
     }
 }
 
-/// Allocates and frees one block of `KEPT` bytes, so that the C library reuses a core's memory for the next line's core.
-/// If the block can't be had nothing changes.
+/// Allocates and frees one block of `KEPT` bytes, so that the C library reuses a core's memory for the next line's
+/// core. If the block can't be had nothing changes.
 fn keep_memory(alloc: Global) {
     let _: Result<Vec<u8>, AllocError> = Vec::with_capacity(alloc, KEPT);
 }

@@ -1,8 +1,9 @@
 //! The command `solve` of a program, over any streams, and what is done with words that are refused.
 //!
-//! [`run_solve`] goes from the words of the command line and three streams to the exit status of a program that has this
-//! command alone (`othello_solve`). Its parts serve the program that has `serve` too (`othello_server`): [`answer`] for
-//! the lines of `solve`, [`refuse`] for refused words, [`say`] for what the program has to say of itself.
+//! [`run_solve`] goes from the words of the command line and three streams to the exit status of a program that has
+//! this command alone (`othello_solve`). Its parts serve the program that has `serve` too (`othello_server`):
+//! [`answer`] for the lines of `solve`, [`refuse`] for refused words, [`say`] for what the program has to say of
+//! itself.
 //!
 //! ```text
 //! run_solve(alloc, &["othello", "solve", "--visited"], &mut streams)  // "-4 d3 15\n", and status 0
@@ -21,5 +22,6 @@ pub use streams::{Input, Output, Streams};
 /// The exit status where all went well.
 pub const EXIT_OK: u8 = 0;
 
-/// The exit status where the input or the output failed.
+/// The exit status where the input or the output failed. `serve` has it where the server failed, and so has `run_solve`
+/// where a server is asked for.
 pub const EXIT_FAILED: u8 = 1;

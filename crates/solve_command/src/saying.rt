@@ -6,8 +6,9 @@ use command_line::WordsFault;
 use line_io::{Sink, write_text};
 use std::fmt::{self, Display, Write as _};
 
-/// Prints why the words of the command line are refused on `errors`, or the help or the version that they ask for
-/// on `sink`. It returns the exit status.
+/// Writes on `errors` why the words of the command line are refused or can't be read, or on `sink` the help or the
+/// version that they ask for. Returns the exit status: 2 for a refusal, 1 for want of memory, 0 for help and version,
+/// whether the text could be written or not.
 pub fn refuse<K: Sink, E: Sink>(fault: &WordsFault, sink: &mut K, errors: &mut E) -> u8
     ensures { result ≡ status_of fault.now }
 {
@@ -19,12 +20,12 @@ pub fn refuse<K: Sink, E: Sink>(fault: &WordsFault, sink: &mut K, errors: &mut E
     fault.status()
 }
 
-/// Writes a line that begins with the program's name. Where the sink fails, what is left of it is lost.
+/// Writes the line `othello: text`. Where the sink fails the rest of the line is lost, and nobody is told.
 pub fn say<K: Sink, D: Display + Drop>(sink: &mut K, text: D) {
     let _ = writeln!(Pen(sink), "othello: {text}");
 }
 
-/// Writes a text. Where the sink fails, what is left of it is lost.
+/// Writes a text. Where the sink fails the rest of the text is lost, and nobody is told.
 fn put<K: Sink, D: Display + Drop>(sink: &mut K, text: D) {
     let _ = write!(Pen(sink), "{text}");
 }

@@ -10,7 +10,7 @@ pub struct Streams<S, K, E> {
     pub source: S,
     /// Its output.
     pub sink: K,
-    /// Where it says what is no answer.
+    /// Where it writes all that isn't an answer, help or the version: why it failed, and hints.
     pub errors: E,
 }
 
@@ -25,7 +25,7 @@ impl Streams<FromReader<Stdin>, FromWriter<Stdout>, FromWriter<Stderr>> {
     }
 }
 
-/// An input of the program.
+/// An input of the program, which knows whether it is a terminal.
 pub trait Input: Source {
     /// Whether it is a terminal.
     fn is_typed(&self) -> bool;
@@ -37,9 +37,9 @@ impl<R: Read + IsTerminal> Input for FromReader<R> {
     }
 }
 
-/// An output of the program.
+/// An output of the program, which knows whether its reader has closed it.
 pub trait Output: Sink {
-    /// Whether a write failed as its reader has closed the output (a broken pipe).
+    /// Whether a write has failed because the reader of the output closed it (a broken pipe).
     fn is_closed(&self) -> bool;
 }
 

@@ -1,12 +1,14 @@
 //! What is said once a pool has begun.
 ghost use Rattle.std.specs.Prelude.{◌≡◌, Bool, true};
 
-/// Says that a pool has begun.
+/// Tells somebody that a pool has begun. A pool calls it at most once: after all its workers were started, in the
+/// thread that called `run_pool_announced`.
 pub trait Announce {
     /// What a call may do: the value before it, whether the pool's beginning could be said, and the value after it.
     ghost says: { Self → Bool → Self → Type 0 };
 
-    /// Says that the pool has begun; false where that couldn't be said.
+    /// Says that the pool has begun, and returns whether that could be said. At false the pool closes its desk and
+    /// ends.
     fn announce(&mut self) -> bool
         ensures { says self.old result self.new };
 }

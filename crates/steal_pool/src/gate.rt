@@ -5,7 +5,7 @@ use task_deques::pool_rules::Task;
 /// Hooks that workers call while they work, to watch them or to hold them up. The calls are made outside all locks, so
 /// one that waits holds up only its own worker.
 pub trait Gate {
-    /// Called before a worker does a task.
+    /// Called when a worker has found a task, before it asks the hall for the task's frame. The hall may refuse that.
     fn before(&self, worker: Worker, task: &Task);
 
     /// Called at the start of a computation, before its search. `number` is that of the computation among those of the

@@ -1,14 +1,13 @@
 //! A pool of workers, each in a thread of its own, that do the jobs of a desk.
 //!
-//! Whoever has a seat at a [`desk::Desk`] asks for searches; [`run_pool`] starts workers, and they do
-//! them until the desk is closed. Who is to know that a pool has begun is told by
-//! [`run_pool_announced`] once all workers were started, and not at all where one can't be had
-//! ([`Announce`]). A worker looks for a frame that is ready: the newest task of its own deque, else the
-//! oldest of another's (`task_deques`), else any that the hall knows of, for which it sleeps at the
-//! desk. With a frame it does turn after turn (`pool_rules`): each turn is one step, offered to the
-//! hall under its lock by [`desk::Held::offer`] and by nothing else (steps that follow each other under
-//! one lock), or one computation outside all locks. A frame that becomes ready by its step is pushed on
-//! the worker's deque; where there is no room it stays ready in the hall, where it is found again.
+//! Tenants with a seat at a [`desk::Desk`] ask for searches; [`run_pool`] starts workers, and they do them until the
+//! desk is closed. [`run_pool_announced`] also tells an [`Announce`] that the pool has begun, once all workers were
+//! started; where one can't be had it tells it nothing. A worker looks for a frame that is ready: the newest task of
+//! its own deque, else the oldest of another's (`task_deques`), else any that the hall knows of, for which it sleeps at
+//! the desk. With a frame it does turn after turn (`pool_rules`): each turn is one step, offered to the hall under its
+//! lock by [`desk::Held::offer`] and by nothing else (steps that follow each other under one lock), or one computation
+//! outside all locks. A frame that becomes ready by its step is pushed on the worker's deque; where there is no room it
+//! stays ready in the hall, where it is found again.
 //!
 //! What is proved of a worker is that each of its turns is the table's, that no task but that of its
 //! turn is pushed (`specs/Works.antt`), that it offers workers' steps alone, that it brings an answer that

@@ -1,4 +1,4 @@
-//! What a pool is asked, and what it ends with.
+//! Running a pool: what it is given, and what it ends with.
 ghost use Rattle.std.specs.Prelude.{◌≡◌, ◌+◌, true, length, sum_by, All, IfErr, IfOk, None};
 ghost use Rattle.task_deques.specs.Deals.{returned, whole_deques, IsAccounted};
 ghost use Rattle.steal_pool.specs.Announced.{IsUnsaid};
@@ -16,13 +16,13 @@ use std::thread;
 use std::thread::Threads;
 use thiserror::Error;
 
-/// Why no pool ran. The desk is closed then, and what was started has ended.
+/// Why no pool ran. The desk is closed then, and the workers that were started have ended.
 #[derive(Clone, Copy, Debug, PartialEq, Eq, Error)]
 pub enum PoolFault {
-    /// 1: there was no memory for the tasks.
+    /// 1: there was no memory for the deques of tasks, or for the threads' handles. No worker was started.
     #[error("out of memory")]
     OutOfMemory = 1,
-    /// 2: a thread or a badge couldn't be had.
+    /// 2: a worker's thread couldn't be started, or the desk had no badge left.
     #[error("no thread")]
     NoThread,
 }
@@ -36,13 +36,14 @@ impl PoolFault {
     }
 }
 
-/// Why a pool that was to be announced didn't run. The desk is closed then, and what was started has ended.
+/// Why a pool that was to be announced didn't run. The desk is closed then, and the workers that were started have
+/// ended.
 #[derive(Clone, Copy, Debug, PartialEq, Eq, Error)]
 pub enum BeginFault {
-    /// It couldn't begin, so nothing was announced.
+    /// It couldn't begin, so `announce` wasn't called.
     #[error("no pool")]
     Pool(PoolFault),
-    /// It had begun, and that couldn't be announced.
+    /// It had begun, and `announce` returned false.
     #[error("it could not be said")]
     Unsaid,
 }
@@ -56,7 +57,7 @@ pub struct PoolEnd<L: Hands> {
     pub badge: Badge<L>,
     /// How many tasks were pushed on all deques together.
     pub pushed: u128,
-    /// How many tasks were taken from them, by anybody.
+    /// How many tasks were taken from them, by their owners or by thieves.
     pub taken: u128,
     /// How many tasks are left in them.
     pub left: u128,
@@ -72,17 +73,17 @@ pub(crate) struct NotRun {
     pub(crate) ended: usize,
 }
 
-/// What a pool is given.
+/// How many workers a pool has, and the size of their stacks.
 #[derive(Clone, Copy, Debug, PartialEq, Eq)]
 pub struct PoolConfig {
     /// The number of its last worker, which is how many it has: they are numbered from 1.
     pub workers: Worker,
-    /// The size of a worker's stack in bytes, or else the usual one.
+    /// The size of a worker's stack in bytes; `None` for the usual size.
     pub stack: Option<usize>,
 }
 
 impl PoolConfig {
-    /// As many workers as the number of the last, with the usual stacks.
+    /// The workers 1 to `workers`, with stacks of the usual size.
     pub fn new(workers: Worker) -> PoolConfig
         ensures workers { result.workers ≡ workers }
         ensures stack { result.stack ≡ None }
@@ -94,12 +95,13 @@ impl PoolConfig {
     }
 }
 
-/// How many tasks each worker's deque has room for. A task beyond them is handed back: its frame stays
-/// ready in the hall.
+/// How many tasks each worker's deque has room for. A task beyond them is dropped: its frame stays ready in the hall,
+/// where a worker finds it again.
 const ROOM: usize = 1_024;
 
-/// Runs as many workers as the number of the last, each in a thread of its own, until the desk is
-/// closed. Where it can't begin it closes the desk, waits for what it started, and answers why.
+/// Runs the workers 1 to `workers`, each in a thread of its own. Returns what the pool ends with when the desk is
+/// closed and all workers have ended. Where not all of them could be started it closes the desk, waits for those that
+/// were, and returns why (`PoolFault`).
 pub fn run_pool<L: Hands + Send + Sync, G: Gate + Sync, R: Threads + Wait + Sync>(
     rt: &R,
     alloc: Global,
@@ -120,8 +122,10 @@ pub fn run_pool<L: Hands + Send + Sync, G: Gate + Sync, R: Threads + Wait + Sync
     }
 }
 
-/// The same, and announces that the pool has begun once all its workers were started, in the thread that called.
-/// Where it can't begin nothing is announced; where that can't be announced, the desk is closed and the workers end.
+/// Runs a pool as `run_pool` does, with the stacks of `config`, and calls `announce` of `call` in this thread once all
+/// workers were started. Returns `call` too, and what the pool ends with when the desk is closed and all workers have
+/// ended. `Pool` where not all workers could be started: `announce` isn't called then. `Unsaid` where it returned
+/// false. In both cases the desk is closed, and the workers that were started have ended.
 pub fn run_pool_announced<
     L: Hands + Send + Sync,
     G: Gate + Sync,
@@ -157,20 +161,23 @@ pub fn run_pool_announced<
 /// How much a pool takes at its start. Tests ask for more than can be had, one field at a time.
 #[derive(Clone, Copy, Debug)]
 pub(crate) struct Sizes {
-    /// The number of the last worker: there are as many.
+    /// The number of the last worker, which is how many there are.
     pub(crate) workers: Worker,
     /// How many tasks there is room for in each deque.
     pub(crate) room: usize,
-    /// For how many more ends of deques than the workers' there is room when they come back: 0 but in tests.
+    /// Room for the deque ends that come back from the threads is taken for so many more workers than there are: 0 but
+    /// in tests.
     pub(crate) more_ends: usize,
-    /// For how many more threads than the workers' there is room: 0 but in tests.
+    /// Room for thread handles is taken for so many more threads than there are workers: 0 but in tests.
     pub(crate) more_threads: usize,
-    /// From which worker on the stacks have another size than the usual one, and which, in bytes.
+    /// `Some((from, size))`: the workers from number `from` on have stacks of `size` bytes. All others, and all at
+    /// `None`, have the usual size.
     pub(crate) stack: Option<(u8, usize)>,
 }
 
 impl Sizes {
-    /// Room for 1,024 tasks, and for all else no more than it needs.
+    /// The workers 1 to `workers`, each with room for 1,024 tasks and a stack of the usual size; no more room than
+    /// needed for all else.
     pub(crate) fn usual(workers: Worker) -> Sizes
         ensures { result.workers ≡ workers }
     {
@@ -184,7 +191,8 @@ impl Sizes {
     }
 }
 
-/// The same with sizes of the caller's.
+/// Runs a pool with these sizes: what `run_pool` and `run_pool_announced` do, which say when it returns. At an error it
+/// also tells how many workers' threads were started and have ended.
 pub(crate) fn run_pool_of<
     L: Hands + Send + Sync,
     G: Gate + Sync,
@@ -234,8 +242,9 @@ pub(crate) fn run_pool_of<
     }
 }
 
-/// What a pool ends with whose workers left this: their badge, and the sums of their deques, on each of
-/// which what was pushed is what was taken and what is left, each task as often.
+/// What a pool ends with, by what its workers left: how many they were, their joined badge, and how many tasks were
+/// pushed, taken and left on all deques together. On each deque the tasks that were pushed are those that were taken
+/// and those that are left, each as often.
 fn end_of<L: Hands>(worked: Worked<L>) -> PoolEnd<L>
     ensures workers { result.workers ≡ length (returned worked.back) }
     ensures badge { result.badge ≡ worked.badge }

@@ -41,8 +41,8 @@ pub struct Tasks<'s> {
 }
 
 impl Tasks<'_> {
-    /// Pushes a task on the worker's own deque. One that is handed back is dropped: its frame stays
-    /// ready in the hall.
+    /// Pushes a task on the worker's own deque. Where the deque has no room the task is dropped: its frame stays ready
+    /// in the hall, where a worker finds it again.
     pub(crate) fn push(&mut self, task: Task)
         ensures pushed { IsPushed task (worker_seats self.old.ends) (worker_seats self.new.ends) }
         ensures posts { posts self.new.ends ≡ posts self.old.ends }

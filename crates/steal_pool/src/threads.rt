@@ -22,7 +22,8 @@ use std::sync::Wait;
 use std::thread::{Promise, PromisedHandle, Scope, Threads};
 use task_deques::{DequeEnds, Returned, deal};
 
-/// That a worker's ends come back at the same deques.
+/// The promise that a worker's thread is started with: the deque ends that it returns are at the same deques as those
+/// that it was given, of which this is a snapshot.
 #[derive(Drop)]
 pub(crate) struct SameEnds(Snapshot<DequeEnds>);
 
@@ -30,11 +31,11 @@ impl<L: Hands> Promise<(Badge<L>, DequeEnds)> for SameEnds {
     ghost kept_by = { λ promise came. posts came.1 ≡ posts promise.0.value };
 }
 
-/// A worker in its thread.
+/// The handle of a worker's thread; joining it returns the worker's badge and its deque ends.
 type Handle<L> = PromisedHandle<(Badge<L>, DequeEnds), SameEnds>;
 
-/// All that a pool takes at its start: the ends of its workers, the room for those that come back, and
-/// the room for the threads.
+/// All memory that a pool takes at its start: its workers' deque ends, the room for those that come back, and the room
+/// for the threads' handles.
 #[derive(Drop)]
 pub(crate) struct Stock<L: Hands> {
     dealt: Vec<DequeEnds>,
@@ -49,7 +50,7 @@ pub(crate) struct Stock<L: Hands> {
 }
 
 impl<L: Hands> Stock<L> {
-    /// For as many workers as the number of the last. It fails only where memory is refused.
+    /// The memory for the workers 1 to `last`, with these sizes. `Err` only where memory is refused.
     pub(crate) fn made(alloc: Global, last: Worker, sizes: Sizes) -> Result<Stock<L>, AllocError>
         ensures { IfOk result (λ stock. vec_len stock.dealt ≡ last) }
     {
@@ -65,7 +66,7 @@ impl<L: Hands> Stock<L> {
     }
 }
 
-/// What all workers of a pool work at, and what their threads are started with.
+/// What all threads of a pool are started with.
 #[derive(Drop)]
 pub(crate) struct Site<'s, E, L: Hands, G, R> {
     pub(crate) scope: &'s Scope<'s, E>,
@@ -73,11 +74,12 @@ pub(crate) struct Site<'s, E, L: Hands, G, R> {
     pub(crate) desk: &'s Desk<L>,
     pub(crate) shared: &'s Shared,
     pub(crate) gate: &'s G,
-    /// From which worker on the stacks have another size than the usual one, and which, in bytes.
+    /// `Some((from, size))`: the workers from number `from` on have stacks of `size` bytes. All others, and all at
+    /// `None`, have the usual size.
     pub(crate) stack: Option<(u8, usize)>,
 }
 
-/// What workers leave: their badges, joined, and the ends of all deques.
+/// What the workers of a pool leave when they have ended: their badges, joined, and the ends of all deques.
 #[derive(Drop)]
 pub(crate) struct Worked<L: Hands> {
     pub(crate) badge: Badge<L>,
@@ -85,8 +87,9 @@ pub(crate) struct Worked<L: Hands> {
     ghost whole: { IsWhole (map posts_of (returned back)) },
 }
 
-/// Starts all workers, says that the pool has begun, and waits for them. Where one can't be had, or that can't be said,
-/// it closes the desk, waits for those that it started, and answers why, and how many these were.
+/// Starts all workers, calls `announce` of `call`, and waits until all workers have ended, which they do when the desk
+/// is closed. Where a worker can't be started, or `announce` returns false, it closes the desk, waits for the workers
+/// that it started, and returns the fault and how many these were.
 pub(crate) fn run_all<
     's,
     E,
@@ -126,7 +129,8 @@ pub(crate) fn run_all<
     }
 }
 
-/// Announces that the pool has begun, if its workers were started.
+/// Calls `announce` if all workers were started. `Pool` where they weren't, and `Unsaid` where `announce` returned
+/// false.
 fn announced<A: Announce>(started: Result<(), PoolFault>, call: &mut A) -> Result<(), BeginFault>
     ensures after { IfOk result (λ _. started ≡ Ok tt) }
     ensures said { IfOk result (λ _. A.says call.old true call.new) }
@@ -142,7 +146,8 @@ fn announced<A: Announce>(started: Result<(), PoolFault>, call: &mut A) -> Resul
     }
 }
 
-/// Starts a worker for each of the ends, from 1 on, as far as it can.
+/// Starts a worker with each of these deque ends, numbered from 1 on. `NoThread` at the first that can't be started;
+/// those before it run then, and their handles are in `handles`.
 fn start_all<'s, E, L: Hands + Send + Sync, G: Gate + Sync, R: Wait + Sync>(
     site: &Site<'s, E, L, G, R>,
     dealt: Vec<DequeEnds>,
@@ -166,7 +171,8 @@ fn start_all<'s, E, L: Hands + Send + Sync, G: Gate + Sync, R: Wait + Sync>(
     Ok(())
 }
 
-/// Starts a worker.
+/// Starts a worker with a new badge in a thread of its own. `NoThread` where no badge or no thread can be had; the
+/// deque ends are dropped then.
 fn start<'s, E, L: Hands + Send + Sync, G: Gate + Sync, R: Wait + Sync>(
     site: &Site<'s, E, L, G, R>,
     worker: Worker,
@@ -200,7 +206,7 @@ fn start<'s, E, L: Hands + Send + Sync, G: Gate + Sync, R: Wait + Sync>(
     }
 }
 
-/// Works with these ends, and gives them back with the badge.
+/// What a worker's thread does: runs the worker until it ends, and returns its badge and its deque ends.
 fn work<L: Hands, G: Gate, R: Wait>(
     rt: &R,
     desk: &Desk<L>,
@@ -217,7 +223,8 @@ fn work<L: Hands, G: Gate, R: Wait>(
     (badge, ends)
 }
 
-/// Waits for all, puts their ends together, and joins their badges to this one.
+/// Waits until all these threads have ended, adds the deque ends that they return to `back`, and returns their badges,
+/// joined to `own`.
 fn join_all<L: Hands, R: Threads>(
     rt: &R,
     own: Badge<L>,

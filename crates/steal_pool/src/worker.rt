@@ -22,8 +22,9 @@ use task_deques::pool_rules::{Action, Holding, Task};
 /// The most steps that a worker takes under one lock.
 const HELD_STEPS: u32 = 32;
 
-/// Works until the desk is closed and no task is found. Every step goes through [`Held::offer`], so its
-/// badge's share is the number of steps that it took. Its tasks come back with ends of the same deques.
+/// Does tasks until the desk is closed and none is found; before that it waits where it finds none. Returns the badge,
+/// whose share has grown by 1 for each step that the hall took, as every step goes through [`Held::offer`], and the
+/// tasks, whose ends are at the same deques as before.
 pub fn run_worker<'s, L: Hands, G: Gate, R: Wait>(
     rt: &R,
     desk: &Desk<L>,
@@ -46,7 +47,8 @@ pub fn run_worker<'s, L: Hands, G: Gate, R: Wait>(
     (badge, tasks)
 }
 
-/// The task that a worker without a frame does next; None once the desk is closed and no task is found.
+/// The task that a worker without a frame does next: one of the deques, else a frame that is ready in the hall, for
+/// which it waits at the desk. None once the desk is closed and the deques gave none.
 fn next_task<L: Hands, R: Wait>(
     rt: &R,
     desk: &Desk<L>,
@@ -62,7 +64,8 @@ fn next_task<L: Hands, R: Wait>(
     Some(Task { frame, home })
 }
 
-/// Does a task, and what comes of it, until the worker is without a frame.
+/// Gets the frame of a task from the hall and does its steps and computations, until the worker is without a frame.
+/// That is at once where the frame can't be had any more.
 fn work_off<L: Hands, G: Gate, R: Wait>(
     rt: &R,
     desk: &Desk<L>,
@@ -86,8 +89,9 @@ fn work_off<L: Hands, G: Gate, R: Wait>(
     }
 }
 
-/// Takes up to 32 steps of the worker that follow each other under one lock, and returns what it holds then. It stops
-/// earlier where there is a leaf to compute, or the worker is without a frame.
+/// Takes up to 32 steps of the worker that follow each other under one lock, pushes the tasks of the frames that they
+/// make ready, and returns what the worker holds then. It stops earlier where there is a leaf to compute, or the worker
+/// is without a frame.
 fn steps<L: Hands, R: Wait>(
     rt: &R,
     desk: &Desk<L>,

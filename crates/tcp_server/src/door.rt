@@ -1,10 +1,10 @@
 //! Where connections are taken, one after another.
 //!
-//! A process has so many file descriptors and no more. A door keeps a spare one, a second name of its listener: where no
-//! descriptor is left, the spare is given up and the next connection is taken with it. If a descriptor has become free by
-//! then it is the new spare, and the connection is served; else the connection is closed at once, and the spare is made
-//! anew. So who can't be served is told so, the connections after it are taken as ever, and the sessions that are there
-//! go on. Meanwhile the door waits in the system, and uses no processor.
+//! A process has so many file descriptors and no more. A door keeps a spare one, a second name of its listener: where
+//! no descriptor is left, the spare is given up and the next connection is taken with it. If a descriptor has become
+//! free by then it is the new spare, and the connection is served; else the connection is closed at once, and the spare
+//! is made anew. So a client that can't be served sees its connection closed, those after it are taken as ever, and
+//! the sessions that are there go on. Meanwhile the door waits in the system, and uses no processor.
 use std::io::{self, ErrorKind};
 use std::net::OpenListener;
 use std::sync::Wait;
@@ -24,7 +24,7 @@ pub(crate) struct Door<N> {
 }
 
 impl<N: OpenListener + Drop> Door<N> {
-    /// A door for this listener, with a spare descriptor if one is free.
+    /// A door for this listener, with a spare descriptor if the system gives one.
     pub(crate) fn new(listener: N) -> Door<N> {
         let spare = listener.try_clone().ok();
         Door { listener, spare }

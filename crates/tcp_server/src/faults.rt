@@ -1,21 +1,21 @@
-//! Why a server ended before its sessions did.
+//! Why a server failed.
 use std::io;
 use steal_pool::{BeginFault, PoolFault};
 use thiserror::Error;
 
-/// Why a server ended before it had taken all its sessions.
+/// Why a server failed. The sessions that it had taken have ended then, and its desk is closed.
 #[derive(Debug, Drop, Error)]
 pub enum ServeFault {
-    /// The listener has failed: no more connections can be taken.
+    /// The listener has failed: no more connections can be taken, or its address can't be had.
     #[error("no connection could be taken: {0}")]
     Listener(io::Error),
-    /// There was no memory for the pool.
+    /// There was no memory for the pool's deques, or for its threads' handles.
     #[error("no memory for the workers")]
     OutOfMemory,
     /// A thread couldn't be had, for a worker or for taking the connections, or a badge for a worker.
     #[error("no thread for a worker")]
     NoThread,
-    /// The pool had begun, but that couldn't be announced.
+    /// The pool had begun, but `announce` returned false.
     #[error("what is said at the beginning could not be said")]
     Unsaid,
 }

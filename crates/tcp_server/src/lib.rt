@@ -6,16 +6,16 @@
 //!
 //! A connection that is lost is a session that ended: its tenant leaves. A connection for which no thread or no
 //! descriptor can be had is closed, and counts too. The listener is closed with the last connection that is taken, so
-//! that who comes later is refused at once and can try another server.
+//! that a client that comes later is refused at once and can try another server.
 //!
-//! Who runs where: one thread takes the connections and starts one for each in a scope of their own, so that it
-//! goes on when all have ended, and closes the desk then; the thread that called [`serve`] runs the pool, with a
-//! thread for each worker, and joins the other. So there are workers + sessions + 2 threads at most. What is
-//! to be said at the beginning ([`serve_announced`]) is said in that thread once all workers were started, and never
-//! where the pool can't begin: then a flag is set and one connection of the server's own wakes the listener; the
-//! sessions that were there end, and the fault is answered. A connection's Nagle delay is switched off, and each answer is one write
-//! with its LF, so a line is answered at once. A session that waits for a job doesn't read, so that its peer is gone
-//! is noticed when it writes the job's end.
+//! Who runs where: one thread takes the connections and starts one for each in a scope of their own, so that it goes on
+//! when all have ended, and closes the desk then; the thread that called [`serve`] runs the pool, with a thread for
+//! each worker, and joins the other. So there are workers + sessions + 2 threads at most. What is to be said at the
+//! beginning ([`serve_announced`]) is said in that thread once all workers were started, and never where the pool can't
+//! begin: then a flag is set and one connection of the server's own wakes the listener; the sessions that were there
+//! end, and the fault is answered. A connection's Nagle delay is switched off, and each answer is one write with its
+//! LF, so a line is answered at once. A session that waits for a job doesn't read, so that its peer is gone is noticed
+//! when it writes the job's end.
 //!
 //! What a session answers is the contract of `desk_office::serve_desk`, whatever the threads do: a socket is a source
 //! and a sink of bytes. Here is only who runs where. Nothing is proved of when a thread runs.

@@ -18,23 +18,23 @@ use steal_pool::{Announce, BeginFault, Gate, PoolConfig, PoolEnd, Quiet, run_poo
 /// What a server is given.
 #[derive(Clone, Copy, Debug, PartialEq, Eq)]
 pub struct ServerConfig {
-    /// Its sessions.
+    /// How many sessions it serves, and their stacks.
     pub sessions: Sessions,
-    /// Its pool.
+    /// How many workers its pool has, and their stacks.
     pub pool: PoolConfig,
 }
 
 /// The sessions of a server.
 #[derive(Clone, Copy, Debug, PartialEq, Eq)]
 pub struct Sessions {
-    /// How many connections it takes.
+    /// How many connections it takes before it ends, those included for which no thread or descriptor can be had.
     pub count: u16,
-    /// The size of a session's stack in bytes, or else the usual one.
+    /// The size of a session's stack in bytes; `None` for the usual size.
     pub stack: Option<usize>,
 }
 
 impl ServerConfig {
-    /// So many sessions and workers, with the usual stacks.
+    /// A server of so many sessions, with the workers 1 to `workers`, and with stacks of the usual size.
     pub fn new(sessions: u16, workers: Worker) -> ServerConfig
         ensures sessions { result.sessions.count ≡ sessions }
         ensures workers { result.pool.workers ≡ workers }
@@ -51,12 +51,14 @@ impl ServerConfig {
     }
 }
 
-/// Takes as many connections as it is given sessions and serves each in a thread of its own, with the workers beside
-/// them; then closes the desk and joins all.
+/// Takes as many connections as `config` has sessions and serves each in a thread of its own, while a pool of workers
+/// runs. When all sessions have ended it closes the desk, waits for the workers, and returns what the pool ends with.
 ///
-/// At Ok so many connections were taken, and all sessions have ended: each tenant has left. At an error the sessions
-/// that were there have ended too, and the desk is closed: `Listener` where no more connections could be taken,
-/// `OutOfMemory` and `NoThread` where the pool could not begin.
+/// At Ok so many connections were taken (each for which no thread or descriptor could be had was closed, unserved), and
+/// each tenant has left. At an error the sessions that were begun have ended too, and the desk is closed: `Listener`
+/// where no more connections could be taken, or the listener's address couldn't be had; `OutOfMemory` where there was
+/// no memory for the pool; `NoThread` where no thread could be had for a worker or for taking the connections, or no
+/// badge for a worker.
 pub fn serve<L: Hands + Send + Sync, G: Gate + Sync, R: Net + Threads + Wait + Sync>(
     rt: &R,
     alloc: Global,
@@ -74,9 +76,9 @@ pub fn serve<L: Hands + Send + Sync, G: Gate + Sync, R: Net + Threads + Wait + S
     }
 }
 
-/// The same, and announces that the server has begun once all workers of the pool were started, in the thread that
-/// called: so nothing is announced where the pool can't begin. `Unsaid` where that can't be announced: no more
-/// connections are taken then.
+/// Serves as `serve` does, and calls `announce` of `call` in this thread once all workers of the pool were started;
+/// where the pool can't begin it isn't called. Returns `call` too. Its faults are those of `serve`, and `Unsaid` where
+/// `announce` returned false: then no more connections are taken.
 pub fn serve_announced<
     L: Hands + Send + Sync,
     G: Gate + Sync,
@@ -106,7 +108,7 @@ pub fn serve_announced<
     )
 }
 
-/// What the pool of a server came to, as what the server ends with.
+/// The result of `run_pool_announced` as that of `serve_announced`; at an error the announcer is dropped.
 fn ended_as<A: Drop, L: Hands>(
     came: (A, Result<PoolEnd<L>, BeginFault>),
 ) -> Result<(A, PoolEnd<L>), ServeFault>
@@ -120,8 +122,10 @@ fn ended_as<A: Drop, L: Hands>(
     }
 }
 
-/// The same beside any pool, which runs until the desk is closed and answers, or tells why it couldn't run. Where it
-/// couldn't it has closed the desk, and no more connections are taken.
+/// Serves sessions as `serve` does, beside any pool: `pool` runs in this thread until the desk is closed, and its value
+/// is returned when all sessions have ended. If it couldn't run it closes the desk and returns an error; no more
+/// connections are taken then. The other errors are `Listener`, which is returned in place of the pool's result, and
+/// `NoThread` where the thread that takes the connections can't be had; then the desk is closed and `pool` isn't run.
 pub(crate) fn serve_beside<
     L: Hands + Send + Sync,
     R: Net + Threads + Wait + Sync,
@@ -173,13 +177,15 @@ pub(crate) fn serve_beside<
     )
 }
 
-/// No connection is taken any more: one of the server's own wakes the listener.
+/// Makes the thread that takes connections stop: sets the flag `stop`, and connects to the listener at this address, so
+/// that a thread that waits for a connection looks at the flag.
 fn wake<R: Net>(rt: &R, address: SocketAddr, stop: &AtomicBool) {
     stop.store(true, Ordering::SeqCst);
     let _ = rt.connect(address);
 }
 
-/// What a server ends with, by how the taking of connections ended and what the pool came to.
+/// The result of a server, by how the taking of connections ended and by the pool's result: `Listener` where the first
+/// failed, else the pool's result.
 fn ended_with<T: Drop>(taken: io::Result<()>, ended: Result<T, ServeFault>) -> Result<T, ServeFault>
     ensures { IfOk result (λ served. ended ≡ Ok served) }
 {
@@ -189,7 +195,8 @@ fn ended_with<T: Drop>(taken: io::Result<()>, ended: Result<T, ServeFault>) -> R
     }
 }
 
-/// Serves so many connections, and closes the desk when all of them have ended.
+/// Takes connections and serves them (`take_all`), waits until all their sessions have ended, and closes the desk. It
+/// does so at an error of the listener too, which it returns at the end.
 fn serve_and_close<L: Hands + Send + Sync, R: Threads + Wait + Sync>(
     rt: &R,
     desk: &Desk<L>,
@@ -210,8 +217,10 @@ fn serve_and_close<L: Hands + Send + Sync, R: Threads + Wait + Sync>(
     taken
 }
 
-/// Takes so many connections, each with a thread of its own, and closes the listener. A connection for which no
-/// thread can be had is dropped, and so closed, and counts as one of them.
+/// Takes so many connections, starts a session for each in a thread of `scope`, and closes the listener; it doesn't
+/// wait for the sessions. A connection for which no thread or descriptor can be had is closed, and counts as one of
+/// them. Where `stop` is set when a connection was taken, that one is closed and no more are taken. `Err` where the
+/// listener fails.
 fn take_all<'s, E, L: Hands + Send + Sync, R: Wait + Sync>(
     scope: &'s Scope<'s, E>,
     rt: &'s R,
@@ -235,7 +244,8 @@ fn take_all<'s, E, L: Hands + Send + Sync, R: Wait + Sync>(
     Ok(())
 }
 
-/// Starts a session in a thread of its own with a stack of this size, or else the usual one.
+/// Starts a session on this connection in a thread of its own, with a stack of this size, or of the usual one at
+/// `None`. Where no thread can be had the connection is closed.
 fn start<'s, E, L: Hands + Send + Sync, R: Wait + Sync>(
     scope: &'s Scope<'s, E>,
     rt: &'s R,
@@ -257,7 +267,8 @@ fn start<'s, E, L: Hands + Send + Sync, R: Wait + Sync>(
     );
 }
 
-/// One session. Each line is answered at once. However it ends, its tenant has left.
+/// Serves one session on a connection, up to a line BYE, the end of the input, or a failure of the connection. In each
+/// case its tenant has left when it returns. Each answer is sent at once, without Nagle's delay.
 fn converse<L: Hands, R: Wait>(rt: &R, desk: &Desk<L>, stream: &TcpStream)
     requires { L.all ≡ L.parts }
 {
