@@ -56,8 +56,8 @@ pub fn run_searches<A: Allocator + Clone>(
 
 /// Makes a core of these totals and offers it a list of steps, in which each Submit asks for a search; one answer
 /// for each is appended. The core's jobs are then searches, those that the taken steps submitted, so that
-/// [`outcome_of`](crate::outcome_of) and further steps may follow. It fails only where a growth was refused, and
-/// then no answer is appended and no core is left.
+/// [`outcome_of`](crate::outcome_of) and further steps may follow. It fails only where memory for the core or the
+/// answers was refused, and then no answer is appended and no core is left.
 pub fn run_from_new<A: Allocator + Clone>(
     alloc: A,
     config: Config,

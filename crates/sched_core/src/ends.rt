@@ -103,7 +103,7 @@ impl<P: Procedure, A: Allocator> Engine<P, A> {
         Ok(DidOf::Spent(job))
     }
 
-    /// Cancel: a tenant's live job of this number is cancelled, and its frames are removed.
+    /// Cancel: the live job `job` of tenant `number` is cancelled, and its frames are removed.
     pub(crate) fn cancel(&mut self, number: u64, job: u64) -> StepAnswer<P>
         requires { AreShaped self.old.store.tenants }
         ensures judged { IsJudged (P.functions self.old.procedure) self.old.store (CancelStep number job) result self.new.store }
