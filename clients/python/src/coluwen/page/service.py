@@ -22,7 +22,7 @@ from ..board import PASS, Position
 from ..client import DEEPEST
 from ..errors import ColuwenError, FormatError, Refused, TooDeep
 from ..score import EXACT, Score
-from .games import read_games, write_game
+from . import games
 from .library import Found, Library, Told, steps_of
 from .rooms import Rooms
 from .web import Answer, Fault, Request
@@ -79,7 +79,7 @@ class Service:
             return Answer(kind="application/x-ndjson", lines=self.analyse(position, depth, exact))
         if path == "/read" and self.allowed(request, "POST"):
             async with self.reading:
-                return Answer.json(await asyncio.to_thread(read_games, request.body, request.query.get("name", "")[:200]))
+                return Answer.json(await games.read(request.body, request.query.get("name", "")[:200]))
         if path == "/write" and self.allowed(request, "POST"):
             return Answer.json({"text": self.written(request.json())})
         if path == "/class" or path.startswith("/class/"):
@@ -110,6 +110,8 @@ class Service:
         depth, exact = asked.get("depth"), asked.get("exact", [])
         if not isinstance(depth, int) or isinstance(depth, bool) or depth < 1:
             raise Fault(400, "depth", "the depth is a number of plies")
+        if not self.settled and self.deepest < depth <= DEEPEST:
+            raise Fault(503, "learning", "how deep the server looks isn't known yet")
         if depth > self.deepest and not (depth <= position.empties <= DEEPEST):
             raise Fault(400, "depth", f"this page looks {self.deepest} plies deep, and to the end where {DEEPEST} squares are empty")
         moves = position.legal_moves()
@@ -179,7 +181,7 @@ class Service:
         if not isinstance(asked, dict) or not all(isinstance(asked.get(name), str) for name in ("format", "start", "moves")):
             raise Fault(400, "write", "a game has a format, a start and moves")
         try:
-            return write_game(asked["format"], asked["start"], asked["moves"])
+            return games.write_game(asked["format"], asked["start"], asked["moves"])
         except (FormatError, ValueError) as fault:
             raise Fault(400, "write", str(fault)) from None
 

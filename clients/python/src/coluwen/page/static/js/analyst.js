@@ -8,9 +8,12 @@ import { flipped, isEnd } from "./scores.js";
 const LONGEST_PAUSE = 8; // seconds between two tries of a service that can't be reached
 
 export class Analyst {
-  /** `changed` is called with a position when something was learnt of it, or how its question stands. */
-  constructor(changed) {
-    this.changed = changed;
+  /**
+   * `changed` is called with a position when something was learnt of it, or how its question stands; `tooDeep` where the service looks
+   * less deep than it said.
+   */
+  constructor(changed, tooDeep) {
+    Object.assign(this, { changed, tooDeep });
     this.known = new Map();
     this.questions = new Map();
     this.faults = new Map();
@@ -78,10 +81,11 @@ export class Analyst {
     this.hear(question, { position, depth, exact });
   }
 
+  /** Hears the answer of a question, and asks again where the service can't be reached or has no room, until it has all been said. */
   async hear(question, body) {
     const { position } = body, { signal } = question.stop;
     for (let wait = 1; !signal.aborted; wait = Math.min(2 * wait, LONGEST_PAUSE)) {
-      let ended = false;
+      let ended = false, kind = "unreachable";
       try {
         this.asked += 1;
         await lines("analyse", { method: "POST", body, signal }, (told) => {
@@ -93,13 +97,13 @@ export class Analyst {
         });
       } catch (fault) {
         if (signal.aborted) return;
-        if (fault instanceof ServiceFault && fault.status >= 400 && fault.status < 500 && fault.status !== 429 && fault.status !== 408)
-          return this.settle(position, { kind: "fault", code: fault.told?.code ?? "fault", text: fault.message });
-        if (fault instanceof ServiceFault && fault.status === 429) question.busy = true;
+        kind = kindOf(fault);
+        if (kind === "fault") return this.settle(position, { kind, text: fault.message });
+        if (kind === "depth") this.tooDeep();
       }
       if (signal.aborted) return;
       if (ended) return this.settle(position);
-      question.state = { kind: question.busy ? "busy" : "unreachable", again: wait };
+      question.state = { kind: kind === "busy" ? "busy" : "unreachable", again: wait };
       this.changed(position);
       await pause(wait, signal);
     }
@@ -132,6 +136,14 @@ export class Analyst {
     if (same) for (const [move, score] of before.table) if (isExact(score) && !isExact(table.get(move))) table.set(move, score);
     this.known.set(position, { ...told, table, deepest: told.ends || (same && before.deepest) });
   }
+}
+
+/** What a fault means: that the service has no room now, looks less deep than it did, refuses the question, or can't be reached. */
+function kindOf(fault) {
+  if (!(fault instanceof ServiceFault)) return "unreachable";
+  if (fault.status === 429 || fault.status === 503) return "busy";
+  if (fault.told?.code === "depth") return "depth";
+  return fault.status < 500 && fault.status !== 408 ? "fault" : "unreachable";
 }
 
 /** Whether a score is exact; at the game's end the squares that stay empty are known then. */

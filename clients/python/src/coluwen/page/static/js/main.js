@@ -7,22 +7,22 @@ import { Pupil, Teacher } from "./class.js";
 import { $, made, say } from "./dom.js";
 import { copy, picture, save } from "./export.js";
 import { Graph } from "./graph.js";
-import { ServiceFault, question } from "./lines.js";
+import { ServiceFault, pause, question } from "./lines.js";
 import { Moves, graphScore, judged, showGravest, totalsText } from "./moves.js";
-import { SQUARES, START, count, isOver, positionOf, settled, sideOf } from "./rules.js";
+import { SQUARES, START, count, isOver, settled, sideOf } from "./rules.js";
 import { forBlack, isEnd, words } from "./scores.js";
 import { Changes, read, startOf, written } from "./state.js";
 import * as texts from "./texts.js";
 import { Tree, treeOf } from "./tree.js";
 
 const { t } = texts;
-const game = { tree: new Tree(), changes: new Changes(), setting: false, faults: [], depths: [4, 6, 8], collapses: false };
+const game = { tree: new Tree(), changes: new Changes(), setting: false, faults: [], found: [], depths: [], wish: 8, collapses: false };
 let board, graph, moves, analyst, teacher, pupil;
 
 // --- The state: what is there, as the address and the undoing know it ---
 
 const snapshot = () => ({ start: game.tree.start, moves: game.tree.text(), at: String(game.tree.numberOf(game.tree.current)) });
-const stateNow = () => ({ ...snapshot(), depth: $("depth").value, exact: $("exact").checked ? "1" : "", view: $("view").value === "mover" ? "mover" : "", follow: pupil ? pupil.room : "" });
+const stateNow = () => ({ ...snapshot(), depth: String(game.wish), exact: $("exact").checked ? "1" : "", view: $("view").value === "mover" ? "mover" : "", follow: pupil ? pupil.room : "" });
 
 /** Writes the state into the address: as a new entry of the browser's list, or in the place of the last one. */
 function remember(entry = true) {
@@ -235,33 +235,33 @@ function learnt() {
   });
 }
 
+/** Of the depths that are offered the one that was wished, or the next. */
 function chooseDepth(depth) {
-  const offered = game.depths, least = offered.find((one) => one >= depth) ?? offered.at(-1);
-  $("depth").value = String(least);
-  game.wish = depth;
+  if (depth >= 1 && depth <= 60) game.wish = depth;
+  $("depth").value = String(game.depths.find((one) => one >= game.wish) ?? game.depths.at(-1));
 }
 
-/** What the service can do. Until it says so, and where it can't be reached, the least is offered. */
+/** Asks what the service can do, until it knows. Until then the least is offered. */
 async function learn() {
-  for (let wait = 1; ; wait = Math.min(2 * wait, 8)) {
+  if (game.learning) return;
+  game.learning = true;
+  for (let wait = 0.5; game.learning; wait = Math.min(2 * wait, 8)) {
     try {
       const about = await question("about");
       offer(about.depths);
-      if (about.settled) return;
-      wait = 1;
-    } catch (fault) {
-      if (fault instanceof ServiceFault && fault.status === 404) return;
+      game.learning = !about.settled;
+    } catch {
+      // it is asked again
     }
-    await new Promise((done) => setTimeout(done, 1000 * wait));
+    if (game.learning) await pause(wait);
   }
 }
 
 function offer(depths) {
-  if (!depths?.length || JSON.stringify(depths) === JSON.stringify(game.depths) && $("depth").options.length) return;
+  if (!depths?.length || JSON.stringify(depths) === JSON.stringify(game.depths)) return;
   game.depths = depths;
-  const wish = game.wish ?? 8;
   $("depth").replaceChildren(...depths.map((depth) => made("option", { value: depth }, t("depth.option", { n: depth }))));
-  chooseDepth(wish);
+  chooseDepth(game.wish);
   show();
 }
 
@@ -272,7 +272,7 @@ async function importBytes(bytes, name) {
     const found = await question(`read?name=${encodeURIComponent(name)}`, { method: "POST", body: bytes });
     game.found = found.games;
     showFound();
-    game.faults = found.faults;
+    game.faults = found.faults.map(foreignFault);
     if (found.games.length) choose(0);
     showFaults();
     if (!found.faults.length) tell(t("said.read", { n: found.games.length }));
@@ -282,9 +282,14 @@ async function importBytes(bytes, name) {
   }
 }
 
+/** What the formats say is wrong: where, and in the reader's language where it is a move. */
+function foreignFault({ file, line, column, text, kind, number, word }) {
+  const where = [file, line ? t("fault.line", { line }) : "", column ? t("fault.column", { column }) : ""].filter(Boolean).join(", ");
+  return `${where ? `${where}: ` : ""}${kind === "illegal" ? t("fault.move", { number, word }) : text}`;
+}
+
 function importText(text) {
-  const isTree = /\(\s*[a-h][1-8]/i.test(text), start = positionOf(text);
-  if (start) return takeGame({ start, moves: "" });
+  const isTree = /\(\s*[a-h][1-8]/i.test(text);
   if (!isTree) return importBytes(new TextEncoder().encode(text), "");
   const { tree, faults } = treeOf(text);
   game.faults = faults.map(faultText);
@@ -296,7 +301,7 @@ function importText(text) {
 
 function showFound() {
   $("found").hidden = game.found.length < 2;
-  $("games").replaceChildren(...game.found.map(({ title }, at) => made("option", { value: at }, `${at + 1}. ${title}`)));
+  $("games").replaceChildren(...game.found.map(({ title, start }, at) => made("option", { value: at }, `${at + 1}. ${title || t("import.position", { n: count(start, "-") })}`)));
 }
 
 const choose = (at) => takeGame(game.found[at]);
@@ -505,9 +510,9 @@ async function begun() {
   board = new Board($("board"), chosen);
   graph = new Graph($("graph"), (ply) => toPly(ply));
   moves = new Moves($("moves"), (node) => step(() => game.tree.go(node)));
-  analyst = new Analyst(learnt);
+  analyst = new Analyst(learnt, learn);
   teacher = new Teacher(showClass);
-  offer([4, 6, 8]);
+  offer([4]);
   wire();
   open(location);
   document.documentElement.dataset.ready = "yes";
