@@ -16,21 +16,40 @@ export function judged(node, analyst) {
 }
 
 export class Moves {
+  /**
+   * Shows moves in an element; `chosen` is called with the node of a move that was clicked. Rows and buttons stay the same while their
+   * values change: a button that is made anew between press and release would lose the click.
+   */
   constructor(element, chosen) {
-    Object.assign(this, { element, chosen });
+    Object.assign(this, { element, chosen, rows: new WeakMap(), buttons: new WeakMap() });
+    this.heads = ["column.number", "column.move", "", "column.best", "column.lost"].map((name) => made("th", { scope: "col" }, name && t(name)));
+    this.body = made("tbody");
+    this.table = made("table", {}, made("caption", { class: "unseen" }, t("moves.caption")), made("thead", {}, made("tr", {}, ...this.heads)), this.body);
+    this.none = made("p", {}, t("moves.none"));
+    element.append(this.table, this.none);
   }
 
   /** Shows the tree's line. */
   show(tree, analyst, view) {
     const line = tree.line(), focused = this.element.contains(document.activeElement);
-    const head = ["column.number", "column.move", view === "black" ? "column.black" : "column.mover", "column.best", "column.lost"];
-    const body = made("tbody", {}, ...line.flatMap((node) => this.rows(node, tree, analyst, view)));
-    const table = made("table", {}, made("caption", { class: "unseen" }, t("moves.caption")), made("thead", {}, made("tr", {}, ...head.map((name) => made("th", { scope: "col" }, t(name))))), body);
-    this.element.replaceChildren(line.length ? table : made("p", {}, t("moves.none")));
-    const here = this.element.querySelector('[aria-current="true"]') ?? this.element.querySelector("button");
-    if (here) here.tabIndex = 0;
-    if (focused) here?.focus({ preventScroll: true });
-    this.scroll(here?.closest("tr"));
+    this.table.hidden = !line.length;
+    this.none.hidden = line.length > 0;
+    this.heads[2].textContent = t(view === "black" ? "column.black" : "column.mover");
+    const rows = line.flatMap((node) => this.rowsOf(node, tree, analyst, view)), there = [...this.body.rows];
+    if (rows.length !== there.length || rows.some((row, at) => row !== there[at])) this.body.replaceChildren(...rows);
+    this.reach(tree, focused);
+  }
+
+  /** The one button that Tab reaches: that of the current move, or of the first. */
+  reach(tree, focused) {
+    const here = this.buttons.get(tree.current) ?? this.buttons.get(tree.line()[0]);
+    if (this.reached && this.reached !== here) this.reached.tabIndex = -1;
+    this.reached = here;
+    if (!here) return;
+    here.tabIndex = 0;
+    if (focused) here.focus({ preventScroll: true });
+    if (this.seen !== tree.current) this.scroll(here.closest("tr"));
+    this.seen = tree.current;
   }
 
   /** Moves the list, and nothing else, so that a row can be seen. */
@@ -42,39 +61,63 @@ export class Moves {
     else if (bottom > list.scrollTop + list.clientHeight) list.scrollTop = bottom - list.clientHeight;
   }
 
-  rows(node, tree, analyst, view) {
-    const { best, bestMove, score, loss } = judged(node, analyst), side = node.side;
+  rowsOf(node, tree, analyst, view) {
+    const others = node.parent.children.filter((child) => child !== node), there = this.rows.get(node);
+    const rows = there ?? { row: this.row(node), beside: made("tr", { class: "variations" }, made("td"), made("td", { colspan: 4 })), signs: "" };
+    this.rows.set(node, rows);
+    this.fill(rows.row, node, tree, analyst, view);
+    if (!others.length) return [rows.row];
+    const signs = others.map((child) => tree.textFrom(child)).join();
+    if (rows.signs !== signs) rows.beside.cells[1].replaceChildren(t("variations"), ...others.flatMap((child) => [" (", ...this.inline(child, tree), ")"]));
+    rows.signs = signs;
+    for (const child of others) for (const one of tree.under(child)) this.button(one, tree);
+    return [rows.row, rows.beside];
+  }
+
+  row(node) {
+    return made("tr", { "data-ply": node.ply }, made("td", { class: "number" }, String(node.ply)), made("td"), made("td", { class: "value" }), made("td", { class: "value" }), made("td", { class: "lost" }));
+  }
+
+  /** Fills a row with what is known now. */
+  fill(row, node, tree, analyst, view) {
+    const { best, bestMove, score, loss } = judged(node, analyst), side = node.side, [, move, worth, better, lost] = row.cells;
     const seen = (one) => (!one ? "" : brief(view === "black" ? forBlack(one, side) : one));
-    const said = (one) => (one ? `${t("by.black")}: ${words(forBlack(one, side))}; ${t("by.mover")}: ${words(one)}` : false);
-    const current = node === tree.current;
-    const cells = [
-      made("td", { class: "number" }, String(node.ply)),
-      made("td", {}, this.button(node, current)),
-      made("td", { class: "value", title: said(score) }, seen(score)),
-      made("td", { class: "value", title: said(best) }, best ? `${bestMove} ${bestMove === node.move ? "" : seen(best)}`.trim() : ""),
-      made("td", { class: "lost" }, ...lossMark(loss)),
-    ];
-    const found = [made("tr", { class: current ? "here" : false, "data-ply": node.ply }, ...cells)];
-    const others = node.parent.children.filter((child) => child !== node);
-    if (others.length) found.push(made("tr", { class: "variations" }, made("td", {}), made("td", { colspan: 4 }, t("variations"), ...others.flatMap((child) => [" (", ...this.inline(child, tree), ")"]))));
-    return found;
+    const said = (one) => (one ? `${t("by.black")}: ${words(forBlack(one, side))}; ${t("by.mover")}: ${words(one)}` : "");
+    const button = this.button(node, tree);
+    if (button.parentElement !== move) move.replaceChildren(button);
+    row.className = node === tree.current ? "here" : "";
+    for (const [cell, one, text] of [[worth, score, seen(score)], [better, best, best ? `${bestMove} ${bestMove === node.move ? "" : seen(best)}`.trim() : ""]]) {
+      if (cell.textContent !== text) cell.textContent = text;
+      if (cell.title !== said(one)) cell.title = said(one);
+    }
+    lost.replaceChildren(...lossMark(loss));
   }
 
   /** A variation with its own, in parentheses. */
   inline(node, tree) {
-    const found = [this.button(node, node === tree.current)];
+    const found = [this.button(node, tree)];
     for (let at = node; at.children.length; [at] = at.children) {
       const [main, ...others] = at.children;
-      found.push(" ", this.button(main, main === tree.current));
+      found.push(" ", this.button(main, tree));
       for (const child of others) found.push(" (", ...this.inline(child, tree), ")");
     }
     return found;
   }
 
-  button(node, current) {
+  /** The button of a move, as it is to look now. */
+  button(node, tree) {
+    const button = this.buttons.get(node) ?? this.newButton(node);
+    if (node === tree.current) button.setAttribute("aria-current", "true");
+    else button.removeAttribute("aria-current");
+    return button;
+  }
+
+  newButton(node) {
     const side = t(node.side === "X" ? "black" : "white"), label = [`${node.ply}. ${side} ${node.move}`, ...(node.passed ? [t("passed")] : [])].join(", ");
     const disc = made("span", { class: `small ${node.side === "X" ? "black" : "white"}`, "aria-hidden": "true" });
-    return made("button", { type: "button", class: "move", tabindex: -1, "aria-current": current ? "true" : false, "aria-label": label, onclick: () => this.chosen(node) }, disc, node.move);
+    const button = made("button", { type: "button", class: "move", tabindex: -1, "aria-label": label, onclick: () => this.chosen(node) }, disc, node.move);
+    this.buttons.set(node, button);
+    return button;
   }
 }
 
@@ -90,13 +133,15 @@ function lossMark(loss) {
 export function showGravest(element, line, analyst, chosen, most = 5) {
   const lossy = line.map((node) => ({ node, ...judged(node, analyst) })).filter(({ loss }) => loss && loss.class !== "good");
   lossy.sort((one, other) => weight(other.loss) - weight(one.loss) || one.node.ply - other.node.ply);
-  element.replaceChildren(
-    ...lossy.slice(0, most).map(({ node, loss, best, bestMove, score }) => {
-      const values = { ply: node.ply, side: t(node.side === "X" ? "black" : "white"), move: node.move, mark: t(`mark.${loss.class}`), lost: lossWords(loss), best: bestMove, worth: words(best), value: words(score) };
-      return made("li", {}, made("button", { type: "button", class: "link", onclick: () => chosen(node) }, t("gravest.row", values)));
-    }),
-  );
-  if (!lossy.length) element.replaceChildren(made("li", { class: "none" }, t("gravest.none")));
+  const rows = lossy.slice(0, most).map(({ node, loss, best, bestMove, score }) => {
+    const values = { ply: node.ply, side: t(node.side === "X" ? "black" : "white"), move: node.move, mark: t(`mark.${loss.class}`), lost: lossWords(loss), best: bestMove, worth: words(best), value: words(score) };
+    return { node, text: t("gravest.row", values) };
+  });
+  const signs = rows.map(({ text }) => text).join("\n") || t("gravest.none");
+  if (element.dataset.signs === signs) return; // buttons that stay the same keep their clicks
+  element.dataset.signs = signs;
+  element.replaceChildren(...rows.map(({ node, text }) => made("li", {}, made("button", { type: "button", class: "link", onclick: () => chosen(node) }, text))));
+  if (!rows.length) element.replaceChildren(made("li", { class: "none" }, t("gravest.none")));
 }
 
 /** What each player lost: how many moves were good, weak and grave. */

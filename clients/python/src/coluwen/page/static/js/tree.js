@@ -114,6 +114,16 @@ export class Tree {
     return changed;
   }
 
+  /** A move and all behind it. */
+  under(node) {
+    return [node, ...node.children.flatMap((child) => this.under(child))];
+  }
+
+  /** The same as a text. */
+  textFrom(node) {
+    return `${node.move}${node.children.map((child) => `(${this.textFrom(child)})`).join("")}`;
+  }
+
   /** All moves in the order of the text. */
   nodes() {
     const found = [];
