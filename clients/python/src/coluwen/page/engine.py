@@ -1,40 +1,47 @@
-"""Values from a server, for asyncio: the package's client in threads, whose questions are given up where nobody waits any more."""
+"""Values from a server, by so many sessions and no more: a budget may have no others."""
 from __future__ import annotations
 
-import asyncio
-import concurrent.futures
 import ssl
-import threading
-from types import TracebackType
+import time
 
+from ..aio import AsyncClient, AsyncSession
 from ..board import Position
-from ..client import Client, Depths, Result
+from ..client import Result, position_of, result_of
+from ..errors import TooDeep
+from ..session import SILENCE, State, Table
 
 
-class Engine:
-    def __init__(self, host: str, port: int, tls: ssl.SSLContext | None = None, token: str | None = None, silence: float = 1.5, sessions: int = 4):
-        self.client = Client(host, port, tls=tls, token=token, silence=silence, sessions=sessions, patience=0)
-        self.pool = concurrent.futures.ThreadPoolExecutor(sessions + 1)
+class Engine(AsyncClient):
+    """The package's client, whose sessions that are idle count among the others."""
 
-    async def __aenter__(self) -> Engine:
-        return self
-
-    async def __aexit__(self, kind: type[BaseException] | None, fault: BaseException | None, trace: TracebackType | None) -> None:
-        self.client.stop()
-        self.pool.shutdown(wait=False)
-
-    async def analyse(self, position: str | Position, depth: int) -> Result:
-        stop = threading.Event()
-        asked = asyncio.get_running_loop().run_in_executor(self.pool, lambda: self.client.analyse(position, depth, stop=stop))
-        try:
-            return await asyncio.shield(asked)
-        except asyncio.CancelledError:
-            stop.set()
-            await asyncio.gather(asked, return_exceptions=True)
-            raise
+    def __init__(self, host: str, port: int, tls: ssl.SSLContext | None = None, token: str | None = None, silence: float = SILENCE, sessions: int = 4):
+        super().__init__(host, port, sessions=sessions, patience=0, tls=tls, silence=silence, token=token)
+        self.busy = 0
 
     async def reach(self) -> None:
-        await asyncio.to_thread(lambda: self.client.open().close())
+        """Opens a session, so that a server that isn't there is noticed."""
+        await self.kept(await self.open())
 
-    async def depths(self) -> Depths:
-        return await asyncio.to_thread(self.client.depths)
+    async def analyse(self, position: str | Position, depth: int, timeout: float | None = None) -> Result:
+        """As the package's; of a position that is too deep nothing less deep is asked, as that is known here."""
+        position, begun = position_of(position), time.monotonic()
+        found, table = await self.spent_or_done(position, depth, timeout)
+        if found[0] == "SPENT":
+            raise TooDeep(depth, depth - 1)
+        return result_of(position, depth, found, table, time.monotonic() - begun)
+
+    async def spent_or_done(self, position: Position, depth: int, timeout: float | None) -> tuple[State, Table | None]:
+        self.busy += 1
+        try:
+            return await super().spent_or_done(position, depth, timeout)
+        finally:
+            self.busy -= 1
+
+    async def taken(self, level: int, fresh: bool) -> AsyncSession:
+        """A session that is idle and has enough, or a new one in the place of one that is idle."""
+        for at, session in enumerate(self.idle):
+            if not fresh and session.reserved.nodes >= self.levels[level].nodes:
+                return self.idle.pop(at)
+        while self.idle and len(self.idle) + self.busy > self.at_once:
+            await self.idle.pop(0).close()
+        return await self.open(level)

@@ -21,8 +21,8 @@ Told = Callable[[dict[str, Any]], None]
 FIRST_PAUSE, LONGEST_PAUSE = 1.0, 8.0  # seconds between two tries of a server that can't be reached
 
 
-class Engine(Protocol):
-    """What values come from: `AsyncClient` of this package."""
+class Source(Protocol):
+    """What values come from: `Engine`, or another for a trial."""
 
     async def analyse(self, position: str | Position, depth: int) -> Result: ...
 
@@ -100,7 +100,7 @@ class Flight:
 class Library:
     """Answers by position and depth, the last ones that were used, and the questions that are on their way."""
 
-    def __init__(self, engine: Engine, places: int, most: int = 20000):
+    def __init__(self, engine: Source, places: int, most: int = 20000):
         self.engine, self.turns, self.most = engine, Turns(places), most
         self.kept: collections.OrderedDict[tuple[str, int], Found] = collections.OrderedDict()
         self.spent: collections.OrderedDict[tuple[str, int], None] = collections.OrderedDict()
