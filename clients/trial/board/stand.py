@@ -11,7 +11,7 @@ import urllib.request
 
 TOP = pathlib.Path(__file__).resolve().parents[3]
 SOURCE = TOP / "clients/python/src"
-sys.path[:0] = [str(SOURCE), str(TOP / "deploy")]
+sys.path[:0] = [str(SOURCE), str(TOP / "deploy"), str(TOP / "clients/trial")]
 import stage  # noqa: E402
 from coluwen.board import OTHER, Position  # noqa: E402
 from stage import check, fail, free_port, until  # noqa: E402, F401
