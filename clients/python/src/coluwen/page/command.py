@@ -65,7 +65,8 @@ async def serve(asked: argparse.Namespace) -> None:
     if asked.certificate:
         context = ssl.create_default_context(ssl.Purpose.CLIENT_AUTH)
         context.load_cert_chain(asked.certificate)
-    async with Engine(asked.host, asked.port, tls=tls, token=token, silence=asked.silence, sessions=asked.sessions) as engine:
+    engine = Engine(asked.host, asked.port, tls=tls, token=token, silence=asked.silence, sessions=asked.sessions)
+    async with engine:
         await engine.reach()
         service = Service(Library(engine, asked.sessions), [LEAST])
         names = {"localhost", socket.gethostname(), *asked.name}

@@ -2,10 +2,9 @@
 from __future__ import annotations
 
 import hashlib
-import importlib.resources
 import ipaddress
+import pathlib
 from collections.abc import Callable, Iterable
-from importlib.resources.abc import Traversable
 
 from .service import Service
 from .web import Answer, Fault, Request
@@ -13,15 +12,13 @@ from .web import Answer, Fault, Request
 KINDS = {"html": "text/html", "css": "text/css", "js": "text/javascript", "json": "application/json", "svg": "image/svg+xml"}
 
 
-def texts(folder: Traversable, before: str = "") -> dict[str, tuple[str, bytes]]:
-    """All files of a folder by their paths, with their kinds."""
-    found = {}
-    for one in folder.iterdir():
-        if one.is_dir():
-            found |= texts(one, f"{before}{one.name}/")
-        elif (ending := one.name.rpartition(".")[2]) in KINDS:
-            found[f"/{before}{one.name}"] = f"{KINDS[ending]}; charset=utf-8", one.read_bytes()
-    return found
+FOLDER = pathlib.Path(__file__).parent / "static"
+
+
+def texts() -> dict[str, tuple[str, bytes]]:
+    """The page's files by their paths, with their kinds."""
+    found = sorted(one for one in FOLDER.rglob("*") if one.suffix[1:] in KINDS)
+    return {f"/{one.relative_to(FOLDER).as_posix()}": (f"{KINDS[one.suffix[1:]]}; charset=utf-8", one.read_bytes()) for one in found}
 
 
 def names_of(host: str, port: int, names: Iterable[str]) -> bool:
@@ -43,7 +40,7 @@ class Site:
 
     def __init__(self, service: Service, is_named: Callable[..., bool]):
         self.service, self.is_named, self.port = service, is_named, 0
-        self.files = texts(importlib.resources.files(__package__) / "static")
+        self.files = texts()
         self.files["/"] = self.files["/index.html"]
         self.tags = {path: f'"{hashlib.sha256(body).hexdigest()[:20]}"' for path, (_, body) in self.files.items()}
 

@@ -42,10 +42,9 @@ def fault_said(fault: FormatError) -> Found:
 def read_games(data: bytes, name: str) -> Found:
     """The games of a text or file, each with its start, moves and title; positions are games without moves. What can't be read is told
     with its place; what stands before it in its game, and all other games, are there."""
-    games: list[Game] = []
-    faults: list[FormatError] = []
-    for one in parts_of(data, name):
-        (faults if isinstance(one, FormatError) else games).append(one)  # type: ignore[arg-type]
+    parts = list(parts_of(data, name))
+    games = [one for one in parts if isinstance(one, Game)]
+    faults = [one for one in parts if isinstance(one, FormatError)]
     if not games and not faults:
         faults.append(FormatError("there is nothing", name))
     return {"games": [game_said(game) for game in games], "faults": [fault_said(fault) for fault in faults]}

@@ -101,8 +101,8 @@ class Web:
         self.tasks: set[asyncio.Task[None]] = set()
 
     async def start(self, address: str, port: int, context: ssl.SSLContext | None = None) -> asyncio.Server:
-        more = {"ssl_handshake_timeout": 10.0} if context else {}
-        return await asyncio.start_server(self.connected, address, port, ssl=context, limit=self.limits.head, backlog=256, **more)  # type: ignore[arg-type]
+        patience = self.limits.head_seconds if context else None
+        return await asyncio.start_server(self.connected, address, port, ssl=context, limit=self.limits.head, backlog=256, ssl_handshake_timeout=patience)
 
     async def connected(self, reader: asyncio.StreamReader, writer: asyncio.StreamWriter) -> None:
         peer = writer.get_extra_info("peername")
