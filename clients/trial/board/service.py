@@ -1,12 +1,14 @@
 """The board's service by HTTP: its policy, whom it answers, its limits, what it refuses; classes in the browser."""
 import json
 import re
+import shutil
 import socket
+import subprocess
 import threading
 import time
 
 from coluwen.board import Position
-from stand import CELLS, OPENING, TEXT, analysed, asked, check, page, stage, until
+from stand import CELLS, KNOWN, OPENING, SOURCE, TEXT, analysed, asked, check, free_port, page, stage, until
 
 
 def place_of(address):
@@ -181,6 +183,50 @@ def try_readers(address):
     check(taken[0][0] == 200 and len(json.loads(taken[0][1])["faults"]) >= 1, f"a long file: {taken[0][0]}")
 
 
+NGINX = """
+user root; pid {folder}/nginx.pid; error_log {folder}/nginx.log; daemon off; worker_processes 1;
+events {{ worker_connections 256; }}
+http {{
+  types {{ text/html html; text/css css; text/javascript js; application/json json; image/svg+xml svg; }}
+  access_log off; client_body_temp_path {folder}/body; proxy_temp_path {folder}/proxy;
+  fastcgi_temp_path {folder}/fastcgi; uwsgi_temp_path {folder}/uwsgi; scgi_temp_path {folder}/scgi;
+  server {{
+    listen 127.0.0.1:{port};
+    location /board/ {{ alias {files}/; }}
+    location ~ ^/board/(analyse|about|read|write|class)(/.*)?$ {{
+      rewrite ^/board(/.*)$ $1 break; proxy_pass http://127.0.0.1:{page}; proxy_http_version 1.1; proxy_buffering off; proxy_set_header Host $http_host;
+      client_max_body_size 8m;
+    }}
+  }}
+}}
+"""
+
+
+def try_behind(browser, port, folder):
+    """The files by another web server, and the service beside them."""
+    home, own = free_port(), free_port()
+    files = SOURCE / "coluwen/page/static"
+    (folder / "nginx.conf").write_text(NGINX.format(folder=folder, port=home, files=files, page=own))
+    with page(port, "--port", own, "--name", "127.0.0.1"), browser.page() as shown:
+        process = subprocess.Popen(["nginx", "-c", folder / "nginx.conf", "-p", folder])
+        with stage.ended_after(process):
+            address = f"http://127.0.0.1:{home}/board/"
+            until("nginx", lambda: not socket.socket().connect_ex(("127.0.0.1", home)), 20)
+            shown.open(f"{address}#moves=f5d6&depth=4")
+            shown.until("values by another web server", KNOWN, 120)
+            shown.evaluate("document.getElementById('pasted').value = 'f5d6c3'")
+            shown.click("#import")
+            shown.until("an import by another web server", f"{TEXT} === 'f5d6c3'")
+            shown.click("#class-open")
+            shown.until("a class", "!document.getElementById('class-link').hidden")
+            with browser.page() as pupil:
+                pupil.open(shown.evaluate("document.querySelector('#class-link a').href"))
+                pupil.until("the teacher's game", f"{TEXT} === 'f5d6c3'")
+            shown.evaluate("fetch('http://127.0.0.2:9/').catch(() => 0)")
+            check(any("Content Security Policy" in fault for fault in shown.faults()), "the files have no policy of their own")
+    print("board: its files by nginx, and the service beside them")
+
+
 def try_all(browser, address, folder):
     try_policy(address)
     try_names(address)
@@ -192,6 +238,8 @@ def try_all(browser, address, folder):
     print("board: what is typed is never markup")
     with stage.server("--sessions", "20", "--grain", "4") as (_, port):
         try_connections(port)
+        if shutil.which("nginx"):
+            try_behind(browser, port, folder)
         with page(port) as (_, its):
             try_class(browser, its)
     print("board: a class follows its teacher; connections are limited")

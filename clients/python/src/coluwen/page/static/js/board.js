@@ -14,7 +14,10 @@ export class Board {
     this.squares = SQUARES.map((name, at) => {
       const button = made("button", { type: "button", class: "square", tabindex: -1, "data-square": name, "aria-label": name });
       // a click by a mouse takes no focus, so that arrow keys go on through the game
-      button.addEventListener("mousedown", (event) => event.preventDefault());
+      button.addEventListener("mousedown", (event) => {
+        event.preventDefault();
+        if (!this.hasFocus) document.activeElement?.blur();
+      });
       button.addEventListener("click", () => chosen(name));
       button.addEventListener("focus", () => this.reach(at));
       return button;

@@ -10,7 +10,7 @@ import { Graph } from "./graph.js";
 import { ServiceFault, pause, question } from "./lines.js";
 import { Moves, graphScore, judged, showGravest, totalsText } from "./moves.js";
 import { SQUARES, START, count, isOver, settled, sideOf } from "./rules.js";
-import { forBlack, isEnd, words } from "./scores.js";
+import { LIMITS, forBlack, isEnd, words } from "./scores.js";
 import { Changes, read, startOf, written } from "./state.js";
 import * as texts from "./texts.js";
 import { Tree, treeOf } from "./tree.js";
@@ -499,8 +499,9 @@ function toPly(ply, byKey = false) {
 }
 
 function legend() {
+  const limits = { weakPoints: LIMITS.WEAK.points, weakDiscs: LIMITS.WEAK.discs, gravePoints: LIMITS.GRAVE.points, graveDiscs: LIMITS.GRAVE.discs };
   const rows = ["points", "end", "bound", "empty", "loss", "signs", "deep", "keys"];
-  $("legend-list").replaceChildren(...rows.flatMap((name) => [made("dt", {}, t(`legend.${name}.name`)), made("dd", {}, t(`legend.${name}`))]));
+  $("legend-list").replaceChildren(...rows.flatMap((name) => [made("dt", {}, t(`legend.${name}.name`)), made("dd", {}, t(`legend.${name}`, limits))]));
 }
 
 async function begun() {
