@@ -120,9 +120,9 @@ class Page:
 
     def open(self, address, wait=True):
         """Opens an address, and returns when the page is ready."""
-        self.events.clear()
         self.call("Page.navigate", url="about:blank")
         self.until("an empty page", "location.href === 'about:blank'")
+        self.events.clear()
         self.call("Page.navigate", url=address)
         if wait:
             self.until(f"the page {address}", "document.documentElement?.dataset.ready === 'yes'")

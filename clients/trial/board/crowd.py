@@ -99,6 +99,20 @@ def try_browsers(browser, address):
             check(not shown.faults(), f"the browser complains: {shown.faults()}")
 
 
+def try_word(browser, port):
+    """Who waits is told how many are before, in the page too, and is served in turn."""
+    with page(port, "--sessions", 1) as (_, address), browser.page() as shown:
+        others = [threading.Thread(target=analysed, args=(address, settled(random_moves(300 + number, 20)[-1][1]), 8)) for number in range(4)]
+        for one in others:
+            one.start()
+        time.sleep(0.2)
+        shown.open(f"{address}#moves=f5d6&depth=4")
+        shown.until("a word to who waits", "/^Others are being served: \\d are before you|^Others are being served: 1 is before you/.test(document.getElementById('state').textContent)", 60)
+        shown.until("the value in turn", "document.getElementById('value').textContent.includes('4 plies deep')", 120)
+        for one in others:
+            one.join()
+
+
 def try_all(browser, _address, _folder):
     with stage.server("--sessions", "1000", "--grain", "4", "--segments", "65536", "--nodes", "4194304") as (_, port):
         counter = Counter(port, BUDGET)
@@ -108,4 +122,5 @@ def try_all(browser, _address, _folder):
             print(f"board: {PUPILS} clients at once on {BUDGET} sessions all answered, the last after {seconds:.1f} s; {counter.greatest} sessions at once at most")
             try_browsers(browser, address)
             check(counter.greatest <= BUDGET, f"{counter.greatest} sessions at once on a budget of {BUDGET}")
-    print(f"board: {PAGES} browsers beside one another have their games analysed")
+        try_word(browser, port)
+    print(f"board: {PAGES} browsers beside one another have their games analysed; who waits is told")

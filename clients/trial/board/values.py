@@ -87,37 +87,41 @@ def try_game(shown, address, depth=4):
     print(f"board: a game's table, graph and {len(order)} gravest moves are right, for black and for the player who moves")
 
 
+def try_end(shown, address, text, position, score, empty):
+    """A position near the end, in words, with its line, from its address."""
+    shown.open(f"{address}#{text}&depth=4")
+    shown.until("the end", "document.getElementById('state').textContent.startsWith('Analysed to the end')")
+    black, told, note = score if position.side == "X" else -score, shown.text("#value"), shown.text("#value-note")
+    check(re.search(rf"For black(, who is to move)?: {worded(black)}( ·|;)", told), f"{text}: {worded(black)} for black, and not {told}")
+    check("searched to the end of the game" in told and "best line: " in told, f"the line: {told}")
+    line, end = told.split("best line: ")[1].split(), position
+    for move in line:
+        end = end.play(move)
+    check(end.is_over and end.empties == empty, f"the line {line} doesn't end the game")
+    check(("World Othello Federation" in note) == bool(empty and score), f"the note: {note}")
+    check(not empty or not score or (str(empty) in note if empty > 1 else "the square" in note), f"the note: {note}")
+    brief = "D" if not score else f"{'W' if score > 0 else 'L'}{abs(score)}"
+    check(shown.text(".square.best .score") == brief, f"on the best square stands {shown.text('.square.best .score')}, and not {brief}")
+
+
 def try_ends(shown, address):
-    """Near the end: the result of the best line, empty squares counted to the winner; draws; a game that ends before the board is full."""
-    found, wanted = 0, {"win", "loss", "draw", "empty"}
-    for seed in range(200):
+    """Near the end: the result of the best line, empty squares counted to the winner; draws; games that end before the board is full."""
+    wanted = {"win", "loss", "draw"}
+    for seed in (12, *range(12)):
         moves = random_moves(seed)
-        if len(moves) < 56:
-            continue
         at = len(moves) - 7
         position = settled(moves[at][1])
         score, empty = ended(position, position.empties)
-        kind = "empty" if empty and score else "draw" if not score else "win" if score > 0 else "loss"
-        if kind not in wanted:
-            continue
-        wanted.discard(kind)
-        text = "".join(move for move, _ in moves[: at + 1])
-        shown.open(f"{address}#moves={text}&depth=4")
-        shown.until("the end", "document.getElementById('state').textContent.startsWith('Analysed to the end')")
-        black = score if position.side == "X" else -score
-        told = shown.text("#value")
-        check(re.search(rf"For black(, who is to move)?: {worded(black)}( ·|;)", told), f"seed {seed}: {worded(black)} for black, and not {told}")
-        check("searched to the end of the game" in told and "best line: " in told, f"the line: {told}")
-        line, end = told.split("best line: ")[1].split(), position
-        for move in line:
-            end = end.play(move)
-        check(end.is_over and end.empties == empty, f"the line {line} doesn't end the game")
-        note = shown.text("#value-note")
-        check(("World Othello Federation" in note) == bool(empty and score), f"the note: {note}")
-        found += 1
-        if not wanted or found > 8:
+        kind = worded(score).split()[0]
+        if kind in wanted:
+            wanted.discard(kind)
+            try_end(shown, address, f"moves={''.join(move for move, _ in moves[: at + 1])}", position, score, empty)
+        if not wanted:
             break
     check(not wanted, f"no game for {wanted}")
+    for cells in ("XO-" + "X" * 59 + "--", "XO-" + "X" * 60 + "-"):  # black takes the last white disc, and two squares or one stay empty
+        position = Position(cells, "X")
+        try_end(shown, address, f"start={cells}%20X", position, *ended(position, position.empties))
     print("board: win, loss, draw, and empty squares counted to the winner, with the lines that end so")
 
 
