@@ -1,8 +1,11 @@
 """Thirty at once on a budget of eight sessions: all are answered, in turn, and who waits is told; browsers among them."""
 import asyncio
 import contextlib
+import json
+import signal
 import threading
 import time
+import urllib.request
 
 from stand import KNOWN, analysed, check, page, random_moves, settled, stage, worths
 
@@ -99,6 +102,34 @@ def try_browsers(browser, address):
             check(not shown.faults(), f"the browser complains: {shown.faults()}")
 
 
+def try_turns():
+    """In turn: first values in the order in which the questions came, and nobody's second before all have their first."""
+    options = ("--sessions", "99", "--grain", "4", "--segments", "65536", "--nodes", "1048576")
+    with stage.server(*options) as (server, port), page(port, "--sessions", 1) as (_, address):
+        server.send_signal(signal.SIGSTOP)  # so that all have come before the first is answered
+        heard, pupils = [], []
+        for number in range(7):
+            position = settled(random_moves(410 + number, 10)[-1][1])
+            pupils.append(threading.Thread(target=hear, args=(address, position, heard, number)))
+            pupils[-1].start()
+            time.sleep(0.2)
+        server.send_signal(signal.SIGCONT)
+        for one in pupils:
+            one.join()
+    wanted = [(number, 4) for number in range(7)] + [(number, 6) for number in range(7)]
+    check(heard == wanted, f"steps in the order {heard}")
+    print("board: served in turn, each with a first value before any has a second")
+
+
+def hear(address, position, heard, number):
+    """Asks for a position, and notes each step as it comes."""
+    request = urllib.request.Request(f"{address}analyse", json.dumps({"position": position.text, "depth": 6}).encode(), {"Content-Type": "application/json"})
+    with urllib.request.urlopen(request) as answer:
+        for line in answer:
+            if line.strip() and (told := json.loads(line))["kind"] == "step":
+                heard.append((number, told["depth"]))
+
+
 def try_word(browser, port):
     """Who waits is told how many are before, in the page too, and is served in turn."""
     with page(port, "--sessions", 1) as (_, address), browser.page() as shown:
@@ -113,7 +144,7 @@ def try_word(browser, port):
             one.join()
 
 
-def try_all(browser, _address, _folder):
+def try_all(browser):
     with stage.server("--sessions", "1000", "--grain", "4", "--segments", "65536", "--nodes", "4194304") as (_, port):
         counter = Counter(port, BUDGET)
         with page(counter.own, "--sessions", BUDGET) as (_, address):
@@ -122,5 +153,6 @@ def try_all(browser, _address, _folder):
             print(f"board: {PUPILS} clients at once on {BUDGET} sessions all answered, the last after {seconds:.1f} s; {counter.greatest} sessions at once at most")
             try_browsers(browser, address)
             check(counter.greatest <= BUDGET, f"{counter.greatest} sessions at once on a budget of {BUDGET}")
+        try_turns()
         try_word(browser, port)
     print(f"board: {PAGES} browsers beside one another have their games analysed; who waits is told")

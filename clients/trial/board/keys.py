@@ -112,7 +112,7 @@ def try_rest(shown):
     shown.until("its end", "document.getElementById('class-link').hidden")
 
 
-def try_all(browser, address, folder):
+def try_all(browser, address):
     with browser.page() as shown:
         moves = try_play(shown, address)
         try_moves(shown, moves)

@@ -119,7 +119,7 @@ def try_contrast(shown, where):
 def try_shapes(shown):
     """1.4.1: nothing is told by colour alone."""
     check(shown.evaluate("[...document.querySelectorAll('.square.best')].every((one) => one.querySelector('.star'))"), "the best move by colour alone")
-    check(shown.evaluate("[...document.querySelectorAll('.square.next')].every((one) => one.querySelector('.next'))"), "the next move by colour alone")
+    check(shown.evaluate("[...document.querySelectorAll('.square.next')].every((one) => one.querySelector('.arrow'))"), "the next move by colour alone")
     check(shown.evaluate("[...document.querySelectorAll('.mark')].every((one) => one.textContent.trim().length > 1)"), "a mark by colour alone")
     shapes = shown.evaluate("['.weak', '.grave', '.point'].map((kind) => document.querySelector(`#graph ${kind}`)?.outerHTML.replace(/[\\d.-]+/g, '') ?? kind)")
     check(len(set(shapes)) == 3, "marks of the graph by colour alone")
@@ -180,7 +180,7 @@ def try_zoom(browser, address):
         check(shown.evaluate("matchMedia('(forced-colors: active)').matches") and shown.evaluate("getComputedStyle(document.querySelector('.disc')).transitionDuration") == "0s", "less movement")
 
 
-def try_all(browser, address, folder):
+def try_all(browser, address):
     try_texts()
     counts = [try_view(browser, address, *view) for view in itertools.product((320, 1060), ("en", "de"), ("light", "dark"))]
     try_zoom(browser, address)

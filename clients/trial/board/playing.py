@@ -97,6 +97,10 @@ def try_variations(shown, moves):
     print("board: variations, main line, deletion; four changes undone")
 
 
+def try_play(shown, address):
+    try_variations(shown, try_whole_game(shown, address))
+
+
 def try_address(shown, browser, address):
     """Back and forward; a link that was copied opens the same in another browser; the older page's forms."""
     shown.open(address)
@@ -237,8 +241,7 @@ def try_setup(shown, address):
 def try_all(browser, address, folder):
     with browser.page() as shown:
         try_rules(shown, address)
-        moves = try_whole_game(shown, address)
-        try_variations(shown, moves)
+        try_play(shown, address)
         try_address(shown, browser, address)
         try_import(shown, address, folder)
         try_export(shown, address)

@@ -10,7 +10,7 @@ import urllib.error
 import urllib.request
 
 TOP = pathlib.Path(__file__).resolve().parents[3]
-SOURCE = TOP / "clients/python/src"
+SOURCE = pathlib.Path(os.environ.get("COLUWEN", TOP / "clients/python/src"))
 sys.path[:0] = [str(SOURCE), str(TOP / "deploy"), str(TOP / "clients/trial")]
 import stage  # noqa: E402
 from coluwen.board import OTHER, Position  # noqa: E402

@@ -67,9 +67,9 @@ def try_game(shown, address, depth=4):
         check(row[2] == signed(sign * value), f"move {row[0]}, {move}: for black {row[2]}, and not {sign * value}")
         check(wanted[row[3].split()[0]] == best and (row[3] == move or row[3].split()[1] == signed(sign * best)), f"move {row[0]}: best is {row[3]}")
         lost = best - value
-        mark = "??" if lost >= GRAVE else "?" if lost >= WEAK else ""
-        text = " ".join(row[4].split())
-        check(text.replace("grave", "").replace("weak", "").split() == [*([mark] if mark else []), *([str(lost), f"point{'s' * (lost != 1)}"] if lost else [])], f"move {row[0]} lost {lost}: {text!r}")
+        mark = ["??", "grave"] if lost >= GRAVE else ["?", "weak"] if lost >= WEAK else ["✓", "good"]
+        told = re.findall(r"[a-z]+|[0-9]+|[^a-z0-9\s]+", row[4])
+        check(told == [*mark, *([str(lost), f"point{'s' * (lost != 1)}"] if lost else [])], f"move {row[0]} lost {lost}: {row[4]!r}")
         position = after
     gravest = shown.evaluate("[...document.querySelectorAll('#gravest li')].map((one) => one.textContent)")
     order = sorted((number for number in losses if losses[number] >= WEAK), key=lambda number: (-losses[number], int(number)))[:5]
@@ -232,7 +232,7 @@ class page_at:
         self.server.__exit__(*words)
 
 
-def try_all(browser, address, folder):
+def try_all(browser, address):
     with browser.page() as shown:
         try_squares(shown, address)
         try_game(shown, address)

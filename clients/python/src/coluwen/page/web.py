@@ -83,10 +83,6 @@ class Fault(Exception):
         self.status, self.code = status, code
 
 
-class Gone(Exception):
-    """The connection has ended, or what came is no request: nothing more is read from it."""
-
-
 Handler = Callable[[Request], Awaitable[Answer]]
 Most = Callable[[str, str], int]  # how many bytes the body of a request by this method and path may have
 
@@ -119,7 +115,9 @@ class Web:
             for number in range(self.limits.requests):
                 if not await self.serve_one(reader, writer, address, number):
                     return
-        except (Gone, ConnectionError, TimeoutError, asyncio.IncompleteReadError, asyncio.LimitOverrunError, ssl.SSLError):
+        except (ConnectionError, TimeoutError, asyncio.IncompleteReadError, ssl.SSLError):
+            pass
+        except asyncio.CancelledError:  # the server ends: this is the connection's own task, and nobody waits for it
             pass
         finally:
             self.count -= 1

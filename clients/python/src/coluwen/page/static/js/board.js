@@ -82,7 +82,7 @@ export class Board {
       parts.push(made("span", { class: `score size${Math.min(Math.max(text.length, 3), 7)}`, "aria-hidden": "true" }, text));
     } else if (square.legal) parts.push(made("span", { class: "dot", "aria-hidden": "true" }));
     if (square.legal && square.best) parts.push(made("span", { class: "star", "aria-hidden": "true" }, "★"));
-    if (square.legal && square.next) parts.push(made("span", { class: "next", "aria-hidden": "true" }, "▸"));
+    if (square.legal && square.next) parts.push(made("span", { class: "arrow", "aria-hidden": "true" }, "▸"));
     const kinds = ["legal", "best", "next"].filter((kind) => square.legal && square[kind]);
     button.className = ["square", ...kinds].join(" ");
     button.setAttribute("aria-label", label.join(", "));

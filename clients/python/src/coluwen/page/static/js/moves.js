@@ -5,7 +5,7 @@ import { brief, flipped, forBlack, lossOf, lossWords, weight, words } from "./sc
 import { sideOf } from "./rules.js";
 import { t } from "./texts.js";
 
-const MARKS = { good: "", weak: "?", grave: "??" };
+const MARKS = { good: "✓", weak: "?", grave: "??" };
 
 /** What a move is worth and lost, by what is known of the position before it: {best, score, loss}; nothing where that isn't known. */
 export function judged(node, analyst) {
@@ -121,12 +121,11 @@ export class Moves {
   }
 }
 
-/** A loss as it is shown: its sign by a shape and a word, and how much it is. */
+/** A loss as it is shown: its mark, which has a shape and a word, and how much it is. */
 function lossMark(loss) {
-  const text = lossWords(loss);
-  if (!loss || !text) return [];
-  if (!MARKS[loss.class]) return [text];
-  return [made("span", { class: `mark ${loss.class}`, title: t(`mark.${loss.class}`) }, made("span", { "aria-hidden": "true" }, MARKS[loss.class]), made("span", { class: "unseen" }, t(`mark.${loss.class}`))), ` ${text}`];
+  if (!loss) return [];
+  const sign = made("span", { "aria-hidden": "true" }, MARKS[loss.class]), word = made("span", { class: "unseen" }, t(`mark.${loss.class}`));
+  return [made("span", { class: `mark ${loss.class}`, title: t(`mark.${loss.class}`) }, sign, word), ` ${lossWords(loss)}`];
 }
 
 /** The moves of a line that lost most, the gravest first, as buttons in a list. */
