@@ -14,11 +14,10 @@ import sys
 
 sys.path.insert(0, str(pathlib.Path(__file__).resolve().parent.parent / "python" / "src"))
 from coluwen.board import NAMES, OTHER, PASS, SQUARES, START, Position, can_move, flips, played  # noqa: E402, F401: trials have the rules from here
-from coluwen.client import Client  # noqa: E402
-from coluwen.errors import FAULTS, ColuwenError, FormatError  # noqa: E402
+from coluwen.command import add_server_options, client_of, run  # noqa: E402
+from coluwen.errors import FAULTS, FormatError  # noqa: E402
 from coluwen.formats import transcript  # noqa: E402
 from coluwen.score import A_DISC, GREATEST_EVALUATION, Score, loss_of  # noqa: E402, F401
-from coluwen.session import SILENCE, tls_context, token_in  # noqa: E402
 
 SPENT = "not known: that takes more than is reserved; look fewer plies deep"
 
@@ -109,22 +108,15 @@ def options():
     words.add_argument("moves", nargs="+")
     words.add_argument("--depth", type=int, default=6, choices=range(1, 13), metavar="1..12")
     words.add_argument("--boards", choices=("last", "worst", "all"), default="worst")
-    words.add_argument("--segments", type=int)
-    words.add_argument("--nodes", type=int)
     words.add_argument("--start", default="", metavar="POSITION", help="where the game begins (the opening)")
-    words.add_argument("--silence", type=float, default=SILENCE, help="seconds after which a server that says nothing is given up (1.5)")
-    words.add_argument("--tls", action="store_true", help="speak TLS, and check the host's certificate")
-    words.add_argument("--authority", metavar="FILE", help="with --tls: the authorities to check it by")
-    words.add_argument("--token", metavar="FILE", help="a file that has the customer's token (docs/DEPLOY.md, Budgets)")
+    add_server_options(words)
     return words
 
 
-def main():
-    asked = options().parse_args()
+def main(asked):
     colours = sys.stdout.isatty() and "NO_COLOR" not in os.environ
     moves = moves_of(" ".join(asked.moves), start_of(asked.start))
-    tls, token = tls_context(asked.authority) if asked.tls else None, token_in(asked.token) if asked.token else None
-    client = Client(asked.host, asked.port, asked.segments, asked.nodes, tls=tls, silence=asked.silence, token=token)
+    client = client_of(asked, "review.py")
     rows = []
     print(f"{'':>3} {'player':6} {'move':5}{'value':20}{'best':5}{'its value':20}lost", flush=True)
     for row in review(client, moves, asked.depth):
@@ -142,9 +134,5 @@ def main():
 
 
 if __name__ == "__main__":
-    try:
-        main()
-    except FormatError as fault:
-        sys.exit(f"review.py: {fault.text}")
-    except (OSError, ColuwenError, ValueError) as fault:
-        sys.exit(f"review.py: {fault}")
+    asked = options().parse_args()
+    sys.exit(run("review.py", lambda: main(asked), ValueError))

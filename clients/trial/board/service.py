@@ -156,6 +156,10 @@ def try_class(browser, address):
         check(two.text("#moves [aria-current]") == "c4", "a pupil who looks alone is led on")
         two.click("#class-again")
         two.until("the teacher's game again", "document.querySelector('#moves [aria-current]')?.textContent === 'd3'")
+        teacher.evaluate("location.reload()")
+        teacher.until("the class after the page was loaded again", "document.documentElement?.dataset.ready === 'yes' && !document.getElementById('class-link').hidden")
+        teacher.key("Home")
+        one.until("the teacher's start after that", "!document.querySelector('#moves [aria-current]')")
         room = link.split("follow=")[1]
         check(asked(f"{address}class/{room}", {"key": "x" * 32, "state": "#moves=f5"})[0] == 403 and asked(f"{address}class/{room}", {"state": "#"})[0] == 403, "anybody teaches this class")
         check(asked(f"{address}class", {"state": "x" * 20000})[0] == 413 and asked(f"{address}class", {"state": 5})[0] == 400, "any state is shown")

@@ -14,22 +14,21 @@ import argparse
 import asyncio
 import contextlib
 import functools
-import pathlib
 import signal
 import socket
 import ssl
-import sys
 from collections.abc import Sequence
 
-from ..client import HOST, PORT, Depths
+from .. import command as commands
+from ..client import Depths
 from ..errors import ColuwenError
-from ..session import SILENCE, tls_context, token_in
 from .engine import Engine
 from .files import Site, names_of
 from .library import Library
 from .service import Service
 from .web import Limits, Web
 
+NAME = "coluwen-page"
 LEAST = 4  # plies, of the first step
 
 
@@ -40,9 +39,7 @@ def offered(depths: Depths, most: int) -> list[int]:
 
 
 def options() -> argparse.ArgumentParser:
-    words = argparse.ArgumentParser(prog="coluwen-page", description=__doc__, formatter_class=argparse.RawDescriptionHelpFormatter)
-    words.add_argument("host", nargs="?", default=HOST)
-    words.add_argument("port", nargs="?", type=int, default=PORT)
+    words = commands.parser(__doc__, NAME)
     words.add_argument("--port", dest="page", type=int, default=8047, help="where browsers come in (8047)")
     words.add_argument("--address", default="127.0.0.1", help="of which address; 0.0.0.0 for browsers of other hosts (127.0.0.1)")
     words.add_argument("--name", action="append", default=[], help="a name that browsers have for this host")
@@ -51,24 +48,19 @@ def options() -> argparse.ArgumentParser:
     words.add_argument("--sessions", "--at-once", type=int, default=4, help="how many sessions of the server are used at once; others wait (4)")
     words.add_argument("--connections", type=int, default=Limits.connections, help="of browsers at once (%(default)s)")
     words.add_argument("--per-address", type=int, default=Limits.per_address, help="of these for one address (%(default)s)")
-    words.add_argument("--silence", type=float, default=SILENCE, help="seconds after which a server that says nothing is given up (1.5)")
-    words.add_argument("--tls", action="store_true", help="speak TLS to the server, and check the host's certificate")
-    words.add_argument("--authority", metavar="FILE", help="with --tls: the authorities to check it by")
-    words.add_argument("--token", metavar="FILE", help="a file that has the customer's token (docs/DEPLOY.md, Budgets)")
     return words
 
 
 async def serve(asked: argparse.Namespace) -> None:
     """Serves the page until it is ended."""
-    tls, token = tls_context(asked.authority) if asked.tls else None, token_in(asked.token) if asked.token else None
     context = None
     if asked.certificate:
         context = ssl.create_default_context(ssl.Purpose.CLIENT_AUTH)
         context.load_cert_chain(asked.certificate)
-    engine = Engine(asked.host, asked.port, tls=tls, token=token, silence=asked.silence, sessions=asked.sessions)
+    engine = Engine(asked.host, asked.port, sessions=max(asked.sessions, 1), **{**commands.server_options(asked), "patience": 0})
     async with engine:
         await engine.reach()
-        service = Service(Library(engine, asked.sessions), [LEAST])
+        service = Service(Library(engine, engine.at_once), [LEAST])
         names = {"localhost", socket.gethostname(), *asked.name}
         site = Site(service, functools.partial(names_of, names=names))
         web = Web(site.answer, service.most, Limits(connections=asked.connections, per_address=asked.per_address))
@@ -98,11 +90,4 @@ async def learn(service: Service, engine: Engine, most: int) -> None:
 def command(words: Sequence[str] | None = None) -> int:
     """The command `coluwen-page`; its exit status."""
     asked = options().parse_args(words)
-    try:
-        asyncio.run(serve(asked))
-    except KeyboardInterrupt:
-        return 130
-    except (ColuwenError, OSError) as fault:
-        print(f"{pathlib.Path(sys.argv[0]).name}: {fault}", file=sys.stderr)
-        return 1
-    return 0
+    return commands.run(NAME, lambda: asyncio.run(serve(asked)))

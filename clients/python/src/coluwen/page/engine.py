@@ -1,21 +1,21 @@
 """Values from a server, by so many sessions and no more: a budget may have no others."""
 from __future__ import annotations
 
-import ssl
 import time
+from typing import Any
 
 from ..aio import AsyncClient, AsyncSession
 from ..board import Position
 from ..client import Result, position_of, result_of
 from ..errors import TooDeep
-from ..session import SILENCE, State, Table
+from ..session import State, Table
 
 
 class Engine(AsyncClient):
     """The package's client, whose sessions that are idle count among the others."""
 
-    def __init__(self, host: str, port: int, tls: ssl.SSLContext | None = None, token: str | None = None, silence: float = SILENCE, sessions: int = 4):
-        super().__init__(host, port, sessions=sessions, patience=0, tls=tls, silence=silence, token=token)
+    def __init__(self, host: str, port: int, **more: Any):
+        super().__init__(host, port, **more)
         self.busy = 0
 
     async def reach(self) -> None:

@@ -2,16 +2,23 @@
 
 import { ServiceFault, lines, pause, question } from "./lines.js";
 
+const KEPT = "class"; // by this name the browser keeps the class of this page, so that it isn't lost when the page is loaded again
+
 /** The teacher's side: tells the service each state. */
 export class Teacher {
   constructor(told) {
     this.told = told;
-    this.room = null;
+    this.keep(JSON.parse(sessionStorage.getItem(KEPT) ?? "null"));
+  }
+
+  keep(room) {
+    this.room = room;
+    if (room) sessionStorage.setItem(KEPT, JSON.stringify(room));
+    else sessionStorage.removeItem(KEPT);
   }
 
   async open(state) {
-    this.room = await question("class", { method: "POST", body: { state } });
-    return this.room.room;
+    this.keep(await question("class", { method: "POST", body: { state } }));
   }
 
   /** Shows a state; only the last one counts where they come faster than they can be told. */
@@ -27,7 +34,7 @@ export class Teacher {
         await question(`class/${this.room.room}`, { method: "POST", body: { key: this.room.key, state: now } });
         this.told("");
       } catch (fault) {
-        if (fault instanceof ServiceFault && fault.status === 404) this.room = null;
+        if (fault instanceof ServiceFault && fault.status === 404) this.keep(null);
         this.told(this.room ? "lost" : "closed");
         if (this.room) this.next ??= now;
         await pause(2);
@@ -37,8 +44,8 @@ export class Teacher {
   }
 
   async close() {
-    const room = this.room;
-    this.room = null;
+    const { room } = this;
+    this.keep(null);
     if (room) await question(`class/${room.room}`, { method: "POST", body: { key: room.key, state: null } }).catch(() => {});
   }
 }

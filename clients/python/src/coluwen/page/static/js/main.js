@@ -134,14 +134,12 @@ function show() {
   $("side").value = sideOf(tree.start);
   showValue(current, known);
   showGame();
-  const { changes } = game;
-  for (const [id, able] of [["undo", changes.past.length], ["redo", changes.future.length], ["first", current.parent], ["back", current.parent], ["forward", current.next], ["last", current.next], ["remove", current.parent], ["promote", !tree.main().includes(current) && current.parent]])
-    able_(id, able);
+  const { changes } = game, { parent, next } = current;
+  const able = { undo: changes.past.length, redo: changes.future.length, first: parent, back: parent, forward: next, last: next, remove: parent, promote: parent && !tree.main().includes(current) };
+  // a button that does nothing now keeps its focus, and says that it is off
+  for (const [id, is] of Object.entries(able)) $(id).setAttribute("aria-disabled", String(!is));
   want();
 }
-
-/** A button that does nothing now keeps its focus, and says that it is off. */
-const able_ = (id, able) => $(id).setAttribute("aria-disabled", String(!able));
 
 function showValue(current, known) {
   const { position } = current, text = $("value"), note = $("value-note");
@@ -516,6 +514,10 @@ async function begun() {
   offer([4]);
   wire();
   open(location);
+  if (teacher.room) {
+    teacher.show(written(stateNow()));
+    showClass("");
+  }
   document.documentElement.dataset.ready = "yes";
   learn();
 }
