@@ -7,7 +7,15 @@ import itertools
 import json
 import re
 
-from stand import KNOWN, SOURCE, check
+from stand import KNOWN, SOURCE, fail
+
+faults = []  # all that is found: each of them is to be mended, and not the first alone
+
+
+def check(told, text):
+    if not told and text not in faults:
+        faults.append(text)
+
 
 TEXTS = json.loads((SOURCE / "coluwen/page/static/texts/texts.json").read_text())
 # The colour and the ground of each text that is shown, and its size: ground is the nearest one behind it that isn't transparent.
@@ -184,4 +192,6 @@ def try_all(browser, address):
     try_texts()
     counts = [try_view(browser, address, *view) for view in itertools.product((320, 1060), ("en", "de"), ("light", "dark"))]
     try_zoom(browser, address)
+    if faults:
+        fail("\n  ".join(["the looks:", *faults]))
     print(f"board: at 320 and 1060 pixels, in English and German, light and dark: nothing cut, names, focus, {min(count for count, _ in counts)} contrasts at least")
