@@ -15,7 +15,7 @@ import sys
 import tempfile
 import time
 
-SECONDS = 90
+SECONDS = float(os.environ.get("BOARD_SECONDS", 300))  # for which is waited at most; `wrong` waits for less
 KEYS = {"Enter": 13, "Tab": 9, "Escape": 27, " ": 32, "PageUp": 33, "PageDown": 34, "End": 35, "Home": 36, "ArrowLeft": 37, "ArrowUp": 38, "ArrowRight": 39, "ArrowDown": 40}  # fmt: skip
 MODIFIERS = {"Alt": 1, "Control": 2, "Shift": 8}
 
@@ -135,9 +135,9 @@ class Page:
             sys.exit(f"{text}: {detail.get('exception', {}).get('description') or detail}")
         return told["result"].get("value")
 
-    def until(self, what, condition, seconds=SECONDS):
+    def until(self, what, condition, seconds=90):
         """Waits until an expression is true; gives its value."""
-        end = time.monotonic() + seconds
+        end = time.monotonic() + min(seconds, SECONDS)
         while True:
             told = self.call("Runtime.evaluate", expression=condition, returnByValue=True, awaitPromise=True)  # of a page that is on its way it may fail
             if "exceptionDetails" not in told and told["result"].get("value"):

@@ -188,10 +188,22 @@ def try_zoom(browser, address):
         check(shown.evaluate("matchMedia('(forced-colors: active)').matches") and shown.evaluate("getComputedStyle(document.querySelector('.disc')).transitionDuration") == "0s", "less movement")
 
 
+def told():
+    """Fails where anything was found."""
+    if faults:
+        fail("\n  ".join(["the looks:", *faults]))
+
+
+def try_one(browser, address):
+    """The narrowest view alone."""
+    try_texts()
+    try_view(browser, address, 320, "de", "light")
+    told()
+
+
 def try_all(browser, address):
     try_texts()
     counts = [try_view(browser, address, *view) for view in itertools.product((320, 1060), ("en", "de"), ("light", "dark"))]
     try_zoom(browser, address)
-    if faults:
-        fail("\n  ".join(["the looks:", *faults]))
+    told()
     print(f"board: at 320 and 1060 pixels, in English and German, light and dark: nothing cut, names, focus, {min(count for count, _ in counts)} contrasts at least")
