@@ -127,11 +127,13 @@ def try_patience(name):
 
 
 @contextlib.contextmanager
-def many(answer_of):
-    """A server of many connections that answers each line as this function says."""
-    listener = socket.create_server(("127.0.0.1", 0))
+def many(answer_of, each=False):
+    """A server of many connections that answers each line as this function says; with `each`, it is called for each connection and gives
+    the function."""
+    listener, made = socket.create_server(("127.0.0.1", 0)), answer_of
 
     def serve(stream):
+        answer_of = made() if each else made
         with contextlib.suppress(OSError), stream, stream.makefile("rb") as lines:
             for line in lines:
                 stream.sendall(f"{answer_of(line.decode('latin-1').rstrip())}\n".encode())
@@ -162,19 +164,85 @@ def try_ends(name, port):
     print(f"{name}: a closed output ends it quietly; faulty lines end it with status {common.NO_VALUE}")
 
 
-def try_deep(name):
-    """Depth and position are enough: a server of grain 0 lets depth 6 through only with more than is reserved first, and 9 not at all."""
-    position = stage.positions(1, 5, 20, 20)[0]
-    with stage.server("--sessions", "99", "--grain", "0", "--segments", "65536", "--nodes", "1048576") as (_, port):
-        words = [*map(str, (*common.COMMANDS[name], *common.PATIENT, "127.0.0.1", port))] + (["-"] if name == "shell" else [])
-        done = subprocess.run(words, input=f"4 {position}\n5 {position}\n9 {position}\n", capture_output=True, text=True, check=False, timeout=300)
+class Narrow:
+    """A server's answers where depth 5 takes more nodes than a first reservation has, and no reservation suffices for a greater depth."""
+
+    def __init__(self):
+        self.reserved = []
+
+    def answers(self):
+        """What answers the lines of one connection."""
+        jobs, nodes = [], [0]
+
+        def answer_of(line):
+            word, *rest = line.split(" ")
+            if word == "HELLO":
+                nodes[0] = int(rest[1])
+                self.reserved.append(nodes[0])
+            if word == "ASK":
+                depth = int(rest[0])
+                jobs.append("SPENT" if depth > 5 or (depth == 5 and (nodes[0] < 65536 or jobs)) else f"DONE {depth} d3")
+                return f"JOB {len(jobs)}"
+            if word == "GET":
+                state, *found = jobs[int(rest[0]) - 1].split(" ")
+                return " ".join([state, rest[0], *found])
+            return right(line).decode().rstrip("\n")
+
+        return answer_of
+
+
+def try_reserves(name):
+    """Depth and position are enough: what is spent is asked again with more; of a depth that can't be had it is said which can."""
+    narrow = Narrow()
+    with many(narrow.answers, each=True) as port:
+        words = [*map(str, (*common.COMMANDS[name], "127.0.0.1", port))] + (["-"] if name == "shell" else [])
+        text = "".join(f"{depth} {OPENING}\n" for depth in (4, 5, 9, 3, 8, 9))
+        done = subprocess.run(words, input=text, capture_output=True, text=True, check=False, timeout=60)
     told = [line.split() for line in done.stdout.splitlines()]
-    wanted = stage.solve([f"{depth} {position}" for depth in (4, 5)], "--visited")
-    check([(words[-2], words[-1]) for words in told[:2]] == [(str(value), move) for _, value, move in wanted], f"{name}: {done.stdout}")
-    check(told[2][0] == "SPENT" and done.returncode == common.NO_VALUE, f"{name}: depth 9 at grain 0: {done.stdout}")
-    found = re.search(r"depth 9 can't be had at this server's grain.*; depth (\d) can", done.stderr)
-    check(found and 4 <= int(found[1]) <= 6, f"{name}: of a depth that can't be had it says {done.stderr}")
-    print(f"{name}: reserves by itself; {done.stderr.strip().splitlines()[-1]}" if name != "python" else f"{name}: reserves by itself; depth 9 can't be had at grain 0, and depth {found[1]} can")
+    given = [(words[0], words[-2]) if words[0] == "DONE" else (words[0],) for words in told]
+    check(given == [("DONE", "4"), ("DONE", "5"), ("SPENT",), ("DONE", "3"), ("SPENT",), ("SPENT",)], f"{name}: {done.stdout} {done.stderr}")
+    check(done.returncode == common.NO_VALUE, f"{name}: status {done.returncode}")
+    for depth in (8, 9):
+        check(len(re.findall(rf"depth {depth} can't be had at this server's grain.*; depth 5 can", done.stderr)) == 1, f"{name}: of depth {depth} it says {done.stderr}")
+    check(narrow.reserved[0] < 10000 and max(narrow.reserved) == 65536, f"{name}: it reserved {narrow.reserved}")
+    print(f"{name}: reserves by itself; {next(line for line in done.stderr.splitlines() if 'depth 9' in line)}")
+
+
+class Scarce:
+    """A server's answers where each job takes 2,048 of the nodes that a session has."""
+
+    def __init__(self):
+        self.lines = []
+
+    def answers(self):
+        jobs, nodes = [0], [0]
+
+        def answer_of(line):
+            word, *rest = line.split(" ")
+            self.lines.append(line)
+            if word in ("HELLO", "RESERVE"):
+                more, nodes[0] = int(rest[1]) > nodes[0], int(rest[1])
+                return f"{'WELCOME' if word == 'HELLO' else 'RESERVED'} {rest[0]} {rest[1]}" if more else "ERR 20"
+            if word == "ASK":
+                if 2048 * jobs[0] >= nodes[0]:
+                    return "ERR 11"
+                jobs[0] += 1
+                return f"JOB {jobs[0]}"
+            return f"DONE {rest[0]} 5 d3" if word == "GET" else right(line).decode().rstrip("\n")
+
+        return answer_of
+
+
+def try_raises(name):
+    """A session that has used up its nodes raises its reservation, and once it has all that it may another one follows."""
+    count, scarce = 30 if name == "shell" else 100, Scarce()
+    with many(scarce.answers, each=True) as port:
+        words = [*map(str, (*common.COMMANDS[name], "127.0.0.1", port))] + (["-"] if name == "shell" else [])
+        done = subprocess.run(words, input=f"2 {OPENING}\n" * count, capture_output=True, text=True, check=False, timeout=60)
+    raised = [int(line.split()[2]) for line in scarce.lines if line.startswith("RESERVE")]
+    check(done.returncode == 0 and done.stdout.count("DONE") == count, f"{name}: {done.stdout.count('DONE')} of {count} lines: {done.stderr}")
+    check(raised and max(raised) == 65536 and raised[0] < 65536, f"{name}: it raised to {raised}")
+    print(f"{name}: {count} lines where nodes are scarce: raised {len(raised)} times, {sum(line.startswith('HELLO') for line in scarce.lines)} sessions")
 
 
 def try_all(port):
@@ -182,4 +250,5 @@ def try_all(port):
         try_false(name)
         try_patience(name)
         try_ends(name, port)
-        try_deep(name)
+        try_reserves(name)
+        try_raises(name)
