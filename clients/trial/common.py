@@ -10,7 +10,7 @@ import threading
 import time
 
 TOP = pathlib.Path(__file__).resolve().parent.parent.parent
-sys.path.insert(0, str(TOP / "deploy"))
+sys.path[:0] = [str(TOP / "deploy"), str(TOP / "clients/python/src")]
 import stage  # noqa: E402
 from stage import OPENING, fail  # noqa: E402
 

@@ -95,7 +95,7 @@ def compare(one: str, other: str) -> bool:
         print(f"  {rows[0].depth or rows[1].depth} {key[0]}: {told[0]} and {told[1]}")
     if len(different) > SHOWN:
         print(f"  and {len(different) - SHOWN} more")
-    for path, found, there in ((one, *keyed), (other, *keyed[::-1])):
+    for path, found, there in ((one, keyed[0], keyed[1]), (other, keyed[1], keyed[0])):
         times = [found[key].milliseconds for key in both] or [0.0]
         taken = f"milliseconds: median {statistics.median(times):.1f}, most {max(times):.1f}, sum {sum(times):.0f}"
         print(f"{path}: {sum(key not in there for key in found)} positions alone; {taken}")
