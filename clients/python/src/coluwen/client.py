@@ -182,6 +182,7 @@ class Client:
         self.places, self.lock = threading.Semaphore(max(sessions, 1)), threading.Lock()
         self.at_once = max(sessions, 1)
         self.idle: list[Session] = []  # sessions of `analyse` that nobody uses
+        self.counts_frames, self.frames = False, 0  # whether the frames that jobs open are counted, by QUOTA, and how many there were
         self._depths: Depths | None = None
 
     @property
@@ -243,11 +244,16 @@ class Client:
         """The score of a position, so many plies deep (0 to 12), its best move, and its table. `TooDeep` where the server's grain doesn't
         let it through, and says what does. After `timeout` seconds the job is cancelled and `Late` raised; once another thread
         sets `stop`, the same and `Stopped`. `Refused` tells a fault of the depth."""
+        result = self.attempt(position, depth, timeout, stop)
+        if result is None:
+            raise TooDeep(depth, self.greatest(position, depth, stop))
+        return result
+
+    def attempt(self, position: str | Position, depth: int, timeout: float | None = None, stop: threading.Event | None = None) -> Result | None:
+        """The same; None where the server's grain doesn't let it through."""
         position, begun = position_of(position), time.monotonic()
         found, table = self.spent_or_done(position, depth, timeout, stop)
-        if found[0] == "SPENT":
-            raise TooDeep(depth, self.greatest(position, depth, stop))
-        return result_of(position, depth, found, table, time.monotonic() - begun)
+        return None if found[0] == "SPENT" else result_of(position, depth, found, table, time.monotonic() - begun)
 
     def analyse_all(self, position: str | Position, depth: int, timeout: float | None = None, stop: threading.Event | None = None) -> list[Entry]:
         """Each move's value, exactly: one ask for each of the positions that they lead to, a ply less deep. The best come first, of
@@ -278,7 +284,7 @@ class Client:
         """The greatest depth less than this one that a position can be searched to."""
         position = position_of(position)
         for less in range(depth - 1, -1, -1):
-            if self.spent_or_done(position, less, None, stop)[0][0] != "SPENT":
+            if self.attempt(position, less, None, stop):
                 return less
         return 0
 
@@ -290,6 +296,7 @@ class Client:
             while True:
                 session = self.taken(level, fresh)
                 try:
+                    before = self.used(session)
                     job = self.asked(session, line)
                     if job is None:
                         session.close()
@@ -297,6 +304,7 @@ class Client:
                         continue
                     found = self.awaited(session, job, self.timeout if timeout is None else timeout, stop)
                     table = session.table(job) if found[0] == "DONE" else None
+                    self.frames += self.used(session) - before
                 except Refused:
                     self.kept(session)
                     raise
@@ -320,6 +328,10 @@ class Client:
                     return found, table
                 session.close()
                 level, fresh = min(level + 1, len(self.levels) - 1), True
+
+    def used(self, session: Session) -> int:
+        """The nodes that a session has used up, where they are counted."""
+        return session.reserved.nodes - session.quota()[1] if self.counts_frames else 0
 
     def taken(self, level: int, fresh: bool) -> Session:
         """A session of this level that is idle, or a new one."""

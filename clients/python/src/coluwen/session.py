@@ -99,11 +99,12 @@ class Session:
             self.broken = f"{word} was interrupted"  # until its answer has been read
             limit = None if self.silence is None or word == "WAIT" else self.silence
             try:
-                self.socket.settimeout(limit)
+                if self.silence is not None:
+                    self.socket.settimeout(limit)
                 self.socket.sendall((f"{line} {token}\n" if token else f"{line}\n").encode("latin-1"))
                 answer = self.read_line(limit)
             except TimeoutError:
-                raise Silent(f"no answer to {word} in {limit:.2g} s") from None
+                raise Silent(f"no answer to {word} in {limit or self.socket.gettimeout() or 0:.2g} s") from None
             try:
                 found = parse(line, answer, self.jobs)
             except Refused:
