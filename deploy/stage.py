@@ -191,14 +191,14 @@ class Proxy:
     """HAProxy with deploy/haproxy.cfg and deploy/budgets with deploy/budgets.toml, at the ports of a trial.
 
     `certificate` is that of TLS, `authority` signs the certificates of customers; `terms` are changes of budgets.toml, and
-    `more` stands behind it. At `beside` are servers of the quick class besides its two."""
+    `more` stands behind it; `changes` are those of haproxy.cfg. At `beside` are servers of the quick class besides its two."""
 
-    def __init__(self, ports, certificate=None, authority=None, terms=(), more="", beside=()):
+    def __init__(self, ports, certificate=None, authority=None, terms=(), more="", beside=(), changes=()):
         self.port, self.metrics, self.ports, self.beside = free_port(), free_port(), ports, beside
         self.inner, self.classes = free_port(), [free_port() for _ in CLASSES]
         self.tls = f" ssl crt {certificate}" if certificate else ""
         self.tls += f" ca-file {authority} verify optional" if authority else ""
-        self.terms, self.more = terms, more
+        self.terms, self.more, self.changes = terms, more, changes
 
     def moved(self):
         """What ports are changed in both files."""
@@ -209,6 +209,7 @@ class Proxy:
         self.control, self.log = f"{self.folder.name}/control", pathlib.Path(self.folder.name, "log")
         moved = [(f"127.0.0.1:{old}\n", f"127.0.0.1:{new}\n") for old, new in zip(PORTS, self.ports)]
         moved += [("  bind :4700\n", f"  bind 127.0.0.1:{self.port}{self.tls}\n"), ("bind 127.0.0.1:8404", f"bind 127.0.0.1:{self.metrics}")]
+        moved += [("  bind [::]:4700 v6only\n", f"  bind [::1]:{self.port} v6only{self.tls}\n"), *self.changes]
         moved += [("/run/haproxy/admin.sock", self.control)]
         if os.geteuid() != 0:  # only root may take another user and another root
             moved += [(f"  {line}\n", "") for line in ("user haproxy", "group haproxy", "chroot /var/lib/haproxy")]
