@@ -8,8 +8,10 @@ docs/PROTOCOL.md, its exit statuses in docs/SOLVE.md, and what a script of deplo
 """
 import ast
 import gzip
+import os
 import pathlib
 import re
+import subprocess
 import sys
 
 TOP = pathlib.Path(__file__).resolve().parent.parent
@@ -137,10 +139,9 @@ def script(name, number, date, version):
 
 
 def options_named(name):
-    """The options that a script names at its head and gives its reader of words."""
-    text = (TOP / {**COMMANDS, **SERVICES}[name]).read_text()
-    found = set(re.findall(r'add_argument\("(--[a-z-]+)"', text)) | set(re.findall(r"(?<![\w-])--[a-z][a-z-]*", head_of(TOP / {**COMMANDS, **SERVICES}[name])))
-    return sorted(found | {"--help"})
+    """The options that a script names in its help."""
+    done = subprocess.run([TOP / {**COMMANDS, **SERVICES}[name], "--help"], env=dict(os.environ, COLUMNS="200", LC_ALL="C.UTF-8", PYTHONDONTWRITEBYTECODE="1"), stdin=subprocess.DEVNULL, capture_output=True, text=True, check=False)
+    return sorted(set(re.findall(r"(?<![\w-])--[a-z][a-z-]*", done.stdout + done.stderr)) | {"--help"})
 
 
 def words_of_commands():
