@@ -155,7 +155,7 @@ def click(env, x, y):
 
 def replayed(home, path):
     """The game that an engine was told and has played, by what it heard and said."""
-    said = (home / path.name.replace("heard", "said")).read_text().split("\n\n")
+    said = (home / path.name.replace("heard", "said")).read_text().split("\n\n")[:-1]
     board = Board()
     for line, answer in zip(path.read_text().splitlines(), said):
         words = line.split()
