@@ -51,7 +51,7 @@ def try_batch(port, folder):
     done = batch("--depth", 2, *common.PATIENT, "127.0.0.1", port, one, text=text)
     faulty = sum(row[2].startswith("ERR") for row in wanted)
     check(done.returncode == common.NO_VALUE and f"{len(asked)} positions: {len(asked) - faulty} done, 0 spent, {faulty} at fault" in done.stderr, f"batch: {done.stderr}")
-    check("standard input:48:1: " in done.stderr, f"batch: it doesn't say which line can't be read: {done.stderr}")
+    check("standard input:48:66: 'Y' spells no cell" in done.stderr, f"batch: it doesn't say which line can't be read: {done.stderr}")
     check([row[:4] for row in rows_of(one)] == wanted, f"batch: {[pair for pair in zip(rows_of(one), wanted) if pair[0][:4] != pair[1]][:2]}")
     check(all(float(row[4]) > 0 for row in rows_of(one) if not row[2].startswith("ERR")), "batch: a job without a time")
     pathlib.Path(f"{folder}/asked").write_text(text)
