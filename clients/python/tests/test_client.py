@@ -88,6 +88,14 @@ def test_what_was_not_asked() -> None:
         with pytest.raises(Broken):
             session.get(job)
 
+    async def trial(port: int) -> None:
+        async with AsyncClient("127.0.0.1", port) as client:
+            with pytest.raises(Unreachable):
+                await client.analyse(OPENING, 1)
+
+    with told(answers) as server:
+        asyncio.run(asyncio.wait_for(trial(server.port), 20))
+
 
 def test_silence_and_patience() -> None:
     with told(lambda: lambda line: time.sleep(3)) as server, pytest.raises(Silent):  # type: ignore[arg-type, return-value]
