@@ -52,7 +52,7 @@ def asked(address, body=None, method=None, headers=None):
     kind = {"Content-Type": "application/json"} if data is not None else {}
     request = urllib.request.Request(address, data, {**kind, **(headers or {})}, method=method)
     try:
-        with urllib.request.urlopen(request, timeout=120) as answer:
+        with urllib.request.urlopen(request, timeout=900) as answer:
             return answer.status, answer.read().decode(), answer.headers
     except urllib.error.HTTPError as fault:
         return fault.code, fault.read().decode(), fault.headers
