@@ -290,7 +290,12 @@ class AsyncClient:
     async def depths(self) -> Depths:
         """As `Client.depths`."""
         if not self._depths:
-            grain = min([await self.grain_by(probe) for probe in PROBES])
+            try:
+                grain = min([await self.grain_by(probe) for probe in PROBES])
+            except Unreachable:
+                raise
+            except OSError as fault:
+                raise Unreachable(f"{self.host}:{self.port}: {fault.strerror or fault}") from fault
             self._depths = Depths(grain, min(grain + 4, DEEPEST), min(grain + 5, DEEPEST))
         return self._depths
 
