@@ -20,6 +20,7 @@ COMMANDS = {
     "othello-start": "deploy/start",
     "othello-ask": "clients/python/othello.py",
     "othello-batch": "clients/batch",
+    "othello-gtp": "clients/gtp/bridge.py",
     "othello-nboard": "clients/nboard/bridge.py",
     "othello-page": "clients/teacher/page.py",
     "othello-review": "clients/teacher/review.py",
@@ -31,7 +32,8 @@ othello answers, for an Othello position and a depth, the minimax value and the 
 is proved to be so: the program was built from sources each of whose functions is proved to meet its contract.
 
 For one answer use solve. For many users, or many answers at once, run a server, by serve or by othello-start(1), and ask
-it by othello-ask, othello-batch, othello-review, othello-page or othello-nboard; each says at --help what it is for.
+it by othello-ask, othello-batch, othello-review, othello-page, othello-nboard or othello-gtp; each says at --help what it
+is for.
 """
 EXAMPLE = "1 ---------------------------OX------XO--------------------------- X"
 

@@ -3,9 +3,7 @@ quarry (Debian's), a board, which plays a game of two engines of ours on a scree
 import contextlib
 import os
 import pathlib
-import re
 import shutil
-import signal
 import subprocess
 import sys
 import time
@@ -13,7 +11,7 @@ import time
 import common
 import stage
 from common import TOP, check
-from coluwen import Position
+from coluwen import Board, Position
 from coluwen.formats import ggf
 
 GTP = [sys.executable, TOP / "clients/gtp/bridge.py"]
@@ -102,43 +100,71 @@ def screen():
             yield f":{told.readline().strip()}"
 
 
-CONFIGURATION = """[gtp_engines]
-engine = "Coluwen"
+CONFIGURATION = """[GTP Engine "Coluwen"]
+Screen name format	= "%%n %%v"
+Name			= "Coluwen"
+Command line		= "%s"
+Supported games		= "Reversi"
 """
+ENGINE = """#!/bin/sh
+# What quarry says to this engine, and what it answers, is kept.
+tee %(folder)s/heard.$$ | %(command)s | tee %(folder)s/said.$$
+"""
+# Where quarry's windows have their buttons: a new game; Reversi, white and black by a computer, and forward; play.
+NEW_GAME, CHOICES, PLAY = (96, 27), ((36, 137), (36, 234), (36, 335), (435, 422)), (437, 422)
 
 
 def try_quarry(port, folder, picture=None):
-    """quarry plays a game of two engines of ours by GTP, on a screen that nobody sees; the stream that it keeps is read."""
+    """quarry plays a game of two engines of ours by GTP, on a screen that nobody sees: what it said is replayed by the rules."""
     home = pathlib.Path(folder, "home")
     home.mkdir(exist_ok=True)
+    engine = home / "engine"
+    engine.write_text(ENGINE % {"folder": home, "command": " ".join(map(str, (*GTP, *common.PATIENT, "--depth", 2, "127.0.0.1", port)))})
+    engine.chmod(0o755)
+    (home / ".quarry").write_text(CONFIGURATION % engine)
     with screen() as display:
         env = dict(os.environ, DISPLAY=display, HOME=str(home), LANG="C", NO_AT_BRIDGE="1")
-        log = home / "gtp"
-        quarry = subprocess.Popen([f"{GAMES}/quarry", f"--gtp-log={log}", "--gtp-show-stderr"], env=env, stdout=subprocess.DEVNULL, stderr=subprocess.DEVNULL)
-        with stage.ended_after(quarry, signal.SIGKILL):
-            time.sleep(3)
-            check(quarry.poll() is None, "quarry ended at once")
-            Clicks(env).game(" ".join(map(str, (*GTP, *common.PATIENT, "--depth", 2, "127.0.0.1", port))))
-            moves = lambda: sum(len(re.findall(r"^.*\bgenmove\b", path.read_text(errors="replace"), re.M)) for path in home.glob("gtp.*"))  # noqa: E731
-            stage.until("quarry asks for no moves", lambda: moves() > 4, 60)
-            stage.until("quarry's game doesn't end", lambda: moves() > 50, 240)
+        quarry = subprocess.Popen([f"{GAMES}/quarry"], env=env, stdout=subprocess.DEVNULL, stderr=subprocess.DEVNULL)
+        with stage.ended_after(quarry):
+            window(env, "Quarry Control Center")
+            click(env, *NEW_GAME)
+            window(env, "New Game")
+            for at in (*CHOICES, PLAY):
+                click(env, *at)
+            window(env, "Coluwen .* vs. Coluwen")
+            stage.until("quarry's game doesn't end", lambda: any(replayed(home, path).is_over for path in home.glob("heard.*")), 120)
+            time.sleep(1)
             if picture:
-                subprocess.run(["import", "-window", "root", picture], env=env, check=True)
-    print(f"quarry: asked our engine for {moves()} moves by GTP")
+                subprocess.run(["import", "-window", "root", "-crop", "786x589+0+0", "+repage", "-colors", "64", picture], env=env, check=True)
+    games = [replayed(home, path) for path in home.glob("heard.*")]
+    check(len(games) == 2 and all(game.is_over for game in games) and games[0].position == games[1].position, "quarry's engines have other games")
+    print(f"quarry: a whole game of {len([move for move in games[0].moves if move != 'pass'])} moves, asked of our engines by GTP")
 
 
-class Clicks:
-    """What a player does with keys and mouse, by xdotool."""
+def window(env, title):
+    """Waits for a window of this title."""
+    told = lambda: subprocess.run(["xdotool", "search", "--onlyvisible", "--name", title], env=env, capture_output=True, check=False).stdout  # noqa: E731
+    stage.until(f"quarry's window {title!r} doesn't come", told, 30)
+    time.sleep(1)
 
-    def __init__(self, env):
-        self.env = env
 
-    def do(self, *words):
-        subprocess.run(["xdotool", *map(str, words)], env=self.env, check=True, stdout=subprocess.DEVNULL)
-        time.sleep(0.6)
+def click(env, x, y):
+    subprocess.run(["xdotool", "mousemove", str(x), str(y), "click", "1"], env=env, check=True)
+    time.sleep(0.7)
 
-    def game(self, command):
-        raise NotImplementedError(command)
+
+def replayed(home, path):
+    """The game that an engine was told and has played, by what it heard and said."""
+    said = (home / path.name.replace("heard", "said")).read_text().split("\n\n")[:-1]
+    board = Board()
+    for line, answer in zip(path.read_text().splitlines(), said):
+        words = line.split()
+        check(answer.startswith("=") or words[0] == "known_command", f"quarry says {line!r}, and the engine {answer!r}")
+        if words[0] == "play":
+            board.play(words[2].lower())
+        elif words[0] == "genmove" and answer[1:].strip() != "PASS":
+            board.play(answer[1:].strip().lower())
+    return board
 
 
 def try_all(port, folder, picture=None):
@@ -148,3 +174,7 @@ def try_all(port, folder, picture=None):
     else:
         print("gtp-rhino: not here")
     try_protocols(port, folder)
+    if all(shutil.which(name, path=ENV["PATH"]) for name in ("quarry", "Xvfb", "xdotool", "import")):
+        try_quarry(port, folder, picture)
+    else:
+        print("quarry: not here, or no screen for it")

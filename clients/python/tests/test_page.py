@@ -140,6 +140,19 @@ def test_too_deep_is_said_and_not_asked_again():
     run(main())
 
 
+def test_without_steps_the_greatest_depth_alone_is_asked():
+    async def main():
+        engine = Engine()
+        service = Service(Library(engine, 1), [4, 6, 8], True)
+        told = [json.loads(line) async for line in service.analyse(OPENING, 8, [], False)]
+        assert [line["depth"] for line in told if line["kind"] == "step"] == [8] and len(engine.asked) == 1
+        engine.faults = [TooDeep(8, 7)]
+        told = [json.loads(line) async for line in service.analyse(OPENING.play("d3"), 8, [], False)]
+        assert [(line["kind"], line.get("depth")) for line in told if line["kind"] != "searching"] == [("step", 6), ("deepest", 6), ("done", None)]
+
+    run(main())
+
+
 def test_exact_values_are_those_of_the_positions_behind():
     async def main():
         engine = Engine()

@@ -15,6 +15,8 @@ import sys
 import tempfile
 import time
 
+from patience import Patience
+
 SECONDS = float(os.environ.get("BOARD_SECONDS", 300))  # for which is waited at most; `wrong` waits for less
 KEYS = {"Enter": 13, "Tab": 9, "Escape": 27, " ": 32, "PageUp": 33, "PageDown": 34, "End": 35, "Home": 36, "ArrowLeft": 37, "ArrowUp": 38, "ArrowRight": 39, "ArrowDown": 40}  # fmt: skip
 MODIFIERS = {"Alt": 1, "Control": 2, "Shift": 8}
@@ -137,12 +139,12 @@ class Page:
 
     def until(self, what, condition, seconds=90):
         """Waits until an expression is true; gives its value."""
-        end = time.monotonic() + min(seconds, SECONDS)
+        patience = Patience(min(seconds, SECONDS))
         while True:
             told = self.call("Runtime.evaluate", expression=condition, returnByValue=True, awaitPromise=True)  # of a page that is on its way it may fail
             if "exceptionDetails" not in told and told["result"].get("value"):
                 return told["result"]["value"]
-            if time.monotonic() > end:
+            if patience.is_over():
                 sys.exit(f"{what}: not after {seconds} seconds ({condition}); the page says {self.said()}")
             time.sleep(0.03)
 
@@ -183,10 +185,10 @@ class Page:
 
     def downloaded(self, name, seconds=20):
         """What a file that was given to the browser says."""
-        path, end = os.path.join(self.downloads, name), time.monotonic() + seconds
+        path, patience = os.path.join(self.downloads, name), Patience(seconds)
         while not os.path.exists(path):
             self.evaluate("0")
-            if time.monotonic() > end:
+            if patience.is_over():
                 sys.exit(f"no file {name} came")
             time.sleep(0.05)
         with open(path, encoding="utf-8") as file:

@@ -130,16 +130,19 @@ def hear(address, position, heard, number):
                 heard.append((number, told["depth"]))
 
 
-def try_word(browser, port):
+def try_word(browser):
     """Who waits is told how many are before, in the page too, and is served in turn."""
-    with page(port, "--sessions", 1) as (_, address), browser.page() as shown:
-        others = [threading.Thread(target=analysed, args=(address, settled(random_moves(300 + number, 20)[-1][1]), 8)) for number in range(4)]
+    options = ("--sessions", "99", "--grain", "4", "--segments", "65536", "--nodes", "1048576")
+    with stage.server(*options) as (server, port), page(port, "--sessions", 1) as (_, address), browser.page() as shown:
+        server.send_signal(signal.SIGSTOP)  # so that the others are before it
+        others = [threading.Thread(target=analysed, args=(address, settled(random_moves(300 + number, 20)[-1][1]), 4)) for number in range(4)]
         for one in others:
             one.start()
-        time.sleep(0.2)
+        time.sleep(0.5)
         shown.open(f"{address}#moves=f5d6&depth=4")
-        shown.until("a word to who waits", "/^Others are being served: \\d are before you|^Others are being served: 1 is before you/.test(document.getElementById('state').textContent)", 60)
-        shown.until("the value in turn", "document.getElementById('value').textContent.includes('4 plies deep')", 120)
+        shown.until("a word to who waits", "document.getElementById('state').textContent === 'Others are being served: 4 are before you.'")
+        server.send_signal(signal.SIGCONT)
+        shown.until("the value in turn", "document.getElementById('value').textContent.includes('4 plies deep')")
         for one in others:
             one.join()
 
@@ -153,6 +156,6 @@ def try_all(browser):
             print(f"board: {PUPILS} clients at once on {BUDGET} sessions all answered, the last after {seconds:.1f} s; {counter.greatest} sessions at once at most")
             try_browsers(browser, address)
             check(counter.greatest <= BUDGET, f"{counter.greatest} sessions at once on a budget of {BUDGET}")
-        try_turns()
-        try_word(browser, port)
+    try_turns()
+    try_word(browser)
     print(f"board: {PAGES} browsers beside one another have their games analysed; who waits is told")

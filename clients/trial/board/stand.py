@@ -14,7 +14,8 @@ SOURCE = pathlib.Path(os.environ.get("COLUWEN", TOP / "clients/python/src"))
 sys.path[:0] = [str(SOURCE), str(TOP / "deploy"), str(TOP / "clients/trial")]
 import stage  # noqa: E402
 from coluwen.board import OTHER, Position  # noqa: E402
-from stage import check, fail, free_port, until  # noqa: E402, F401
+from patience import until  # noqa: E402
+from stage import check, fail, free_port  # noqa: E402, F401
 
 OPENING = Position.opening()
 PATIENT = ("--silence", 30)  # of a page: on a busy machine an answer may take more than 1.5 seconds

@@ -41,23 +41,31 @@ def add_place(options: argparse.ArgumentParser) -> None:
     options.add_argument("port", nargs="?", type=int, default=PORT, help=f"({PORT})")
 
 
-def add_server_options(options: argparse.ArgumentParser) -> None:
+def add_connection_options(options: argparse._ActionsContainer) -> None:
     """The options by which each command says how the server is spoken to."""
+    options.add_argument("--silence", type=float, default=SILENCE, metavar="S", help="seconds after which a server that says nothing is given up (1.5)")
+    options.add_argument("--tls", action="store_true", help="speak TLS, and check the host's certificate")
+    options.add_argument("--authority", metavar="FILE", help="with --tls: the authorities to check it by")
+    options.add_argument("--token", metavar="FILE", help="a file that has the customer's token (docs/DEPLOY.md, Budgets)")
+
+
+def connection_options(asked: argparse.Namespace) -> dict[str, Any]:
+    """What they say, as `Client` takes it."""
+    return {"silence": asked.silence, "tls": tls_context(asked.authority) if asked.tls else None, "token": token_in(asked.token) if asked.token else None}
+
+
+def add_server_options(options: argparse.ArgumentParser) -> None:
+    """The same, and how long a full server is asked again and what is reserved."""
     group = options.add_argument_group("the server")
+    add_connection_options(group)
     group.add_argument("--patience", type=float, default=30, metavar="S", help="seconds for which a server that is full is asked again (30)")
-    group.add_argument("--silence", type=float, default=SILENCE, metavar="S", help="seconds after which a server that says nothing is given up (1.5)")
-    group.add_argument("--tls", action="store_true", help="speak TLS, and check the host's certificate")
-    group.add_argument("--authority", metavar="FILE", help="with --tls: the authorities to check it by")
-    group.add_argument("--token", metavar="FILE", help="a file that has the customer's token (docs/DEPLOY.md, Budgets)")
     group.add_argument("--segments", type=int, metavar="N", help="for experts: what each session reserves, 1 to 4096")
     group.add_argument("--nodes", type=int, metavar="N", help="for experts: the same, 1 to 65536")
 
 
 def server_options(asked: argparse.Namespace) -> dict[str, Any]:
     """What they say, as `Client` takes it."""
-    tls = tls_context(asked.authority) if asked.tls else None
-    return {"silence": asked.silence, "tls": tls, "token": token_in(asked.token) if asked.token else None, "patience": asked.patience,
-            "segments": asked.segments, "nodes": asked.nodes}  # fmt: skip
+    return {**connection_options(asked), "patience": asked.patience, "segments": asked.segments, "nodes": asked.nodes}
 
 
 def teller(name: str) -> Callable[[str], None]:

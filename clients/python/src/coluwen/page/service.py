@@ -1,6 +1,7 @@
 """What the page asks: `/analyse` and its kin, as answers of `Web`.
 
-    POST /analyse  {"position": 66 letters, "depth": 8, "exact": "all" or ["f5", ..]}     lines of JSON, as things become known
+    POST /analyse  {"position": 66 letters, "depth": 8, "exact": "all" or ["f5", ..], "steps": true}    lines of JSON, as things
+                   become known; without steps the greatest depth alone is asked
     GET  /about    {"depths": [4, 6, 8], "sure": 8, "places": 8, "settled": true}
     POST /read     the bytes of a text or file; ?name= gives its name                     {"games": [..], "faults": [..]}
     POST /write    {"format": "ggf", "start": .., "moves": "f5d6.."}                      {"text": ..}
@@ -75,8 +76,7 @@ class Service:
         if path == "/about" and self.allowed(request, "GET"):
             return Answer.json({"depths": self.depths, "places": self.library.turns.places, "settled": self.settled})
         if path == "/analyse" and self.allowed(request, "POST"):
-            position, depth, exact = self.question_of(request.json())
-            return Answer(kind="application/x-ndjson", lines=self.analyse(position, depth, exact))
+            return Answer(kind="application/x-ndjson", lines=self.analyse(*self.question_of(request.json())))
         if path == "/read" and self.allowed(request, "POST"):
             async with self.reading:
                 return Answer.json(await games.read(request.body, request.query.get("name", "")[:200]))
@@ -99,15 +99,16 @@ class Service:
 
     # /analyse
 
-    def question_of(self, asked: Any) -> tuple[Position, int, list[str]]:
-        """A question's position, depth, and the moves whose values are to be exact. Each word of it is tested."""
+    def question_of(self, asked: Any) -> tuple[Position, int, list[str], bool]:
+        """A question's position, depth, the moves whose values are to be exact, and whether it is to be answered step by step. Each word
+        of it is tested."""
         if not isinstance(asked, dict) or not isinstance(asked.get("position"), str) or len(asked["position"]) > 200:
             raise Fault(400, "position", "a question has a position")
         try:
             position = Position.parse(asked["position"])
         except ValueError as fault:
             raise Fault(400, "position", str(fault)) from None
-        depth, exact = asked.get("depth"), asked.get("exact", [])
+        depth, exact, steps = asked.get("depth"), asked.get("exact", []), asked.get("steps", True)
         if not isinstance(depth, int) or isinstance(depth, bool) or depth < 1:
             raise Fault(400, "depth", "the depth is a number of plies")
         if not self.settled and self.deepest < depth <= DEEPEST:
@@ -115,16 +116,17 @@ class Service:
         if depth > self.deepest and not (depth <= position.empties <= DEEPEST):
             raise Fault(400, "depth", f"this page looks {self.deepest} plies deep, and to the end where {DEEPEST} squares are empty")
         moves = position.legal_moves()
-        if exact == "all":
-            return position, depth, moves
+        exact = moves if exact == "all" else exact
         if not isinstance(exact, list) or not all(isinstance(move, str) and move in moves for move in exact):
             raise Fault(400, "exact", "exact values are of legal moves")
-        return position, depth, exact
+        if not isinstance(steps, bool):
+            raise Fault(400, "steps", "with steps or without")
+        return position, depth, exact, steps
 
-    async def analyse(self, position: Position, depth: int, exact: list[str]) -> AsyncGenerator[bytes, None]:
+    async def analyse(self, position: Position, depth: int, exact: list[str], steps: bool = True) -> AsyncGenerator[bytes, None]:
         """What is learnt, line by line: each step, and then the exact values that are wanted of other moves than the best."""
         events: Events = asyncio.Queue()
-        worker = asyncio.ensure_future(self.learn(position, depth, exact, events))
+        worker = asyncio.ensure_future(self.learn(position, depth, exact, steps, events))
         try:
             while (event := await events.get()) is not None:
                 yield json.dumps(event, separators=(",", ":")).encode() + b"\n"
@@ -133,9 +135,9 @@ class Service:
             with contextlib.suppress(asyncio.CancelledError):
                 await worker
 
-    async def learn(self, position: Position, depth: int, exact: list[str], events: Events) -> None:
+    async def learn(self, position: Position, depth: int, exact: list[str], steps: bool, events: Events) -> None:
         try:
-            found = await self.steps(position, depth, events)
+            found = await (self.by_steps(position, depth, events) if steps else self.at_once(position, depth, events))
             if found:
                 await self.exactly(found, exact, events)
             events.put_nowait({"kind": "done"})
@@ -144,7 +146,7 @@ class Service:
         finally:
             events.put_nowait(None)
 
-    async def steps(self, position: Position, depth: int, events: Events) -> Found | None:
+    async def by_steps(self, position: Position, depth: int, events: Events) -> Found | None:
         """The steps; the last one that could be had. What is known of a deeper one already isn't asked less deep."""
         found = None
         steps = steps_of(position, depth)
@@ -157,6 +159,20 @@ class Service:
                 break
             events.put_nowait(step_of(found))
         return found
+
+    async def at_once(self, position: Position, depth: int, events: Events) -> Found | None:
+        """The last step alone; where it can't be had, the one before it."""
+        steps = steps_of(position, depth)
+        for step in reversed(steps):
+            try:
+                found = await self.library.find(position, step, telling(events, depth=step))
+            except TooDeep:
+                continue
+            events.put_nowait(step_of(found))
+            if step != steps[-1]:
+                events.put_nowait({"kind": "deepest", "depth": step})
+            return found
+        return None
 
     async def exactly(self, found: Found, exact: Iterable[str], events: Events) -> None:
         """The exact values of these moves, each by a question of the position behind it. At the game's end also those that are exact

@@ -35,7 +35,7 @@ class ConformanceTest {
       String found;
       try {
         var text = spelled(row.get(2));
-        if (!text.endsWith("\n")) throw new Broken("no LF"); // a session's reader gives `parse` nothing then: SessionTest
+        if (!text.endsWith("\n")) throw new Broken("no LF"); // a session's reader gives `parse` nothing then: UseTest
         found = Answer.parse(row.get(1), text.substring(0, text.length() - 1), Integer.parseInt(row.get(0))).words();
       } catch (Refused fault) {
         found = "REFUSED " + fault.number();

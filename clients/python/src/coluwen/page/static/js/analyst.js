@@ -1,10 +1,11 @@
-// What is known of positions, and what is asked: the position that is looked at first, and one other of its game beside it. A position
-// is asked once; what was asked of one that was left is given up, and the service cancels its job.
+// What is known of positions, and what is asked: the position that is looked at first, step by step, and then the others of its game. A
+// position is asked once; what was asked of one that was left is given up, and the service cancels its job.
 
 import { ServiceFault, lines, pause } from "./lines.js";
 import { isOver, result, sideOf } from "./rules.js";
 import { flipped, isEnd } from "./scores.js";
 
+const OTHERS = 2; // positions of the game that are asked at once where the one that is looked at is known
 const LONGEST_PAUSE = 8; // seconds between two tries of a service that can't be reached
 
 export class Analyst {
@@ -47,15 +48,11 @@ export class Analyst {
   want(wanted) {
     const missing = wanted.filter((each) => !this.isKnown(each) && !this.faults.has(each.position));
     const here = missing[0]?.position === wanted[0]?.position ? missing[0] : undefined;
-    const others = missing.filter((each) => each !== here);
-    const going = others.find((each) => this.questions.has(each.position));
+    const others = missing.filter((each) => each !== here), going = others.filter((each) => this.questions.get(each.position)?.covers(each)).slice(0, OTHERS);
     this.wanted = wanted;
-    for (const [position, question] of this.questions) {
-      const each = missing.find((one) => one.position === position);
-      if (!each || (each !== here && each !== going) || !question.covers(each)) this.drop(position);
-    }
-    if (here) this.ask(here);
-    else if (others.length) this.ask(going ?? others[0]);
+    for (const [position, question] of this.questions) if (!(here && question.covers(here)) && !going.some((each) => each.position === position)) this.drop(position);
+    if (here) this.ask(here, true);
+    else for (const each of [...going, ...others.filter((one) => !going.includes(one))].slice(0, OTHERS)) this.ask(each, false);
   }
 
   drop(position) {
@@ -72,18 +69,19 @@ export class Analyst {
     this.faults = new Map();
   }
 
-  ask({ position, depth, exact }) {
-    if (this.questions.has(position)) return;
-    const covers = (other) => other.depth === depth && JSON.stringify(other.exact) === JSON.stringify(exact);
+  /** Asks what is needed: step by step, or the greatest depth alone. */
+  ask(need, steps) {
+    if (this.questions.has(need.position)) return;
+    const covers = (other) => JSON.stringify(other) === JSON.stringify(need);
     const question = { stop: new AbortController(), state: { kind: "searching", depth: 0 }, covers };
-    this.questions.set(position, question);
-    this.changed(position);
-    this.hear(question, { position, depth, exact });
+    this.questions.set(need.position, question);
+    this.changed(need.position);
+    this.hear(question, need, steps);
   }
 
   /** Hears the answer of a question, and asks again where the service can't be reached or has no room, until it has all been said. */
-  async hear(question, body) {
-    const { position } = body, { signal } = question.stop;
+  async hear(question, need, steps) {
+    const { position } = need, { signal } = question.stop, body = { ...need, steps };
     for (let wait = 1; !signal.aborted; wait = Math.min(2 * wait, LONGEST_PAUSE)) {
       let ended = false, kind = "unreachable";
       try {
@@ -92,7 +90,7 @@ export class Analyst {
           if (signal.aborted) return;
           wait = 1;
           ended ||= told.kind === "done" || told.kind === "fault";
-          if (told.kind === "done") this.answered.add(JSON.stringify(body));
+          if (told.kind === "done") this.answered.add(JSON.stringify(need));
           this.take(question, position, told);
         });
       } catch (fault) {
