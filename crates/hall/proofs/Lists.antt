@@ -7,8 +7,8 @@ use Rattle.sched_rules.specs.declared.step.StepOf.{StepOf}
 use Rattle.jamboree_core.specs.jamboree_rules.declared.leaf.LeafAnswer.{LeafAnswer}
 use Rattle.tenant_quota.specs.Quota.{Quota, IsWithinLimits}
 use Rattle.sched_rules.specs.declared.step.StepOf.TheVariants.{Admit, AdmitMore, Submit, Take, Steal, Advance, Answer, Inlet, Finish, Spend, Cancel, Leave}
-use Rattle.number_index.specs.Places.{count_below, AreAbove, AreRising}
-use Rattle.number_index.proofs.Places.{count_below-cases}
+use Rattle.number_index.specs.Places.{count_below, thing_of, AreRising, IsAt as IsPlace}
+use Rattle.number_index.proofs.Edits.{all-map, all-of, all-push, all-with, all-without, thing-own, thing-there, thing-with, said-found, said-lacks, said-with_own, said-with_other, said-without_own, said-without_other, rising-with, rising-without, rising-push, length-with, length-without, place-found, at-within as place-within, at-own as place-own, at-said as place-said, at-set as place-set, at-removed as place-removed}
 use Rattle.hall.specs.Journals.{reserve_in, raise_in, newer, reserved_after, reserved_in, one_for, raise_count, places_for, places_with, longer, goes_on, JournalOf, journal_in, places_in, owner_of, has_journal, with_step, without_journal, total_length, AreUpTo, IsBegun, AreBegun}
 
 abbrev Js : Type 0
@@ -63,38 +63,25 @@ abbrev pub Brings : Option Quota → Quota → Type 0
 Brings None now = Unit {0}
 Brings (Some quota) now = now.segments + now.nodes + 1 ≤ quota.segments + quota.nodes
 
+abbrev steps_of : JournalOf → List Step
+steps_of journal = journal.steps
+
+abbrev places_of : JournalOf → ℕ
+places_of journal = journal.places
+
 -- where there is none
 pub none-there : (n : ℕ) (js : Js) → has_journal n js ≡ false → journal_in js n ≡ []
-none-there n [] lacks = refl
-none-there n (j ∷ js) lacks = elim (cases_Bool (eqb j.tenant n)) [
-  | inl same ↦ absurd (false≢true (sym lacks ∙ (rw same refl)))
-  | inr other ↦ rw other (none-there n js (rw other at lacks))
-]
+none-there n js lacks = said-lacks owner_of steps_of [] n js lacks
 
 -- one more step
 pub step-own : (n : ℕ) (step : Step) (js : Js) → has_journal n js ≡ true → journal_in (with_step n step js) n ≡ journal_in js n ++ step ∷ []
-step-own n step [] has = absurd (false≢true has)
-step-own n step (j ∷ js) has = elim (cases_Bool (eqb j.tenant n)) [
-  | inl same ↦ rw (same, same) refl
-  | inr other ↦ rw (other, other) (step-own n step js (rw other at has))
-]
+step-own n step js has = said-with_own owner_of steps_of [] (λ steps. steps ++ step ∷ []) n (longer step) js (λ j own. own) (λ j. refl) (λ lacks. absurd (false≢true (sym lacks ∙ has)))
 
 pub step-other : (m n : ℕ) (step : Step) (js : Js) → n ≢ m → journal_in (with_step n step js) m ≡ journal_in js m
-step-other m n step [] ne = refl
-step-other m n step (j ∷ js) ne = elim (cases_Bool (eqb j.tenant n)) [
-  | inl same ↦ (let not_m : eqb j.tenant m ≡ false = rw (eqb-true j.tenant n same) (ne_eqb n m ne) in rw (same, not_m) refl)
-  | inr other ↦ elim (cases_Bool (eqb j.tenant m)) [
-    | inl is ↦ rw (other, is) refl
-    | inr not_so ↦ rw (other, not_so) (step-other m n step js ne)
-  ]
-]
+step-other m n step js ne = said-with_other owner_of steps_of [] m n (longer step) js ne (λ j own. own)
 
 pub step-length : (n : ℕ) (step : Step) (js : Js) → length (with_step n step js) ≡ length js
-step-length n step [] = refl
-step-length n step (j ∷ js) = elim (cases_Bool (eqb j.tenant n)) [
-  | inl same ↦ rw same refl
-  | inr other ↦ rw other (ap (λ (k : ℕ). suc k) (step-length n step js))
-]
+step-length n step js = length-with owner_of n (longer step) js
 
 pub step-total : (n : ℕ) (step : Step) (js : Js) → has_journal n js ≡ true → total_length (with_step n step js) ≡ total_length js + 1
 step-total n step [] has = absurd (false≢true has)
@@ -103,26 +90,11 @@ step-total n step (j ∷ js) has = elim (cases_Bool (eqb j.tenant n)) [
   | inr other ↦ (let rest = step-total n step js (rw other at has) in rw other (omega (arith, rest)))
 ]
 
-pub step-above : (m n : ℕ) (step : Step) (js : Js) → AreAbove owner_of m js → AreAbove owner_of m (with_step n step js)
-step-above m n step [] above = tt
-step-above m n step (j ∷ js) above = elim (cases_Bool (eqb j.tenant n)) [
-  | inl same ↦ rw same above
-  | inr other ↦ rw other (above.0, step-above m n step js above.1)
-]
-
 pub step-rising : (n : ℕ) (step : Step) (js : Js) → AreRising owner_of js → AreRising owner_of (with_step n step js)
-step-rising n step [] rising = tt
-step-rising n step (j ∷ js) rising = elim (cases_Bool (eqb j.tenant n)) [
-  | inl same ↦ rw same rising
-  | inr other ↦ rw other (step-above j.tenant n step js rising.0, step-rising n step js rising.1)
-]
+step-rising n step js rising = rising-with owner_of n (longer step) js (λ j own. own) rising
 
 pub step-upto : (m n : ℕ) (step : Step) (js : Js) → AreUpTo m js → AreUpTo m (with_step n step js)
-step-upto m n step [] upto = tt
-step-upto m n step (j ∷ js) upto = elim (cases_Bool (eqb j.tenant n)) [
-  | inl same ↦ rw same upto
-  | inr other ↦ rw other (upto.0, step-upto m n step js upto.1)
-]
+step-upto m n step js upto = all-with (λ (j : JournalOf). j.tenant ≤ m) owner_of n (longer step) js upto (λ j le found. le)
 
 -- what a step raises is what is reserved after it
 raised-after : (step : Step) (steps : List Step) (r : Option Quota) → goes_on step ≡ true → raise_in step ≡ r → reserved_in (steps ++ step ∷ []) ≡ newer (reserved_in steps) r
@@ -178,42 +150,43 @@ longer-begun step j goes allowed brings place is = by (raise_in step) refl allow
         let segments = may.segments_within in let nodes = may.nodes_within in let raised = is.raised in
         begun (omega (arith, segments_same, segments)) (omega (arith, nodes_same, nodes)) (omega (arith, segments_same, nodes_same, count, raised, more))
 
+-- a journal by its number
+pub record IsAt (n : ℕ) (js : Js) : Type 0 where
+  pub journal : JournalOf
+  pub own : journal.tenant ≡ n
+  pub steps : journal_in js n ≡ journal.steps
+  pub places : places_in js n ≡ journal.places
+  pub after : (step : Step) → places_in (with_step n step js) n ≡ places_with (raise_in step) journal
+  pub begun : IsBegun journal
+
+found : (n : ℕ) (js : Js) (j : JournalOf) → thing_of owner_of n js ≡ Some j → AreBegun js → IsAt n js
+found n js j is begun = record {
+  journal = j;
+  own = thing-own owner_of n js j is;
+  steps = said-found owner_of steps_of [] n js j is;
+  places = said-found owner_of places_of 0 n js j is;
+  after = λ step. said-found owner_of places_of 0 n (with_step n step js) (longer step j) (thing-with owner_of n (longer step) js j (λ i own. own) is);
+  begun = all-of IsBegun owner_of n j js is begun;
+}
+
+pub found-at : (n : ℕ) (js : Js) → has_journal n js ≡ true → AreBegun js → IsAt n js
+found-at n js has begun = (let there = thing-there owner_of n js has in found n js there.0 there.1 begun)
+
 pub step-begun : (n : ℕ) (step : Step) (js : Js) → goes_on step ≡ true → IsAllowed (raise_in step) → Brings (raise_in step) (reserved_in (journal_in js n)) → length (journal_in js n) < places_in (with_step n step js) n → AreBegun js → AreBegun (with_step n step js)
-step-begun n step [] goes allowed brings place begun = tt
-step-begun n step (j ∷ js) goes allowed brings place begun = elim (cases_Bool (eqb j.tenant n)) [
-  | inl same ↦ rw same (longer-begun step j goes allowed (rw same at brings) (rw (same, same) at place) begun.0, begun.1)
-  | inr other ↦ rw other (begun.0, step-begun n step js goes allowed (rw other at brings) (rw (other, other) at place) begun.1)
-]
+unfolding found
+step-begun n step js goes allowed brings place begun = all-with IsBegun owner_of n (longer step) js begun (λ j is there.
+    let at = found n js j there begun in
+    longer-begun step j goes allowed (rw at.steps at brings) (rw (at.steps, at.after step) at place) is)
 
 -- one fewer
-above-none : (n : ℕ) (js : Js) → AreAbove owner_of n js → has_journal n js ≡ false
-above-none n [] above = refl
-above-none n (j ∷ js) above =
-    let below : n < j.tenant = above.0 in rw (ne_eqb j.tenant n (λ e. omega (arith, e, below))) (above-none n js above.1)
-
 pub without-own : (n : ℕ) (js : Js) → AreRising owner_of js → journal_in (without_journal n js) n ≡ []
-without-own n [] rising = refl
-without-own n (j ∷ js) rising = elim (cases_Bool (eqb j.tenant n)) [
-  | inl same ↦ rw same (none-there n js (rw (eqb-true j.tenant n same) at (above-none j.tenant js rising.0)))
-  | inr other ↦ rw (other, other) (without-own n js rising.1)
-]
+without-own n js rising = said-without_own owner_of steps_of [] n js rising
 
 pub without-other : (m n : ℕ) (js : Js) → n ≢ m → journal_in (without_journal n js) m ≡ journal_in js m
-without-other m n [] ne = refl
-without-other m n (j ∷ js) ne = elim (cases_Bool (eqb j.tenant n)) [
-  | inl same ↦ (let not_m : eqb j.tenant m ≡ false = rw (eqb-true j.tenant n same) (ne_eqb n m ne) in rw (same, not_m) refl)
-  | inr other ↦ elim (cases_Bool (eqb j.tenant m)) [
-    | inl is ↦ rw (other, is) refl
-    | inr not_so ↦ rw (other, not_so) (without-other m n js ne)
-  ]
-]
+without-other m n js ne = said-without_other owner_of steps_of [] m n js ne
 
 pub without-length : (n : ℕ) (js : Js) → has_journal n js ≡ true → length (without_journal n js) + 1 ≡ length js
-without-length n [] has = absurd (false≢true has)
-without-length n (j ∷ js) has = elim (cases_Bool (eqb j.tenant n)) [
-  | inl same ↦ rw same (omega arith)
-  | inr other ↦ (let rest = without-length n js (rw other at has) in rw other (omega (arith, rest)))
-]
+without-length n js has = length-without owner_of n js has
 
 pub without-total : (n : ℕ) (js : Js) → total_length (without_journal n js) + length (journal_in js n) ≡ total_length js
 without-total n [] = omega arith
@@ -222,33 +195,14 @@ without-total n (j ∷ js) = elim (cases_Bool (eqb j.tenant n)) [
   | inr other ↦ (let rest = without-total n js in rw other (omega (arith, rest)))
 ]
 
-without-above : (m n : ℕ) (js : Js) → AreAbove owner_of m js → AreAbove owner_of m (without_journal n js)
-without-above m n [] above = tt
-without-above m n (j ∷ js) above = elim (cases_Bool (eqb j.tenant n)) [
-  | inl same ↦ rw same above.1
-  | inr other ↦ rw other (above.0, without-above m n js above.1)
-]
-
 pub without-rising : (n : ℕ) (js : Js) → AreRising owner_of js → AreRising owner_of (without_journal n js)
-without-rising n [] rising = tt
-without-rising n (j ∷ js) rising = elim (cases_Bool (eqb j.tenant n)) [
-  | inl same ↦ rw same rising.1
-  | inr other ↦ rw other (without-above j.tenant n js rising.0, without-rising n js rising.1)
-]
+without-rising n js rising = rising-without owner_of n js rising
 
 pub without-upto : (m n : ℕ) (js : Js) → AreUpTo m js → AreUpTo m (without_journal n js)
-without-upto m n [] upto = tt
-without-upto m n (j ∷ js) upto = elim (cases_Bool (eqb j.tenant n)) [
-  | inl same ↦ rw same upto.1
-  | inr other ↦ rw other (upto.0, without-upto m n js upto.1)
-]
+without-upto m n js upto = all-without (λ (j : JournalOf). j.tenant ≤ m) owner_of n js upto
 
 pub without-begun : (n : ℕ) (js : Js) → AreBegun js → AreBegun (without_journal n js)
-without-begun n [] begun = tt
-without-begun n (j ∷ js) begun = elim (cases_Bool (eqb j.tenant n)) [
-  | inl same ↦ rw same begun.1
-  | inr other ↦ rw other (begun.0, without-begun n js begun.1)
-]
+without-begun n js begun = all-without IsBegun owner_of n js begun
 
 -- one more, of a tenant above all others
 pub push-own : (m : ℕ) (j : JournalOf) (js : Js) → AreUpTo m js → m < j.tenant → journal_in (js ++ j ∷ []) j.tenant ≡ j.steps
@@ -267,23 +221,16 @@ pub push-total : (j : JournalOf) (js : Js) → total_length (js ++ j ∷ []) ≡
 push-total j [] = omega arith
 push-total j (i ∷ js) = (let rest = push-total j js in omega (arith, rest))
 
-push-above : (m n : ℕ) (j : JournalOf) (js : Js) → m < j.tenant → AreAbove owner_of m js → AreAbove owner_of m (js ++ j ∷ [])
-push-above m n j [] below above = (below, tt)
-push-above m n j (i ∷ js) below above = (above.0, push-above m n j js below above.1)
-
 pub push-rising : (m : ℕ) (j : JournalOf) (js : Js) → AreUpTo m js → m < j.tenant → AreRising owner_of js → AreRising owner_of (js ++ j ∷ [])
-push-rising m j [] upto below rising = (tt, tt)
-push-rising m j (i ∷ js) upto below rising =
-    let first : i.tenant ≤ m = upto.0 in
-    (push-above i.tenant m j js (omega (arith, below, first)) rising.0, push-rising m j js upto.1 below rising.1)
+push-rising m j js upto below rising =
+    rising-push owner_of j js (all-map (λ (i : JournalOf). i.tenant ≤ m) (λ (i : JournalOf). i.tenant < j.tenant) (λ i first. omega (arith, below, first)) js upto) rising
 
 pub push-upto : (m : ℕ) (j : JournalOf) (js : Js) → AreUpTo m js → m < j.tenant → AreUpTo j.tenant (js ++ j ∷ [])
-push-upto m j [] upto below = (omega arith, tt)
-push-upto m j (i ∷ js) upto below = (let first : i.tenant ≤ m = upto.0 in (omega (arith, below, first), push-upto m j js upto.1 below))
+push-upto m j js upto below =
+    all-push (λ (i : JournalOf). i.tenant ≤ j.tenant) j js (omega arith) (all-map (λ (i : JournalOf). i.tenant ≤ m) (λ (i : JournalOf). i.tenant ≤ j.tenant) (λ i first. omega (arith, below, first)) js upto)
 
 pub push-begun : (j : JournalOf) (js : Js) → IsBegun j → AreBegun js → AreBegun (js ++ j ∷ [])
-push-begun j [] is begun = (is, tt)
-push-begun j (i ∷ js) is begun = (begun.0, push-begun j js is begun.1)
+push-begun j js is begun = all-push IsBegun j js is begun
 
 -- no journal is longer than its places, of which there are at most 1,118,978
 pub total-within : (js : Js) → AreBegun js → total_length js ≤ length js * 1118978
@@ -293,95 +240,30 @@ total-within (j ∷ js) begun =
     let within = own.within in let places = own.places in let segments = own.segments in let nodes = own.nodes in let raised = own.raised in
     omega (arith, rest, within, places, segments, nodes, raised)
 
--- a journal by its number
-pub record IsAt (n : ℕ) (js : Js) : Type 0 where
-  pub journal : JournalOf
-  pub own : journal.tenant ≡ n
-  pub steps : journal_in js n ≡ journal.steps
-  pub places : places_in js n ≡ journal.places
-  pub after : (step : Step) → places_in (with_step n step js) n ≡ places_with (raise_in step) journal
-  pub begun : IsBegun journal
-
-pub found-at : (n : ℕ) (js : Js) → has_journal n js ≡ true → AreBegun js → IsAt n js
-found-at n [] has begun = absurd (false≢true has)
-found-at n (j ∷ js) has begun = elim (cases_Bool (eqb j.tenant n)) [
-  | inl same ↦ record { journal = j; own = eqb-true j.tenant n same; steps = rw same refl; places = rw same refl; after = λ step. rw (same, same) refl; begun = begun.0 }
-  | inr other ↦ (let at = found-at n js (rw other at has) begun.1 in
-      record { journal = at.journal; own = at.own; steps = rw other at.steps; places = rw other at.places; after = λ step. rw (other, other) (at.after step); begun = at.begun })
-]
-
--- where it stands: first of all, or behind those of tenants below its own
-below-own : (n m : ℕ) (js : Js) → AreAbove owner_of m js → has_journal n js ≡ true → m < n
-below-own n m [] above has = absurd (false≢true has)
-below-own n m (j ∷ js) above has = elim (cases_Bool (eqb j.tenant n)) [
-  | inl same ↦ (let e = eqb-true j.tenant n same in let lt : m < j.tenant = above.0 in omega (arith, e, lt))
-  | inr other ↦ below-own n m js above.1 (rw other at has)
-]
-
-place-first : (n : ℕ) (j : JournalOf) (js : Js) → eqb j.tenant n ≡ true → count_below owner_of n (j ∷ js) ≡ 0
-place-first n j js same =
-    let e = eqb-true j.tenant n same in count_below-cases owner_of n j js (λ k. k ≡ 0) (λ below. absurd (omega (arith, e, below))) (λ above. refl)
-
-place-later : (n : ℕ) (j : JournalOf) (js : Js) → AreAbove owner_of j.tenant js → has_journal n js ≡ true → count_below owner_of n (j ∷ js) ≡ suc (count_below owner_of n js)
-place-later n j js above has =
-    let lt = below-own n j.tenant js above has in count_below-cases owner_of n j js (λ k. k ≡ suc (count_below owner_of n js)) (λ below. refl) (λ not_below. absurd (omega (arith, lt, not_below)))
-
-pub place-within : (n : ℕ) (js : Js) → AreRising owner_of js → has_journal n js ≡ true → count_below owner_of n js < length js
-place-within n [] rising has = absurd (false≢true has)
-place-within n (j ∷ js) rising has = elim (cases_Bool (eqb j.tenant n)) [
-  | inl same ↦ rw (place-first n j js same) (omega arith)
-  | inr other ↦ (let later : has_journal n js ≡ true = rw other at has in
-      let rest = place-within n js rising.1 later in rw (place-later n j js rising.0 later) (omega (arith, rest)))
-]
-
--- what stands there
+-- what stands at a place that the index found
 pub record StandsAt (n : ℕ) (js : Js) (j : JournalOf) : Type 0 where
   pub own : j.tenant ≡ n
   pub steps : journal_in js n ≡ j.steps
   pub places : places_in js n ≡ j.places
 
-pub place-read : (n : ℕ) (js : Js) (d : JournalOf) → AreRising owner_of js → has_journal n js ≡ true → StandsAt n js (get_or js (count_below owner_of n js) d)
-place-read n [] d rising has = absurd (false≢true has)
-place-read n (j ∷ js) d rising has = elim (cases_Bool (eqb j.tenant n)) [
-  | inl same ↦ rw (place-first n j js same) (record { own = eqb-true j.tenant n same; steps = rw same refl; places = rw same refl })
-  | inr other ↦ (let later : has_journal n js ≡ true = rw other at has in
-      let rest = place-read n js d rising.1 later in
-      rw (place-later n j js rising.0 later) (record { own = rest.own; steps = rw other rest.steps; places = rw other rest.places }))
-]
+at-place : (n : ℕ) (js read : Js) (at : ℕ) → AreRising owner_of js → has_journal n js ≡ true → read ≡ js → at ≡ count_below owner_of n read → IsPlace owner_of n js at
+at-place n js read at rising has same is = place-found owner_of n js at rising has (is ∙ ap (count_below owner_of n) same)
 
-pub place-written : (n : ℕ) (step : Step) (js : Js) (d : JournalOf) → AreRising owner_of js → has_journal n js ≡ true → set js (count_below owner_of n js) (longer step (get_or js (count_below owner_of n js) d)) ≡ with_step n step js
-place-written n step [] d rising has = absurd (false≢true has)
-place-written n step (j ∷ js) d rising has = elim (cases_Bool (eqb j.tenant n)) [
-  | inl same ↦ rw (place-first n j js same, same) refl
-  | inr other ↦ (let later : has_journal n js ≡ true = rw other at has in
-      rw (place-later n j js rising.0 later, other) (ap (λ (rest : Js). j ∷ rest) (place-written n step js d rising.1 later)))
-]
-
-pub place-removed : (n : ℕ) (js : Js) → AreRising owner_of js → has_journal n js ≡ true → remove js (count_below owner_of n js) ≡ without_journal n js
-place-removed n [] rising has = absurd (false≢true has)
-place-removed n (j ∷ js) rising has = elim (cases_Bool (eqb j.tenant n)) [
-  | inl same ↦ rw (place-first n j js same, same) refl
-  | inr other ↦ (let later : has_journal n js ≡ true = rw other at has in
-      rw (place-later n j js rising.0 later, other) (ap (λ (rest : Js). j ∷ rest) (place-removed n js rising.1 later)))
-]
-
--- the same, where the index found the place
 pub at-within : (n : ℕ) (js read : Js) (at : ℕ) → AreRising owner_of js → has_journal n js ≡ true → read ≡ js → at ≡ count_below owner_of n read → at < length js
-at-within n js read at rising has same is = (let within = place-within n js rising has in rw (is, same) within)
+at-within n js read at rising has same is = place-within owner_of n js at (at-place n js read at rising has same is)
 
 pub at-read : (n : ℕ) (js read : Js) (at : ℕ) (j : JournalOf) → AreRising owner_of js → has_journal n js ≡ true → read ≡ js → at ≡ count_below owner_of n read → j ≡ get_or js at j → StandsAt n js j
 at-read n js read at j rising has same is stands =
-    let P : JournalOf → Type 0 = λ i. StandsAt n js i in
-    subst P (ap (λ (k : ℕ). get_or js k j) (sym (is ∙ ap (count_below owner_of n) same)) ∙ sym stands) (place-read n js j rising has)
+    let place = at-place n js read at rising has same is in
+    record {
+      own = place-own owner_of n js at j place stands;
+      steps = place-said owner_of steps_of [] n js at j place stands;
+      places = place-said owner_of places_of 0 n js at j place stands;
+    }
 
 pub at-written : (n : ℕ) (step : Step) (js read : Js) (at : ℕ) (j written : JournalOf) → AreRising owner_of js → has_journal n js ≡ true → read ≡ js → at ≡ count_below owner_of n read → j ≡ get_or js at j → written ≡ longer step j →
     set js at written ≡ with_step n step js
-at-written n step js read at j written rising has same is stands longer_is =
-    let place : at ≡ count_below owner_of n js = is ∙ ap (count_below owner_of n) same in
-    ap (λ (k : ℕ). set js k written) place
-    ∙ ap (λ (w : JournalOf). set js (count_below owner_of n js) w) (longer_is ∙ ap (longer step) (stands ∙ ap (λ (k : ℕ). get_or js k j) place))
-    ∙ place-written n step js j rising has
+at-written n step js read at j written rising has same is stands longer_is = place-set owner_of n (longer step) js at j written (at-place n js read at rising has same is) stands longer_is
 
 pub at-removed : (n : ℕ) (js read : Js) (at : ℕ) → AreRising owner_of js → has_journal n js ≡ true → read ≡ js → at ≡ count_below owner_of n read → remove js at ≡ without_journal n js
-at-removed n js read at rising has same is =
-    ap (λ (k : ℕ). remove js k) (is ∙ ap (count_below owner_of n) same) ∙ place-removed n js rising has
+at-removed n js read at rising has same is = place-removed owner_of n js at (at-place n js read at rising has same is)

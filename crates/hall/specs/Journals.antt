@@ -1,5 +1,7 @@
 -- Meaning: the journal of a tenant: its steps that were taken, in order, from its Admit on.
-use Rattle.std.specs.Prelude.{◌≡◌, ℕ, ◌+◌, ◌*◌, ◌^◌, ◌<◌, ◌≤◌, Bool, true, false, ◌||◌, ◌==◌, List, [], ◌∷◌, ◌++◌, Option, Some, None, if◌then◌else◌, length}
+use Rattle.std.specs.Prelude.{◌≡◌, ℕ, ◌+◌, ◌*◌, ◌^◌, ◌<◌, ◌≤◌, Bool, true, false, List, [], ◌∷◌, ◌++◌, Option, Some, None, length}
+use Rattle.std.specs.List.{AllByRecursion}
+use Rattle.number_index.specs.Places.{said_of, has_thing, with_thing, without_thing}
 use Rattle.tenant_quota.specs.Quota.{Quota}
 use Rattle.sched_rules.specs.declared.step.StepOf.{StepOf}
 use Rattle.sched_rules.specs.declared.step.StepOf.TheVariants.{Admit, AdmitMore, Submit, Take, Steal, Advance, Answer, Inlet, Finish, Spend, Cancel, Leave}
@@ -20,18 +22,15 @@ owner_of journal = journal.tenant
 
 -- the steps in a tenant's journal; none where it has no journal
 abbrev pub journal_in : List JournalOf → ℕ → List (StepOf LeafAnswer)
-journal_in [] number = []
-journal_in (journal ∷ journals) number = if journal.tenant == number then journal.steps else journal_in journals number
+journal_in journals number = said_of owner_of (λ journal. journal.steps) [] number journals
 
 -- how many places a tenant's journal has; 0 where it has no journal
 abbrev pub places_in : List JournalOf → ℕ → ℕ
-places_in [] number = 0
-places_in (journal ∷ journals) number = if journal.tenant == number then journal.places else places_in journals number
+places_in journals number = said_of owner_of (λ journal. journal.places) 0 number journals
 
 -- whether a tenant has a journal
 abbrev pub has_journal : ℕ → List JournalOf → Bool
-has_journal number [] = false
-has_journal number (journal ∷ journals) = (journal.tenant == number) || has_journal number journals
+has_journal number journals = has_thing owner_of number journals
 
 -- what a step makes of its tenant's reservation: an Admit begins it, and an AdmitMore raises it to this; None for
 -- any other step, which doesn't change it
@@ -87,14 +86,11 @@ longer step journal = record { tenant = journal.tenant; places = places_with (ra
 
 -- the journals, with one step added to a tenant's
 abbrev pub with_step : ℕ → StepOf LeafAnswer → List JournalOf → List JournalOf
-with_step number step [] = []
-with_step number step (journal ∷ journals) =
-    if journal.tenant == number then longer step journal ∷ journals else journal ∷ with_step number step journals
+with_step number step journals = with_thing owner_of number (longer step) journals
 
 -- the journals without a tenant's
 abbrev pub without_journal : ℕ → List JournalOf → List JournalOf
-without_journal number [] = []
-without_journal number (journal ∷ journals) = if journal.tenant == number then journals else journal ∷ without_journal number journals
+without_journal number journals = without_thing owner_of number journals
 
 -- how many steps all journals have together
 abbrev pub total_length : List JournalOf → ℕ
@@ -134,8 +130,7 @@ is_worker_step _ = true
 
 -- the tenant's number of each of these journals is at most this
 abbrev pub AreUpTo : ℕ → List JournalOf → Type 0
-AreUpTo number [] = Unit {0}
-AreUpTo number (journal ∷ journals) = (journal.tenant ≤ number) × AreUpTo number journals
+AreUpTo number journals = AllByRecursion (λ journal. journal.tenant ≤ number) journals
 
 -- of a journal: it begins with its tenant's Admit; it has the places for what is reserved, and one for each
 -- raise; it has no more steps than places; and each raise has added a segment or a node
@@ -151,8 +146,7 @@ pub record IsBegun (journal : JournalOf) : Type 0 where
 
 -- `IsBegun` holds of each of these journals
 abbrev pub AreBegun : List JournalOf → Type 0
-AreBegun [] = Unit {0}
-AreBegun (journal ∷ journals) = IsBegun journal × AreBegun journals
+AreBegun journals = AllByRecursion IsBegun journals
 
 -- a step may be written in a journal without taking memory: it is its tenant's; it is neither an Admit, an
 -- AdmitMore nor a Leave; a Submit asks for a search; a frame's serial has 32 bits; and there is a free place
