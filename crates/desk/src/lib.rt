@@ -24,6 +24,15 @@
 //! (how many do is counted under the lock, as a wake is a call of the system even where nobody sleeps); a job
 //! that ended wakes the seats that wait, and the closing wakes all.
 //!
+//! Why it is so:
+//!
+//! - `leave` answers nothing: if a hall refused it, the share would still be kept, so that shares add up. A
+//!   ledger has 3 * 2^62 parts, one for each of 2^62 badges and 2^62 tenants, and 2^62 to spare. After 2^64 - 1
+//!   steps a badge would block for ever; no run gets there.
+//! - Sleepers are counted under the lock, after they saw no ready frame, so none is missed. `Held` can't be
+//!   dropped, only released, so no wake-up is forgotten; each frame that became ready wakes one sleeping
+//!   worker.
+//!
 //! ```text
 //! let desk: Desk<L> = Desk::new(Hall::new(alloc, config, 2)?, blank);
 //! let mut seat = desk.admit(rt, reserve)?;

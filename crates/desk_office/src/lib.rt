@@ -11,6 +11,12 @@
 //! value and the best choice of the position and the depth of the k-th `ASK` line that was answered by `JOB`, and each
 //! `TABLE k` with entries their table.
 //!
+//! Why it is so:
+//!
+//! - BYE is answered after the tenant has left, so a client that reads it can reserve at once. This crate is
+//!   apart from `tcp_server`, so that its mutants don't load threads. HELLO with a tenant is OldTenant here,
+//!   and without one there is no job; no session meets either.
+//!
 //! ```text
 //! let mut source = FromReader { reader: &stream };
 //! let mut sink = FromWriter::new(&stream);

@@ -24,6 +24,14 @@
 //!
 //! The tree of [`rows`], which computes from the definitions what is said of it:
 //!
+//! Why it is so:
+//!
+//! - This crate and `frame_table` are two, so that a mutant of one tenant's tree doesn't prove the table again.
+//!   Each tenant has its own slab, with as many keys as slots, so a guessed key always names one of its frames
+//!   (`proofs/Keys.antt`).
+//! - A removal moves the shorter end of windows in a `Vec` of twice the places and 64 more: the oldest and
+//!   newest cost nothing, one in the middle of 4,096 moves 2,048 entries a list.
+//!
 //! ```text
 //! let mut tree = TenantFrames::new(alloc, 7, 5)?;    // tenant 7: places for 5 frames
 //! tree.add(1, None, 0, 1);                           // a root, ready at the hall

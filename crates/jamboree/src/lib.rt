@@ -17,6 +17,15 @@
 //! depth 1 and more it also has what is known of each choice ([`Reply::bound`]): every entry is true,
 //! and the best choice's is exact; which kind another has depends on what was spawned when.
 //!
+//! Why it is so:
+//!
+//! - Words that aren't a frame's are answered too (`is_formed`), so the procedure is total: `next` returns, an
+//!   inlet only wakes, an answer stores nothing. Two frames that fit needn't be parent and child, so that is
+//!   tested of them too. An act keeps a choice's rest (kind and score), also on words that no run reaches; a
+//!   rest without a kind says nothing.
+//! - `Reply::read` requires the words of a fitting, returned root, which a done job's are. A reply is read
+//!   under the lock, so it has no choices: `Reply::bound` finds them.
+//!
 //! ```text
 //! // the opening to depth 0: the root is computed by one worker; a deeper one has a place for each choice
 //! let jamboree = Jamboree::new(2)?;

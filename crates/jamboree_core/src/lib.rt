@@ -26,6 +26,11 @@
 //! that fact, and the same for one tenant by its journal, the list of its own steps that were taken
 //! (`specs/Journals.antt`). The laws are public functions that do nothing.
 //!
+//! Why it is so:
+//!
+//! - Functions over a core say the headline in full (`run_searches`, `step_search`), as `Core` is generic and
+//!   can't name searches.
+//!
 //! ```text
 //! // the opening to depth 0, computed by worker 3: seven steps, all taken, and word 8 is that of 0
 //! let steps = [

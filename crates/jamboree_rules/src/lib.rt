@@ -19,6 +19,10 @@
 //! that a returned root then holds value, best choice and a table of bounds. [`rows`] computes worked
 //! examples of the acts.
 //!
+//! Why it is so:
+//!
+//! - Phases, roles and statuses are numbers in definitions, since words hold them, and enums in code.
+//!
 //! ```text
 //! // a leaf of the opening to depth 1, through the full window
 //! let leaf = Leaf { board: opening, depth: 1, alpha: -200_000, beta: 200_000 };

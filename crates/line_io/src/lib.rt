@@ -19,6 +19,16 @@
 //! at the latest. `talk_lines` answers lines up to one that `Ends` the talk (`specs/Talks.antt`), and may go on
 //! for ever.
 //!
+//! Why it is so:
+//!
+//! - `Source` and `Sink` are traits of this crate: std's `Read` and `Write` can't say that a call failed, so 'a
+//!   fault comes only if a read failed' would hold of any body. `FromReader` and `FromWriter` adapt std's
+//!   types; their failures are only tested.
+//! - An interrupted read or write is tried 65,536 times, then counts as failed. `FromWriter` keeps the error,
+//!   so that a closed pipe ends the program silently. `answer_lines` doesn't flush, as its sink is unbuffered;
+//!   it waits for nobody and ends after 2^62 bytes. `talk_lines` may last for ever.
+//! - A trait's const parameter can't size an array, so an answerer keeps its last answer itself, of any length.
+//!
 //! ```text
 //! let mut source = FromReader { reader: b"one\r\ntwo".as_slice() };
 //! let mut sink = FromWriter::new(Vec::new(alloc));

@@ -14,6 +14,14 @@
 //! that is done has the reply to this position and depth, and what is found is what such a core came to
 //! (`specs/Found.antt`).
 //!
+//! Why it is so:
+//!
+//! - `solve_by_core` makes a core for each line. Its worker stops after 16 turns a node and 16 more, or at any
+//!   refusal but for lack of quota, and then searches serially; so it needs no proof that no such refusal
+//!   comes. It returns how it found its value (`Way`) and what was left, of a core of this grain and these
+//!   totals (`IsFoundBy`): the prover refuses another grain or a smaller core. That a job is done if it could
+//!   be is tested.
+//!
 //! ```text
 //! let found = solve_by_core(alloc, &opening, 2, 0)?;
 //! found.answer == Valued { value: -4, choice: Some(Choice::Square(19)) }

@@ -23,6 +23,11 @@
 //! length (`specs/Guesses.antt`), which is its lowest bits: that there are so many guesses is the
 //! invariant of both. Numbers that follow one another, no more than there are guesses, never share one.
 //!
+//! Why it is so:
+//!
+//! - A place is guessed first and searched for otherwise. No proof rests on a guess: what stands there is
+//!   compared. Two tenants share a guess only if their numbers differ by a multiple of 256.
+//!
 //! ```text
 //! let mut index = TenantIndex::new();
 //! let tenants = [(3, 30), (7, 70), (263, 2630)];

@@ -11,6 +11,11 @@
 //! a square from a table of words: the run ends at the nearest square of the ray that isn't opposing,
 //! which is one count of zeros, and what lies before it is flipped where that square is the mover's.
 //!
+//! Why it is so:
+//!
+//! - `Board` has public words and no model, as a search needs both cells and words. A ghost field says that the
+//!   words share no bit.
+//!
 //! ```text
 //! // the opening, with Black to move: d3 (square 19) flips d4 (square 27)
 //! let opening = Board::new(0x0000_0008_1000_0000, 0x0000_0010_0800_0000)?;

@@ -10,6 +10,13 @@
 //! Boards are values, and nothing here keeps a state. A [`Bound`] is what is known of one choice at a
 //! root, and `IsTable` of `specs/Tables.antt` says which lists of them are tables of a board.
 //!
+//! Why it is so:
+//!
+//! - Minimax recurses on the depth alone: a pass uses no ply, so a recursion by choices wouldn't end. So after
+//!   a pass it looks at the other side's legal squares, of which there is at least one
+//!   (`a_pass_is_followed_by_a_square`). The code's recursions decrease twice the depth, plus one if the mover
+//!   passes (`goes_down`).
+//!
 //! ```text
 //! // the opening, with Black to move, one ply deep: d3 is the first of four equal moves
 //! plain(opening, 1) == Valued { value: -3, choice: Some(Choice::Square(19)) }

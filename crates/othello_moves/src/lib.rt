@@ -12,6 +12,12 @@
 //! (`proofs/LeadLemmas.antt`), within the squares that may stand inside a run, so that no ray wraps around
 //! the board (`specs/Inner.antt`).
 //!
+//! Why it is so:
+//!
+//! - `Mobility`, `Choices::of` and `move_count` exist for speed: a leaf finds both sides' legal squares once,
+//!   for three uses. `Choices` is no `Iterator`, as its model is the list of choices left.
+//! - `Choice::Square(64)` can be written; contracts exclude it where it matters.
+//!
 //! ```text
 //! // the opening, with Black to move: d3, c4, f5, e6
 //! let opening = Board::new(0x0000_0008_1000_0000, 0x0000_0010_0800_0000)?;

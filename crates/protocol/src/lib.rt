@@ -8,6 +8,11 @@
 //! is a list of bytes in an array of any length: each function that writes appends to it what `specs/Texts.antt` says,
 //! and asks for so many bytes of room, which the caller knows. Nothing takes memory.
 //!
+//! Why it is so:
+//!
+//! - `ProtocolFault` is one type for `solve` and sessions and doesn't say where a bad cell stands, as no answer
+//!   does. `Question` limits its depth by its type.
+//!
 //! ```text
 //! let (depth, position) = split_at_space(b"12 X-O")?;         // `12` and `X-O`
 //! word_number(depth)                                          // Some(12)

@@ -40,6 +40,15 @@
 //! call of the procedure. Frames, accounts and jobs are looked for at a guessed place, and else searched for. An
 //! abort goes over the tenant's frames from its frame on, [`Core::live`] and the end of a job over all of them.
 //!
+//! Why it is so:
+//!
+//! - Each test of a step is computed, and the first that applies answers: `accept` is also asked of an answer
+//!   that is then refused. `Core::new` requires `P: Drop`; `run` takes a `Vec` over the core's allocator, so
+//!   that a test can make its growth fail.
+//! - A call that isn't inlined zeroes and copies its result, and so is a value made in a `match` arm and used
+//!   after it. So a step's look-ups and tests are `#[inline(always)]`, and functions that answer an act return
+//!   from the arms of a closing `match`.
+//!
 //! ```text
 //! let mut core = Core::new(alloc, config, Fan)?;
 //! core.step(&Step::<Fan>::Admit(1, reserve))?;

@@ -17,6 +17,11 @@
 //! - [`spends`]: a job may be given up exactly where its frame's Advance or Inlet would be refused by
 //!   what can't be done, or no step is left (`specs/Spends.antt`).
 //!
+//! Why it is so:
+//!
+//! - `IsShaped` compares use with reservation, not with limits, which belong to the reservation's type. 'Inlet
+//!   would be BadAct' is said of every worker, as that test comes before Busy.
+//!
 //! ```text
 //! // the core's contract: core.new.shared ≡ after_answer functions core.old.shared step answer
 //! core.step(&step)?;

@@ -21,6 +21,19 @@
 //! children fit, each taken step leaves them fitting (`specs/Laws.antt`); `rooted` says whose words a
 //! root's are.
 //!
+//! Why it is so:
+//!
+//! - `StepOf<A>` and `DidOf<I>` are over a procedure's answers and inputs, so the definitions need no
+//!   procedure, whose five functions are one ghost member. Inputs that a procedure calls the same are equal
+//!   (`same_is_equal`), or an answer to another could be taken.
+//! - `Procedure` has four more methods (`is_fitting_root`, `next_of`, `inlet_of`, `accept_of`), with defaults,
+//!   for speed alone: the five test whether words are a frame's, which they always are in a core whose roots
+//!   fit. Three answer as their namesakes and are told whether frames fit; `is_fitting_root` may always say no.
+//! - `lone` refuses a second Admit by OldTenant, as the rule among several tenants does. NoTenant and Lower of
+//!   an AdmitMore are the tenant's own; Full needs all tenants, and is tested where the tenant alone would take
+//!   the step, by sums (`is_beyond`), as a difference would be cut off at 0. The text of `Refusal` is by hand,
+//!   as what `thiserror` writes costs too much proof.
+//!
 //! ```text
 //! // a finished job keeps the first 76 words of its root: of a root of 12 words, all
 //! let node = stack.open(None, &[2, 2, 1], 12)?;

@@ -18,6 +18,11 @@
 //!
 //! Only [`Store::new`], [`Store::admit`] and [`Store::raise`] take memory.
 //!
+//! Why it is so:
+//!
+//! - No handle outlives a change: each changing call looks its frame up by name. A worker's place may hold a
+//!   stale name; it is busy only if that frame is still its own.
+//!
 //! ```text
 //! let mut store = Store::new(alloc, config)?;
 //! store.admit(1, reserve)?;

@@ -7,6 +7,10 @@
 //! window is found. The tests stand in a crate of their own, so that the crates below are not proved once
 //! more with them.
 //!
+//! Why it is so:
+//!
+//! - The known numbers of leaf positions count a pass as a choice, as published counts do.
+//!
 //! ```text
 //! let (word, rest) = split_at_space(b"12 X-O").ok_or("no space")?;
 //! word_number(word) == Some(12)

@@ -21,6 +21,12 @@
 //! Only [`Region::new`] takes memory, once; every call takes constant time. Five short functions
 //! hold pointers: those of the module `cells`.
 //!
+//! Why it is so:
+//!
+//! - `Region::words_mut` lends `&mut [u64; 16]`, as an array can't be lent as a slice (`docs/DECISIONS.md`). No
+//!   mutant changes a function that holds a pointer, as its proof walks its very code; mutants change its
+//!   callers. Proofs cite lemmas of the kit's `core` and `std_alloc`: a move to another kit starts here.
+//!
 //! ```text
 //! let mut region = Region::new(alloc, 4)?;
 //! if let Some(first) = region.take() {

@@ -17,6 +17,18 @@
 //! `DONE` line bears the minimax value and the best choice of what the `ASK` line of its number asked for, and each `TABLE`
 //! line with entries its table: what is known of each choice, each entry true ([`each_done_line_is_true`]).
 //!
+//! Why it is so:
+//!
+//! - After a failed write the contract covers the lines up to the one whose answer wasn't written. If the
+//!   replies end early, the next is a refusal by number 0, which no office makes, so missing replies can't
+//!   stand for calls that weren't made.
+//! - A session has one text of 1,115 bytes that each answer overwrites, as one returned by value would be
+//!   zeroed and copied for every line. Zeroing the 800-byte answer about a job costs every caller that has it
+//!   as a local, so it lives in functions of its own (`tell_job`, `tell_ended_job`, `tell_table`). TABLE makes
+//!   the call of GET but is a request and a turn of its own (`Tabulates`, `Tabulated`), as its text depends on
+//!   the line. An `Analysis` stays `Copy`: its table (`Bounds`) is 64 places and a count, unused ones of one
+//!   value, so that the derived comparison compares entries.
+//!
 //! ```text
 //! let lines = b"HELLO 4 8\nASK 0 ---------------------------OX------XO--------------------------- X\nWAIT 1\nQUOTA\n";
 //! let mut source = FromReader { reader: lines.as_slice() };

@@ -8,6 +8,14 @@
 //! (`SolvedRun`). Lines with a fault, and [`solve_visited`], ask for no memory: a line is held in an array of 128
 //! bytes, and an answer in one of 40; the invariant is that no answer is longer.
 //!
+//! Why it is so:
+//!
+//! - `solve_visited` is apart from `solve`: the count of positions is only tested, so its contract is a
+//!   relation. It saturates at the greatest `u64`.
+//! - The contract of `solve` leaves open which lines met a failed allocation: such a line is answered `ERR 19`
+//!   exactly if it has no fault. Tests say that there is none while there is room. `solve` fails as the run of
+//!   its lines does (`LineFault`: 1 read, 2 write, 3 too much); a failed allocation is no fault.
+//!
 //! ```text
 //! let mut source = FromReader { reader: b"1 ---------------------------OX------XO--------------------------- X\n".as_slice() };
 //! let mut sink = FromWriter::new(Vec::new(alloc));

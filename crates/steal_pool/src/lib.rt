@@ -19,6 +19,14 @@
 //! every step in the hall is one that somebody took, is tested. No order between threads is promised, nor
 //! that a job ends, nor that no task is left where none is found.
 //!
+//! Why it is so:
+//!
+//! - `run_pool` returns OutOfMemory before any thread starts. `Sizes` lets tests make each growth fail, and
+//!   each thread by a stack that can't be had (`spawn_scoped_with`). `worker::computed` gets no lock, tasks or
+//!   means to wait: a body that locks around the search alone fails `a_short_search_is_over_before_a_long_one`.
+//!   `PoolEnd` says `pushed = taken + left` alone, as a caller has no deque left to name; `pool::end_of` says
+//!   it of each.
+//!
 //! ```text
 //! // four workers, beside whoever speaks at the desk, until it is closed
 //! let end = run_pool(rt, alloc, &desk, Worker::new(4)?, &Open)?;

@@ -20,6 +20,17 @@
 //! What a session answers is the contract of `desk_office::serve_desk`, whatever the threads do: a socket is a source
 //! and a sink of bytes. Here is only who runs where. Nothing is proved of when a thread runs.
 //!
+//! Why it is so:
+//!
+//! - What a server is given is one struct (`ServerConfig`: its `Sessions` and a `PoolConfig`), with the stacks'
+//!   sizes, for tests of threads that can't be had; `serve_beside` takes the pool as a closure, for those of a
+//!   pool that can't begin. `Announce` goes in by value and comes back: a `&mut` captured by a scope's closure
+//!   has no value after it. A failed announcement is `BeginFault::Unsaid`.
+//! - A listener keeps a spare descriptor (`Door`): an `accept` without a descriptor fails at once and leaves
+//!   the connection in the queue for ever. The door gives up its spare to take the connection, which is served
+//!   if another descriptor is free by then, else closed. A door is generic in its listener, so that a test can
+//!   hand it one whose connections are lost; one lost before it was taken (`ConnectionAborted`) isn't counted.
+//!
 //! ```text
 //! let listener = TcpListener::bind(&rt, "127.0.0.1:0")?;
 //! let config = ServerConfig::new(2, Worker::new(4)?);

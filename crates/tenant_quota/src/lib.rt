@@ -14,6 +14,12 @@
 //! tenant used stays used. Only [`Book::new`] takes memory. A tenant's account is found by an index of
 //! the accounts (`number_index`), which looks first where it is guessed to stand.
 //!
+//! Why it is so:
+//!
+//! - `Book::raise` tests Lower before Full, doesn't count the tenant's own reservation twice, and ignores that
+//!   64 tenants are there. `Book::open` returns how many nodes were opened before; a frame's serial is one
+//!   more. Accounts are sorted by tenant, so the order of admission isn't visible.
+//!
 //! ```text
 //! let mut book = Book::new(alloc, 8, 32)?;
 //! book.reserve(1, Reserve::new(5, 8)?)?;    // tenant 1: 5 segments and 8 nodes
