@@ -72,13 +72,15 @@ pub fn refusals_that_are_none()
 {}
 
 /// A true session says all this of the lines that it answered, which are those that were read, and by which numbers
-/// they may be refused; one that ended by its input has read its end; and what it wrote is their answers.
+/// they may be refused; one that ended by its input has read its end, and one that ended by a line BYE has read all of
+/// that line; and what it wrote is their answers.
 pub fn true_sessions()
     ensures dones { (r : Result End SessionFault) (is : TrueSession counts_reads counts_writes 0 0 1 1 r) → EachDoneIsTrue [] is.session.answered (turns false is.session.answered is.session.replies) }
     ensures numbers { (r : Result End SessionFault) (is : TrueSession counts_reads counts_writes 0 0 1 1 r) → is.session.answered ≡ Whole (codes "HELLO 4 8") ∷ Whole (codes "GET 1") ∷ [] → is.session.replies ≡ Welcome few ∷ Told 1 Pending ∷ [] → ⊥ }
     ensures unread { TrueSession counts_reads counts_writes 0 0 0 0 (Ok EndOfInput) → ⊥ }
     ensures lines { (is : TrueSession counts_reads counts_writes 0 0 1 1 (Ok Bye)) → is.session.blocks ≡ (codes "BYE" ++ 10 ∷ codes "LIVE" ++ 10 ∷ []) ∷ [] → is.session.answered ≡ Whole (codes "BYE") ∷ [] }
     ensures early { (is : TrueSession counts_reads counts_writes 0 0 1 1 (Ok Bye)) → is.session.blocks ≡ (codes "LIVE" ++ 10 ∷ []) ∷ [] → ⊥ }
+    ensures fragment { (is : TrueSession counts_reads counts_writes 0 0 1 1 (Ok Bye)) → is.session.blocks ≡ codes "BYE" ∷ [] → ⊥ }
     ensures unwritten { (is : TrueSession counts_reads counts_writes 0 0 2 0 (Ok EndOfInput)) → is.session.pieces ≡ [] }
     ensures answer { (is : TrueSession counts_reads counts_writes 0 0 1 1 (Ok Bye)) → is.session.answered ≡ Whole (codes "BYE") ∷ [] → is.session.replies ≡ [] → concat is.session.pieces ≡ codes "BYE" ++ 10 ∷ [] }
 {}
