@@ -5,8 +5,11 @@
 //!                                                     one before: `QUOTA`, after a HELLO
 //!     soak jobs PORT CONNECTIONS COUNT FILE           each asks for COUNT positions and waits for each; FILE has lines
 //!                                                     `depth position = value move`, and every answer is compared
+//!     soak visits PORT CONNECTIONS COUNT              each has COUNT sessions, one after another, of a HELLO and a BYE
+//!     soak leaves PORT CONNECTIONS COUNT              each asks for COUNT positions to depth 0 and waits for each, 250 in
+//!                                                     a session
 //!
-//! The last two print the round trips (lines and answers) a second, over all connections.
+//! All but the first print the round trips (lines and answers) a second, over all connections.
 use std::io::{BufRead, BufReader, Write};
 use std::net::{TcpListener, TcpStream};
 use std::sync::{Arc, Barrier};
@@ -96,7 +99,39 @@ fn jobs(talk: &mut Talk, number: usize, connections: usize, count: usize, rows: 
     talk.expect("BYE", "BYE");
 }
 
+const OPENING: &str = "---------------------------OX------XO--------------------------- X";
+
+fn visits(port: u16, connections: usize, count: usize) -> u64 {
+    let hello = hello(connections);
+    let mut trips = 0;
+    for _ in 0..count {
+        let mut talk = Talk::open(port);
+        talk.expect(&format!("HELLO {hello}"), &format!("WELCOME {hello}"));
+        talk.expect("BYE", "BYE");
+        trips += talk.trips;
+    }
+    trips
+}
+
+fn leaves(port: u16, connections: usize, count: usize) -> u64 {
+    const SESSION: usize = 250;
+    let hello = hello(connections);
+    let mut trips = 0;
+    for from in (0..count).step_by(SESSION) {
+        let mut talk = Talk::open(port);
+        talk.expect(&format!("HELLO {hello}"), &format!("WELCOME {hello}"));
+        for job in 1..=SESSION.min(count - from) {
+            talk.expect(&format!("ASK 0 {OPENING}"), &format!("JOB {job}"));
+            talk.expect(&format!("WAIT {job}"), &format!("DONE {job} 0 -"));
+        }
+        talk.expect("BYE", "BYE");
+        trips += talk.trips;
+    }
+    trips
+}
+
 fn drive(words: &[String]) {
+    let what = words[0].clone();
     let port: u16 = words[1].parse().unwrap();
     let connections: usize = words[2].parse().unwrap();
     let count: usize = words[3].parse().unwrap();
@@ -108,8 +143,12 @@ fn drive(words: &[String]) {
     let start = Arc::new(Barrier::new(connections + 1));
     let threads: Vec<_> = (0..connections)
         .map(|number| {
-            let (rows, start) = (rows.clone(), start.clone());
+            let (rows, start, what) = (rows.clone(), start.clone(), what.clone());
             thread::spawn(move || {
+                if what == "visits" || what == "leaves" {
+                    start.wait();
+                    return if what == "visits" { visits(port, connections, count) } else { leaves(port, connections, count) };
+                }
                 let mut talk = Talk::open(port);
                 start.wait();
                 if rows.is_empty() {
@@ -131,7 +170,7 @@ fn main() {
     let words: Vec<String> = env::args().skip(1).collect();
     match words.first().map(String::as_str) {
         Some("echo") => echo(),
-        Some("lines") if words.len() == 4 => drive(&words),
+        Some("lines" | "visits" | "leaves") if words.len() == 4 => drive(&words),
         Some("jobs") if words.len() == 5 => drive(&words),
         _ => fail("see the head of soak.rs".into()),
     }

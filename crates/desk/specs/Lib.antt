@@ -3,3 +3,4 @@ pub use Rattle.hall.specs.jamboree as jamboree
 pub use Rattle.hall.specs.jamboree_core as jamboree_core
 pub mod Seats
 pub mod Counts
+pub mod Waits

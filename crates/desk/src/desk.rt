@@ -200,8 +200,8 @@ impl<L: Hands, A: Allocator + Clone> Desk<L, A> {
     }
 
     /// Locks the desk for several steps of the worker with this badge: until [`Held::release`] all other threads wait.
-    /// If the lock is free at the first try, the badge's backoff gets a little shorter; else it is doubled, and the
-    /// worker waits that long before each further try.
+    /// If the lock is free at the first try, the badge's backoff gets a little shorter; else it is doubled, up to what
+    /// the last leaf's depth makes worth it, and the worker waits that long before each further try.
     pub fn hold<R: Wait>(&self, rt: &R, badge: &mut Badge<L>) -> Held<'_, L, A>
         ensures share { badge.new ≡ badge.old }
     {

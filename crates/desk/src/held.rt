@@ -9,7 +9,7 @@ ghost use Rattle.hall.specs.Journals.{is_worker_step};
 use crate::change::Change;
 use crate::kept::Kept;
 use crate::shares::{Badge, Hands};
-use hall::{Jamboree, Step, StepAnswer};
+use hall::{DidOf, Jamboree, Step, StepAnswer};
 use std::alloc::{Allocator, Global};
 use std::sync::{Condvar, MutexGuard, Wait};
 
@@ -27,8 +27,9 @@ pub struct Held<'d, L: Hands, A: Allocator = Global> {
 
 impl<'d, L: Hands, A: Allocator + Clone> Held<'d, L, A> {
     /// Offers a worker's step to the hall, and returns what it did or why it is refused, which is never `OutOfMemory`.
-    /// The badge's share is raised by 1 exactly where the step was taken. Nobody is woken before `release`. With a
-    /// badge whose share is 2^64 - 1 or more the call never returns.
+    /// The badge's share is raised by 1 exactly where the step was taken. Where the step gives the worker a leaf, the
+    /// badge's waits follow its depth from then on. Nobody is woken before `release`. With a badge whose share is
+    /// 2^64 - 1 or more the call never returns.
     pub fn offer<R: Wait>(
         &mut self,
         rt: &R,
@@ -45,6 +46,9 @@ impl<'d, L: Hands, A: Allocator + Clone> Held<'d, L, A> {
             unreachable!()
         }
         let answer = self.kept.offer(badge, step);
+        if let Ok(DidOf::Computing(leaf)) = &answer {
+            badge.backoff.before_leaf(leaf.depth);
+        }
         match Change::of(&answer) {
             Change::InReady if self.kept.has_sleepers() => {
                 self.wakes = self.wakes.saturating_add(1);

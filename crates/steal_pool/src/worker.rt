@@ -5,7 +5,7 @@
 //! hall, for which it waits at the desk. It then does its turns (`pool_rules::Holding`) until it is
 //! without a frame again. It sleeps only at the desk, and it ends once it finds no task and the desk is
 //! closed: what is left then in the deques of others is theirs. It holds no lock while it computes.
-ghost use Rattle.std.specs.Prelude.{◌≡◌, Some};
+ghost use Rattle.std.specs.Prelude.{◌≡◌, ◌+◌, ◌≤◌, Some};
 ghost use Rattle.task_deques.specs.pool_rules.Turns.{offered};
 ghost use Rattle.task_deques.specs.Deals.{posts, worker_seats};
 ghost use Rattle.steal_pool.specs.Works.{IsTurn, BringsAnswerTo};
@@ -100,7 +100,8 @@ fn steps<L: Hands, R: Wait>(
     tasks: &mut Tasks<'_>,
     holding: Holding,
 ) -> Holding
-    ensures { posts tasks.new.ends ≡ posts tasks.old.ends }
+    ensures ends { posts tasks.new.ends ≡ posts tasks.old.ends }
+    ensures few { badge.new ≤ badge.old + 32 }
 {
     let mut held = desk.hold(rt, badge);
     let mut holding = holding;
@@ -141,6 +142,7 @@ fn offered<L: Hands, R: Wait>(
     requires { Some step.now ≡ offered worker holding }
     ensures turn { IsTurn worker holding result badge.old badge.new (worker_seats tasks.old.ends) (worker_seats tasks.new.ends) }
     ensures ends { posts tasks.new.ends ≡ posts tasks.old.ends }
+    ensures one { badge.new ≤ badge.old + 1 }
 {
     let answer = desk.offer(rt, badge, step);
     let turn = holding.turned(worker, answer);
