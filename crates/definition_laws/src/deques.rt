@@ -10,11 +10,11 @@ ghost use mathlib.Core.Option.{some};
 
 /// Of `task_deques`, Deals: what `IsStolen`, `IsTaken`, `IsDealt`, `IsWhole` and `IsAccounted` give.
 pub fn deals<A>()
-    ensures is_stolen { (task : Task) (before after : List (DequeSeatIn A)) → IsStolen task before after → (front : List (DequeSeatIn A)) × (seat : DequeSeatIn A) × (back : List (DequeSeatIn A)) × (before ≡ front ++ seat ∷ back) × (after ≡ front ++ with_taken task seat ∷ back) }
-    ensures is_taken { (task : Task) (before after : WorkerSeatsIn A) → IsTaken task before after → (after ≡ record before { own = with_taken task before.own }) ⊎ ((after.own ≡ before.own) × IsStolen task before.thieves after.thieves) }
-    ensures is_dealt { (all : List (WorkerSeatsIn A)) → IsDealt all → All (λ seats. (seats.own.tally ≡ tally (64 - length all) [] []) × (seats.thieves ≡ map (λ other. new_thief other.own) all)) all }
-    ensures is_whole { (all : List (PostsIn A)) → IsWhole all → All (λ its. (its.thieves ≡ map (λ other. other.own) all) × (its.parts + length all ≡ 64)) all }
-    ensures is_accounted { (seat : DequeSeatIn A) → IsAccounted seat → (left : List Task) × ((h : Task → ℕ) → weigh h seat.tally.pushed ≡ weigh h seat.tally.taken + weigh h left) }
+    ensures is_stolen { (task : Task) (before after : List (DequeSeatIn A)) → IsStolen {A = A} task before after → (front : List (DequeSeatIn A)) × (seat : DequeSeatIn A) × (back : List (DequeSeatIn A)) × (before ≡ front ++ seat ∷ back) × (after ≡ front ++ with_taken task seat ∷ back) }
+    ensures is_taken { (task : Task) (before after : WorkerSeatsIn A) → IsTaken {A = A} task before after → (after ≡ record before { own = with_taken task before.own }) ⊎ ((after.own ≡ before.own) × IsStolen task before.thieves after.thieves) }
+    ensures is_dealt { (all : List (WorkerSeatsIn A)) → IsDealt {A = A} all → All (λ seats. (seats.own.tally ≡ tally (64 - length all) [] []) × (seats.thieves ≡ map (λ other. new_thief other.own) all)) all }
+    ensures is_whole { (all : List (PostsIn A)) → IsWhole {A = A} all → All (λ its. (its.thieves ≡ map (λ other. other.own) all) × (its.parts + length all ≡ 64)) all }
+    ensures is_accounted { (seat : DequeSeatIn A) → IsAccounted {A = A} seat → (left : List Task) × ((h : Task → ℕ) → weigh h seat.tally.pushed ≡ weigh h seat.tally.taken + weigh h left) }
 {}
 
 /// Of `task_deques`, Tallies: what `IsEmptied`, `IdleIsEmpty` and `IsEachOnce` give.

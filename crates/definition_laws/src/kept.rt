@@ -1,10 +1,10 @@
 //! What the definitions of `sched_laws` give, for all values.
-ghost use Rattle.std.specs.Prelude.{List, Result, Some, [], false, is_ok, length, true, ℕ, ◌*◌, ◌+◌, ◌<◌, ◌∷◌, ◌≡◌, ◌≤◌, ◌⊎◌};
+ghost use Rattle.std.specs.Prelude.{List, Result, Some, [], false, is_ok, length, true, ℕ, ◌*◌, ◌++◌, ◌+◌, ◌<◌, ◌∷◌, ◌≡◌, ◌≤◌, ◌⊎◌};
 ghost use Rattle.cactus_stack.specs.Nodes.{padded};
 ghost use Rattle.frame_tree.specs.Frames.{AllBelow, Frame, IsReadyAt, IsTree, frame_at, is_ready, path_in};
 ghost use Rattle.frame_tree.specs.declared.names.FrameId.{FrameId};
 ghost use Rattle.sched_laws.specs.Ended.{HasEnded, KeepsEnded};
-ghost use Rattle.sched_laws.specs.Fitted.{CoreFits, JobFits, JobsFit, RootFits, RootsFit, StaysFitting, TenantFits, origins_after};
+ghost use Rattle.sched_laws.specs.Fitted.{CoreFits, JobFits, JobsFit, RootFits, RootsFit, StaysFitting, TenantFits, origins_after, origins_of, submits};
 ghost use Rattle.sched_laws.specs.Newest.{IsNewestReady};
 ghost use Rattle.sched_laws.specs.Shapes.{AreLiveRootsThere, AreMarkedChildless, AreRootsLive, AreShaped, HaveWords, IsCovered, IsReservedWithin, IsRootThere, IsShaped, live_count};
 ghost use Rattle.sched_laws.specs.Spends.{IsActRefusal, IsBadInlet, IsStuck, MayBeSpent};
@@ -30,8 +30,8 @@ pub fn ended()
     ensures keeps_ended_some { (jobs : List Job) (tenant : Tenant) → KeepsEnded jobs (Some tenant) → (number : ℕ) (job : Job) → HasEnded job → job_at jobs number ≡ Some job → job_at tenant.jobs number ≡ Some job }
 {}
 
-/// Of `sched_laws`, Fitted: what `JobFits`, `JobsFit`, `TenantFits`, `CoreFits`, `RootFits`, `RootsFit` and `StaysFitting` give.
-pub fn fitted<P: Procedure>()
+/// Of `sched_laws`, Fitted: what `JobFits`, `JobsFit`, `TenantFits`, `CoreFits`, `submits`, `origins_of`, `RootFits`, `RootsFit` and `StaysFitting` give.
+pub fn fitted<P: Procedure, A>()
     ensures job_fits_live { (procedure : P) (tree : Tree) (origin : List ℕ) (root : ℕ) → JobFits (P.fits procedure) (P.rooted procedure) tree origin (Live root) → (P.rooted procedure) origin (words_in tree root) }
     ensures job_fits_done { (procedure : P) (tree : Tree) (origin words : List ℕ) → JobFits (P.fits procedure) (P.rooted procedure) tree origin (Done words) → (all : List ℕ) × (kept_words all ≡ words) × (P.fits procedure) all [] HasReturned × (P.rooted procedure) origin all }
     ensures jobs_fit_none_more { (procedure : P) (tree : Tree) (job : Job) (jobs : List Job) → JobsFit (P.fits procedure) (P.rooted procedure) tree [] (job ∷ jobs) → ⊥ }
@@ -41,11 +41,14 @@ pub fn fitted<P: Procedure>()
     ensures tenant_fits_jobs { (procedure : P) (origins : List (List ℕ)) (tenant : Tenant) (is : TenantFits (P.fits procedure) (P.rooted procedure) origins tenant) → JobsFit (P.fits procedure) (P.rooted procedure) tenant.frames origins tenant.jobs }
     ensures core_fits_tenants { (procedure : P) (origins : ℕ → List (List ℕ)) (shared : Shared) (is : CoreFits (P.fits procedure) (P.rooted procedure) origins shared) → (number : ℕ) (tenant : Tenant) → tenant_in shared.tenants number ≡ Some tenant → TenantFits (P.fits procedure) (P.rooted procedure) (origins number) tenant }
     ensures core_fits_unused { (procedure : P) (origins : ℕ → List (List ℕ)) (shared : Shared) (is : CoreFits (P.fits procedure) (P.rooted procedure) origins shared) → (number : ℕ) → shared.newest < number → origins number ≡ [] }
+    ensures submits_submit { (number : ℕ) (words : List ℕ) (size : ℕ) → submits {A = A} (Submit number words size) ≡ words ∷ [] }
+    ensures origins_of_none { origins_of {A = A} [] ≡ [] }
+    ensures origins_of_more { (step : StepOf A) (steps : List (StepOf A)) → origins_of {A = A} (step ∷ steps) ≡ submits step ++ origins_of steps }
     ensures root_fits_submit { (procedure : P) (number : ℕ) (words : List ℕ) (size : ℕ) → RootFits {A = P.Answer} (P.fits procedure) (P.rooted procedure) (Submit number words size) → (P.fits procedure) (padded words size) [] Neither × (P.rooted procedure) words (padded words size) }
-    ensures roots_fit_more { (procedure : P) (step : StepOf P.Answer) (steps : List (StepOf P.Answer)) → RootsFit (P.fits procedure) (P.rooted procedure) (step ∷ steps) → RootFits (P.fits procedure) (P.rooted procedure) step × RootsFit (P.fits procedure) (P.rooted procedure) steps }
-    ensures stays_fitting_none { (procedure : P) (origins : ℕ → List (List ℕ)) (before : Shared) (answers : List (Result (DidOf P.Input) Refusal)) → StaysFitting (P.functions procedure) (P.fits procedure) (P.rooted procedure) origins before [] answers → CoreFits (P.fits procedure) (P.rooted procedure) origins before }
-    ensures stays_fitting_more_none { (procedure : P) (origins : ℕ → List (List ℕ)) (before : Shared) (step : StepOf P.Answer) (steps : List (StepOf P.Answer)) → StaysFitting (P.functions procedure) (P.fits procedure) (P.rooted procedure) origins before (step ∷ steps) [] → CoreFits (P.fits procedure) (P.rooted procedure) origins before }
-    ensures stays_fitting_more_more { (procedure : P) (origins : ℕ → List (List ℕ)) (before : Shared) (step : StepOf P.Answer) (steps : List (StepOf P.Answer)) (answer : Result (DidOf P.Input) Refusal) (answers : List (Result (DidOf P.Input) Refusal)) → StaysFitting (P.functions procedure) (P.fits procedure) (P.rooted procedure) origins before (step ∷ steps) (answer ∷ answers) → CoreFits (P.fits procedure) (P.rooted procedure) origins before × ((is_ok answer ≡ true → RootFits (P.fits procedure) (P.rooted procedure) step) → StaysFitting (P.functions procedure) (P.fits procedure) (P.rooted procedure) (origins_after origins step answer) (after_answer (P.functions procedure) before step answer) steps answers) }
+    ensures roots_fit_more { (procedure : P) (step : StepOf P.Answer) (steps : List (StepOf P.Answer)) → RootsFit {A = P.Answer} (P.fits procedure) (P.rooted procedure) (step ∷ steps) → RootFits (P.fits procedure) (P.rooted procedure) step × RootsFit (P.fits procedure) (P.rooted procedure) steps }
+    ensures stays_fitting_none { (procedure : P) (origins : ℕ → List (List ℕ)) (before : Shared) (answers : List (Result (DidOf P.Input) Refusal)) → StaysFitting {I = P.Input} {A = P.Answer} (P.functions procedure) (P.fits procedure) (P.rooted procedure) origins before [] answers → CoreFits (P.fits procedure) (P.rooted procedure) origins before }
+    ensures stays_fitting_more_none { (procedure : P) (origins : ℕ → List (List ℕ)) (before : Shared) (step : StepOf P.Answer) (steps : List (StepOf P.Answer)) → StaysFitting {I = P.Input} {A = P.Answer} (P.functions procedure) (P.fits procedure) (P.rooted procedure) origins before (step ∷ steps) [] → CoreFits (P.fits procedure) (P.rooted procedure) origins before }
+    ensures stays_fitting_more_more { (procedure : P) (origins : ℕ → List (List ℕ)) (before : Shared) (step : StepOf P.Answer) (steps : List (StepOf P.Answer)) (answer : Result (DidOf P.Input) Refusal) (answers : List (Result (DidOf P.Input) Refusal)) → StaysFitting {I = P.Input} {A = P.Answer} (P.functions procedure) (P.fits procedure) (P.rooted procedure) origins before (step ∷ steps) (answer ∷ answers) → CoreFits (P.fits procedure) (P.rooted procedure) origins before × ((is_ok answer ≡ true → RootFits (P.fits procedure) (P.rooted procedure) step) → StaysFitting (P.functions procedure) (P.fits procedure) (P.rooted procedure) (origins_after origins step answer) (after_answer (P.functions procedure) before step answer) steps answers) }
 {}
 
 /// Of `sched_laws`, Newest: what `IsNewestReady` gives.
@@ -81,7 +84,7 @@ pub fn shapes()
 /// Of `sched_laws`, Spends: what `IsActRefusal`, `IsStuck`, `IsBadInlet` and `MayBeSpent` give.
 pub fn spends<P: Procedure>()
     ensures is_act_refusal { (refusal : Refusal) → IsActRefusal refusal → (refusal ≡ BadAct) ⊎ ((refusal ≡ NoNodes) ⊎ (refusal ≡ NoSegments)) }
-    ensures is_stuck { (procedure : P) (tenant : Tenant) (name : FrameId) → IsStuck (P.functions procedure) tenant name → (worker : ℕ) × (refusal : Refusal) × IsActRefusal refusal × (lone_refusal {A = P.Answer} (P.functions procedure) (Some tenant) (Advance worker name) ≡ Some refusal) }
-    ensures is_bad_inlet { (procedure : P) (tenant : Tenant) (name : FrameId) → IsBadInlet (P.functions procedure) tenant name → (worker : ℕ) → lone_refusal {A = P.Answer} (P.functions procedure) (Some tenant) (Inlet worker name) ≡ Some BadAct }
-    ensures may_be_spent { (procedure : P) (tenant : Tenant) (name : FrameId) → MayBeSpent (P.functions procedure) tenant name → ((left tenant).steps ≡ 0) ⊎ (IsStuck (P.functions procedure) tenant name ⊎ IsBadInlet (P.functions procedure) tenant name) }
+    ensures is_stuck { (procedure : P) (tenant : Tenant) (name : FrameId) → IsStuck {I = P.Input} {A = P.Answer} (P.functions procedure) tenant name → (worker : ℕ) × (refusal : Refusal) × IsActRefusal refusal × (lone_refusal {A = P.Answer} (P.functions procedure) (Some tenant) (Advance worker name) ≡ Some refusal) }
+    ensures is_bad_inlet { (procedure : P) (tenant : Tenant) (name : FrameId) → IsBadInlet {I = P.Input} {A = P.Answer} (P.functions procedure) tenant name → (worker : ℕ) → lone_refusal {A = P.Answer} (P.functions procedure) (Some tenant) (Inlet worker name) ≡ Some BadAct }
+    ensures may_be_spent { (procedure : P) (tenant : Tenant) (name : FrameId) → MayBeSpent {I = P.Input} {A = P.Answer} (P.functions procedure) tenant name → ((left tenant).steps ≡ 0) ⊎ (IsStuck (P.functions procedure) tenant name ⊎ IsBadInlet (P.functions procedure) tenant name) }
 {}

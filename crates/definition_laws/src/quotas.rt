@@ -1,13 +1,14 @@
 //! What the definitions of `tenant_quota` give, for all values.
-ghost use Rattle.std.specs.Prelude.{IsSomeAnd, List, None, Some, length, option_map, ℕ, ◌*◌, ◌+◌, ◌<◌, ◌≡◌, ◌≢◌, ◌≤◌, ◌⊎◌};
+ghost use Rattle.std.specs.Prelude.{IsSomeAnd, List, None, Some, length, option_map, ℕ, ◌*◌, ◌+◌, ◌-◌, ◌<◌, ◌≡◌, ◌≢◌, ◌≤◌, ◌⊎◌};
 ghost use Rattle.number_index.specs.Places.{AreRising};
-ghost use Rattle.tenant_quota.specs.Accounts.{AllEntries, IsRising, IsWithinReserve, account_of, charged_segments, fresh, owner_of, raised_to, reserved_nodes, reserved_segments};
+ghost use Rattle.tenant_quota.specs.Accounts.{AllEntries, IsRising, IsWithinReserve, account_of, charged_segments, fresh, left_in, owner_of, raised_to, reserved_nodes, reserved_segments};
 ghost use Rattle.tenant_quota.specs.Quota.{IsAbove, IsNotAbove, IsWithinLimits, Quota};
 ghost use Rattle.tenant_quota.specs.Reservations.{Admits, CanRaise, ChangesOnly, HasChargedAtLeast, HasLeft, HasRoom, HasRoomFor, HasStepLeft, IsBeyond, IsFull, IsLower, IsOutOfSteps, IsShort, IsSoundBook, IsTooMuch, KeepsOthers, Raises, Releases, Reservations, admitted, changed, left_of, released, reserve_of, unreserved_of};
 ghost use Rattle.tenant_quota.specs.declared.account.Account.{Account};
 
-/// Of `tenant_quota`, Accounts: what `IsWithinReserve` and `IsRising` give.
+/// Of `tenant_quota`, Accounts: what `left_in`, `IsWithinReserve` and `IsRising` give.
 pub fn accounts()
+    ensures left_in { (a : Account) → left_in a ≡ (record { segments = a.reserve.segments - a.charged; nodes = a.reserve.nodes - a.opened; steps = 16 * a.reserve.nodes - a.ticks }) }
     ensures is_within_reserve_some_segments { (a : Account) (is : IsWithinReserve a) → 1 ≤ a.reserve.segments }
     ensures is_within_reserve_segments_within { (a : Account) (is : IsWithinReserve a) → a.reserve.segments ≤ 4096 }
     ensures is_within_reserve_some_nodes { (a : Account) (is : IsWithinReserve a) → 1 ≤ a.reserve.nodes }

@@ -1,5 +1,5 @@
 //! What the definitions of `jamboree_core` give, for all values.
-ghost use Rattle.std.specs.Prelude.{Err, List, None, Ok, Option, Result, Some, [], bit_and, map, slice_index, ℕ, ◌∷◌, ◌≡◌, ◌≤◌};
+ghost use Rattle.std.specs.Prelude.{Err, List, None, Ok, Option, Result, Some, [], bit_and, map, slice_index, ℕ, ◌++◌, ◌∷◌, ◌≡◌, ◌≤◌};
 ghost use Rattle.frame_tree.specs.Frames.{Frame, children_of, values_of};
 ghost use Rattle.jamboree.specs.Replies.{board_of, depth_of, table_of};
 ghost use Rattle.jamboree.specs.declared.reply.Reply.{Reply};
@@ -21,11 +21,11 @@ ghost use Rattle.jamboree_rules.specs.declared.leaf.LeafAnswer.{LeafAnswer};
 ghost use Rattle.othello_board.specs.Words.{cells_of};
 ghost use Rattle.othello_eval.specs.Minimax.{best_choice, minimax};
 ghost use Rattle.othello_eval.specs.Tables.{IsTable};
-ghost use Rattle.sched_laws.specs.Fitted.{CoreFits, TenantFits};
+ghost use Rattle.sched_laws.specs.Fitted.{CoreFits, TenantFits, origins_of};
 ghost use Rattle.sched_rules.specs.Cores.{Shared, shared_by_nobody, tenant_in};
 ghost use Rattle.sched_rules.specs.Headline.{IsHeadline, taken};
 ghost use Rattle.sched_rules.specs.Lone.{lone};
-ghost use Rattle.sched_rules.specs.Runs.{alone_from, state_after};
+ghost use Rattle.sched_rules.specs.Runs.{alone_from, only, state_after};
 ghost use Rattle.sched_rules.specs.Trees.{Tenant, Tree};
 ghost use Rattle.sched_rules.specs.declared.job.Job.{Job};
 ghost use Rattle.sched_rules.specs.declared.job.Job.TheVariants.{Cancelled as CancelledJob, Done, Live, Spent as SpentJob};
@@ -39,15 +39,16 @@ use sched_rules::Procedure;
 
 /// Of `jamboree_core`, Journals: what `StaysTaken`, `AreTakenFrom` and `IsJournalOf` give.
 pub fn journals<P: Procedure>()
-    ensures stays_taken_ok_none { (did : _) → StaysTaken (Ok (None, did)) → ⊥ }
-    ensures stays_taken_err { (refusal : Refusal) → StaysTaken (Err refusal) → ⊥ }
-    ensures are_taken_from_more { (procedure : P) (before : Option Tenant) (step : StepOf P.Answer) (steps : List (StepOf P.Answer)) → AreTakenFrom (P.functions procedure) before (step ∷ steps) → StaysTaken (lone (P.functions procedure) before step) × AreTakenFrom (P.functions procedure) (state_after before (lone (P.functions procedure) before step)) steps }
+    ensures stays_taken_ok_none { (did : _) → StaysTaken {I = P.Input} (Ok (None, did)) → ⊥ }
+    ensures stays_taken_err { (refusal : Refusal) → StaysTaken {I = P.Input} (Err refusal) → ⊥ }
+    ensures are_taken_from_more { (procedure : P) (before : Option Tenant) (step : StepOf P.Answer) (steps : List (StepOf P.Answer)) → AreTakenFrom {I = P.Input} {A = P.Answer} (P.functions procedure) before (step ∷ steps) → StaysTaken (lone (P.functions procedure) before step) × AreTakenFrom (P.functions procedure) (state_after before (lone (P.functions procedure) before step)) steps }
     ensures is_journal_of_taken { (procedure : P) (journal : List (StepOf P.Answer)) (tenant : Tenant) (is : IsJournalOf (P.functions procedure) journal tenant) → AreTakenFrom (P.functions procedure) None journal }
     ensures is_journal_of_comes { (procedure : P) (journal : List (StepOf P.Answer)) (tenant : Tenant) (is : IsJournalOf (P.functions procedure) journal tenant) → alone_from (P.functions procedure) None journal ≡ Some tenant }
 {}
 
-/// Of `jamboree_core`, NewRuns: what `IsHeadlineFromNew` gives.
-pub fn new_runs()
+/// Of `jamboree_core`, NewRuns: what `submitted_by` and `IsHeadlineFromNew` give.
+pub fn new_runs<P: Procedure>()
+    ensures submitted_by { (steps : List (StepOf P.Answer)) (answers : List (Result (DidOf P.Input) Refusal)) (number : ℕ) → submitted_by {I = P.Input} {A = P.Answer} steps answers number ≡ origins_of (only number (taken steps answers)) }
     ensures is_headline_from_new_tenants { (grain : ℕ) (totals : Quota) (steps : List (StepOf LeafAnswer)) (answers : List (Result (DidOf Leaf) Refusal)) (after : Shared) (is : IsHeadlineFromNew grain totals steps answers after) → IsHeadline (jamboree grain) (shared_by_nobody totals) steps answers after }
     ensures is_headline_from_new_replies { (grain : ℕ) (totals : Quota) (steps : List (StepOf LeafAnswer)) (answers : List (Result (DidOf Leaf) Refusal)) (after : Shared) (is : IsHeadlineFromNew grain totals steps answers after) → (number : ℕ) (tenant : Tenant) → tenant_in after.tenants number ≡ Some tenant → AreReplies (submitted_by steps answers number) tenant.jobs }
     ensures is_headline_from_new_sound { (grain : ℕ) (totals : Quota) (steps : List (StepOf LeafAnswer)) (answers : List (Result (DidOf Leaf) Refusal)) (after : Shared) (is : IsHeadlineFromNew grain totals steps answers after) → (number : ℕ) (tenant : Tenant) → tenant_in after.tenants number ≡ Some tenant → AreAllSound tenant.frames tenant.frames }
@@ -68,7 +69,7 @@ pub fn outcomes()
     ensures is_outcome_in_none { (outcome : Option Outcome) → IsOutcomeIn None outcome → outcome ≡ None }
     ensures is_outcome_in_some_none { (job : Job) → IsOutcomeIn (Some job) None → ⊥ }
     ensures is_outcome_in_some_some { (job : Job) (outcome : Outcome) → IsOutcomeIn (Some job) (Some outcome) → IsOutcomeOf job outcome }
-    ensures is_to_done_with { (origin : List ℕ) (reply : _) → IsTo origin (DoneWith reply) → IsReplyOn origin reply }
+    ensures is_to_done_with { (origin : List ℕ) (reply : Reply) → IsTo origin (DoneWith reply) → IsReplyOn origin reply }
     ensures answers_to_none_some { (outcome : Outcome) → AnswersTo None (Some outcome) → ⊥ }
     ensures answers_to_some_none { (origin : List ℕ) → AnswersTo (Some origin) None → ⊥ }
     ensures answers_to_some_some { (origin : List ℕ) (outcome : Outcome) → AnswersTo (Some origin) (Some outcome) → IsTo origin outcome }
@@ -79,8 +80,8 @@ pub fn replies<A>()
     ensures are_root_words_are { (words : List ℕ) (is : AreRootWords words) → words ≡ root_words is.own is.opp is.depth }
     ensures are_root_words_apart { (words : List ℕ) (is : AreRootWords words) → bit_and is.own is.opp ≡ 0 }
     ensures are_root_words_shallow { (words : List ℕ) (is : AreRootWords words) → is.depth ≤ 12 }
-    ensures is_search_submit { (number : ℕ) (words : List ℕ) (size : ℕ) → IsSearch (Submit number words size) → AreRootWords words × (size ≡ frame_size) }
-    ensures are_searches_more { (step : StepOf A) (steps : List (StepOf A)) → AreSearches (step ∷ steps) → IsSearch step × AreSearches steps }
+    ensures is_search_submit { (number : ℕ) (words : List ℕ) (size : ℕ) → IsSearch {A = A} (Submit number words size) → AreRootWords words × (size ≡ frame_size) }
+    ensures are_searches_more { (step : StepOf A) (steps : List (StepOf A)) → AreSearches {A = A} (step ∷ steps) → IsSearch step × AreSearches steps }
     ensures is_reply_to_own { (origin words : List ℕ) (is : IsReplyTo origin words) → slice_index words 0 ≡ slice_index origin 0 }
     ensures is_reply_to_opp { (origin words : List ℕ) (is : IsReplyTo origin words) → slice_index words 1 ≡ slice_index origin 1 }
     ensures is_reply_to_depth { (origin words : List ℕ) (is : IsReplyTo origin words) → slice_index words 2 ≡ slice_index origin 2 }
@@ -94,14 +95,15 @@ pub fn replies<A>()
     ensures are_all_sound_more { (tree : Tree) (frame : Frame (List ℕ)) (frames : List (Frame (List ℕ))) → AreAllSound tree (frame ∷ frames) → IsSound (frame_of frame.value) (map frame_of (values_of (children_of tree frame.serial))) × AreAllSound tree frames }
 {}
 
-/// Of `jamboree_core`, Searching: what `AreAllRootWords`, `TenantSearches`, `ServesSearches`, `CoreSearches`, `HoldsReplies` and `IsHeadlineInFull` give.
-pub fn searching()
+/// Of `jamboree_core`, Searching: what `AreAllRootWords`, `TenantSearches`, `ServesSearches`, `CoreSearches`, `submitted_to`, `HoldsReplies` and `IsHeadlineInFull` give.
+pub fn searching<A>()
     ensures are_all_root_words_more { (origin : List ℕ) (origins : List (List ℕ)) → AreAllRootWords (origin ∷ origins) → AreRootWords origin × AreAllRootWords origins }
     ensures tenant_searches_fits { (origins : List (List ℕ)) (tenant : Tenant) (is : TenantSearches origins tenant) → TenantFits AreFitting IsRoot origins tenant }
     ensures tenant_searches_asked { (origins : List (List ℕ)) (tenant : Tenant) (is : TenantSearches origins tenant) → AreAllRootWords origins }
     ensures serves_searches_some { (tenant : Tenant) → ServesSearches (Some tenant) → (origins : List (List ℕ)) × TenantSearches origins tenant }
     ensures core_searches_fits { (origins : ℕ → List (List ℕ)) (shared : Shared) (is : CoreSearches origins shared) → CoreFits AreFitting IsRoot origins shared }
     ensures core_searches_asked { (origins : ℕ → List (List ℕ)) (shared : Shared) (is : CoreSearches origins shared) → (number : ℕ) → AreAllRootWords (origins number) }
+    ensures submitted_to { (origins : ℕ → List (List ℕ)) (steps : List (StepOf A)) (number : ℕ) → submitted_to {A = A} origins steps number ≡ origins number ++ origins_of (only number steps) }
     ensures holds_replies_replies { (origins : ℕ → List (List ℕ)) (shared : Shared) (is : HoldsReplies origins shared) → (number : ℕ) (tenant : Tenant) → tenant_in shared.tenants number ≡ Some tenant → AreReplies (origins number) tenant.jobs }
     ensures holds_replies_sound { (origins : ℕ → List (List ℕ)) (shared : Shared) (is : HoldsReplies origins shared) → (number : ℕ) (tenant : Tenant) → tenant_in shared.tenants number ≡ Some tenant → AreAllSound tenant.frames tenant.frames }
     ensures is_headline_in_full_tenants { (grain : ℕ) (before : Shared) (steps : List (StepOf LeafAnswer)) (answers : List (Result (DidOf Leaf) Refusal)) (after : Shared) (is : IsHeadlineInFull grain before steps answers after) → IsHeadline (jamboree grain) before steps answers after }

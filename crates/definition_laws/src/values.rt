@@ -1,12 +1,20 @@
 //! What the definitions of `othello_eval` give, for all values.
-ghost use Rattle.std.specs.Prelude.{All, List, Option, Some, map, neg_ℤ, pos, ℕ, ℤ, ◌≡◌, ◌≤ℤ◌};
+ghost use Rattle.std.specs.Prelude.{All, List, Option, Some, [], map, neg_ℤ, pos, ℕ, ℤ, ◌-◌, ◌∷◌, ◌≡◌, ◌≤ℤ◌};
 ghost use Rattle.othello_board.specs.declared.cells.Cell.{Cell};
-ghost use Rattle.othello_eval.specs.Minimax.{best_choice, choice_value};
+ghost use Rattle.othello_eval.specs.Minimax.{best_choice, choice_value, leaf_value, minimax};
 ghost use Rattle.othello_eval.specs.Tables.{IsExactIfBest, IsTable, IsTrueBound, Says, entered};
-ghost use Rattle.othello_eval.specs.Values.{IsWithin};
+ghost use Rattle.othello_eval.specs.Values.{IsWithin, eval, final_value};
 ghost use Rattle.othello_eval.specs.declared.bound.Bound.{Bound};
 ghost use Rattle.othello_eval.specs.declared.bound.BoundKind.TheVariants.{Exact, High, Low};
+ghost use Rattle.othello_moves.specs.Choices.{after, plies};
 ghost use Rattle.othello_moves.specs.declared.choices.Choice.{Choice};
+
+/// Of `othello_eval`, Minimax: what `leaf_value` and `choice_value` give.
+pub fn minimax()
+    ensures leaf_value_none { (board : List Cell) → leaf_value board [] ≡ final_value board }
+    ensures leaf_value_more { (board : List Cell) (c : Choice) (more : List Choice) → leaf_value board (c ∷ more) ≡ eval board }
+    ensures choice_value { (depth : ℕ) (board : List Cell) (c : Choice) → choice_value depth board c ≡ neg_ℤ (minimax (depth - plies c) (after board c)) }
+{}
 
 /// Of `othello_eval`, Tables: what `Says`, `IsTrueBound`, `IsExactIfBest` and `IsTable` give.
 pub fn tables()

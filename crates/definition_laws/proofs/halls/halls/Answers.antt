@@ -1,7 +1,10 @@
+use Rattle.std.proofs.Common.{refl}
 use Rattle.definition_laws.proofs.halls.halls.Goals as goal
 
 pub returns : goal.returns
 returns g c = record {
+  count_of = λ hall. refl;
+  hall_after = λ hall step shared. refl;
   is_decided_one = λ before step answer after is. is.one;
   is_decided_taken = λ before step answer after is. is.taken;
   is_decided_refused = λ before step answer after is. is.refused;
@@ -20,5 +23,6 @@ returns g c = record {
   is_hall_newest = λ hall latest count is. is.newest;
   is_hall_counted = λ hall latest count is. is.counted;
   is_hall_bounded = λ hall latest count is. is.bounded;
+  lets_go_leave = λ number other. refl;
   keeps_ended_jobs = λ before step after is. is;
 }

@@ -1,7 +1,13 @@
+use Rattle.std.proofs.Common.{refl}
 use Rattle.definition_laws.proofs.halls.journals.Goals as goal
 
 pub returns : goal.returns
 returns c = record {
+  journal_in_none = λ number. refl;
+  journal_in_more = λ journal journals number. refl;
+  total_length_none = refl;
+  total_length_more = λ journal journals. refl;
+  gone_by_leave = λ number journals. refl;
   are_up_to_more = λ number journal journals is. is;
   is_begun_begins = λ journal is. is.begins;
   is_begun_places = λ journal is. is.places;

@@ -1,3 +1,4 @@
+use Rattle.std.proofs.Common.{refl}
 use Rattle.definition_laws.proofs.kept.fitted.Goals as goal
 
 pub returns : goal.returns
@@ -11,6 +12,9 @@ returns g c = record {
   tenant_fits_jobs = λ procedure origins tenant is. is.jobs;
   core_fits_tenants = λ procedure origins shared is. is.tenants;
   core_fits_unused = λ procedure origins shared is. is.unused;
+  submits_submit = λ number words size. refl;
+  origins_of_none = refl;
+  origins_of_more = λ step steps. refl;
   root_fits_submit = λ procedure number words size is. is;
   roots_fit_more = λ procedure step steps is. is;
   stays_fitting_none = λ procedure origins before answers is. is;

@@ -1,7 +1,9 @@
+use Rattle.std.proofs.Common.{refl}
 use Rattle.definition_laws.proofs.quotas.accounts.Goals as goal
 
 pub returns : goal.returns
 returns c = record {
+  left_in = λ a. refl;
   is_within_reserve_some_segments = λ a is. is.some_segments;
   is_within_reserve_segments_within = λ a is. is.segments_within;
   is_within_reserve_some_nodes = λ a is. is.some_nodes;

@@ -1,7 +1,13 @@
+use Rattle.std.proofs.Common.{refl}
 use Rattle.definition_laws.proofs.sessions.asks.Goals as goal
 
 pub returns : goal.returns
 returns c = record {
+  asks_after_welcome = λ asks call quota. refl;
+  asks_after_job = λ asks call number. refl;
+  asks_after_gone = λ asks call. refl;
+  asked_at_none = λ job. refl;
+  asked_at_more = λ asked later job. refl;
   is_analysis_of_is = λ asks job analysis is. is.is;
   is_analysis_of_value = λ asks job analysis is. is.value;
   is_analysis_of_choice = λ asks job analysis is. is.choice;

@@ -1,7 +1,10 @@
+use Rattle.std.proofs.Common.{refl}
 use Rattle.definition_laws.proofs.sessions.done_lines.Goals as goal
 
 pub returns : goal.returns
 returns g c = record {
+  asks_of_lines_none = refl;
+  asks_of_lines_more = λ said before. refl;
   is_true_done_is = λ before job analysis is. is.is;
   is_true_done_value = λ before job analysis is. is.value;
   is_true_done_choice = λ before job analysis is. is.choice;
