@@ -97,9 +97,9 @@ class Bucket:
         return True
 
     def owe(self):
-        """Takes one that may not be there yet; gives the seconds until it is."""
+        """Takes one that may not be there yet; gives the seconds until it is. No more are owed than are there at once."""
         self.fill()
-        self.left -= 1
+        self.left = max(self.left - 1, -self.most)
         return max(0.0, -self.left / self.rate)
 
 

@@ -271,7 +271,7 @@ def threads():
     p.frame(20, 20, 250, 250, "sessions: a thread each", "#f8fafc")
     for number in range(3):
         p.box(40, 52 + 70 * number, 210, 54, ["serve_desk", "lines, an office, a seat"], GREEN)
-    p.box(40, 300, 210, 54, ["takes connections", "closes the desk at the end"], GREY)
+    p.box(40, 300, 210, 54, ["the taker of connections", "closes the desk at the end"], GREY)
     p.arrow([(145, 300), (145, 272)])
     p.frame(380, 20, 250, 400, "Desk", "#f8fafc")
     p.frame(395, 50, 220, 240, "one lock", YELLOW)
@@ -297,9 +297,11 @@ def threads():
     p.lines(850, 195, ["a thief takes the oldest"], 11)
     p.box(380, 452, 250, 64, ["count of computations", "a lock of its own, held for", "no search and no step"], GREY, 11)
     p.arrow([(740, 484), (630, 484)], both=True)
-    p.box(40, 452, 210, 64, ["the thread of serve", "starts the taker and the workers,", "and joins them"], GREY, 11)
+    p.box(40, 452, 210, 64, ["the thread of serve", "starts the taker of connections", "and the workers, joins them"], GREY, 11)
     p.arrow([(145, 452), (145, 354)])
     p.lines(314, 478, ["no search runs", "under a lock"], 11)
+    p.arrow([(145, 516), (145, 548), (850, 548), (850, 540)])
+    p.text(500, 542, "starts and joins the workers", 11)
     return p
 
 
@@ -317,9 +319,9 @@ def ask():
             ("sched_core", "Submit: a root is Ready", "words copied into a node"),
         ]),
         ("a worker's turns", VIOLET, [
-            ("pool_rules", "Steal, Advance, .. Inlet", "4 words to a view, a Board each turn"),
-            ("leaf_search", "a leaf, outside the lock", "5 words to a Leaf, and back in an Answer"),
-            ("sched_core", "Finish: the job keeps 76 words", ""),
+            ("pool_rules", "Steal, Advance, .. Inlet, under the lock", "4 words to a view, a Board each turn"),
+            ("leaf_search", "a leaf's search, outside the lock", "5 words to a Leaf, and back in an Answer"),
+            ("sched_core", "Finish, under the lock: 76 words are kept", ""),
         ]),
         ("under the lock", YELLOW, [
             ("jamboree_core", "outcome_of, Reply::read", "6 words to a Reply"),

@@ -1,20 +1,30 @@
 -- Meaning: why words are refused, and the exit statuses.
-use Rattle.std.specs.Prelude.{◌≡◌, ◌⊎◌, ℕ, List, [], None}
+use Rattle.std.specs.Prelude.{◌≡◌, ◌⊎◌, ℕ, List, [], Option, None}
 use Rattle.clap.specs.Words.{IsAmong, Text, fault_of, kind_of}
 use Rattle.clap.specs.declared.error.kind.ErrorKind.{ErrorKind}
 use Rattle.clap.specs.declared.error.kind.ErrorKind.TheVariants.{DisplayHelp, DisplayVersion, ValueValidation}
 use Rattle.command_line.specs.declared.faults.WordsFault.{WordsFault}
 use Rattle.command_line.specs.declared.faults.WordsFault.TheVariants.{OutOfMemory, Refused}
-use Rattle.command_line.specs.CommandLine.{options_asked, program}
+use Rattle.command_line.specs.declared.options.Options.{Options}
+use Rattle.command_line.specs.CommandLine.{options_asked, program, solve_options_asked, solve_program}
 
--- the words have a fault of this kind: one that clap finds, or a value outside its limits
-abbrev pub IsFaultOf : List Text → ErrorKind → Type 0
-IsFaultOf words kind = IsAmong kind (fault_of program words) ⊎ ((fault_of program words ≡ []) × (options_asked words ≡ None) × (kind ≡ ValueValidation))
+-- words have a fault of this kind: one of those that clap finds, or it finds none and they ask for nothing, as a value
+-- is outside its limits
+abbrev pub IsFaultOf : List ErrorKind → Option Options → ErrorKind → Type 0
+IsFaultOf found asked kind = IsAmong kind found ⊎ ((found ≡ []) × (asked ≡ None) × (kind ≡ ValueValidation))
 
--- the words are refused for a fault that they have, or there was no memory
+-- words are refused for a fault that they have, or there was no memory
+abbrev pub IsRefusalOf : List ErrorKind → Option Options → WordsFault → Type 0
+IsRefusalOf found asked OutOfMemory = Unit {0}
+IsRefusalOf found asked (Refused error) = IsFaultOf found asked (kind_of error)
+
+-- these words of the program are refused for a fault that they have, or there was no memory
 abbrev pub IsRefusal : List Text → WordsFault → Type 0
-IsRefusal words OutOfMemory = Unit {0}
-IsRefusal words (Refused error) = IsFaultOf words (kind_of error)
+IsRefusal words fault = IsRefusalOf (fault_of program words) (options_asked words) fault
+
+-- the same of the program that has `solve` alone
+abbrev pub IsSolveRefusal : List Text → WordsFault → Type 0
+IsSolveRefusal words fault = IsRefusalOf (fault_of solve_program words) (solve_options_asked words) fault
 
 -- a value is refused, as an error of the kind `ValueValidation`, or there was no memory
 abbrev pub IsOutside : WordsFault → Type 0

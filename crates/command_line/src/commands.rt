@@ -1,8 +1,8 @@
 //! The commands as `clap` has them, with what help says of each.
 ghost use Rattle.std.specs.Prelude.{◌≡◌, IfOk, codes, false, is_none};
-ghost use Rattle.clap.specs.Words.{app_of, found_of, new_app, rows_of, rule_of, shape_of, with_rule, with_subcommand};
+ghost use Rattle.clap.specs.Words.{app_of, found_of, new_app, rows_of, rule_of, shape_of, with_rule};
 ghost use Rattle.clap.specs.declared.builder.command.Command.TheViews.{out-Command};
-ghost use Rattle.command_line.specs.CommandLine.{bare_program, is_set, program, serve_of_sessions, serve_shape, solve_shape, visited_rule};
+ghost use Rattle.command_line.specs.CommandLine.{bare_program, is_set, program, serve_of_sessions, serve_shape, solve_program, solve_shape, visited_rule};
 ghost use Rattle.command_line.specs.Settings.{number_rule};
 
 use crate::settings::{GRAIN, NODES, PORT, SEGMENTS, SESSIONS, Setting, WORKERS};
@@ -27,9 +27,9 @@ pub(crate) fn othello_command<'a>(alloc: Global) -> Result<Command<'a>, AllocErr
     with_solve(alloc)?.subcommand(serve)
 }
 
-/// The program with just the command `solve`.
-fn with_solve<'a>(alloc: Global) -> Result<Command<'a>, AllocError>
-    ensures { IfOk result (λ command. app_of command ≡ with_subcommand bare_program solve_shape) }
+/// The program `othello` with the command `solve` alone.
+pub(crate) fn with_solve<'a>(alloc: Global) -> Result<Command<'a>, AllocError>
+    ensures { IfOk result (λ command. app_of command ≡ solve_program) }
 {
     let solve = solve_command(alloc)?;
     bare_othello(alloc).subcommand(solve)

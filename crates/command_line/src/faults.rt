@@ -2,15 +2,17 @@
 ghost use Rattle.std.specs.Prelude.{◌≡◌};
 ghost use Rattle.command_line.specs.Faults.{status_of};
 
-use clap::Error;
+use thiserror::Error;
 
 /// Why the words of the command line are not followed.
-#[derive(Drop)]
+#[derive(Debug, Drop, Error)]
 pub enum WordsFault {
     /// There was no memory to read them.
+    #[error("no memory to read the command line")]
     OutOfMemory,
     /// They were refused, or they ask for help or the version: the error says what to print, and where.
-    Refused(Error),
+    #[error("{0}")]
+    Refused(clap::Error),
 }
 
 impl WordsFault {

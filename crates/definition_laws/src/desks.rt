@@ -23,7 +23,7 @@ ghost use Rattle.sched_rules.specs.declared.step.StepOf.TheVariants.{Leave};
 
 /// Of `desk`, Counts: what `IsAsOpen`, `after_offer`, `IsOffered`, `IsLeft`, `found_or_no_tenant`, `with_kept`, `waits_on`, `has_news` and `IsNext` give.
 pub fn counts<X>()
-    ensures is_as_open { (before after : KeptOf) → IsAsOpen before after → (after.closed ≡ before.closed) × (after.sleepers ≡ before.sleepers) }
+    ensures is_as_open { (before after : KeptOf) → IsAsOpen before after → (after.closed ≡ before.closed) × (after.sleepers ≡ before.sleepers) × (after.badges ≡ before.badges) }
     ensures after_offer_ok { (before : HallOf) (step : StepOf LeafAnswer) (did : DidOf Leaf) (after : HallOf) → after_offer before step (Ok did) after ≡ hall_after before step after.shared }
     ensures after_offer_err { (before : HallOf) (step : StepOf LeafAnswer) (refusal : Refusal) (after : HallOf) → after_offer before step (Err refusal) after ≡ before }
     ensures is_offered_one { (before : HallOf) (step : StepOf LeafAnswer) (answer : Result (DidOf Leaf) Refusal) (after : HallOf) (is : IsOffered before step answer after) → IsOneStep (jamboree before.grain) before.shared step answer after.shared }

@@ -30,6 +30,7 @@ pub mod nodes;
 pub mod numbers;
 pub mod options;
 pub mod positions;
+pub mod promised;
 pub mod quotas;
 pub mod readied;
 pub mod replies;

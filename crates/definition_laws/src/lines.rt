@@ -65,7 +65,7 @@ pub fn talks<S: Source, K: Sink, A: Answer>()
     ensures upto_more { (ends : LineText → Bool) (l : LineText) (ls : List LineText) → upto ends (l ∷ ls) ≡ (if ends l then l ∷ [] else l ∷ upto ends ls) }
     ensures none_ends_none { (ends : LineText → Bool) → none_ends ends [] ≡ true }
     ensures none_ends_more { (ends : LineText → Bool) (l : LineText) (ls : List LineText) → none_ends ends (l ∷ ls) ≡ (not (ends l) && none_ends ends ls) }
-    ensures is_talk_end_ok_1 { (ends : LineText → Bool) (bytes : List ℕ) (last : List ReadAnswer) → IsTalkEnd ends (Ok by_line) bytes last → ((last ≡ []) ⊎ (last ≡ Ended ∷ [])) × (none_ends ends (lines_of bytes) ≡ false) }
+    ensures is_talk_end_ok_1 { (ends : LineText → Bool) (bytes : List ℕ) (last : List ReadAnswer) → IsTalkEnd ends (Ok by_line) bytes last → ((last ≡ []) × (none_ends ends (lines_of (up_to_last_end bytes)) ≡ false)) ⊎ ((last ≡ Ended ∷ []) × (none_ends ends (lines_of bytes) ≡ false)) }
     ensures is_talk_end_ok_2 { (ends : LineText → Bool) (bytes : List ℕ) (last : List ReadAnswer) → IsTalkEnd ends (Ok by_input) bytes last → (last ≡ Ended ∷ []) × (none_ends ends (lines_of bytes) ≡ true) }
     ensures is_talk_end_err_read { (ends : LineText → Bool) (bytes : List ℕ) (last : List ReadAnswer) → IsTalkEnd ends (Err Read) bytes last → (last ≡ Failed ∷ []) × (none_ends ends (lines_of (up_to_last_end bytes)) ≡ true) }
     ensures is_talk_end_err_write { (ends : LineText → Bool) (bytes : List ℕ) (last : List ReadAnswer) → IsTalkEnd ends (Err Write) bytes last → (last ≡ []) ⊎ (last ≡ Ended ∷ []) }

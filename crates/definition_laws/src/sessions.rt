@@ -1,6 +1,6 @@
 //! What the definitions of `session` give, for all values.
 ghost use Rattle.std.specs.List.{concat};
-ghost use Rattle.std.specs.Prelude.{Contains, Err, List, None, Ok, Result, Some, [], false, if◌then◌else◌, length, map, ℕ, ◌++◌, ◌+◌, ◌-◌, ◌==◌, ◌∷◌, ◌≡◌};
+ghost use Rattle.std.specs.Prelude.{Contains, Err, List, None, Ok, Result, Some, [], false, if◌then◌else◌, length, map, ℕ, ◌++◌, ◌+◌, ◌-◌, ◌==◌, ◌∷◌, ◌≡◌, ◌⊎◌};
 ghost use Rattle.line_io.specs.Leads.{IsPrefixOf, Leads};
 ghost use Rattle.line_io.specs.Lines.{LineText, lines_of};
 ghost use Rattle.line_io.specs.Runs.{bytes_due, write_result};
@@ -14,8 +14,8 @@ ghost use Rattle.othello_board.specs.declared.cells.Cell.{Cell};
 ghost use Rattle.othello_eval.specs.Minimax.{best_choice, minimax};
 ghost use Rattle.othello_eval.specs.Tables.{IsTable};
 ghost use Rattle.position_text.specs.declared.positions.Side.{Side};
-ghost use Rattle.session.specs.Asks.{Asked, IsAnalysisOf, IsRefusedWhere, IsToldOf, KeepsAsks, RefusedBy, SaysTrue, ShowsFound, asked_at, asks_after, with_ask};
-ghost use Rattle.session.specs.Calls.{Ask, AskLive, AskQuota, Call, Cancel, Get, Gone, Hello, Job, Leave, OfficeReply, Refused, Reserve, Told, Wait, Welcome};
+ghost use Rattle.session.specs.Asks.{Asked, IsAnalysisOf, IsAsk, IsRefusedWhere, IsReplyTo, IsToldOf, KeepsAsks, RefusedBy, SaysTrue, ShowsFound, asked_at, asks_after, with_ask};
+ghost use Rattle.session.specs.Calls.{Alive, Ask, AskLive, AskQuota, Call, Cancel, Ended, Get, Gone, Hello, Job, Leave, OfficeReply, Refused, Reserve, Reserved, Rest, Told, Wait, Welcome};
 ghost use Rattle.session.specs.DoneLines.{EachDoneIsTrue, IsTrueDone, IsTrueTable, ReplyHolds, StandingHolds, TableHolds, TableReplyHolds, TrueSession, TurnHolds, asks_of_lines, asks_then};
 ghost use Rattle.session.specs.Forms.{is_bye};
 ghost use Rattle.session.specs.Sessions.{Called, IsAnsweredOf, IsWrittenOf, Session, calls_for, session_lines, talk_result, texts_for};
@@ -25,14 +25,16 @@ ghost use Rattle.session.specs.declared.faults.End.TheVariants.{Bye, EndOfInput}
 ghost use Rattle.session.specs.declared.faults.SessionFault.{SessionFault};
 ghost use Rattle.session.specs.declared.faults.SessionFault.TheVariants.{Read, Write};
 ghost use Rattle.session.specs.declared.standings.Analysis.{Analysis};
+ghost use Rattle.session.specs.declared.standings.Live.{Live};
 ghost use Rattle.session.specs.declared.standings.Standing.{Standing};
 ghost use Rattle.session.specs.declared.standings.Standing.TheVariants.{Done};
 ghost use Rattle.tenant_quota.specs.Quota.{Quota};
+ghost use Rattle.tenant_quota.specs.declared.account.Left.{Left};
 
 use line_io::{Sink, Source};
 use session::Office;
 
-/// Of `session`, Asks: what `asks_after`, `asked_at`, `IsAnalysisOf`, `ShowsFound`, `SaysTrue`, `IsToldOf`, `RefusedBy`, `IsRefusedWhere` and `KeepsAsks` give.
+/// Of `session`, Asks: what `asks_after`, `asked_at`, `IsAnalysisOf`, `ShowsFound`, `SaysTrue`, `IsToldOf`, `RefusedBy`, `IsRefusedWhere`, `IsAsk`, `IsReplyTo` and `KeepsAsks` give.
 pub fn asks()
     ensures asks_after_welcome { (asks : List Asked) (call : Call) (quota : Quota) → asks_after asks call (Welcome quota) ≡ [] }
     ensures asks_after_job { (asks : List Asked) (call : Call) (number : ℕ) → asks_after asks call (Job number) ≡ with_ask asks call }
@@ -58,7 +60,16 @@ pub fn asks()
     ensures is_refused_where_ask_quota { (asks : List Asked) (reply : OfficeReply) → IsRefusedWhere asks AskQuota reply → RefusedBy (1 ∷ []) reply }
     ensures is_refused_where_ask_live { (asks : List Asked) (reply : OfficeReply) → IsRefusedWhere asks AskLive reply → RefusedBy (1 ∷ []) reply }
     ensures is_refused_where_leave { (asks : List Asked) (reply : OfficeReply) → IsRefusedWhere asks Leave reply → reply ≡ Gone }
-    ensures keeps_asks { (asks : List Asked) (call : Call) (reply : OfficeReply) (asks' : List Asked) → KeepsAsks asks call reply asks' → (asks' ≡ asks_after asks call reply) × SaysTrue asks reply × IsRefusedWhere asks call reply }
+    ensures is_ask { (call : Call) → IsAsk call → (depth : ℕ) × (board : List Cell) × (side : Side) × (call ≡ Ask depth board side) }
+    ensures is_reply_to_welcome { (call : Call) (quota : Quota) → IsReplyTo call (Welcome quota) → call ≡ Hello quota }
+    ensures is_reply_to_reserved { (call : Call) (quota : Quota) → IsReplyTo call (Reserved quota) → call ≡ Reserve quota }
+    ensures is_reply_to_job { (call : Call) (number : ℕ) → IsReplyTo call (Job number) → IsAsk call }
+    ensures is_reply_to_told { (call : Call) (job : ℕ) (standing : Standing) → IsReplyTo call (Told job standing) → (call ≡ Get job) ⊎ (call ≡ Wait job) }
+    ensures is_reply_to_ended { (call : Call) (job : ℕ) → IsReplyTo call (Ended job) → call ≡ Cancel job }
+    ensures is_reply_to_rest { (call : Call) (left : Left) → IsReplyTo call (Rest left) → call ≡ AskQuota }
+    ensures is_reply_to_alive { (call : Call) (live : Live) → IsReplyTo call (Alive live) → call ≡ AskLive }
+    ensures is_reply_to_gone { (call : Call) → IsReplyTo call Gone → call ≡ Leave }
+    ensures keeps_asks { (asks : List Asked) (call : Call) (reply : OfficeReply) (asks' : List Asked) → KeepsAsks asks call reply asks' → (asks' ≡ asks_after asks call reply) × SaysTrue asks reply × IsRefusedWhere asks call reply × IsReplyTo call reply }
 {}
 
 /// Of `session`, DoneLines: what `asks_of_lines`, `IsTrueDone`, `StandingHolds`, `IsTrueTable`, `TableHolds`, `ReplyHolds`, `TableReplyHolds`, `TurnHolds`, `EachDoneIsTrue` and `TrueSession` give.

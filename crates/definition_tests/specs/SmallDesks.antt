@@ -10,6 +10,6 @@ abbrev pub seat_with : ℕ → SeatOf
 seat_with share = record { tenant = 1; share = share; asked = [] }
 
 -- what lies under a desk's lock: a hall whose core holds this, without journals, and whether the desk is closed;
--- no worker sleeps
+-- no worker sleeps, and no badge was given
 abbrev pub kept_with : Shared → Bool → KeptOf
-kept_with shared closed = record { hall = hall_with shared [] 0; closed = closed; sleepers = 0 }
+kept_with shared closed = record { hall = hall_with shared [] 0; closed = closed; sleepers = 0; badges = 0 }

@@ -28,6 +28,10 @@ ask = Ask 1 opening_board Black
 abbrev pub few : Quota
 few = record { segments = 4; nodes = 8 }
 
+-- 4,096 segments and 65,536 nodes
+abbrev pub many : Quota
+many = record { segments = 4096; nodes = 65536 }
+
 -- what a source does at a read: it counts it, and may give any answer
 abbrev pub counts_reads : ℕ → ReadAnswer → ℕ → Type 0
 counts_reads before answer after = after ≡ before + 1

@@ -5,16 +5,17 @@ ghost use Rattle.std.specs.List.{concat};
 ghost use Rattle.line_io.specs.Lines.{Whole};
 ghost use Rattle.othello_eval.specs.Tables.{IsTable};
 ghost use Rattle.othello_moves.specs.declared.choices.Choice.TheVariants.{Square};
+ghost use Rattle.tenant_quota.specs.declared.account.Left.{Left};
 ghost use Rattle.session.specs.declared.faults.End.{End};
 ghost use Rattle.session.specs.declared.faults.End.TheVariants.{Bye, EndOfInput};
 ghost use Rattle.session.specs.declared.faults.SessionFault.{SessionFault};
 ghost use Rattle.session.specs.declared.standings.Analysis.{Analysis};
 ghost use Rattle.session.specs.declared.standings.Standing.TheVariants.{Pending, Done};
-ghost use Rattle.session.specs.Calls.{Hello, Reserve, Get, Wait, Cancel, AskQuota, AskLive, Leave, Welcome, Job, Told, Gone, Refused};
+ghost use Rattle.session.specs.Calls.{Hello, Reserve, Get, Wait, Cancel, AskQuota, AskLive, Leave, Welcome, Job, Told, Ended, Rest, Alive, Gone, Refused};
 ghost use Rattle.session.specs.Asks.{AllTrue, KeepsAsks};
 ghost use Rattle.session.specs.Turns.{Made, Tabulated, turns};
 ghost use Rattle.session.specs.DoneLines.{EachDoneIsTrue, TrueSession, TurnHolds};
-ghost use Rattle.definition_tests.specs.SmallSessions.{ask, ask_line, asked_once, counts_reads, counts_writes, few, opening_to_1};
+ghost use Rattle.definition_tests.specs.SmallSessions.{ask, ask_line, asked_once, counts_reads, counts_writes, few, many, opening_to_1};
 
 /// A DONE line of job 1 bears the value and the best choice of what was asked for, and there is none of
 /// another job; the next JOB is job 2.
@@ -71,14 +72,29 @@ pub fn refusals_that_are_none()
     ensures second { AllTrue [] ((Leave, Gone) ∷ (Leave, Refused 1) ∷ []) → ⊥ }
 {}
 
+/// A reply of another kind than the call's is none, nor one that names another reservation or another job.
+pub fn replies_to_other_calls()
+    ensures welcome { KeepsAsks [] (Hello few) (Welcome many) [] → ⊥ }
+    ensures reserved { (left : Left) → KeepsAsks [] (Reserve few) (Rest left) [] → ⊥ }
+    ensures job { KeepsAsks (opening_to_1 ∷ []) (Get 1) (Job 2) (opening_to_1 ∷ []) → ⊥ }
+    ensures told { KeepsAsks (opening_to_1 ∷ []) AskLive (Told 1 Pending) (opening_to_1 ∷ []) → ⊥ }
+    ensures cancel { KeepsAsks (opening_to_1 ∷ []) (Cancel 1) (Ended 7) (opening_to_1 ∷ []) → ⊥ }
+    ensures quota { KeepsAsks [] AskQuota (Welcome few) [] → ⊥ }
+    ensures live { (left : Left) → AllTrue [] ((AskLive, Rest left) ∷ []) → ⊥ }
+    ensures gone { AllTrue [] ((AskQuota, Gone) ∷ []) → ⊥ }
+{}
+
 /// A true session says all this of the lines that it answered, which are those that were read, and by which numbers
-/// they may be refused; one that ended by its input has read its end; and what it wrote is their answers.
+/// they may be refused, and which replies they have; one that ended by its input has read its end, and one that ended by
+/// a line BYE has read all of that line; and what it wrote is their answers.
 pub fn true_sessions()
     ensures dones { (r : Result End SessionFault) (is : TrueSession counts_reads counts_writes 0 0 1 1 r) → EachDoneIsTrue [] is.session.answered (turns false is.session.answered is.session.replies) }
     ensures numbers { (r : Result End SessionFault) (is : TrueSession counts_reads counts_writes 0 0 1 1 r) → is.session.answered ≡ Whole (codes "HELLO 4 8") ∷ Whole (codes "GET 1") ∷ [] → is.session.replies ≡ Welcome few ∷ Told 1 Pending ∷ [] → ⊥ }
+    ensures another { (r : Result End SessionFault) (is : TrueSession counts_reads counts_writes 0 0 1 1 r) → is.session.answered ≡ Whole (codes "HELLO 4 8") ∷ Whole (codes "QUOTA") ∷ [] → is.session.replies ≡ Welcome many ∷ Alive (record { frames = 0; words = 0 }) ∷ [] → ⊥ }
     ensures unread { TrueSession counts_reads counts_writes 0 0 0 0 (Ok EndOfInput) → ⊥ }
     ensures lines { (is : TrueSession counts_reads counts_writes 0 0 1 1 (Ok Bye)) → is.session.blocks ≡ (codes "BYE" ++ 10 ∷ codes "LIVE" ++ 10 ∷ []) ∷ [] → is.session.answered ≡ Whole (codes "BYE") ∷ [] }
     ensures early { (is : TrueSession counts_reads counts_writes 0 0 1 1 (Ok Bye)) → is.session.blocks ≡ (codes "LIVE" ++ 10 ∷ []) ∷ [] → ⊥ }
+    ensures fragment { (is : TrueSession counts_reads counts_writes 0 0 1 1 (Ok Bye)) → is.session.blocks ≡ codes "BYE" ∷ [] → ⊥ }
     ensures unwritten { (is : TrueSession counts_reads counts_writes 0 0 2 0 (Ok EndOfInput)) → is.session.pieces ≡ [] }
     ensures answer { (is : TrueSession counts_reads counts_writes 0 0 1 1 (Ok Bye)) → is.session.answered ≡ Whole (codes "BYE") ∷ [] → is.session.replies ≡ [] → concat is.session.pieces ≡ codes "BYE" ++ 10 ∷ [] }
 {}

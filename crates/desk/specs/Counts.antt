@@ -20,16 +20,17 @@ use Rattle.desk.specs.Seats.{SeatOf}
 use Rattle.desk.specs.declared.change.Change.{Change}
 use Rattle.desk.specs.declared.change.Change.TheVariants.{Nothing, InReady, Job as InJob}
 
--- what contracts see of what lies under the lock: the hall, whether the desk is closed, and how many workers sleep
--- until a frame is ready, modulo 2^32
+-- what contracts see of what lies under the lock: the hall, whether the desk is closed, how many workers sleep until a
+-- frame is ready, modulo 2^32, and how many badges were given
 pub record KeptOf : Type 0 where
   pub hall : HallOf
   pub closed : Bool
   pub sleepers : ℕ
+  pub badges : ℕ
 
--- a call changes neither whether the desk is closed nor how many workers sleep
+-- a call changes neither whether the desk is closed, nor how many workers sleep, nor how many badges were given
 abbrev pub IsAsOpen : KeptOf → KeptOf → Type 0
-IsAsOpen before after = (after.closed ≡ before.closed) × (after.sleepers ≡ before.sleepers)
+IsAsOpen before after = (after.closed ≡ before.closed) × (after.sleepers ≡ before.sleepers) × (after.badges ≡ before.badges)
 
 -- the hall after this answer to a step: where it was taken it is written into the journals, and what the tenants share
 -- is that of `after`; where it was refused nothing has changed

@@ -1,5 +1,5 @@
 //! The desk.
-ghost use Rattle.std.specs.Prelude.{◌≡◌, ◌≢◌, ◌+◌, ◌≤◌, [], true, Err, Some, None, Contains, IfErr, IfOk, IfSome, MatchResult};
+ghost use Rattle.std.specs.Prelude.{◌≡◌, ◌≢◌, ◌+◌, ◌≤◌, [], true, Err, Some, None, Contains, IfErr, IfOk, IfSome, OnSome, MatchResult};
 ghost use Rattle.sched_rules.specs.declared.refusal.Refusal.TheVariants.{NoJob, NoTenant, OutOfMemory};
 ghost use Rattle.hall.specs.Journals.{is_worker_step};
 ghost use Rattle.hall.specs.Halls.{count_of};
@@ -15,7 +15,7 @@ use hall::{Hall, Jamboree, Outcome, Refusal, Step, StepAnswer};
 use position_text::Position;
 use std::alloc::{Allocator, Global};
 use std::hint::spin_loop;
-use std::sync::ledger::Blank;
+use std::sync::ledger::{Blank, Share};
 use std::sync::{Condvar, Mutex, MutexGuard, Wait};
 use std::thread::yield_now;
 use tenant_quota::{Left, Reserve};
@@ -253,12 +253,14 @@ impl<L: Hands, A: Allocator + Clone> Desk<L, A> {
         self.enter(rt).count()
     }
 
-    /// Takes the hall out of the desk. True where this badge has all parts of the ledger that are out: every seat has
-    /// left, and every other badge was joined to this one. Then the hall's count of steps is its number `kept` (the
-    /// steps before the desk and those of the seats that have left) plus the badge's share.
-    pub fn into_hall(self, badge: Badge<L>) -> (Hall<A>, bool)
+    /// Takes the hall out of the desk. Where this badge has all parts of the ledger that are out, since every seat has
+    /// left and every other badge was joined to this one, the share that has all parts comes with it. Then the hall's
+    /// count of steps is its number `kept` (the steps before the desk and those of the seats that have left) plus the
+    /// badge's share. Else `None` comes with it: a share with all parts can't be made up.
+    pub fn into_hall(self, badge: Badge<L>) -> (Hall<A>, Option<Share<L>>)
         requires { L.all ≡ L.parts }
-        ensures { result.1 ≡ true → count_of result.0 ≡ result.0.kept + badge }
+        ensures parts { IfSome result.1 (λ whole. whole.parts ≡ L.parts) }
+        ensures count { OnSome result.1 (count_of result.0 ≡ result.0.kept + badge) }
     {
         let Desk {
             lock,

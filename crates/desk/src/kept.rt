@@ -1,5 +1,5 @@
 //! What lies under the lock: the hall, and the book of the shares.
-ghost use Rattle.std.specs.Prelude.{◌≡◌, ◌≢◌, ◌+◌, ◌%◌, ◌^◌, ◌<◌, ◌≤◌, ◌==◌, ◌↔◌, not, [], true, false, length, Ok, Err, Some, None, Contains, IfErr, IfOk, IfSome, IsNone, Option, MatchResult, option_copied};
+ghost use Rattle.std.specs.Prelude.{◌≡◌, ◌≢◌, ◌+◌, ◌%◌, ◌^◌, ◌<◌, ◌≤◌, ◌==◌, ◌↔◌, not, [], true, false, length, Ok, Err, Some, None, Contains, IfErr, IfNone, IfOk, IfSome, IsNone, OnSome, Option, MatchResult, option_copied};
 ghost use Rattle.sched_rules.specs.declared.refusal.Refusal.TheVariants.{NoJob, OutOfMemory};
 ghost use Rattle.sched_rules.specs.declared.step.StepOf.TheVariants.{Admit, AdmitMore, Submit, Cancel, Leave};
 ghost use Rattle.sched_rules.specs.declared.step.DidOf.{DidOf};
@@ -50,7 +50,7 @@ pub(crate) struct Kept<L: Hands, A: Allocator = Global> {
     sleepers: u32,
 }
 
-// Clauses see the hall, whether the desk is closed, and how many workers sleep.
+// Clauses see the hall, whether the desk is closed, how many workers sleep, and how many badges were given.
 impl<L: Hands, A: Allocator> Model for Kept<L, A> {
     ghost use Rattle.std.specs.Prelude.{◌≡◌, ◌+◌, ◌^◌, ◌≤◌};
     ghost use Rattle.hall.specs.Halls.{count_of};
@@ -58,7 +58,7 @@ impl<L: Hands, A: Allocator> Model for Kept<L, A> {
 
     ghost Value = { KeptOf };
 
-    ghost view = { λ k. record { hall = k.hall; closed = k.closed; sleepers = k.sleepers } };
+    ghost view = { λ k. record { hall = k.hall; closed = k.closed; sleepers = k.sleepers; badges = k.badges } };
 
     ghost invariant = { λ k. (count_of k.hall ≡ k.before + k.book.total) × (k.hall.kept ≡ k.before + k.spare.amount) × (k.spare.parts ≡ k.parts)
         × (L.all ≡ 13835058055282163712) × (k.parts ≤ 13835058055282163712) × (13835058055282163712 ≤ k.parts + k.badges + k.hall.shared.newest) × (k.badges ≤ 2 ^ 62) };
@@ -73,6 +73,7 @@ impl<L: Hands, A: Allocator + Clone> Kept<L, A> {
         ensures hall { result.hall ≡ record hall { kept = count_of hall } }
         ensures open { result.closed ≡ false }
         ensures none { result.sleepers ≡ 0 }
+        ensures no_badges { result.badges ≡ 0 }
     {
         let (book, spare) = blank.open::<L>();
         let mut hall = hall;
@@ -332,7 +333,9 @@ impl<L: Hands, A: Allocator + Clone> Kept<L, A> {
     /// A new badge with a share of 0, which has one part of the spare share. `None` only after 2^62 badges.
     pub(crate) fn badge(&mut self) -> Option<Badge<L>>
         ensures share { IfSome result (λ badge. badge ≡ 0) }
-        ensures same { self.new ≡ self.old }
+        ensures given { OnSome result (self.new ≡ record self.old { badges = self.old.badges + 1 }) }
+        ensures none { IfNone result (self.old.badges ≡ 2 ^ 62) }
+        ensures same { IfNone result (self.new ≡ self.old) }
     {
         if self.badges == BADGES {
             return None;
@@ -385,12 +388,13 @@ impl<L: Hands, A: Allocator + Clone> Kept<L, A> {
         self.hall.keep(kept + steps);
     }
 
-    /// Takes the hall out. True where this badge has all parts of the ledger that the spare share hasn't. Then the
-    /// hall's count of steps is its number `kept` plus the badge's share.
-    pub(crate) fn closed(self, badge: Badge<L>) -> (Hall<A>, bool)
+    /// Takes the hall out, and gives the share that has all parts of the ledger where this badge has those that the
+    /// spare share hasn't. Then the hall's count of steps is its number `kept` plus the badge's share.
+    pub(crate) fn closed(self, badge: Badge<L>) -> (Hall<A>, Option<Share<L>>)
         requires { L.all ≡ L.parts }
         ensures same { result.0 ≡ self.hall }
-        ensures whole { result.1 ≡ true → count_of result.0 ≡ result.0.kept + badge }
+        ensures parts { IfSome result.1 (λ whole. whole.parts ≡ L.parts) }
+        ensures count { OnSome result.1 (count_of result.0 ≡ result.0.kept + badge) }
     {
         let Kept {
             hall,
@@ -405,11 +409,11 @@ impl<L: Hands, A: Allocator + Clone> Kept<L, A> {
             ..
         } = badge;
         if PARTS - parts != out {
-            return (hall, false);
+            return (hall, None);
         }
         spare.merge(mine);
         book.audit(&mut spare);
-        (hall, true)
+        (hall, Some(spare))
     }
 }
 

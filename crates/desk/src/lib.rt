@@ -11,8 +11,8 @@
 //! of what lies under the lock (`kept`), and tests show that the call calls that method. What the
 //! threads carry says the rest: a seat's and a badge's share count their own taken steps, as
 //! shares of one ledger (`std::sync::ledger`) whose book lies under the lock. So at the end, where
-//! [`Desk::into_hall`] answers true, all steps in the hall are those that it keeps and those of the
-//! badge: no taken call was dropped, and nobody else took a step.
+//! [`Desk::into_hall`] gives the share with all parts of that ledger, all steps in the hall are those that it keeps and
+//! those of the badge: no taken call was dropped, and nobody else took a step.
 //!
 //! Beside the hall and the book lies a spare share. A taken step adds 1 to the book and to the share of who
 //! took it, and a seat that leaves merges its share into the spare one: so the hall's count is what it was

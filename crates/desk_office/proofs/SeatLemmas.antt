@@ -1,6 +1,6 @@
 -- What a seat shows of its jobs, as a session has it.
 use Rattle.std.proofs.Common.{◌≡◌, ℕ, ◌-◌, ◌<◌, List, [], ◌∷◌, map, true, false, Option, Some, None, refl, sym, subst, ap, ap₂, ◌∙◌, Result, Ok, Err}
-use Rattle.std.specs.Prelude.{◌==◌, if◌then◌else◌, Contains, IfErr, MatchResult}
+use Rattle.std.specs.Prelude.{◌==◌, ◌⊎◌, if◌then◌else◌, Contains, IfErr, MatchResult}
 use Rattle.std.specs.Option.{option_map}
 use Rattle.std.proofs.Math.ListN.{get_or-map}
 use Rattle.std.proofs.lemmas.List.{length-map}
@@ -15,8 +15,8 @@ use Rattle.sched_rules.specs.declared.refusal.Refusal.{Refusal}
 use Rattle.sched_rules.specs.declared.refusal.Refusal.TheVariants.{NoJob}
 use Rattle.sched_rules.specs.Refusals.{refusal_number}
 use Rattle.tenant_quota.specs.Quota.{Quota}
-use Rattle.session.specs.Calls.{Call, Cancel, Reserve, Reserved, Ended, Told as ToldOf, Refused, reply_of}
-use Rattle.session.specs.Asks.{Asked, asked_at, asks_after, IsAnalysisOf, IsToldOf, KeepsAsks, SaysTrue, ShowsFound}
+use Rattle.session.specs.Calls.{Call, Get, Wait, Cancel, Reserve, Reserved, Ended, Told as ToldOf, Refused, reply_of}
+use Rattle.session.specs.Asks.{Asked, asked_at, asks_after, IsAnalysisOf, IsReplyTo, IsToldOf, KeepsAsks, SaysTrue, ShowsFound}
 use Rattle.session.specs.declared.standings.Standing.{Standing}
 use Rattle.desk.specs.declared.seat.SeatAsked.{SeatAsked}
 use Rattle.desk.specs.Seats.{SeatOf, cancel_refusals, reserve_refusals, stepped, IsShown, seat_asked_at}
@@ -64,6 +64,11 @@ pub same_asks : (asks : List Asked) (call : Call) (job : ℕ) (said : Result Sta
 same_asks asks call job (Ok outcome) = refl
 same_asks asks call job (Err refusal) = refl
 
+-- and it answers a call that named that job
+pub told_to : (call : Call) (job : ℕ) (said : Result Standing Refusal) → (call ≡ Get job) ⊎ (call ≡ Wait job) → IsReplyTo call (reply_of (ToldOf job) said)
+told_to call job (Ok outcome) named = named
+told_to call job (Err refusal) named = tt
+
 -- what the seat that is there shows of a job
 pub seat_shows : (here : Option SeatOf) (seat : SeatOf) (job : ℕ) (answer : Result Outcome Refusal) (said : Result Standing Refusal) → here ≡ Some seat → IsShown (seat_asked_at seat.asked job) answer → said ≡ told_answer answer
     → SaysTrue (asks_of here) (reply_of (ToldOf job) said) × IsToldOf job (asked_at (asks_of here) job) (reply_of (ToldOf job) said)
@@ -86,10 +91,10 @@ unasked (Some asked) h = absurd (cc h)
 cancels : (before after : SeatOf) (job : ℕ) (answer : Result (Unit {0}) Refusal) → MatchResult answer (λ _. after ≡ stepped before) (λ _. after ≡ before) → (seat_asked_at before.asked job ≡ None → answer ≡ Err NoJob) → IfErr answer (Contains cancel_refusals)
     → KeepsAsks (map ask_of before.asked) (Cancel job) (reply_of (λ _. Ended job) answer) (map ask_of after.asked)
 cancels before after job (Ok done) share none refused =
-    (ap (λ s. map ask_of s.asked) share, tt, (tt, λ h. absurd (cc (none (unasked (seat_asked_at before.asked job) (sym (asked_at-map before.asked job) ∙ h))))))
+    (ap (λ s. map ask_of s.asked) share, tt, (tt, λ h. absurd (cc (none (unasked (seat_asked_at before.asked job) (sym (asked_at-map before.asked job) ∙ h))))), refl)
 cancels before after job (Err refusal) share none refused =
     let missing : seat_asked_at before.asked job ≡ None → refusal ≡ NoJob = λ h. cc (none h) in
-    (ap (λ s. map ask_of s.asked) share, tt, (refused_by cancel_refusals refusal refused, λ h. ap (λ r. Refused (refusal_number r)) (missing (unasked (seat_asked_at before.asked job) (sym (asked_at-map before.asked job) ∙ h)))))
+    (ap (λ s. map ask_of s.asked) share, tt, (refused_by cancel_refusals refusal refused, λ h. ap (λ r. Refused (refusal_number r)) (missing (unasked (seat_asked_at before.asked job) (sym (asked_at-map before.asked job) ∙ h)))), tt)
 
 -- what becomes of the asks by it
 pub seat_cancels : (here : Option SeatOf) (before after : SeatOf) (job : ℕ) (answer : Result (Unit {0}) Refusal) → here ≡ Some before → MatchResult answer (λ _. after ≡ stepped before) (λ _. after ≡ before)
@@ -100,8 +105,8 @@ seat_cancels here before after job answer is share none refused =
 -- a seat reserves more
 reserves : (before after : SeatOf) (quota : Quota) (answer : Result (Unit {0}) Refusal) → MatchResult answer (λ _. after ≡ stepped before) (λ _. after ≡ before) → IfErr answer (Contains reserve_refusals)
     → KeepsAsks (map ask_of before.asked) (Reserve quota) (reply_of (λ _. Reserved quota) answer) (map ask_of after.asked)
-reserves before after quota (Ok done) share refused = (ap (λ s. map ask_of s.asked) share, tt, tt)
-reserves before after quota (Err refusal) share refused = (ap (λ s. map ask_of s.asked) share, tt, refused_by reserve_refusals refusal refused)
+reserves before after quota (Ok done) share refused = (ap (λ s. map ask_of s.asked) share, tt, tt, refl)
+reserves before after quota (Err refusal) share refused = (ap (λ s. map ask_of s.asked) share, tt, refused_by reserve_refusals refusal refused, tt)
 
 -- what becomes of the asks by it: they stay
 pub seat_reserves : (here : Option SeatOf) (before after : SeatOf) (quota : Quota) (answer : Result (Unit {0}) Refusal) → here ≡ Some before → MatchResult answer (λ _. after ≡ stepped before) (λ _. after ≡ before) → IfErr answer (Contains reserve_refusals)

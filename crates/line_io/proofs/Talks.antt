@@ -33,14 +33,6 @@ module _ (ends : LineText → Bool) where
   upto-before [] ys e = absurd (true≢false e)
   upto-before (x ∷ xs) ys e = before-step (ends x) x xs ys e (λ d. upto-before xs ys d)
 
-  none-step : (t : Bool) (xs ys : List LineText) → (not t && none_ends ends xs) ≡ false → (none_ends ends xs ≡ false → none_ends ends (xs ++ ys) ≡ false) → (not t && none_ends ends (xs ++ ys)) ≡ false
-  none-step true xs ys e ih = refl
-  none-step false xs ys e ih = ih e
-
-  none-before : (xs ys : List LineText) → none_ends ends xs ≡ false → none_ends ends (xs ++ ys) ≡ false
-  none-before [] ys e = absurd (true≢false e)
-  none-before (x ∷ xs) ys e = none-step (ends x) xs ys e (λ d. none-before xs ys d)
-
   -- what is answered of the first lines is the first of what is answered of all
   first-step : (t : Bool) (x : LineText) (xs ys : List LineText) → (more : List LineText) × (upto ends xs ++ more ≡ upto ends (xs ++ ys)) → (more : List LineText) × ((if t then x ∷ [] else x ∷ upto ends xs) ++ more ≡ (if t then x ∷ [] else x ∷ upto ends (xs ++ ys)))
   first-step true x xs ys ih = ([], refl)
@@ -62,7 +54,7 @@ module _ (ends : LineText → Bool) where
   -- how the talk ends at the input's end
   last-ending : (b : Bool) (end : TalkEnd) (bytes : List ℕ) → end ≡ end_of b → none_ends ends (lines_of bytes) ≡ b → IsTalkEnd ends (Ok end) bytes (Ended ∷ [])
   last-ending true end bytes e none = subst (λ z. IsTalkEnd ends (Ok z) bytes (Ended ∷ [])) (sym e) (refl, none)
-  last-ending false end bytes e none = subst (λ z. IsTalkEnd ends (Ok z) bytes (Ended ∷ [])) (sym e) (inr refl, none)
+  last-ending false end bytes e none = subst (λ z. IsTalkEnd ends (Ok z) bytes (Ended ∷ [])) (sym e) (inr (refl, none))
 
   module _ {S K A : Type 0} (gives : S → ReadAnswer → S → Type 0) (takes : K → WriteAnswer → K → Type 0) (answers : A → LineText → List ℕ → A → Type 0) (s : S) (k : K) (a : A) where
     -- some blocks were read, the lines that an LF ended in them answered, and none of them ends the talk
@@ -120,7 +112,7 @@ module _ (ends : LineText → Bool) where
           blocks = blocks ++ block ∷ [];
           last = [];
           reads = block-reads blocks block s' s'' x.so_far.reads r;
-          ending = (inl refl, ap (none_ends ends) (sym all) ∙ none-before (ended ++ more) last stops);
+          ending = inl (refl, ap (none_ends ends) (sym (lines-more gives takes answers s k a blocks block h x.so_far.held ∙ ended_within-all (concat (blocks ++ block ∷ [])))) ∙ stops);
           lines = LinesAnswered-same takes answers k a (ended ++ upto ends more) (upto ends (lines_of (concat (blocks ++ block ∷ [])))) k'' a'' (Ok tt) due (LinesAnswered-append takes answers k a ended k' a' tt (upto ends more) k'' a'' (Ok tt) x.so_far.lines y);
         }
 

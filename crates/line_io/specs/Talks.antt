@@ -33,11 +33,12 @@ written (Ok _) = Ok tt
 written (Err e) = Err e
 
 -- how a talk with this result ended, by the reads after those that gave bytes (`last`) and by the lines. By a line:
--- one of the lines ends the talk. By the input: the end of the input was read, and no line ends the talk. At fault 1
--- the read failed, and none of the lines that an LF ended ends the talk. At fault 2 a write failed. Fault 3 never
--- comes
+-- one of the lines ends the talk; where the end of the input wasn't read, one of those that an LF ended. By the input:
+-- the end of the input was read, and no line ends the talk. At fault 1 the read failed, and none of the lines that an
+-- LF ended ends the talk. At fault 2 a write failed. Fault 3 never comes
 abbrev pub IsTalkEnd : (LineText → Bool) → Result TalkEnd LineFault → List ℕ → List ReadAnswer → Type 0
-IsTalkEnd ends (Ok by_line) bytes last = ((last ≡ []) ⊎ (last ≡ Ended ∷ [])) × (none_ends ends (lines_of bytes) ≡ false)
+IsTalkEnd ends (Ok by_line) bytes last =
+    ((last ≡ []) × (none_ends ends (lines_of (up_to_last_end bytes)) ≡ false)) ⊎ ((last ≡ Ended ∷ []) × (none_ends ends (lines_of bytes) ≡ false))
 IsTalkEnd ends (Ok by_input) bytes last = (last ≡ Ended ∷ []) × (none_ends ends (lines_of bytes) ≡ true)
 IsTalkEnd ends (Err Read) bytes last = (last ≡ Failed ∷ []) × (none_ends ends (lines_of (up_to_last_end bytes)) ≡ true)
 IsTalkEnd ends (Err Write) bytes last = (last ≡ []) ⊎ (last ≡ Ended ∷ [])

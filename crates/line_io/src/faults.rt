@@ -6,11 +6,13 @@ ghost use Rattle.line_io.specs.declared.faults.LineFault.TheVariants.{Read, Writ
 use thiserror::Error;
 
 /// A source has failed.
-#[derive(Clone, Copy, Debug, PartialEq, Eq)]
+#[derive(Clone, Copy, Debug, PartialEq, Eq, Error)]
+#[error("the input could not be read")]
 pub struct ReadFailed;
 
 /// A sink has failed, or has taken no byte of a write.
-#[derive(Clone, Copy, Debug, PartialEq, Eq)]
+#[derive(Clone, Copy, Debug, PartialEq, Eq, Error)]
+#[error("the output could not be written")]
 pub struct WriteFailed;
 
 /// Why a run ended before its input did. Each fault has a number.

@@ -19,15 +19,17 @@ mod running;
 mod service;
 mod serving;
 
-use solve_command::Streams;
+use solve_command::{Streams, words_of};
+use std::env;
 use std::process::ExitCode;
-use std::{env, io};
 
-fn main(rt: HostRuntime) -> io::Result<ExitCode> {
-    let words: Vec<String> = env::args(&rt)?.collect(rt.alloc())?;
+fn main(rt: HostRuntime) -> ExitCode {
     let mut streams = Streams::standard(&rt);
-    let status = running::run(&rt, rt.alloc(), words.as_slice(), &mut streams);
-    Ok(ExitCode::from(status))
+    let status = match words_of(rt.alloc(), env::args(&rt), &mut streams.errors) {
+        Ok(words) => running::run(&rt, rt.alloc(), words.as_slice(), &mut streams),
+        Err(status) => status,
+    };
+    ExitCode::from(status)
 }
 
 #[cfg(test)]

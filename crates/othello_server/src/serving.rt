@@ -10,7 +10,6 @@ use line_io::{Sink, write_text};
 use sched_rules::Worker;
 use solve_command::{EXIT_FAILED, EXIT_OK, say};
 use std::alloc::Global;
-use std::fmt::{self, Display};
 use std::io;
 use std::net::{Ipv4Addr, Net, SocketAddr, TcpListener, TcpStream};
 use std::sync::Wait;
@@ -19,19 +18,25 @@ use std::thread::Threads;
 use tcp_server::desk::{Config, Desk, Hall, Hands, PARTS};
 use tcp_server::steal_pool::{Announce, Open};
 use tcp_server::{ServeFault, ServerConfig, serve_announced};
+use thiserror::Error;
 
 /// Why the command `serve` failed.
-#[derive(Debug, Drop)]
+#[derive(Debug, Drop, Error)]
 enum Unserved {
     /// The system refused to let it listen at this port.
+    #[error("port {0}: {1}")]
     Port(u16, io::Error),
     /// The system didn't tell the listener's address.
+    #[error("{0}")]
     Address(io::Error),
     /// There was no memory for the hall.
+    #[error("no memory for the segments")]
     OutOfMemory,
     /// The line `listening` or `ended` could not be written, or there was no memory for it.
+    #[error("the output could not be written")]
     Unwritten,
     /// The server failed while it began or served.
+    #[error("{0}")]
     Ended(ServeFault),
 }
 
@@ -40,18 +45,6 @@ impl From<ServeFault> for Unserved {
         match fault {
             ServeFault::Unsaid => Unserved::Unwritten,
             fault => Unserved::Ended(fault),
-        }
-    }
-}
-
-impl Display for Unserved {
-    fn fmt<W: fmt::Write>(&self, f: &mut fmt::Formatter<W>) -> fmt::Result {
-        match self {
-            Unserved::Port(port, error) => write!(f, "port {port}: {error}"),
-            Unserved::Address(error) => write!(f, "{error}"),
-            Unserved::OutOfMemory => f.write_str("no memory for the segments"),
-            Unserved::Unwritten => f.write_str("the output could not be written"),
-            Unserved::Ended(fault) => write!(f, "{fault}"),
         }
     }
 }

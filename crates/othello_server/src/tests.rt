@@ -4,8 +4,8 @@ mod served;
 use crate::running::run;
 use command_line::{Options, WordsFault};
 use line_io::{FromWriter, ReadFailed, Sink, Source, WriteFailed};
-use solve_command::{Input, Output, Streams};
-use std::io::{self, Read, Write};
+use solve_command::{Input, Output, Streams, words_of};
+use std::io::{self, ErrorKind, Read, Write};
 use std::net::{Net, TcpListener, TcpStream};
 use std::sync::Arc;
 use std::sync::atomic::{AtomicBool, Ordering};
@@ -175,6 +175,29 @@ fn streams_that_fail(rt: HostRuntime) -> Result<(), Fail> {
     };
     let found = run(&rt, alloc, words.as_slice(), &mut full);
     assert_eq!(rt; found, 2, "refused words that can't be explained");
+    Ok(())
+}
+
+#[test]
+fn words_that_are_no_text_are_refused(rt: HostRuntime) -> Result<(), Fail> {
+    let alloc = rt.alloc();
+    for (kind, status, said) in [
+        (
+            ErrorKind::InvalidData,
+            2,
+            "othello: a word of the command line is no text in UTF-8\n",
+        ),
+        (
+            ErrorKind::OutOfMemory,
+            1,
+            "othello: no memory to read the command line\n",
+        ),
+    ] {
+        let mut errors = FromWriter::new(Vec::new(alloc));
+        let words = words_of(alloc, Err(io::Error::from(kind)), &mut errors);
+        assert_eq!(rt; words.err(), Some(status));
+        assert_eq!(rt; errors.writer.as_slice(), said.as_bytes());
+    }
     Ok(())
 }
 

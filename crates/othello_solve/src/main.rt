@@ -10,13 +10,15 @@
 //! ```
 #![tactic(auto)]
 
-use solve_command::{Streams, run_solve};
+use solve_command::{Streams, run_solve, words_of};
+use std::env;
 use std::process::ExitCode;
-use std::{env, io};
 
-fn main(rt: HostRuntime) -> io::Result<ExitCode> {
-    let words: Vec<String> = env::args(&rt)?.collect(rt.alloc())?;
+fn main(rt: HostRuntime) -> ExitCode {
     let mut streams = Streams::standard(&rt);
-    let status = run_solve(rt.alloc(), words.as_slice(), &mut streams);
-    Ok(ExitCode::from(status))
+    let status = match words_of(rt.alloc(), env::args(&rt), &mut streams.errors) {
+        Ok(words) => run_solve(rt.alloc(), words.as_slice(), &mut streams),
+        Err(status) => status,
+    };
+    ExitCode::from(status)
 }

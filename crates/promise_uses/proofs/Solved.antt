@@ -80,9 +80,14 @@ SolvesThree gives takes source sink source' sink' r = (blocks : List (List ℕ))
 pub solves-three : {S K : Type 0} (gives : S → ReadAnswer → S → Type 0) (takes : K → WriteAnswer → K → Type 0) (source : S) (sink : K) (source' : S) (sink' : K) (r : Result (Unit {0}) LineFault) →
     SolvedBytes gives takes source sink source' sink' r → SolvesThree gives takes source sink source' sink' r
 solves-three gives takes source sink source' sink' r is = (
-      is.blocks, is.last, is.pieces, is.texts, is.reads, is.writes,
-      ended r _ is.last _ _ is.ends is.written,
-      failed r _ is.last _ _ is.ends is.written,
-      cut r _ _ is.written,
-      three-lines _ is.texts is.solutions,
-    )
+  is.blocks,
+  is.last,
+  is.pieces,
+  is.texts,
+  is.reads,
+  is.writes,
+  ended r _ is.last _ _ is.ends is.written,
+  failed r _ is.last _ _ is.ends is.written,
+  cut r _ _ is.written,
+  three-lines _ is.texts is.solutions,
+)

@@ -10,11 +10,15 @@
 mod halls;
 mod isolation;
 mod runs;
+mod sessions;
 mod solving;
 
 pub use halls::{entry_of_nine, seven_and_nine, value_of_nine, value_of_seven};
 pub use isolation::seven_in_a_running_core;
-pub use runs::{nine_is_undisturbed, refusals, seven_alone, table_of_nine, three_answers, words_of_seven};
+pub use runs::{
+    nine_is_undisturbed, refusals, seven_alone, table_of_nine, three_answers, words_of_seven,
+};
+pub use sessions::third_answer;
 pub use solving::three_lines;
 
 #[cfg(test)]

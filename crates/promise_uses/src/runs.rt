@@ -64,11 +64,11 @@ pub fn table_of_nine<A: Allocator + Clone>(
         × (origin_at (origins_of (own_steps 9 steps.now run.answers.items)) 5 ≡ Some (root_words own opp depth))
         × (length (bounds_of (frame_of words)) ≡ length (entered depth (cells_of own opp)))
         × ((i : ℕ) (entry : Bound) → slice_get (bounds_of (frame_of words)) i ≡ Some entry →
-            (slice_get (entered depth (cells_of own opp)) i ≡ Some entry.choice)
-            × (entry.kind ≡ Low → choice_value depth (cells_of own opp) entry.choice ≤ℤ entry.score)
-            × (entry.kind ≡ High → entry.score ≤ℤ choice_value depth (cells_of own opp) entry.choice)
-            × (entry.kind ≡ Exact → choice_value depth (cells_of own opp) entry.choice ≡ entry.score)
-            × (best_choice depth (cells_of own opp) ≡ Some entry.choice → entry.kind ≡ Exact))) }
+        (slice_get (entered depth (cells_of own opp)) i ≡ Some entry.choice)
+        × (entry.kind ≡ Low → choice_value depth (cells_of own opp) entry.choice ≤ℤ entry.score)
+        × (entry.kind ≡ High → entry.score ≤ℤ choice_value depth (cells_of own opp) entry.choice)
+        × (entry.kind ≡ Exact → choice_value depth (cells_of own opp) entry.choice ≡ entry.score)
+        × (best_choice depth (cells_of own opp) ≡ Some entry.choice → entry.kind ≡ Exact))) }
 {
     run(alloc, procedure, config, steps)
 }

@@ -42,13 +42,13 @@ where
         × (result ≡ Err Read → (last ≡ Failed ∷ []) × (concat pieces ≡ written_texts texts))
         × (result ≡ Err Write → (rest : List ℕ) × (concat pieces ++ rest ≡ written_texts texts) × (0 < length rest))
         × ((first second third : LineText) → lines_of (bytes_due result (concat blocks)) ≡ first ∷ second ∷ third ∷ [] →
-            (one : List ℕ) × (two : List ℕ) × (three : List ℕ) × (texts ≡ one ∷ two ∷ three ∷ [])
-            × (starts_with nat_eq two (codes "ERR ") ≡ false → (depth : ℕ) × (position : Position) × (word : List ℕ) × (text : List ℕ)
-                × (second ≡ Whole (word ++ byte " " ∷ text)) × (word_number word ≡ Some depth) × (depth ≤ 12) × Spells text position
-                × (two ≡ value_text (minimax depth (cells position.board)) (best_choice depth (cells position.board))))
-            × ((word text : List ℕ) (depth : ℕ) (position : Position) →
-                third ≡ Whole (word ++ byte " " ∷ text) → word_number word ≡ Some depth → depth ≤ 12 → Spells text position →
-                (three ≡ value_text (minimax depth (cells position.board)) (best_choice depth (cells position.board))) ⊎ (three ≡ error_text 19))) }
+        (one : List ℕ) × (two : List ℕ) × (three : List ℕ) × (texts ≡ one ∷ two ∷ three ∷ [])
+        × (starts_with nat_eq two (codes "ERR ") ≡ false → (depth : ℕ) × (position : Position) × (word : List ℕ) × (text : List ℕ)
+        × (second ≡ Whole (word ++ byte " " ∷ text)) × (word_number word ≡ Some depth) × (depth ≤ 12) × Spells text position
+        × (two ≡ value_text (minimax depth (cells position.board)) (best_choice depth (cells position.board))))
+        × ((word text : List ℕ) (depth : ℕ) (position : Position) →
+        third ≡ Whole (word ++ byte " " ∷ text) → word_number word ≡ Some depth → depth ≤ 12 → Spells text position →
+        (three ≡ value_text (minimax depth (cells position.board)) (best_choice depth (cells position.board))) ⊎ (three ≡ error_text 19))) }
 {
     solve(alloc, source, sink, grain)
 }

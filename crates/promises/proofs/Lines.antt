@@ -1,22 +1,24 @@
--- The words of a line, and the line that asks for a job.
-use Rattle.std.proofs.Common.{◌≡◌, ℕ, inl, inr, Bool, true, false, List, [], ◌∷◌, ◌++◌, Option, Some, None, Result, Ok, Err, refl, ap, ◌∙◌}
+-- What the words of a line are, by what it asks for.
+use Rattle.std.proofs.Common.{◌≡◌, ◌⊎◌, ℕ, ◌≤◌, inl, inr, Bool, true, false, List, [], ◌∷◌, ◌++◌, Option, Some, None, Result, Ok, Err, refl, ap, sym, subst, ◌∙◌, arith}
 use Rattle.std.specs.Prelude.{◌&&◌, codes, if◌then◌else◌, unwrap_or}
 use Rattle.std.specs.Option.{option_map, is_none}
 use Rattle.std.specs.Str.{bytes_eq}
-use Rattle.std.proofs.lemmas.Bool.Decides.{eqb_tells}
+use Rattle.std.proofs.lemmas.Bool.Decides.{eqb_tells, nat_tests}
 use Rattle.std.proofs.lemmas.Slice.Eq.{bytes_eq-Decides}
 use Rattle.othello_board.specs.declared.cells.Cell.{Cell}
 use Rattle.position_text.specs.declared.positions.Side.{Side}
-use Rattle.tenant_quota.specs.Quota.{Quota}
+use Rattle.tenant_quota.specs.Quota.{Quota, IsWithinLimits}
 use Rattle.line_io.specs.Lines.{LineText, Whole, TooLong}
 use Rattle.protocol.specs.declared.faults.ProtocolFault.{ProtocolFault}
 use Rattle.protocol.specs.Words.{split_at_space, word_number}
 use Rattle.protocol.specs.Questions.{QuestionOf, question}
-use Rattle.session.specs.Calls.{Ask, Reserve}
+use Rattle.session.specs.Calls.{Call, Hello, Reserve, Ask, Get, Wait, Cancel, AskQuota, AskLive, Leave}
 use Rattle.session.specs.Forms.{Form, HelloOf, ReserveOf, AskOf, GetOf, WaitOf, CancelOf, TableOf, QuotaForm, LiveForm, ByeForm, bare_form, form_of_one, form_of_two, form_after, form_by, form_of}
-use Rattle.session.specs.Requests.{Makes, ask_request, quota_of, quota_request, form_request, request}
+use Rattle.session.specs.Requests.{Request, Fault, Makes, Tabulates, Ends, ask_request, is_within, quota_of, quota_request, job_request, seated_request, early_request, form_request, request}
+use Rattle.promises.specs.Sessions.{IsOfNumber, IsOfQuota}
 
--- what stands before the first space and after it are the line
+-- ---- what stands before the first space of a line, and after it
+
 some-pair : (a b c d : List ℕ) → ◌≡◌ {A = Option (List ℕ × List ℕ)} (Some (a, b)) (Some (c, d)) → (a ≡ c) × (b ≡ d)
 some-pair a b c d e =
     let nothing : List ℕ × List ℕ = ([], []) in
@@ -39,84 +41,86 @@ split-is (b ∷ bs) first rest e =
       | inr other ↦ split-later b bs first rest (split_at_space bs) (λ front back at. split-is bs front back at) (rw other.0 at e)
     ]
 
--- ---- the line that makes an Ask
+-- ---- the words of a command
 
--- a form that asks for a position
-record IsAskForm (form : Option Form) (depth : ℕ) (board : List Cell) (side : Side) : Type 0 where
+-- a line is this command and two words
+record HasTwo (command line : List ℕ) (P : List ℕ → List ℕ → Type 0) : Type 0 where
+  pub first : List ℕ
+  pub second : List ℕ
+  pub is : line ≡ command ++ 32 ∷ (first ++ 32 ∷ second)
+  pub holds : P first second
+
+-- a line is this command and a word that writes this
+record HasOne (command line : List ℕ) (job : Option ℕ) : Type 0 where
   pub word : List ℕ
-  pub text : List ℕ
-  pub is : form ≡ Some (AskOf word text)
-  pub asked : QuestionOf
-  pub reads : question word text ≡ Ok asked
-  pub depth_is : asked.depth ≡ depth
-  pub board_is : asked.board ≡ board
+  pub is : line ≡ command ++ 32 ∷ word
+  pub number : word_number word ≡ job
 
-by-question : (word text : List ℕ) (found : Result QuestionOf ProtocolFault) (depth : ℕ) (board : List Cell) (side : Side) → question word text ≡ found → ask_request found ≡ Makes (Ask depth board side) → IsAskForm (Some (AskOf word text)) depth board side
-by-question word text (Err fault) depth board side at e = absurd cc
-by-question word text (Ok asked) depth board side at e = record { word = word; text = text; is = refl; asked = asked; reads = at; depth_is = cc; board_is = cc }
+-- how the line of a command reads
+abbrev Reads : Form → List ℕ → Type 0
+Reads (HelloOf segments nodes) line = HasTwo (codes "HELLO") line (λ first second. (word_number first ≡ segments) × (word_number second ≡ nodes))
+Reads (ReserveOf segments nodes) line = HasTwo (codes "RESERVE") line (λ first second. (word_number first ≡ segments) × (word_number second ≡ nodes))
+Reads (AskOf depth text) line = HasTwo (codes "ASK") line (λ first second. (first ≡ depth) × (second ≡ text))
+Reads (GetOf job) line = HasOne (codes "GET") line job
+Reads (WaitOf job) line = HasOne (codes "WAIT") line job
+Reads (CancelOf job) line = HasOne (codes "CANCEL") line job
+Reads (TableOf job) line = HasOne (codes "TABLE") line job
+Reads QuotaForm line = line ≡ codes "QUOTA"
+Reads LiveForm line = line ≡ codes "LIVE"
+Reads ByeForm line = line ≡ codes "BYE"
 
-by-form : (form : Option Form) (depth : ℕ) (board : List Cell) (side : Side) → form_request true form ≡ Makes (Ask depth board side) → IsAskForm form depth board side
-by-form None depth board side e = absurd cc
-by-form (Some (HelloOf segments nodes)) depth board side e = absurd cc
-by-form (Some (ReserveOf segments nodes)) depth board side e = absurd (reserves (quota_of segments nodes) e)
-  where
-    reserves : (quota : Option Quota) → quota_request Reserve quota ≡ Makes (Ask depth board side) → ⊥
-    reserves None f = cc
-    reserves (Some q) f = cc
-by-form (Some (AskOf word text)) depth board side e = by-question word text (question word text) depth board side refl e
-by-form (Some (GetOf None)) depth board side e = absurd cc
-by-form (Some (GetOf (Some job))) depth board side e = absurd cc
-by-form (Some (WaitOf None)) depth board side e = absurd cc
-by-form (Some (WaitOf (Some job))) depth board side e = absurd cc
-by-form (Some (CancelOf None)) depth board side e = absurd cc
-by-form (Some (CancelOf (Some job))) depth board side e = absurd cc
-by-form (Some (TableOf None)) depth board side e = absurd cc
-by-form (Some (TableOf (Some job))) depth board side e = absurd cc
-by-form (Some QuotaForm) depth board side e = absurd cc
-by-form (Some LiveForm) depth board side e = absurd cc
-by-form (Some ByeForm) depth board side e = absurd cc
+-- what is found, where a test passes or else
+found-by : (b : Bool) (x : Form) (y : Option Form) (form : Form) (line : List ℕ) → (b ≡ true → Reads x line) → (y ≡ Some form → Reads form line) → (if b then Some x else y) ≡ Some form → Reads form line
+found-by true x y form line here later e = let is : x ≡ form = cc in subst (λ (f : Form). Reads f line) is (here refl)
+found-by false x y form line here later e = later e
 
--- no words of a position
-record IsNoAsk (form : Option Form) : Type 0 where
-  pub never : (word text : List ℕ) → form ≡ Some (AskOf word text) → ⊥
+same-bytes : (a b : List ℕ) → bytes_eq a b ≡ true → a ≡ b
+same-bytes a b e = (bytes_eq-Decides a b).0 e
 
-neither : (b : Bool) (x y : Option Form) → IsNoAsk x → IsNoAsk y → IsNoAsk (if b then x else y)
-neither true x y p q = p
-neither false x y p q = q
+bare-reads : (line : List ℕ) (form : Form) → bare_form line ≡ Some form → Reads form line
+bare-reads line form e =
+    found-by (bytes_eq line (codes "QUOTA")) QuotaForm _ form line (λ is. same-bytes line (codes "QUOTA") is)
+    (λ r. found-by (bytes_eq line (codes "LIVE")) LiveForm _ form line (λ is. same-bytes line (codes "LIVE") is)
+    (λ q. found-by (bytes_eq line (codes "BYE")) ByeForm None form line (λ is. same-bytes line (codes "BYE") is) (λ n. absurd (cc n)) q) r) e
 
-first-or : (b : Bool) (x y : Option Form) (word text : List ℕ) → IsNoAsk y → (if b then x else y) ≡ Some (AskOf word text) → (b ≡ true) × (x ≡ Some (AskOf word text))
-first-or true x y word text none e = (refl, e)
-first-or false x y word text none e = absurd (none.never word text e)
+has-one : (command first rest line : List ℕ) → line ≡ first ++ 32 ∷ rest → bytes_eq first command ≡ true → HasOne command line (word_number rest)
+has-one command first rest line at e = record { word = rest; is = at ∙ ap (λ (w : List ℕ). w ++ 32 ∷ rest) (same-bytes first command e); number = refl }
 
-no-form : IsNoAsk None
-no-form = record { never = λ word text e. cc }
+one-reads : (first rest line : List ℕ) (form : Form) → line ≡ first ++ 32 ∷ rest → form_of_one first rest ≡ Some form → Reads form line
+one-reads first rest line form at e =
+    found-by (bytes_eq first (codes "GET")) (GetOf (word_number rest)) _ form line (λ is. has-one (codes "GET") first rest line at is)
+    (λ r. found-by (bytes_eq first (codes "WAIT")) (WaitOf (word_number rest)) _ form line (λ is. has-one (codes "WAIT") first rest line at is)
+    (λ q. found-by (bytes_eq first (codes "CANCEL")) (CancelOf (word_number rest)) _ form line (λ is. has-one (codes "CANCEL") first rest line at is)
+    (λ p. found-by (bytes_eq first (codes "TABLE")) (TableOf (word_number rest)) None form line (λ is. has-one (codes "TABLE") first rest line at is) (λ n. absurd (cc n)) p) q) r) e
 
-bare-none : (line : List ℕ) → IsNoAsk (bare_form line)
-bare-none line =
-    neither (bytes_eq line (codes "QUOTA")) _ _ (record { never = λ word text e. cc })
-    (neither (bytes_eq line (codes "LIVE")) _ _ (record { never = λ word text e. cc })
-    (neither (bytes_eq line (codes "BYE")) _ _ (record { never = λ word text e. cc }) no-form))
+two-words : (command first second third line : List ℕ) → line ≡ first ++ 32 ∷ (second ++ 32 ∷ third) → bytes_eq first command ≡ true → line ≡ command ++ 32 ∷ (second ++ 32 ∷ third)
+two-words command first second third line at e = at ∙ ap (λ (w : List ℕ). w ++ 32 ∷ (second ++ 32 ∷ third)) (same-bytes first command e)
 
-one-none : (first argument : List ℕ) → IsNoAsk (form_of_one first argument)
-one-none first argument =
-    neither (bytes_eq first (codes "GET")) _ _ (record { never = λ word text e. cc })
-    (neither (bytes_eq first (codes "WAIT")) _ _ (record { never = λ word text e. cc })
-    (neither (bytes_eq first (codes "CANCEL")) _ _ (record { never = λ word text e. cc })
-    (neither (bytes_eq first (codes "TABLE")) _ _ (record { never = λ word text e. cc }) no-form)))
+both : (a b : Bool) → (a && b) ≡ true → a ≡ true
+both true b e = refl
+both false b e = absurd cc
 
-later-none : (first second third : List ℕ) → IsNoAsk (if bytes_eq first (codes "HELLO") && is_none (split_at_space third) then Some (HelloOf (word_number second) (word_number third)) else (if bytes_eq first (codes "RESERVE") && is_none (split_at_space third) then Some (ReserveOf (word_number second) (word_number third)) else None))
-later-none first second third =
-    neither (bytes_eq first (codes "HELLO") && is_none (split_at_space third)) _ _ (record { never = λ word text e. cc })
-    (neither (bytes_eq first (codes "RESERVE") && is_none (split_at_space third)) _ _ (record { never = λ word text e. cc }) no-form)
+two-reads : (first second third line : List ℕ) (form : Form) → line ≡ first ++ 32 ∷ (second ++ 32 ∷ third) → form_of_two first second third ≡ Some form → Reads form line
+two-reads first second third line form at e =
+    found-by (bytes_eq first (codes "ASK")) (AskOf second third) _ form line (λ is. record { first = second; second = third; is = two-words (codes "ASK") first second third line at is; holds = (refl, refl) })
+    (λ r. found-by (bytes_eq first (codes "HELLO") && is_none (split_at_space third)) (HelloOf (word_number second) (word_number third)) _ form line
+    (λ is. record { first = second; second = third; is = two-words (codes "HELLO") first second third line at (both (bytes_eq first (codes "HELLO")) (is_none (split_at_space third)) is); holds = (refl, refl) })
+    (λ q. found-by (bytes_eq first (codes "RESERVE") && is_none (split_at_space third)) (ReserveOf (word_number second) (word_number third)) None form line
+    (λ is. record { first = second; second = third; is = two-words (codes "RESERVE") first second third line at (both (bytes_eq first (codes "RESERVE")) (is_none (split_at_space third)) is); holds = (refl, refl) })
+    (λ n. absurd (cc n)) q) r) e
 
-two-is : (first second third word text : List ℕ) → form_of_two first second third ≡ Some (AskOf word text) → (first ≡ codes "ASK") × (second ≡ word) × (third ≡ text)
-two-is first second third word text e =
-    let f = first-or (bytes_eq first (codes "ASK")) (Some (AskOf second third)) _ word text (later-none first second third) e in
-    let is : Some (AskOf second third) ≡ Some (AskOf word text) = f.1 in
-    ((bytes_eq-Decides first (codes "ASK")).0 f.0, cc, cc)
+after-reads : (first rest line : List ℕ) (found : Option (List ℕ × List ℕ)) (form : Form) → line ≡ first ++ 32 ∷ rest → split_at_space rest ≡ found → form_after first rest found ≡ Some form → Reads form line
+after-reads first rest line None form at more e = one-reads first rest line form at e
+after-reads first rest line (Some (second, third)) form at more e =
+    two-reads first second third line form (at ∙ ap (λ (r : List ℕ). first ++ 32 ∷ r) (split-is rest second third more)) e
 
--- ---- the bytes of such a line
+reads-by : (line : List ℕ) (found : Option (List ℕ × List ℕ)) (form : Form) → split_at_space line ≡ found → form_by line found ≡ Some form → Reads form line
+reads-by line None form at e = bare-reads line form e
+reads-by line (Some (first, rest)) form at e = after-reads first rest line (split_at_space rest) form (split-is line first rest at) refl e
 
+-- ---- a line by what it asks for
+
+-- a line that asks for a position
 pub record IsAskLine (line : LineText) (depth : ℕ) (board : List Cell) : Type 0 where
   pub word : List ℕ
   pub text : List ℕ
@@ -126,27 +130,75 @@ pub record IsAskLine (line : LineText) (depth : ℕ) (board : List Cell) : Type 
   pub depth_is : asked.depth ≡ depth
   pub board_is : asked.board ≡ board
 
--- the words that an ASK line has
-record HasWords (line word text : List ℕ) : Type 0 where
-  pub is : line ≡ codes "ASK " ++ word ++ 32 ∷ text
+-- how a line reads, by what it asks for
+abbrev pub Asks-so : Request → LineText → Type 0
+Asks-so (Fault fault) line = Unit {0}
+Asks-so (Makes (Hello quota)) line = IsOfQuota (codes "HELLO") line quota
+Asks-so (Makes (Reserve quota)) line = IsOfQuota (codes "RESERVE") line quota
+Asks-so (Makes (Ask depth board side)) line = IsAskLine line depth board
+Asks-so (Makes (Get job)) line = IsOfNumber (codes "GET") line job
+Asks-so (Makes (Wait job)) line = IsOfNumber (codes "WAIT") line job
+Asks-so (Makes (Cancel job)) line = IsOfNumber (codes "CANCEL") line job
+Asks-so (Makes AskQuota) line = line ≡ Whole (codes "QUOTA")
+Asks-so (Makes AskLive) line = line ≡ Whole (codes "LIVE")
+Asks-so (Makes Leave) line = ⊥
+Asks-so (Tabulates job) line = IsOfNumber (codes "TABLE") line job
+Asks-so Ends line = line ≡ Whole (codes "BYE")
 
-after-words : (line first rest : List ℕ) (found : Option (List ℕ × List ℕ)) (word text : List ℕ) → line ≡ first ++ 32 ∷ rest → split_at_space rest ≡ found → form_after first rest found ≡ Some (AskOf word text) → HasWords line word text
-after-words line first rest None word text at more e = absurd ((one-none first rest).never word text e)
-after-words line first rest (Some (second, third)) word text at more e =
-    let parts = two-is first second third word text e in
-    let rest_is : rest ≡ second ++ 32 ∷ third = split-is rest second third more in
-    let begins : first ≡ codes "ASK" = parts.0 in
-    let one : second ≡ word = parts.1 in
-    let two : third ≡ text = parts.2 in
-    record { is = at ∙ rw (rest_is, begins, one, two) refl }
+within-limits : (segments nodes : ℕ) → is_within segments nodes ≡ true → IsWithinLimits (record { segments = segments; nodes = nodes })
+within-limits segments nodes e = record { some_segments = grind (arith, nat_tests); segments_within = grind (arith, nat_tests); some_nodes = grind (arith, nat_tests); nodes_within = grind (arith, nat_tests) }
 
-form-words : (line : List ℕ) (found : Option (List ℕ × List ℕ)) (word text : List ℕ) → split_at_space line ≡ found → form_by line found ≡ Some (AskOf word text) → HasWords line word text
-form-words line None word text at e = absurd ((bare-none line).never word text e)
-form-words line (Some (first, rest)) word text at e = after-words line first rest (split_at_space rest) word text (split-is line first rest at) refl e
+-- a command of a reservation
+quota-line : (call : Quota → Call) (command bytes : List ℕ) → ((quota : Quota) → IsOfQuota command (Whole bytes) quota → Asks-so (Makes (call quota)) (Whole bytes)) → (segments nodes : Option ℕ)
+    → HasTwo command bytes (λ first second. (word_number first ≡ segments) × (word_number second ≡ nodes)) → Asks-so (quota_request call (quota_of segments nodes)) (Whole bytes)
+quota-line call command bytes make None nodes reads = tt
+quota-line call command bytes make (Some segments) None reads = tt
+quota-line call command bytes make (Some segments) (Some nodes) reads =
+    elim (is_within segments nodes) as (λ b. is_within segments nodes ≡ b → Asks-so (quota_request call (if b then Some (record { segments = segments; nodes = nodes }) else None)) (Whole bytes)) [
+      | true ↦ λ inside. make (record { segments = segments; nodes = nodes }) (record { first = reads.first; second = reads.second; is = ap (λ (l : List ℕ). Whole l) reads.is; segments = reads.holds.0; nodes = reads.holds.1; within = within-limits segments nodes inside })
+      | false ↦ λ outside. tt
+    ] refl
 
-pub ask-line : (line : LineText) (depth : ℕ) (board : List Cell) (side : Side) → request true line ≡ Makes (Ask depth board side) → IsAskLine line depth board
-ask-line TooLong depth board side e = absurd cc
-ask-line (Whole bytes) depth board side e =
-    let form = by-form (form_of bytes) depth board side e in
-    let words = form-words bytes (split_at_space bytes) form.word form.text refl form.is in
-    record { word = form.word; text = form.text; is = ap (λ (l : List ℕ). Whole l) words.is; asked = form.asked; reads = form.reads; depth_is = form.depth_is; board_is = form.board_is }
+job-line : (made : ℕ → Request) (command bytes : List ℕ) → ((job : ℕ) → IsOfNumber command (Whole bytes) job → Asks-so (made job) (Whole bytes)) → (job : Option ℕ) → HasOne command bytes job → Asks-so (job_request made job) (Whole bytes)
+job-line made command bytes make None reads = tt
+job-line made command bytes make (Some job) reads = make job (record { digits = reads.word; is = ap (λ (l : List ℕ). Whole l) reads.is; number_is = reads.number })
+
+ask-by : (depth text bytes : List ℕ) (found : Result QuestionOf ProtocolFault) → bytes ≡ codes "ASK" ++ 32 ∷ (depth ++ 32 ∷ text) → question depth text ≡ found → Asks-so (ask_request found) (Whole bytes)
+ask-by depth text bytes (Ok asked) is at = record { word = depth; text = text; is = ap (λ (l : List ℕ). Whole l) is; asked = asked; reads = at; depth_is = refl; board_is = refl }
+ask-by depth text bytes (Err fault) is at = tt
+
+seated-line : (form : Form) (bytes : List ℕ) → Reads form bytes → Asks-so (seated_request form) (Whole bytes)
+seated-line (HelloOf segments nodes) bytes reads = tt
+seated-line (ReserveOf segments nodes) bytes reads = quota-line Reserve (codes "RESERVE") bytes (λ quota is. is) segments nodes reads
+seated-line (AskOf depth text) bytes reads =
+    let is : bytes ≡ codes "ASK" ++ 32 ∷ (depth ++ 32 ∷ text) = rw (← reads.holds.0, ← reads.holds.1) reads.is in
+    ask-by depth text bytes (question depth text) is refl
+seated-line (GetOf job) bytes reads = job-line (λ k. Makes (Get k)) (codes "GET") bytes (λ k is. is) job reads
+seated-line (WaitOf job) bytes reads = job-line (λ k. Makes (Wait k)) (codes "WAIT") bytes (λ k is. is) job reads
+seated-line (CancelOf job) bytes reads = job-line (λ k. Makes (Cancel k)) (codes "CANCEL") bytes (λ k is. is) job reads
+seated-line (TableOf job) bytes reads = job-line Tabulates (codes "TABLE") bytes (λ k is. is) job reads
+seated-line QuotaForm bytes reads = ap (λ (l : List ℕ). Whole l) reads
+seated-line LiveForm bytes reads = ap (λ (l : List ℕ). Whole l) reads
+seated-line ByeForm bytes reads = ap (λ (l : List ℕ). Whole l) reads
+
+early-line : (form : Form) (bytes : List ℕ) → Reads form bytes → Asks-so (early_request form) (Whole bytes)
+early-line (HelloOf segments nodes) bytes reads = quota-line Hello (codes "HELLO") bytes (λ quota is. is) segments nodes reads
+early-line (ReserveOf segments nodes) bytes reads = tt
+early-line (AskOf depth text) bytes reads = tt
+early-line (GetOf job) bytes reads = tt
+early-line (WaitOf job) bytes reads = tt
+early-line (CancelOf job) bytes reads = tt
+early-line (TableOf job) bytes reads = tt
+early-line QuotaForm bytes reads = tt
+early-line LiveForm bytes reads = tt
+early-line ByeForm bytes reads = ap (λ (l : List ℕ). Whole l) reads
+
+form-line : (seated : Bool) (bytes : List ℕ) (found : Option Form) → form_of bytes ≡ found → Asks-so (form_request seated found) (Whole bytes)
+form-line seated bytes None at = tt
+form-line true bytes (Some form) at = seated-line form bytes (reads-by bytes (split_at_space bytes) form refl at)
+form-line false bytes (Some form) at = early-line form bytes (reads-by bytes (split_at_space bytes) form refl at)
+
+-- each line reads as what it asks for says
+pub line-asks : (seated : Bool) (line : LineText) → Asks-so (request seated line) line
+line-asks seated TooLong = tt
+line-asks seated (Whole bytes) = form-line seated bytes (form_of bytes) refl

@@ -11,9 +11,9 @@ use Rattle.session.specs.DoneLines.{TrueSession}
 use Rattle.session.proofs.DoneLemmas.{each_done}
 
 -- calls through which the asks are led are true
-all_true : (asks : List Asked) (made : List (Call × OfficeReply)) (asks' : List Asked) → Leads (Called KeepsAsks) asks made asks' → AllTrue asks made
+pub all_true : (asks : List Asked) (made : List (Call × OfficeReply)) (asks' : List Asked) → Leads (Called KeepsAsks) asks made asks' → AllTrue asks made
 all_true asks [] asks' h = tt
-all_true asks (made ∷ more) asks' h = (h.1.1, all_true (asks_after asks made.0 made.1) more asks' (subst (λ z. Leads (Called KeepsAsks) z more asks') h.1.0 h.2), h.1.2)
+all_true asks (made ∷ more) asks' h = (h.1.1, all_true (asks_after asks made.0 made.1) more asks' (subst (λ z. Leads (Called KeepsAsks) z more asks') h.1.0 h.2), h.1.2, h.1.3)
 
 module _ {O : Type 0} (does : O → Call → OfficeReply → O → Type 0) (asks : O → List Asked) (keeps : (from : O) (call : Call) (reply : OfficeReply) (to : O) → does from call reply to → KeepsAsks (asks from) call reply (asks to)) where
   -- a chain of calls, seen by the asks of its states

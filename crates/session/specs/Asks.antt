@@ -1,12 +1,13 @@
--- Meaning: an office that keeps what its tenant asked for, and shows the values of just that.
-use Rattle.std.specs.Prelude.{◌≡◌, ℕ, ◌+◌, ◌-◌, ◌==◌, List, [], ◌∷◌, ◌++◌, length, Option, Some, None, if◌then◌else◌, Contains}
+-- Meaning: an office that replies to each call in its own kind, keeps what its tenant asked for, and shows the values of just that.
+use Rattle.std.specs.Prelude.{◌≡◌, ◌⊎◌, ℕ, ◌+◌, ◌-◌, ◌==◌, List, [], ◌∷◌, ◌++◌, length, Option, Some, None, if◌then◌else◌, Contains}
 use Rattle.othello_board.specs.declared.cells.Cell.{Cell}
 use Rattle.othello_eval.specs.Minimax.{minimax, best_choice}
 use Rattle.othello_eval.specs.Tables.{IsTable}
+use Rattle.position_text.specs.declared.positions.Side.{Side}
 use Rattle.session.specs.declared.standings.Analysis.{Analysis}
 use Rattle.session.specs.declared.standings.Standing.{Standing}
 use Rattle.session.specs.declared.standings.Standing.TheVariants.{Done}
-use Rattle.session.specs.Calls.{Call, Hello, Reserve, Ask, Get, Wait, Cancel, AskQuota, AskLive, Leave, OfficeReply, Welcome, Job, Told, Gone, Refused}
+use Rattle.session.specs.Calls.{Call, Hello, Reserve, Ask, Get, Wait, Cancel, AskQuota, AskLive, Leave, OfficeReply, Welcome, Reserved, Job, Told, Ended, Rest, Alive, Gone, Refused}
 
 -- a board, and the depth to which its value was asked for
 pub record Asked : Type 0 where
@@ -76,13 +77,31 @@ IsRefusedWhere asks AskQuota reply = RefusedBy (1 ∷ []) reply
 IsRefusedWhere asks AskLive reply = RefusedBy (1 ∷ []) reply
 IsRefusedWhere asks Leave reply = reply ≡ Gone
 
+-- the call asks for the value of a position to a depth
+abbrev pub IsAsk : Call → Type 0
+IsAsk call = (depth : ℕ) × (board : List Cell) × (side : Side) × (call ≡ Ask depth board side)
+
+-- a reply is one to this call: what is welcomed or reserved is what the call said, a job that is told or has ended is
+-- the one that the call named, and each other call has a kind of reply of its own. Any call but Leave may be refused
+-- (IsRefusedWhere)
+abbrev pub IsReplyTo : Call → OfficeReply → Type 0
+IsReplyTo call (Welcome quota) = call ≡ Hello quota
+IsReplyTo call (Reserved quota) = call ≡ Reserve quota
+IsReplyTo call (Job number) = IsAsk call
+IsReplyTo call (Told job standing) = (call ≡ Get job) ⊎ (call ≡ Wait job)
+IsReplyTo call (Ended job) = call ≡ Cancel job
+IsReplyTo call (Rest left) = call ≡ AskQuota
+IsReplyTo call (Alive live) = call ≡ AskLive
+IsReplyTo call Gone = call ≡ Leave
+IsReplyTo call (Refused number) = Unit {0}
+
 -- what a call of an office that keeps its asks may reply, by the asks before and after it
 abbrev pub KeepsAsks : List Asked → Call → OfficeReply → List Asked → Type 0
-KeepsAsks asks call reply asks' = (asks' ≡ asks_after asks call reply) × SaysTrue asks reply × IsRefusedWhere asks call reply
+KeepsAsks asks call reply asks' = (asks' ≡ asks_after asks call reply) × SaysTrue asks reply × IsRefusedWhere asks call reply × IsReplyTo call reply
 
 -- these calls and replies are true, in order: each ASK that is answered by JOB gets the next number, each job shown as
--- done has the minimax value, the best choice and a table of what was asked under its number, and refusals are as
--- IsRefusedWhere says
+-- done has the minimax value, the best choice and a table of what was asked under its number, refusals are as
+-- IsRefusedWhere says, and each reply is one to its call
 abbrev pub AllTrue : List Asked → List (Call × OfficeReply) → Type 0
 AllTrue asks [] = Unit {0}
-AllTrue asks (made ∷ more) = SaysTrue asks made.1 × AllTrue (asks_after asks made.0 made.1) more × IsRefusedWhere asks made.0 made.1
+AllTrue asks (made ∷ more) = SaysTrue asks made.1 × AllTrue (asks_after asks made.0 made.1) more × IsRefusedWhere asks made.0 made.1 × IsReplyTo made.0 made.1

@@ -1,20 +1,29 @@
 -- Meaning: what is done for the words of a command line whose command is solve, and the exit status.
 use Rattle.std.specs.Prelude.{◌≡◌, ◌≤◌, ℕ, List, Bool, true, false, [], Option, Some, Result, Ok, Err}
 use Rattle.clap.specs.Words.{Text, fault_of}
+use Rattle.clap.specs.declared.error.kind.ErrorKind.{ErrorKind}
 use Rattle.line_io.specs.declared.faults.LineFault.{LineFault}
 use Rattle.line_io.specs.Streams.{ReadAnswer, WriteAnswer}
 use Rattle.solve_engine.specs.Solving.{SolvedRun, VisitedRun}
 use Rattle.command_line.specs.declared.options.Options.{Options}
 use Rattle.command_line.specs.declared.options.Options.TheVariants.{Serve, Solve}
 use Rattle.command_line.specs.declared.faults.WordsFault.{WordsFault}
-use Rattle.command_line.specs.CommandLine.{options_asked, program}
-use Rattle.command_line.specs.Faults.{IsRefusal, status_of}
+use Rattle.command_line.specs.CommandLine.{options_asked, program, solve_options_asked, solve_program}
+use Rattle.command_line.specs.Faults.{IsRefusalOf, status_of}
 
--- what the words of a command line are read as: what they ask for, where they have no fault; or they are refused,
--- for a fault that they have or for want of memory
+-- what the words of a command line are read as, by the faults that are found in them and what they ask for: that,
+-- where they have no fault; or they are refused, for a fault that they have or for want of memory
+abbrev pub IsReadBy : List ErrorKind → Option Options → Result Options WordsFault → Type 0
+IsReadBy found asked (Ok options) = (asked ≡ Some options) × (found ≡ [])
+IsReadBy found asked (Err fault) = IsRefusalOf found asked fault
+
+-- what the words of a command line are read as by the program that has all commands
 abbrev pub IsReadOf : List Text → Result Options WordsFault → Type 0
-IsReadOf words (Ok options) = (options_asked words ≡ Some options) × (fault_of program words ≡ [])
-IsReadOf words (Err fault) = IsRefusal words fault
+IsReadOf words read = IsReadBy (fault_of program words) (options_asked words) read
+
+-- what the words are read as by the program that has `solve` alone
+abbrev pub IsSolveReadOf : List Text → Result Options WordsFault → Type 0
+IsSolveReadOf words read = IsReadBy (fault_of solve_program words) (solve_options_asked words) read
 
 -- the exit status of a run: 0 where the input has ended, 1 where it or the output failed
 abbrev pub status_of_run : Result (Unit {0}) LineFault → ℕ
@@ -29,8 +38,8 @@ module _ {S K : Type 0} (gives : S → ReadAnswer → S → Type 0) (takes : K �
   IsAnsweredRun true r = VisitedRun gives takes source sink source' sink' r
 
   -- what a program without a server does for the words, and its exit status: `solve` answers the input's lines.
-  -- Nothing is read where the words are refused (the fault's status) or ask for a server (status 1)
+  -- Nothing is read where the words are refused (the fault's status). They ask for no server
   abbrev pub IsSolvedAsAsked : Result Options WordsFault → ℕ → Type 0
   IsSolvedAsAsked (Ok (Solve grain visited)) status = (r : Result (Unit {0}) LineFault) × IsAnsweredRun visited r × (status ≡ status_of_run r)
-  IsSolvedAsAsked (Ok (Serve sessions port workers segments nodes grain)) status = (source' ≡ source) × (status ≡ 1)
+  IsSolvedAsAsked (Ok (Serve sessions port workers segments nodes grain)) status = ⊥
   IsSolvedAsAsked (Err fault) status = (source' ≡ source) × (status ≡ status_of fault)

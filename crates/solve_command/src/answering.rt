@@ -3,7 +3,7 @@ ghost use Rattle.std.specs.Prelude.{◌≡◌, ◌≤◌, map, Ok, Result};
 ghost use Rattle.line_io.specs.declared.faults.LineFault.{LineFault};
 ghost use Rattle.command_line.specs.declared.options.Options.{Options};
 ghost use Rattle.command_line.specs.declared.faults.WordsFault.{WordsFault};
-ghost use Rattle.solve_command.specs.Answering.{IsAnsweredRun, IsReadOf, IsSolvedAsAsked, status_of_run};
+ghost use Rattle.solve_command.specs.Answering.{IsAnsweredRun, IsSolveReadOf, IsSolvedAsAsked, status_of_run};
 
 use crate::saying::{refuse, say};
 use crate::streams::{Input, Output, Streams};
@@ -21,27 +21,22 @@ const KEPT: usize = 16 << 20;
 /// What `solve` writes on the errors at its start where the input is a terminal.
 const HINT: &str = "reading lines `depth position`; `othello solve --help` explains them";
 
-/// What `run_solve` writes on the errors where a server is asked for.
-const NO_SERVER: &str = "this program has the command `solve` alone";
-
-/// Does what the words of the command line ask for, and returns the exit status: 0 where all went well, 1 where the
-/// input or the output failed, a server is asked for, or there was no memory to read the words, 2 where the words are
-/// refused. No server is run. Answers, help and the version go to the output, and all else that there is to say to the
-/// errors. The status stays the same where a text of help or of refusal can't be written.
+/// Does what the words of the command line ask for, in a program that has the command `solve` alone, and returns the
+/// exit status: 0 where all went well, 1 where the input or the output failed or there was no memory to read the words, 2
+/// where the words are refused, as those that ask for a server are. Answers, help and the version go to the output, and
+/// all else that there is to say to the errors. The status stays the same where a text of help or of refusal can't be
+/// written.
 pub fn run_solve<T: AsStr, S: Input, K: Output, E: Sink>(
     alloc: Global,
     words: &[T],
     streams: &mut Streams<S, K, E>,
 ) -> u8
-    ensures { (asked : Result Options WordsFault) × IsReadOf (map T.text words.now) asked
+    ensures { (asked : Result Options WordsFault) × IsSolveReadOf (map T.text words.now) asked
         × IsSolvedAsAsked S.gives K.takes streams.old.source streams.old.sink streams.new.source streams.new.sink asked result }
 {
-    match Options::read(alloc, words) {
+    match Options::read_solve(alloc, words) {
         Ok(Options::Solve { grain, visited }) => answer(alloc, grain, visited, streams),
-        Ok(Options::Serve { .. }) => {
-            say(&mut streams.errors, NO_SERVER);
-            EXIT_FAILED
-        }
+        Ok(Options::Serve { .. }) => unreachable!(),
         Err(fault) => refuse(&fault, &mut streams.sink, &mut streams.errors),
     }
 }

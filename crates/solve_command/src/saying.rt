@@ -13,7 +13,7 @@ pub fn refuse<K: Sink, E: Sink>(fault: &WordsFault, sink: &mut K, errors: &mut E
     ensures { result ≡ status_of fault.now }
 {
     match fault {
-        WordsFault::OutOfMemory => say(errors, "no memory to read the command line"),
+        WordsFault::OutOfMemory => say(errors, fault),
         WordsFault::Refused(error) if error.use_stderr() => put(errors, error),
         WordsFault::Refused(error) => put(sink, error),
     }

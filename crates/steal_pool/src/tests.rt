@@ -130,7 +130,7 @@ fn play_on<L: Hands + Send + Sync, S: Scenario, G: Gate + Sync, R: Threads + Wai
         content,
         share,
         tasks: [end.pushed, end.taken, end.left],
-        whole,
+        whole: whole.is_some(),
         free: hall.core().free_segments(),
     })
 }

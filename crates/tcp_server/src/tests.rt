@@ -325,8 +325,8 @@ where
         { serve(rt, alloc, &desk, listener, server, &Open) },
     );
     let PoolEnd { badge, .. } = served?;
-    let (_, is_whole) = desk.into_hall(badge);
-    agreed(told?, is_whole)
+    let (_, whole) = desk.into_hall(badge);
+    agreed(told?, whole.is_some())
 }
 
 /// The same with a blank of its own.

@@ -277,8 +277,11 @@ fn has_ended<L: Hands, R: Wait + Abort>(
 )
     requires { L.all ≡ L.parts }
 {
-    let (hall, is_whole) = desk.into_hall(badge);
-    assert_eq!(rt; (hall.count(), hall.kept(), hall.gone(), is_whole), end);
+    let (hall, whole) = desk.into_hall(badge);
+    assert_eq!(rt;
+        (hall.count(), hall.kept(), hall.gone(), whole.is_some()),
+        end
+    );
 }
 
 /// A tenant's first job, which is done: its seat, and the badge of the worker of this number.

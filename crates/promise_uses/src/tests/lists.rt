@@ -109,7 +109,11 @@ impl Recorded {
     }
 
     /// This list and another one, in a core of 64 segments and nodes.
-    fn beside(&self, alloc: Global, other: &Recorded) -> Result<(After<Global>, After<Global>), Fail> {
+    fn beside(
+        &self,
+        alloc: Global,
+        other: &Recorded,
+    ) -> Result<(After<Global>, After<Global>), Fail> {
         Ok(nine_is_undisturbed(
             alloc,
             grain_1()?,
@@ -122,13 +126,7 @@ impl Recorded {
 
     /// This list, and what is tenant 7's alone.
     fn alone(&self, alloc: Global, own: &Recorded) -> Result<(After<Global>, After<Global>), Fail> {
-        Ok(seven_alone(
-            alloc,
-            grain_1()?,
-            totals(128)?,
-            &self.steps,
-            &own.steps,
-        )?)
+        Ok(seven_alone(alloc, grain_1()?, totals(128)?, &self.steps, &own.steps)?)
     }
 }
 

@@ -81,7 +81,7 @@ fn not_run<L: Hands + Send + Sync, R: Threads + Wait + Sync>(
 fn free_at<L: Hands>(desk: Desk<L>, badge: Badge<L>) -> usize
     requires { L.all ≡ L.parts }
 {
-    let (hall, _is_whole) = desk.into_hall(badge);
+    let (hall, _whole) = desk.into_hall(badge);
     hall.core().free_segments()
 }
 

@@ -3,8 +3,9 @@ use Rattle.definition_laws.proofs.answering.answering.Goals as goal
 
 pub returns : goal.returns
 returns g c = record {
-  is_read_of_ok = λ words options is. is;
-  is_read_of_err = λ words fault is. is;
+  is_read_by_ok = λ found asked options is. is;
+  is_read_by_err = λ found asked fault is. is;
+  is_solve_read_of = λ words read is. is;
   status_of_run_ok = λ it. refl;
   status_of_run_err = λ it. refl;
   is_answered_run_false = λ source sink source' sink' r is. is;

@@ -27,5 +27,14 @@ returns c = record {
   is_refused_where_ask_quota = λ asks reply is. is;
   is_refused_where_ask_live = λ asks reply is. is;
   is_refused_where_leave = λ asks reply is. is;
+  is_ask = λ call is. is;
+  is_reply_to_welcome = λ call quota is. is;
+  is_reply_to_reserved = λ call quota is. is;
+  is_reply_to_job = λ call number is. is;
+  is_reply_to_told = λ call job standing is. is;
+  is_reply_to_ended = λ call job is. is;
+  is_reply_to_rest = λ call left is. is;
+  is_reply_to_alive = λ call live is. is;
+  is_reply_to_gone = λ call is. is;
   keeps_asks = λ asks call reply asks' is. is;
 }

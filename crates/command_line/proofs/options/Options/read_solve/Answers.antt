@@ -1,0 +1,36 @@
+use Rattle.std.proofs.Common.{◌≡◌, true, refl, sym, ap, ◌∙◌, map}
+use Rattle.clap.specs.Words.{fault_of, is_simple, is_simple_and_free, subcommand_of}
+use Rattle.clap.proofs.OnLiterals.{clap_on_literals}
+use Rattle.command_line.specs.CommandLine.{solve_asked_of, solve_options_asked, solve_program}
+use Rattle.command_line.proofs.FaultLemmas.{refused_outside}
+use Rattle.command_line.proofs.options.Options.read_solve.Goals as goal
+
+simple : is_simple solve_program ≡ true
+unfolding clap_on_literals
+simple = refl
+
+free : is_simple_and_free solve_program ≡ true
+unfolding clap_on_literals
+free = refl
+
+pub returns-in-Ok-solve_options_of-clause-read : goal.returns-in-Ok-solve_options_of-clause-read
+returns-in-Ok-solve_options_of-clause-read g c =
+    let words = map g.S.AsStr.text c.args.words.now in
+    let program_is = c.in-Ok.ensures in
+    let parse = c.in-Ok-try_get_matches_from.ensures.matches (ap is_simple program_is ∙ simple) in
+    sym (ap solve_asked_of (parse.1 ∙ ap (λ a. subcommand_of a words) program_is)) ∙ c.in-Ok-solve_options_of.ensures.asked
+
+pub returns-in-Ok-solve_options_of-clause-faultless : goal.returns-in-Ok-solve_options_of-clause-faultless
+returns-in-Ok-solve_options_of-clause-faultless g c =
+    let words = map g.S.AsStr.text c.args.words.now in
+    let program_is = c.in-Ok.ensures in
+    sym (ap (λ a. fault_of a words) program_is) ∙ c.in-Ok-try_get_matches_from.ensures.kinds (ap is_simple_and_free program_is ∙ free)
+
+pub returns-in-Ok-try_get_matches_from-clause-refused : goal.returns-in-Ok-try_get_matches_from-clause-refused
+returns-in-Ok-try_get_matches_from-clause-refused g c =
+    let words = map g.S.AsStr.text c.args.words.now in
+    let program_is = c.in-Ok.ensures in
+    let parse = c.in-Ok-try_get_matches_from.ensures.matches (ap is_simple program_is ∙ simple) in
+    let faultless = sym (ap (λ a. fault_of a words) program_is) ∙ c.in-Ok-try_get_matches_from.ensures.kinds (ap is_simple_and_free program_is ∙ free) in
+    let none = sym (ap solve_asked_of (parse.1 ∙ ap (λ a. subcommand_of a words) program_is)) ∙ c.in-Err-solve_options_of.ensures.none in
+    refused_outside (fault_of solve_program words) (solve_options_asked words) c.outside.result faultless none c.outside.ensures
