@@ -52,10 +52,6 @@ ready_one = (1, tenant_with_root (Ready 0))
 abbrev pub running_two : ℕ × Tenant
 running_two = (2, tenant_with_root (Running 5))
 
--- a tenant with a number above the newest of `core_with`, which no tenant can have there
-abbrev pub untaken_three : ℕ × Tenant
-untaken_three = (3, tenant_with_root (Ready 0))
-
 -- tenant 1, whose root is ready in the hall, and tenant 2, whose root worker 5 runs
 abbrev pub two_tenants : Shared
 two_tenants = core_with (ready_one ∷ running_two ∷ [])

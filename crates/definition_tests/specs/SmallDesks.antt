@@ -1,13 +1,8 @@
 -- Representation: seats, and what lies under the lock, on which the definitions are tried.
-use Rattle.std.specs.Prelude.{ℕ, Bool, []}
+use Rattle.std.specs.Prelude.{Bool, []}
 use Rattle.sched_rules.specs.Cores.{Shared}
-use Rattle.desk.specs.Seats.{SeatOf}
 use Rattle.desk.specs.Counts.{KeptOf}
 use Rattle.definition_tests.specs.SmallHalls.{hall_with}
-
--- the seat of tenant 1 with this share of the taken steps, which has asked for nothing
-abbrev pub seat_with : ℕ → SeatOf
-seat_with share = record { tenant = 1; share = share; asked = [] }
 
 -- what lies under a desk's lock: a hall whose core holds this, without journals, and whether the desk is closed;
 -- no worker sleeps, and no badge was given

@@ -1,8 +1,6 @@
 -- Representation: frames of a search of the opening to depth 1, each of whose four moves (d3, c4, f5, e6) is worth -3, and frames under it.
 use Rattle.std.specs.Prelude.{ℕ, ℤ, pos, List, [], ◌∷◌}
-use Rattle.leaf_search.specs.othello_eval.declared.bound.BoundKind.{BoundKind}
 use Rattle.jamboree_rules.specs.Frames.{Frame, role_root, status_settled, least, greatest}
-use Rattle.jamboree_rules.specs.Places.{rest_with}
 
 -- the root with this window, phase, best score and code of a choice, and with these statuses and rests of its
 -- entries
@@ -28,10 +26,6 @@ none_settled = 0 ∷ 0 ∷ 0 ∷ 0 ∷ []
 -- the rests of the four entries where nothing is known of any choice
 abbrev pub nothing_found : List ℕ
 nothing_found = 0 ∷ 0 ∷ 0 ∷ 0 ∷ []
-
--- the rests of the four entries where this is known of c4, and nothing of the others
-abbrev pub found_of_c4 : BoundKind → ℤ → List ℕ
-found_of_c4 kind score = 0 ∷ rest_with kind score ∷ 0 ∷ 0 ∷ []
 
 -- a child of the root, with the words of a board, a depth, a window, its role, the number of its choice and its
 -- phase

@@ -2,17 +2,9 @@
 //! the four moves (d3, c4, f5, e6, of codes 19, 26, 37, 44) is worth -3.
 ghost use Rattle.std.specs.Prelude.{[], ◌∷◌, pos, negsuc};
 ghost use Rattle.leaf_search.specs.Bounds.{IsBound};
-ghost use Rattle.leaf_search.specs.othello_eval.declared.bound.BoundKind.TheVariants.{Low, High, Exact};
 ghost use Rattle.jamboree_rules.specs.Frames.{phase_new, phase_first, phase_tests, phase_done, role_root, role_first_child, role_test, role_again, least, greatest};
 ghost use Rattle.jamboree_rules.specs.Sound.{IsSound, HasGoal, HasWindow};
-ghost use Rattle.definition_tests.specs.SmallSearches.{opening_root, full_root, d3_settled, two_settled, none_settled, nothing_found, found_of_c4, below_it, after_d3};
-
-/// A search that goes on: its best score is below beta, and no settled choice is worth more.
-pub fn scores_that_are_not_sound()
-    ensures below { IsSound (opening_root least (negsuc 2) phase_tests (negsuc 2) 19 d3_settled nothing_found) [] → ⊥ }
-    ensures settled { IsSound (opening_root (pos 0) greatest phase_tests (negsuc 3) 65 d3_settled nothing_found) [] → ⊥ }
-    ensures settled_first { IsSound (opening_root (pos 0) greatest phase_first (negsuc 3) 65 d3_settled nothing_found) [] → ⊥ }
-{}
+ghost use Rattle.definition_tests.specs.SmallSearches.{opening_root, full_root, d3_settled, two_settled, none_settled, nothing_found, below_it, after_d3};
 
 /// A best score above alpha is named by the first choice that is worth it: it is worth just that, it is
 /// settled, no earlier choice is worth as much, and it is the choice that is kept.
@@ -38,14 +30,6 @@ pub fn bounds_that_are_none()
     ensures upper { IsBound (pos 0) (pos 9) (pos 0) (pos 1) → ⊥ }
     ensures lower { IsBound (pos 0) (pos 9) (pos 9) (pos 8) → ⊥ }
     ensures exact { IsBound (pos 0) (pos 9) (pos 5) (pos 6) → ⊥ }
-{}
-
-/// What is found of a choice is true in every phase: c4 is worth -3, so not at most -4, not at least -2, and
-/// not -4.
-pub fn entries_that_are_not_true()
-    ensures low { IsSound (full_root phase_new (negsuc 999999) 65 none_settled (found_of_c4 Low (negsuc 3))) [] → ⊥ }
-    ensures high { IsSound (full_root phase_done (negsuc 2) 19 two_settled (found_of_c4 High (negsuc 1))) [] → ⊥ }
-    ensures exact { IsSound (full_root phase_tests (negsuc 2) 19 two_settled (found_of_c4 Exact (negsuc 3))) [] → ⊥ }
 {}
 
 /// A child is sought while its parent searches, for one of its choices, at the board after that, less deep by

@@ -1,10 +1,10 @@
 //! Definitions that promises rest on, each tried on an instance that is wrong in one of its parts.
 //!
 //! Every contract here is computed from the definitions alone: a wrong answer to a step, a frame whose
-//! numbers say too much, a line that bears another value. It derives ⊥, or what a reader may conclude, from
-//! just one part of a definition, so that a part that is left out or made trivial is refused here. Where a
-//! promise's part is needed by a law already, no row is added (`docs/DEFINITIONS.md` has the table). The crate
-//! has no value of its own: each function does nothing, and its contract is the row.
+//! numbers say too much, a line that bears another value. It derives ⊥, or what a reader may conclude: rows are
+//! wrong instances that people would think of. That no part of a definition is left out or made trivial is
+//! shown by the general laws of `definition_laws`. The crate has no value of its own: each function does nothing,
+//! and its contract is the row.
 //!
 //! ```text
 //! // worker 5 runs a frame of tenant 2, so its Steal for tenant 1 isn't taken

@@ -1,8 +1,6 @@
 //! What a list of searches on a new core comes to, where its only Submit asked for the opening to depth 1,
 //! which is worth -3.
 ghost use Rattle.std.specs.Prelude.{◌≡◌, ℕ, List, [], ◌∷◌, negsuc, slice_index, Some, Result, Ok};
-ghost use Rattle.othello_board.specs.Words.{cells_of};
-ghost use Rattle.othello_eval.specs.Tables.{IsTable};
 ghost use Rattle.frame_tree.specs.declared.names.State.TheVariants.{Ready};
 ghost use Rattle.sched_rules.specs.declared.job.Job.TheVariants.{Done};
 ghost use Rattle.sched_rules.specs.declared.refusal.Refusal.{Refusal};
@@ -16,10 +14,8 @@ ghost use Rattle.sched_rules.specs.Cores.{Shared, tenant_in};
 ghost use Rattle.sched_rules.specs.Headline.{taken};
 ghost use Rattle.jamboree_rules.specs.declared.leaf.Leaf.{Leaf};
 ghost use Rattle.jamboree_rules.specs.declared.leaf.LeafAnswer.{LeafAnswer};
-ghost use Rattle.jamboree_rules.specs.Places.{frame_of, score_of};
-ghost use Rattle.jamboree_rules.specs.Entries.{bounds_of};
+ghost use Rattle.jamboree_rules.specs.Places.{score_of};
 ghost use Rattle.jamboree_core.specs.sched_laws.Fitted.{origins_of};
-ghost use Rattle.jamboree_core.specs.Replies.{IsReplyTo};
 ghost use Rattle.jamboree_core.specs.NewRuns.{IsHeadlineFromNew};
 ghost use Rattle.jamboree_core.specs.Rows.{asked, few};
 ghost use Rattle.definition_tests.specs.SmallSearches.{at_its_beta};
@@ -37,14 +33,6 @@ pub fn what_a_new_core_comes_to()
         → IsHeadlineFromNew 0 few steps answers after → tenant_in after.tenants 1 ≡ Some tenant
         → tenant.frames ≡ (record { serial = 1; path = 1 ∷ []; state = Ready 0; value = at_its_beta }) ∷ [] → ⊥ }
     ensures steps { (after : Shared) → IsHeadlineFromNew 0 few (Leave 1 ∷ []) (Ok Left ∷ []) after → ⊥ }
-{}
-
-/// A reply is to the board and the depth that were asked, and holds a table of them.
-pub fn what_a_reply_is_to()
-    ensures own { (words : List ℕ) → IsReplyTo asked words → slice_index words 0 ≡ 34628173824 }
-    ensures opp { (words : List ℕ) → IsReplyTo asked words → slice_index words 1 ≡ 68853694464 }
-    ensures depth { (words : List ℕ) → IsReplyTo asked words → slice_index words 2 ≡ 1 }
-    ensures table { (words : List ℕ) → IsReplyTo asked words → IsTable 1 (cells_of 34628173824 68853694464) (bounds_of (frame_of words)) }
 {}
 
 /// What a tenant asked for is what its own Submits carried, and no other tenant's.

@@ -1,7 +1,6 @@
 //! What `solve` has read and written where it succeeds: the answers to all lines, and nothing else.
 ghost use Rattle.std.specs.Prelude.{◌≡◌, ◌⊎◌, [], ◌∷◌, ◌++◌, codes, Ok};
 ghost use Rattle.std.specs.List.{concat};
-ghost use Rattle.line_io.specs.Runs.{IsBegun};
 ghost use Rattle.solve_engine.specs.Solving.{SolvedRun};
 ghost use Rattle.definition_tests.specs.SmallSessions.{counts_reads, counts_writes};
 
@@ -12,10 +11,4 @@ pub fn solved_runs()
     ensures fault { (is : SolvedRun counts_reads counts_writes 0 0 2 1 (Ok tt)) → is.1.blocks ≡ (codes "x Z" ++ 10 ∷ []) ∷ [] → concat is.1.pieces ≡ codes "ERR 23" ++ 10 ∷ [] }
     ensures value { (is : SolvedRun counts_reads counts_writes 0 0 2 1 (Ok tt)) → is.1.blocks ≡ (codes "1 XO-------------------------------------------------------------- O" ++ 10 ∷ []) ∷ []
         → (concat is.1.pieces ≡ codes "-6000 pass" ++ 10 ∷ []) ⊎ (concat is.1.pieces ≡ codes "ERR 19" ++ 10 ∷ []) }
-{}
-
-/// After a failed write something is left of what was due, and what was written is its beginning.
-pub fn outputs_that_are_cut()
-    ensures whole { IsBegun (codes "-3 d3") (codes "-3 d3") → ⊥ }
-    ensures other { IsBegun (codes "-4") (codes "-3 d3") → ⊥ }
 {}

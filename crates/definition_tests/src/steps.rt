@@ -1,12 +1,11 @@
 //! What a step may be answered among several tenants, and what a list of steps leaves: tenant 1's root is
 //! ready in the hall, and worker 5 runs tenant 2's.
-ghost use Rattle.std.specs.Prelude.{◌≡◌, [], ◌∷◌, Ok, Err};
-ghost use Rattle.sched_rules.specs.declared.refusal.Refusal.TheVariants.{Busy, Full, NoFrame, OldTenant, OutOfMemory};
+ghost use Rattle.std.specs.Prelude.{[], ◌∷◌, Ok, Err};
+ghost use Rattle.sched_rules.specs.declared.refusal.Refusal.TheVariants.{Busy, Full, OldTenant, OutOfMemory};
 ghost use Rattle.sched_rules.specs.declared.step.DidOf.TheVariants.{Admitted, AdmittedMore, Left, Took};
 ghost use Rattle.sched_rules.specs.declared.step.StepOf.TheVariants.{Admit, AdmitMore, Leave, Steal, Submit, Take};
-ghost use Rattle.sched_rules.specs.Cores.{Shared};
-ghost use Rattle.sched_rules.specs.Headline.{AreAnswersTo, IsAnswerTo, IsHeadline, IsOneStep, IsUndisturbed};
-ghost use Rattle.definition_tests.specs.SmallCores.{core_with, going_on, quota, ready_one, root_of_tenant, two_tenants, untaken_three};
+ghost use Rattle.sched_rules.specs.Headline.{AreAnswersTo, IsAnswerTo};
+ghost use Rattle.definition_tests.specs.SmallCores.{going_on, quota, root_of_tenant, two_tenants};
 
 /// A step that its tenant alone is refused is refused by that number; one that meets a busy worker by Busy;
 /// any other is taken, and not refused for want of memory.
@@ -30,32 +29,10 @@ pub fn answers_to_an_admission()
     ensures refused { IsAnswerTo going_on two_tenants (Admit 2 (quota 4 8)) (Err OldTenant) }
 {}
 
-/// One call answers its step rightly, and leaves what the answer leaves: a refused step changes nothing, and
-/// a Leave takes its own tenant away.
-pub fn one_call()
-    ensures answered { (after : Shared) → IsOneStep going_on two_tenants (Take 1 (record { tenant = 1; serial = 9 })) (Err Busy) after → ⊥ }
-    ensures refused { IsOneStep going_on two_tenants (Take 1 (record { tenant = 1; serial = 9 })) (Err NoFrame) (core_with []) → ⊥ }
-    ensures left { (after : Shared) → IsOneStep going_on two_tenants (Leave 2) (Ok Left) after → after ≡ core_with (ready_one ∷ []) }
-{}
-
 /// Answers to a list: as many as steps, each right where the steps before it left the core.
 pub fn answers_to_a_list()
     ensures fewer { AreAnswersTo going_on two_tenants (Leave 1 ∷ []) [] → ⊥ }
     ensures more { AreAnswersTo going_on two_tenants [] (Ok Left ∷ []) → ⊥ }
     ensures first { AreAnswersTo going_on two_tenants (Take 1 (record { tenant = 1; serial = 9 }) ∷ Leave 1 ∷ []) (Ok Took ∷ Ok Left ∷ []) → ⊥ }
     ensures second { AreAnswersTo going_on two_tenants (Leave 1 ∷ Leave 1 ∷ []) (Ok Left ∷ Ok Left ∷ []) → ⊥ }
-{}
-
-/// A tenant that isn't disturbed is what its own taken steps give, and was told what they give.
-pub fn an_undisturbed_tenant()
-    ensures state { IsUndisturbed going_on two_tenants (Leave 2 ∷ []) (Ok Left ∷ []) (core_with []) 1 → ⊥ }
-    ensures replies { (after : Shared) → IsUndisturbed going_on (core_with []) (Admit 3 (quota 4 8) ∷ []) (Ok Left ∷ []) after 3 → ⊥ }
-{}
-
-/// The headline of a list: no tenant is disturbed (here one whose number was never taken is admitted again),
-/// no answer is wrong, and the core is what the answers leave.
-pub fn a_headline()
-    ensures undisturbed { (after : Shared) → IsHeadline going_on (core_with (untaken_three ∷ [])) (Admit 3 (quota 4 8) ∷ []) (Ok Admitted ∷ []) after → ⊥ }
-    ensures refused { IsHeadline going_on two_tenants (Take 1 (record { tenant = 1; serial = 9 }) ∷ []) (Err Busy ∷ []) two_tenants → ⊥ }
-    ensures left { IsHeadline going_on two_tenants [] [] (record two_tenants { newest = 9 }) → ⊥ }
 {}

@@ -1,0 +1,61 @@
+use Rattle.std.proofs.Common.{refl}
+use Rattle.definition_laws.proofs.promised.sessions.Goals as goal
+
+pub returns : goal.returns
+returns g c = record {
+  begins = λ text word. refl;
+  keep_tenant_more = λ said before is. is;
+  is_asked_as_is = λ before job depth position is. is.is;
+  is_asked_as_asks = λ before job depth position is. is.asks;
+  is_asked_as_same = λ before job depth position is. is.same;
+  is_of_number_is = λ word line number is. is.is;
+  is_of_number_number_is = λ word line number is. is.number_is;
+  is_of_quota_is = λ word line quota is. is.is;
+  is_of_quota_segments = λ word line quota is. is.segments;
+  is_of_quota_nodes = λ word line quota is. is.nodes;
+  is_of_quota_within = λ word line quota is. is.within;
+  is_question_line_is = λ line is. is.is;
+  is_question_line_asks = λ line is. is.asks;
+  is_about_line_is = λ commands line job is. is.line_is;
+  is_true_done_text_about = λ before line text is. is.about;
+  is_true_done_text_asked = λ before line text is. is.asked;
+  is_true_done_text_is = λ before line text is. is.is;
+  is_true_table_text_about = λ before line text is. is.about;
+  is_true_table_text_asked = λ before line text is. is.asked;
+  is_true_table_text_is = λ before line text is. is.is;
+  is_true_table_text_true_of = λ before line text is. is.true_of;
+  is_job_named_about = λ commands line word text is. is.about;
+  is_job_named_is = λ commands line word text is. is.is;
+  is_quota_named_about = λ command line word text is. is.about;
+  is_quota_named_is = λ command line word text is. is.is;
+  is_next_job_about = λ number line text is. is.about;
+  is_next_job_is = λ number line text is. is.is;
+  is_rest_text_about = λ line text is. is.about;
+  is_rest_text_is = λ line text is. is.is;
+  is_live_text_about = λ line text is. is.about;
+  is_live_text_is = λ line text is. is.is;
+  is_refused_by_line_is = λ line number is. is.line_is;
+  is_err_text_is = λ before line text is. is.is;
+  is_err_text_why = λ before line text is. is.why;
+  is_true_text_known = λ before line text is. is.known;
+  is_true_text_welcome = λ before line text is. is.welcome;
+  is_true_text_reserved = λ before line text is. is.reserved;
+  is_true_text_job = λ before line text is. is.job;
+  is_true_text_done = λ before line text is. is.done;
+  is_true_text_table = λ before line text is. is.table;
+  is_true_text_pending = λ before line text is. is.pending;
+  is_true_text_spent = λ before line text is. is.spent;
+  is_true_text_cancelled = λ before line text is. is.cancelled;
+  is_true_text_quota = λ before line text is. is.quota;
+  is_true_text_live = λ before line text is. is.live;
+  is_true_text_bye = λ before line text is. is.bye;
+  is_true_text_err = λ before line text is. is.err;
+  is_true_text_fault = λ before line text is. is.fault;
+  are_true_texts_more = λ before said more is. is;
+  true_bytes_reads = λ source sink source' sink' r is. is.reads;
+  true_bytes_ends = λ source sink source' sink' r is. is.ends;
+  true_bytes_writes = λ source sink source' sink' r is. is.writes;
+  true_bytes_lines = λ source sink source' sink' r is. is.lines;
+  true_bytes_written = λ source sink source' sink' r is. is.written;
+  true_bytes_true_texts = λ source sink source' sink' r is. is.true_texts;
+}

@@ -1,0 +1,53 @@
+use Rattle.definition_laws.proofs.quotas.reservations.Goals as goal
+
+pub returns : goal.returns
+returns c = record {
+  has_room_tenants = λ b quota is. is.tenants;
+  has_room_segments = λ b quota is. is.segments;
+  has_room_nodes = λ b quota is. is.nodes;
+  is_full = λ b quota is. is;
+  is_lower = λ b tenant quota is. is;
+  has_room_for_segments = λ b now quota is. is.segments;
+  has_room_for_nodes = λ b now quota is. is.nodes;
+  is_beyond = λ b now quota is. is;
+  can_raise = λ b tenant quota is. is;
+  is_too_much = λ b tenant quota is. is;
+  has_left = λ b tenant segments nodes is. is;
+  is_short = λ b tenant segments nodes is. is;
+  has_step_left = λ b tenant is. is;
+  is_out_of_steps = λ b tenant is. is;
+  has_charged_at_least = λ b tenant segments is. is;
+  keeps_others_segments = λ old new tenant is. is.segments;
+  keeps_others_nodes = λ old new tenant is. is.nodes;
+  keeps_others_others = λ old new tenant is. is.others;
+  admits_whole = λ old new tenant quota is. is.whole;
+  admits_account = λ old new tenant quota is. is.account;
+  admits_tenants = λ old new tenant quota is. is.tenants;
+  admits_segments = λ old new tenant quota is. is.segments;
+  admits_nodes = λ old new tenant quota is. is.nodes;
+  admits_charged = λ old new tenant quota is. is.charged;
+  changes_only_whole = λ old new tenant f is. is.whole;
+  changes_only_account = λ old new tenant f is. is.account;
+  changes_only_rest = λ old new tenant f is. is.rest;
+  raises_whole = λ old new tenant quota now is. is.whole;
+  raises_account = λ old new tenant quota now is. is.account;
+  raises_tenants = λ old new tenant quota now is. is.tenants;
+  raises_segments = λ old new tenant quota now is. is.segments;
+  raises_nodes = λ old new tenant quota now is. is.nodes;
+  raises_charged = λ old new tenant quota now is. is.charged;
+  releases_whole = λ old new tenant a is. is.whole;
+  releases_account = λ old new tenant a is. is.account;
+  releases_tenants = λ old new tenant a is. is.tenants;
+  releases_segments = λ old new tenant a is. is.segments;
+  releases_nodes = λ old new tenant a is. is.nodes;
+  releases_charged = λ old new tenant a is. is.charged;
+  is_sound_book_some_segments = λ b is. is.some_segments;
+  is_sound_book_segments_within = λ b is. is.segments_within;
+  is_sound_book_some_nodes = λ b is. is.some_nodes;
+  is_sound_book_nodes_within = λ b is. is.nodes_within;
+  is_sound_book_rising = λ b is. is.rising;
+  is_sound_book_within = λ b is. is.within;
+  is_sound_book_tenants = λ b is. is.tenants;
+  is_sound_book_segments_reserved = λ b is. is.segments_reserved;
+  is_sound_book_nodes_reserved = λ b is. is.nodes_reserved;
+}

@@ -1,0 +1,6 @@
+use Rattle.std.proofs.Common.{◌∙◌}
+use Rattle.promise_uses.proofs.Parts.{if-ok}
+use Rattle.promise_uses.proofs.runs.three_answers.Goals as goal
+
+pub returns : goal.returns
+returns g c = if-ok c.run.result (λ run as_many count three. as_many ∙ three) c.run.ensures.answered

@@ -1,0 +1,65 @@
+//! What a hall tells of tenants 7 and 9 and of their jobs 3 and 5.
+ghost use Rattle.std.specs.Prelude.{◌≡◌, ℕ, ◌≤◌, ◌≤ℤ◌, Some, None, IfSome, slice_get};
+ghost use Rattle.othello_board.specs.Words.{cells_of};
+ghost use Rattle.othello_eval.specs.declared.bound.BoundKind.TheVariants.{Low, High, Exact};
+ghost use Rattle.othello_eval.specs.Minimax.{minimax, best_choice, choice_value};
+ghost use Rattle.othello_eval.specs.Tables.{entered};
+ghost use Rattle.sched_rules.specs.Trees.{Tenant, left};
+ghost use Rattle.sched_rules.specs.Cores.{tenant_in};
+ghost use Rattle.sched_laws.specs.Fitted.{origins_of};
+ghost use Rattle.jamboree_rules.specs.Places.{root_words};
+ghost use Rattle.jamboree_core.specs.Searching.{origin_at};
+ghost use Rattle.hall.specs.Journals.{journal_in};
+
+use hall::Hall;
+use othello_eval::{Bound, Valued};
+use promises::{entry_in, same_journals, value_in};
+use std::alloc::Allocator;
+
+/// Tenants 7 and 9 of two halls of the same grain, where the journals of each are the same in both: whoever is there
+/// in the one is there in the other, with the same jobs, frames and reservation and as much left; and who isn't
+/// there in the one isn't in the other.
+pub fn seven_and_nine<A: Allocator, B: Allocator>(one: &Hall<A>, other: &Hall<B>)
+    ensures seven { one.now.grain ≡ other.now.grain → journal_in one.now.journals 7 ≡ journal_in other.now.journals 7 →
+        (tenant : Tenant) → tenant_in one.now.shared.tenants 7 ≡ Some tenant →
+        (same : Tenant) × (tenant_in other.now.shared.tenants 7 ≡ Some same) × (tenant.jobs ≡ same.jobs) × (tenant.frames ≡ same.frames) × (tenant.reserve ≡ same.reserve) × (left tenant ≡ left same) }
+    ensures nine { one.now.grain ≡ other.now.grain → journal_in one.now.journals 9 ≡ journal_in other.now.journals 9 →
+        (tenant : Tenant) → tenant_in other.now.shared.tenants 9 ≡ Some tenant →
+        (same : Tenant) × (tenant_in one.now.shared.tenants 9 ≡ Some same) × (same.jobs ≡ tenant.jobs) × (same.frames ≡ tenant.frames) × (same.reserve ≡ tenant.reserve) × (left same ≡ left tenant) }
+    ensures nobody { one.now.grain ≡ other.now.grain → journal_in one.now.journals 9 ≡ journal_in other.now.journals 9 →
+        tenant_in one.now.shared.tenants 9 ≡ None → tenant_in other.now.shared.tenants 9 ≡ None }
+{
+    same_journals(one, other)
+}
+
+/// The value and the choice of tenant 7's job 3, where a hall tells them: of some board (by its two words) and a
+/// depth of at most 12, which the third Submit in the tenant's journal asked for.
+pub fn value_of_seven<A: Allocator>(hall: &Hall<A>) -> Option<Valued>
+    ensures { IfSome result (λ told. (own : ℕ) × (opp : ℕ) × (depth : ℕ) × (depth ≤ 12)
+        × (origin_at (origins_of (journal_in hall.now.journals 7)) 3 ≡ Some (root_words own opp depth))
+        × (told.value ≡ minimax depth (cells_of own opp)) × (told.choice ≡ best_choice depth (cells_of own opp))) }
+{
+    value_in(hall, 7, 3)
+}
+
+/// The same of tenant 9's job 5.
+pub fn value_of_nine<A: Allocator>(hall: &Hall<A>) -> Option<Valued>
+    ensures { IfSome result (λ told. (own : ℕ) × (opp : ℕ) × (depth : ℕ) × (depth ≤ 12)
+        × (origin_at (origins_of (journal_in hall.now.journals 9)) 5 ≡ Some (root_words own opp depth))
+        × (told.value ≡ minimax depth (cells_of own opp)) × (told.choice ≡ best_choice depth (cells_of own opp))) }
+{
+    value_in(hall, 9, 5)
+}
+
+/// The third entry of the table of tenant 9's job 5: that of the third choice, and true of it.
+pub fn entry_of_nine<A: Allocator>(hall: &Hall<A>) -> Option<Bound>
+    ensures { IfSome result (λ entry. (own : ℕ) × (opp : ℕ) × (depth : ℕ) × (depth ≤ 12)
+        × (origin_at (origins_of (journal_in hall.now.journals 9)) 5 ≡ Some (root_words own opp depth))
+        × (slice_get (entered depth (cells_of own opp)) 2 ≡ Some entry.choice)
+        × (entry.kind ≡ Low → choice_value depth (cells_of own opp) entry.choice ≤ℤ entry.score)
+        × (entry.kind ≡ High → entry.score ≤ℤ choice_value depth (cells_of own opp) entry.choice)
+        × (entry.kind ≡ Exact → choice_value depth (cells_of own opp) entry.choice ≡ entry.score)
+        × (best_choice depth (cells_of own opp) ≡ Some entry.choice → entry.kind ≡ Exact)) }
+{
+    entry_in(hall, 9, 5, 2)
+}

@@ -1,0 +1,151 @@
+//! What comes of lists of searches, for tenants 7 and 9, their jobs 3 and 5 and worker 5.
+ghost use Rattle.std.specs.Prelude.{◌≡◌, ◌≢◌, ◌⊎◌, ◌++◌, ◌∷◌, ℕ, ◌≤◌, ◌≤ℤ◌, List, true, Some, None, Err, IfOk, length, slice_get, slice_index};
+ghost use Rattle.othello_board.specs.Words.{cells_of};
+ghost use Rattle.othello_eval.specs.declared.bound.Bound.{Bound};
+ghost use Rattle.othello_eval.specs.declared.bound.BoundKind.TheVariants.{Low, High, Exact};
+ghost use Rattle.othello_eval.specs.Minimax.{minimax, best_choice, choice_value};
+ghost use Rattle.othello_eval.specs.Tables.{entered};
+ghost use Rattle.frame_tree.specs.declared.names.FrameId.{FrameId};
+ghost use Rattle.sched_rules.specs.declared.job.Job.TheVariants.{Done};
+ghost use Rattle.sched_rules.specs.declared.refusal.Refusal.{Refusal};
+ghost use Rattle.sched_rules.specs.declared.refusal.Refusal.TheVariants.{Busy};
+ghost use Rattle.sched_rules.specs.declared.step.StepOf.TheVariants.{Steal, Spend};
+ghost use Rattle.sched_rules.specs.Trees.{Tenant, job_at, left, is_busy_in};
+ghost use Rattle.sched_rules.specs.Cores.{tenant_in};
+ghost use Rattle.sched_rules.specs.Lone.{lone_refusal};
+ghost use Rattle.sched_rules.specs.Runs.{alone};
+ghost use Rattle.sched_rules.specs.Headline.{told};
+ghost use Rattle.sched_laws.specs.Fitted.{origins_of};
+ghost use Rattle.jamboree_rules.specs.Entries.{bounds_of};
+ghost use Rattle.jamboree_rules.specs.Frames.{coded};
+ghost use Rattle.jamboree_rules.specs.Places.{frame_of, root_words, score_of};
+ghost use Rattle.jamboree_rules.specs.Procedure.{jamboree};
+ghost use Rattle.jamboree_core.specs.Replies.{AreSearches};
+ghost use Rattle.jamboree_core.specs.Searching.{origin_at};
+ghost use Rattle.promises.specs.Tenants.{SearchAnswer, SearchStep, own_steps, AreAdmissionsTaken};
+
+use jamboree_core::jamboree::Jamboree;
+use promises::{After, run, run_two};
+use sched_rules::{Config, Step};
+use std::alloc::{AllocError, Allocator};
+
+/// After any list: tenant 7's job 3, where it is done, has in its words the board (two words) and the depth that the
+/// tenant's third Submit asked for, their minimax value and their best choice.
+pub fn words_of_seven<A: Allocator + Clone>(
+    alloc: A,
+    procedure: Jamboree,
+    config: Config,
+    steps: &[Step<Jamboree>],
+) -> Result<After<A>, AllocError>
+    requires { AreSearches steps.now }
+    ensures { IfOk result (λ run. (tenant : Tenant) (words : List ℕ) →
+        tenant_in run.core.shared.tenants 7 ≡ Some tenant → job_at tenant.jobs 3 ≡ Some (Done words) →
+        (own : ℕ) × (opp : ℕ) × (depth : ℕ) × (depth ≤ 12)
+        × (origin_at (origins_of (own_steps 7 steps.now run.answers.items)) 3 ≡ Some (root_words own opp depth))
+        × (slice_index words 0 ≡ own) × (slice_index words 1 ≡ opp) × (slice_index words 2 ≡ depth)
+        × (score_of (slice_index words 8) ≡ minimax depth (cells_of own opp))
+        × (slice_index words 9 ≡ coded (best_choice depth (cells_of own opp)))) }
+{
+    run(alloc, procedure, config, steps)
+}
+
+/// After any list: tenant 9's job 5, where it is done, has in its words a table of what was asked: an entry for each
+/// choice, each true of it.
+pub fn table_of_nine<A: Allocator + Clone>(
+    alloc: A,
+    procedure: Jamboree,
+    config: Config,
+    steps: &[Step<Jamboree>],
+) -> Result<After<A>, AllocError>
+    requires { AreSearches steps.now }
+    ensures { IfOk result (λ run. (tenant : Tenant) (words : List ℕ) →
+        tenant_in run.core.shared.tenants 9 ≡ Some tenant → job_at tenant.jobs 5 ≡ Some (Done words) →
+        (own : ℕ) × (opp : ℕ) × (depth : ℕ)
+        × (origin_at (origins_of (own_steps 9 steps.now run.answers.items)) 5 ≡ Some (root_words own opp depth))
+        × (length (bounds_of (frame_of words)) ≡ length (entered depth (cells_of own opp)))
+        × ((i : ℕ) (entry : Bound) → slice_get (bounds_of (frame_of words)) i ≡ Some entry →
+        (slice_get (entered depth (cells_of own opp)) i ≡ Some entry.choice)
+        × (entry.kind ≡ Low → choice_value depth (cells_of own opp) entry.choice ≤ℤ entry.score)
+        × (entry.kind ≡ High → entry.score ≤ℤ choice_value depth (cells_of own opp) entry.choice)
+        × (entry.kind ≡ Exact → choice_value depth (cells_of own opp) entry.choice ≡ entry.score)
+        × (best_choice depth (cells_of own opp) ≡ Some entry.choice → entry.kind ≡ Exact))) }
+{
+    run(alloc, procedure, config, steps)
+}
+
+/// A list of three steps has three answers, and one of some length has as many.
+pub fn three_answers<A: Allocator + Clone>(
+    alloc: A,
+    procedure: Jamboree,
+    config: Config,
+    steps: &[Step<Jamboree>],
+) -> Result<After<A>, AllocError>
+    requires { AreSearches steps.now }
+    ensures { IfOk result (λ run. (count : ℕ) → length steps.now ≡ count + 3 → length run.answers.items ≡ count + 3) }
+{
+    run(alloc, procedure, config, steps)
+}
+
+/// Worker 5's Steal for tenant 7, somewhere in any list, is refused as tenant 7 alone would refuse it, where it has
+/// taken its own steps before; or with Busy, and then there is another tenant for which worker 5 runs or computes a
+/// frame. A Spend of tenant 9 is refused as tenant 9 alone would refuse it.
+pub fn refusals<A: Allocator + Clone>(
+    alloc: A,
+    procedure: Jamboree,
+    config: Config,
+    steps: &[Step<Jamboree>],
+) -> Result<After<A>, AllocError>
+    requires { AreSearches steps.now }
+    ensures seven { IfOk result (λ run. (before later : List SearchStep) (said more : List SearchAnswer) (home serial : ℕ) (refusal : Refusal) →
+        steps.now ≡ before ++ Steal 5 home (record { tenant = 7; serial = serial }) ∷ later → run.answers.items ≡ said ++ Err refusal ∷ more → length said ≡ length before →
+        (lone_refusal (jamboree procedure.grain) (alone (jamboree procedure.grain) (own_steps 7 before said)) (Steal 5 home (record { tenant = 7; serial = serial })) ≡ Some refusal)
+        ⊎ ((refusal ≡ Busy) × (another : ℕ) × (another ≢ 7) × (tenant : Tenant) × (alone (jamboree procedure.grain) (own_steps another before said) ≡ Some tenant) × (is_busy_in 5 tenant.frames ≡ true))) }
+    ensures nine { IfOk result (λ run. (before later : List SearchStep) (said more : List SearchAnswer) (serial : ℕ) (refusal : Refusal) →
+        steps.now ≡ before ++ Spend (record { tenant = 9; serial = serial }) ∷ later → run.answers.items ≡ said ++ Err refusal ∷ more → length said ≡ length before →
+        lone_refusal (jamboree procedure.grain) (alone (jamboree procedure.grain) (own_steps 9 before said)) (Spend (record { tenant = 9; serial = serial })) ≡ Some refusal) }
+{
+    run(alloc, procedure, config, steps)
+}
+
+/// Tenant 9 after two lists in which its own taken steps are the same: it is there after both, with the same jobs,
+/// frames and reservation and as much left, or after neither; and it was told the same.
+pub fn nine_is_undisturbed<A: Allocator + Clone>(
+    alloc: A,
+    procedure: Jamboree,
+    config: Config,
+    steps: &[Step<Jamboree>],
+    other_config: Config,
+    other_steps: &[Step<Jamboree>],
+) -> Result<(After<A>, After<A>), AllocError>
+    requires searches { AreSearches steps.now }
+    requires other_searches { AreSearches other_steps.now }
+    ensures same { IfOk result (λ runs. own_steps 9 steps.now runs.0.answers.items ≡ own_steps 9 other_steps.now runs.1.answers.items →
+        (tenant : Tenant) → tenant_in runs.0.core.shared.tenants 9 ≡ Some tenant →
+        (same : Tenant) × (tenant_in runs.1.core.shared.tenants 9 ≡ Some same) × (tenant.jobs ≡ same.jobs) × (tenant.frames ≡ same.frames) × (tenant.reserve ≡ same.reserve) × (left tenant ≡ left same)) }
+    ensures nobody { IfOk result (λ runs. own_steps 9 steps.now runs.0.answers.items ≡ own_steps 9 other_steps.now runs.1.answers.items →
+        tenant_in runs.0.core.shared.tenants 9 ≡ None → tenant_in runs.1.core.shared.tenants 9 ≡ None) }
+    ensures answers { IfOk result (λ runs. own_steps 9 steps.now runs.0.answers.items ≡ own_steps 9 other_steps.now runs.1.answers.items →
+        told 9 steps.now runs.0.answers.items ≡ told 9 other_steps.now runs.1.answers.items) }
+{
+    run_two(alloc, procedure, config, steps, other_config, other_steps)
+}
+
+/// Tenant 7 after a list, and after its own taken steps of it alone, where its admissions are taken there: it is
+/// there after both, in the same state, or after neither; and it was told there what it was told among the others.
+pub fn seven_alone<A: Allocator + Clone>(
+    alloc: A,
+    procedure: Jamboree,
+    config: Config,
+    steps: &[Step<Jamboree>],
+    own: &[Step<Jamboree>],
+) -> Result<(After<A>, After<A>), AllocError>
+    requires searches { AreSearches steps.now }
+    requires own_searches { AreSearches own.now }
+    ensures same { IfOk result (λ runs. own.now ≡ own_steps 7 steps.now runs.0.answers.items → AreAdmissionsTaken own.now runs.1.answers.items →
+        (tenant : Tenant) → tenant_in runs.0.core.shared.tenants 7 ≡ Some tenant →
+        (same : Tenant) × (tenant_in runs.1.core.shared.tenants 7 ≡ Some same) × (tenant.jobs ≡ same.jobs) × (tenant.frames ≡ same.frames) × (tenant.reserve ≡ same.reserve) × (left tenant ≡ left same)) }
+    ensures answers { IfOk result (λ runs. own.now ≡ own_steps 7 steps.now runs.0.answers.items → AreAdmissionsTaken own.now runs.1.answers.items →
+        told 7 steps.now runs.0.answers.items ≡ runs.1.answers.items) }
+{
+    run_two(alloc, procedure, config, steps, config, own)
+}

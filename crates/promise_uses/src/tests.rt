@@ -1,0 +1,4 @@
+mod driving;
+mod lists;
+mod sessions;
+mod streams;

@@ -1,0 +1,131 @@
+//! The law of sessions: a session over memory, whose job a worker runs before its line WAIT.
+ghost use Rattle.std.specs.Prelude.{◌≡◌};
+
+use super::driving::{Offers, drive};
+use crate::third_answer;
+use desk::{Badge, Config, Desk, Hall, Hands, Jamboree, PARTS, Step, StepAnswer, StepOf, Worker};
+use frame_tree::FrameId;
+use line_io::{FromWriter, ReadFailed, Source};
+use session::{End, SessionFault};
+use std::alloc::Global;
+use std::marker::Brand;
+use std::sync::Wait;
+use std::sync::ledger::Blank;
+use std::test::Fail;
+
+/// Gives one line a call. Before a line WAIT a worker runs the job that is asked for.
+struct Working<'a, L: Hands, R: Wait> {
+    rt: &'a R,
+    desk: &'a Desk<L>,
+    badge: Badge<L>,
+    worker: Worker,
+    lines: &'a [&'a [u8]],
+    given: usize,
+}
+
+impl<L: Hands, R: Wait> Offers for Working<'_, L, R> {
+    fn offer(&mut self, step: Step<Jamboree>) -> StepAnswer {
+        self.desk.offer(self.rt, &mut self.badge, &step)
+    }
+
+    fn ready(&mut self) -> Option<(FrameId, u8)> {
+        self.desk.next_ready(self.rt)
+    }
+}
+
+impl<L: Hands, R: Wait> Working<'_, L, R> {
+    /// Runs the job whose root is ready to its end.
+    fn work(&mut self) {
+        let worker = self.worker;
+        if let Some((root, home)) = self.ready() {
+            let _ = self.offer(StepOf::Steal(worker, home, root));
+            drive(self, worker, root);
+        }
+    }
+
+    /// The work is over.
+    fn close(self) {
+        let Working {
+            rt: _rt,
+            desk: _desk,
+            badge: _badge,
+            worker: _worker,
+            lines: _lines,
+            given: _given,
+        } = self;
+    }
+}
+
+impl<L: Hands, R: Wait> Source for Working<'_, L, R> {
+    ghost gives = { λ _ _ _. Unit {0} };
+
+    fn fill(&mut self, block: &mut [u8]) -> Result<usize, ReadFailed> {
+        let lines = self.lines;
+        match lines.get(self.given) {
+            Some(line) if line.len() <= block.len() => {
+                if line.first() == Some(&b'W') {
+                    self.work();
+                }
+                self.given = self.given.saturating_add(1);
+                block[..line.len()].copy_from_slice(line);
+                Ok(line.len())
+            }
+            _ => Ok(0),
+        }
+    }
+}
+
+/// The opening to depth 1, shown, with its table.
+const LINES: [&[u8]; 5] = [
+    b"HELLO 32 32\n",
+    b"ASK 1 ---------------------------OX------XO--------------------------- X\n",
+    b"WAIT 1\n",
+    b"TABLE 1\n",
+    b"GET 2\n",
+];
+
+/// What answers them.
+const ANSWERS: &[u8] =
+    b"WELCOME 32 32\nJOB 1\nDONE 1 -3 d3\nTABLE 1 d3=-3 c4<-3 f5<-3 e6<-3\nERR 17\n";
+
+/// How such a session ends at a new desk of grain 1, and what it writes.
+fn served<L: Hands, R: Wait>(
+    rt: &R,
+    alloc: Global,
+    blank: Blank,
+) -> Result<(Result<End, SessionFault>, Vec<u8>), Fail>
+    requires name { blank.name ≡ L.name }
+    requires parts { (blank.parts ≡ L.parts) × (L.all ≡ L.parts) × (L.all ≡ 13835058055282163712) }
+{
+    let config = Config::new(64, 64).ok_or("the totals")?;
+    let worker = Worker::new(5).ok_or("a worker")?;
+    let desk: Desk<L> = Desk::new(Hall::new(alloc, config, 1)?, blank);
+    let badge = desk.badge(rt).ok_or("a badge")?;
+    let mut source = Working {
+        rt,
+        desk: &desk,
+        badge,
+        worker,
+        lines: LINES.as_slice(),
+        given: 0,
+    };
+    let mut sink = FromWriter::new(Vec::new(alloc));
+    let end = third_answer(rt, &mut source, &mut sink, &desk);
+    source.close();
+    Ok((end, sink.writer))
+}
+
+/// The same with a blank of its own.
+fn served_here<R: Wait>(
+    rt: &R,
+    alloc: Global,
+) -> Result<(Result<End, SessionFault>, Vec<u8>), Fail> {
+    served::<Brand, R>(rt, alloc, Blank::new(PARTS))
+}
+
+#[test]
+fn a_session_of_bytes(rt: HostRuntime) -> Result<(), Fail> {
+    let (end, written) = served_here(&rt, rt.alloc())?;
+    assert!(rt; matches!(end, Ok(End::EndOfInput)) && written.as_slice() == ANSWERS);
+    Ok(())
+}

@@ -1,0 +1,63 @@
+//! The laws of streams: `solve` of three lines, and of a writer that fails.
+use crate::three_lines;
+use line_io::{FromReader, FromWriter, LineFault, Sink, WriteFailed};
+use std::alloc::Global;
+use std::process::Abort;
+use std::test::Fail;
+
+/// The opening to depth 2, a line that asks for nothing, and a position where X ends the game.
+const LINES: &[u8] = b"2 ---------------------------OX------XO--------------------------- X
+opening
+1 XO-------------------------------------------------------------- X
+";
+
+/// What answers them.
+const ANSWERS: &[u8] = b"-4 d3\nERR 21\n6000 c1\n";
+
+/// Takes so many bytes, one a call, and then fails.
+#[derive(Drop)]
+struct Full {
+    room: u32,
+}
+
+impl Sink for Full {
+    ghost takes = { λ _ _ _. Unit {0} };
+
+    fn put(&mut self, bytes: &[u8]) -> Result<usize, WriteFailed> {
+        if self.room == 0 {
+            return Err(WriteFailed);
+        }
+        self.room = self.room.wrapping_sub(1);
+        Ok(bytes.len().min(1))
+    }
+}
+
+/// What is written for the lines at this grain, 0 to 6.
+fn solved(alloc: Global, grain: u8) -> (Result<(), LineFault>, Vec<u8>) {
+    let mut source = FromReader { reader: LINES };
+    let mut sink = FromWriter::new(Vec::new(alloc));
+    let end = three_lines(alloc, &mut source, &mut sink, grain.min(6));
+    (end, sink.writer)
+}
+
+/// Three lines are answered, the same at each grain.
+#[test]
+fn three_lines_are_solved(rt: HostRuntime) -> Result<(), Fail> {
+    for grain in 0..7 {
+        let (end, written) = solved(rt.alloc(), grain);
+        assert!(rt; end.is_ok() && written.as_slice() == ANSWERS);
+    }
+    Ok(())
+}
+
+/// A writer that is full at some byte of the answers ends the run by a fault.
+#[test]
+fn a_write_fails(rt: HostRuntime) -> Result<(), Fail> {
+    for room in 0..20 {
+        let mut source = FromReader { reader: LINES };
+        let mut sink = Full { room };
+        let end = three_lines(rt.alloc(), &mut source, &mut sink, 4);
+        assert!(rt; matches!(end, Err(LineFault::Write)));
+    }
+    Ok(())
+}
