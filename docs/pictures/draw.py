@@ -102,7 +102,7 @@ def read_crates():
     return group_of, {name: [low for low in used if low in uses] for name, used in uses.items()}
 
 
-TESTS = ("storage_tests", "core_tests", "search_tests", "hall_tests", "pool_tests", "session_tests", "definition_tests", "sched_toys", "counted_alloc")
+TESTS = ("storage_tests", "core_tests", "search_tests", "hall_tests", "pool_tests", "session_tests", "definition_tests", "definition_laws", "promise_uses", "sched_toys", "counted_alloc", "text_rows", "step_texts", "transcripts")
 
 
 def crates():
@@ -165,7 +165,7 @@ def crates():
     across = int(max(place[n] + size[n] / 2 for n in place) - least + margin + 20)
     high = 56
     picture = Picture("crates", across, high * len(rows) + 16)
-    colours = dict(zip((band[0] for band in bands), (GREEN, YELLOW, BLUE, VIOLET, RED, "#cffafe", "#fde7d3", "#e2e8f0", "#fce7f3")))
+    colours = dict(zip((band[0] for band in bands), (GREEN, YELLOW, BLUE, VIOLET, RED, "#cffafe", "#fde7d3", "#e2e8f0", "#fce7f3", "#ecfccb", "#e0f2fe")))
 
     def at(node):
         row = next(number for number, names in enumerate(rows) if node in names)

@@ -149,7 +149,7 @@ fn with_number<'a>(
 }
 
 /// The program's version.
-const VERSION: &str = "0.1.0";
+const VERSION: &str = "1.0.0";
 
 /// What help says of the lines of `solve` and of their answers.
 const SOLVE_HELP: &str = "A line is `depth position`, and is answered as soon as it is complete.

@@ -81,7 +81,7 @@ fn each_text_has_its_place_and_status(rt: HostRuntime) -> Result<(), Fail> {
         (["othello", "solve", "--"].as_slice(), 0, "-4 d3\n", ""),
         (&["othello", "solve", "--grain", "0"], 0, "-4 d3\n", ""),
         (&["othello", "solve", "--visited"], 0, "-4 d3 15\n", ""),
-        (&["othello", "--version"], 0, "othello 0.1.0\n", ""),
+        (&["othello", "--version"], 0, "othello 1.0.0\n", ""),
         (
             &["othello", "--help"],
             0,
