@@ -108,6 +108,29 @@ def test_a_server_that_is_lost_while_its_grain_is_found_out() -> None:
         Client("127.0.0.1", server.port).depths()
 
 
+def test_a_server_that_began_anew() -> None:
+    """All sessions that were kept are lost; a call opens another one."""
+    ended = [False]
+
+    def answers():  # type: ignore[no-untyped-def]
+        answer_of, is_old = sound()(), not ended[0]
+        return lambda line: None if is_old and ended[0] else answer_of(line)
+
+    async def trial(port: int) -> None:
+        async with AsyncClient("127.0.0.1", port, sessions=6) as client:
+            await asyncio.gather(*(client.analyse(OPENING, depth) for depth in range(6)))
+            ended[0] = True
+            assert len(client.idle) > 4 and (await client.analyse(OPENING, 2)).best == "d3"
+
+    with told(answers) as server, Client("127.0.0.1", server.port, sessions=6) as client:
+        client.idle = [client.open() for _ in range(6)]
+        ended[0] = True
+        assert client.analyse(OPENING, 2).best == "d3" and client.lost == 1
+    ended[0] = False
+    with told(answers) as server:
+        asyncio.run(asyncio.wait_for(trial(server.port), 20))
+
+
 def test_depths() -> None:
     nodes = [1000]
 

@@ -38,7 +38,7 @@ def page(port, *words, https=False):
         if not address.startswith("http"):
             fail("the page doesn't begin")
         if not https:
-            until("how deep the server looks", lambda: about(address)["settled"], 120)
+            until("how deep the server looks", lambda: about(address)["settled"], 600)
         yield process, address
 
 

@@ -244,7 +244,7 @@ class AsyncClient:
                     raise
                 except OSError as fault:
                     await session.close()
-                    losses += 1
+                    losses, fresh = losses + 1, True  # other idle ones may be lost too
                     if losses > 3 or isinstance(fault, TimeoutError):
                         raise Unreachable(f"{self.host}:{self.port}: {fault.strerror or fault}") from fault
                     continue

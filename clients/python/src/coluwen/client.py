@@ -313,7 +313,7 @@ class Client:
                     raise
                 except OSError as fault:
                     session.close()
-                    losses += 1
+                    losses, fresh = losses + 1, True  # other idle ones may be lost too
                     self.lost += 1
                     if losses > 3 or isinstance(fault, TimeoutError):
                         raise Unreachable(f"{self.address}: {fault.strerror or fault}") from fault
