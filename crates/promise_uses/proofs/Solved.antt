@@ -41,7 +41,7 @@ IsSolvedBy line answer = (depth : ℕ) × (position : Position) × (word : List 
     × (answer ≡ value_text (minimax depth (cells position.board)) (best_choice depth (cells position.board)))
 
 solved : (line : LineText) (answer : List ℕ) → IsTrueSolution line answer → starts_with nat_eq answer (codes "ERR ") ≡ false → IsSolvedBy line answer
-solved line answer is no = let q = is.solved no in (q.0, q.1, q.2.word, q.2.text, q.2.is, q.2.asks.number, q.2.asks.shallow, q.2.asks.spelled, q.3)
+solved line answer is plain = let q = is.solved plain in (q.0, q.1, q.2.word, q.2.text, q.2.is, q.2.asks.number, q.2.asks.shallow, q.2.asks.spelled, q.3)
 
 -- a line that asks for something is answered so, or by ERR 19
 abbrev pub AnswersWhatIsAsked : LineText → List ℕ → Type 0

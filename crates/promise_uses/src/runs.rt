@@ -1,5 +1,5 @@
 //! What comes of lists of searches, for tenants 7 and 9, their jobs 3 and 5 and worker 5.
-ghost use Rattle.std.specs.Prelude.{◌≡◌, ◌≢◌, ◌⊎◌, ◌++◌, ◌∷◌, ℕ, ◌≤◌, ◌≤ℤ◌, List, true, Some, None, Err, IfOk, length, slice_get, slice_index};
+ghost use Rattle.std.specs.Prelude.{◌≡◌, ◌≢◌, ◌⊎◌, ◌++◌, ◌+◌, ◌∷◌, ℕ, ◌≤◌, ◌≤ℤ◌, List, true, Some, None, Err, IfOk, length, slice_get, slice_index};
 ghost use Rattle.othello_board.specs.Words.{cells_of};
 ghost use Rattle.othello_eval.specs.declared.bound.Bound.{Bound};
 ghost use Rattle.othello_eval.specs.declared.bound.BoundKind.TheVariants.{Low, High, Exact};
