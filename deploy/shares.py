@@ -16,6 +16,63 @@ class Unfit(Exception):
     """The file can't be used."""
 
 
+def line_of(text, name, number, key):
+    """The line of a file where this word of a table stands, or the table's head: the `number`th table of this name."""
+    at, seen, found = None, -1, 1
+    for line, words in enumerate(text.splitlines(), 1):
+        head = re.match(r"\s*\[+\s*([\w.-]+)\s*\]+", words)
+        if head:
+            at = head[1]
+            seen += at == name
+            found = line if at == name and seen == number else found
+        elif (at == name and seen == number) or (at is None and name == ""):
+            if re.match(rf'\s*"?{re.escape(key)}"?\s*=', words):
+                return line
+    return found
+
+
+class Table:
+    """A table of the file. Its words are taken one by one, and none may be left."""
+
+    def __init__(self, text, told, name="", number=0):
+        self.text, self.name, self.number = text, name, number
+        if not isinstance(told, dict):
+            self.refuse("", f"{name} isn't a table")
+        self.told = dict(told)
+
+    def refuse(self, key, why):
+        raise Unfit(f"line {line_of(self.text, self.name, self.number, key)}: {why}")
+
+    def take(self, key, is_fit, what, default=None):
+        """A word's value, which is to be such a one; without a default the word must be there."""
+        if key not in self.told:
+            if default is None:
+                self.refuse(key, f"`{key}` is missing")
+            return default
+        value = self.told.pop(key)
+        if not is_fit(value):
+            self.refuse(key, f"`{key}` is to be {what}, and is {value!r}")
+        return value
+
+    def count(self, key, least=0, most=10**9, default=None):
+        return self.take(key, lambda value: type(value) is int and least <= value <= most, f"a whole number from {least} to {most}", default)
+
+    def texts(self, key, is_fit, what):
+        return self.take(key, lambda value: isinstance(value, list) and all(isinstance(one, str) and is_fit(one) for one in value), f"a list of {what}", [])
+
+    def tables(self, key, default=None):
+        found = self.take(key, lambda value: isinstance(value, list), "tables, each with a head of two brackets", default)
+        return [Table(self.text, told, key, number) for number, told in enumerate(found)]
+
+    def table(self, key):
+        inside = self.take(key, lambda value: isinstance(value, dict), "a table")
+        return Table(self.text, inside, f"{self.name}.{key}" if self.name else key)
+
+    def end(self):
+        for key in self.told:
+            self.refuse(key, f"`{key}` is an unknown word")
+
+
 def is_tenant(segments, nodes):
     """Whether a server may take these amounts at all."""
     return 1 <= segments <= MOST_SEGMENTS and 1 <= nodes <= MOST_NODES
@@ -97,9 +154,9 @@ class Bucket:
         return True
 
     def owe(self):
-        """Takes one that may not be there yet; gives the seconds until it is."""
+        """Takes one that may not be there yet; gives the seconds until it is. No more are owed than are there at once."""
         self.fill()
-        self.left -= 1
+        self.left = max(self.left - 1, -self.most)
         return max(0.0, -self.left / self.rate)
 
 
@@ -113,7 +170,7 @@ class Customer(Account):
         self.set_terms(terms)
 
     def set_terms(self, terms):
-        self.limits, self.most_connections = terms.limits, terms.connections
+        self.limits, self.most_connections, self.classes = terms.limits, terms.connections, terms.classes
         self.opens, self.refusals = Bucket(terms.rate, terms.burst), Bucket(terms.rate, terms.burst)
 
     def take(self, kind, more):
@@ -164,6 +221,7 @@ class Terms:
     rate: float
     burst: int
     connections: int
+    classes: tuple
 
 
 class Book:
@@ -176,37 +234,40 @@ class Book:
     def read(self):
         """Reads the file; where it is wrong nothing is changed."""
         try:
-            told = tomllib.loads(pathlib.Path(self.path).read_text(encoding="utf-8"))
-            kinds = [self.kind_of(each) for each in told.pop("class")]
-            listen = place_of(told.pop("listen"))
-            guests = told.pop("guests")
-            each, together = terms_of(guests["each"], kinds), terms_of(guests["together"], kinds).limits
-            named, keys = {}, []
-            for customer in told.pop("customer", []):
-                name = customer.pop("name")
-                if name in named or not re.fullmatch(r"[\w.@-]+", name):
-                    raise Unfit(f"the customer's name {name!r} stands twice, or isn't one word")
-                keys += keys_of(name, customer)
+            text = pathlib.Path(self.path).read_text(encoding="utf-8")
+            told = Table(text, tomllib.loads(text))
+            listen = place_of(told.take("listen", is_place, "an address and a port"))
+            kinds = [kind_of(each) for each in told.tables("class")]
+            for number, kind in enumerate(kinds):
+                if kind.name in [other.name for other in kinds[:number]]:
+                    raise Unfit(f"line {line_of(text, 'class', number, 'name')}: a second class {kind.name!r}")
+            guests = told.table("guests")
+            each, together = terms_of(guests.table("each"), kinds), terms_of(guests.table("together"), kinds).limits
+            guests.end()
+            named, keys = {}, {}
+            for customer in told.tables("customer", []):
+                name = customer.take("name", lambda value: isinstance(value, str) and re.fullmatch(r"[\w.@-]+", value) and value not in named, "one word that no other customer has")
+                keys_of(name, customer, keys)
                 named[name] = terms_of(customer, kinds)
-        except (OSError, ValueError, KeyError, TypeError) as fault:
-            raise Unfit(f"{self.path}: {type(fault).__name__}: {fault}") from fault
-        if told or len(dict(keys)) != len(keys):
-            raise Unfit(f"{self.path}: unknown words {list(told)}, or a key that two customers have")
+            told.end()
+        except (OSError, ValueError) as fault:
+            raise Unfit(f"{self.path}: {fault}") from fault
+        except Unfit as fault:
+            raise Unfit(f"{self.path}: {fault}") from fault
         check_sums(kinds, [*(terms.limits for terms in named.values()), together])
-        self.kinds, self.listen, self.each, self.named, self.keys = kinds, listen, each, named, dict(keys)
-        self.networks = [(key, name) for key, name in keys if not isinstance(key, tuple)]
+        self.kinds, self.listen, self.each, self.named, self.keys = kinds, listen, each, named, keys
+        self.networks = [(key, name) for key, name in keys.items() if not isinstance(key, tuple)]
         self.pool.limits = together
         for name, customer in self.here.items():
             customer.set_terms(named.get(name, each))
 
-    @staticmethod
-    def kind_of(told):
-        host, port = place_of(told.pop("address"))
-        return Kind(host=host, port=port, **told)
+    def kind_for(self, customer, segments, nodes):
+        """The first of a customer's classes that a session of these amounts fits."""
+        return next((kind for kind in self.kinds if kind.name in customer.classes and kind.holds(segments, nodes)), None)
 
-    def kind_for(self, segments, nodes):
-        """The first class that a session of these amounts fits."""
-        return next((kind for kind in self.kinds if kind.holds(segments, nodes)), None)
+    def first_kind(self, customer):
+        """The least of a customer's classes: where a line goes that comes before HELLO."""
+        return next((kind for kind in self.kinds if kind.name in customer.classes), self.kinds[0])
 
     def customer(self, name, pool=None):
         if name not in self.here:
@@ -243,22 +304,58 @@ def place_of(text):
     return host, int(port)
 
 
+def is_place(value):
+    return isinstance(value, str) and bool(re.fullmatch(r"\S+:\d{1,5}", value)) and 0 < place_of(value)[1] < 65536
+
+
+def is_network(text):
+    try:
+        return bool(ipaddress.ip_network(text))
+    except ValueError:
+        return False
+
+
+def kind_of(told):
+    """A class of servers."""
+    name = told.take("name", lambda value: isinstance(value, str) and re.fullmatch(r"[\w-]+", value), "one word")
+    host, port = place_of(told.take("address", is_place, "an address and a port"))
+    numbers = {key: told.count(key, 1) for key in ("servers", "segments", "nodes")}
+    most = {"most_segments": told.count("most_segments", 1, MOST_SEGMENTS), "most_nodes": told.count("most_nodes", 1, MOST_NODES)}
+    places = told.count("places", 1, PLACES, PLACES)
+    told.end()
+    return Kind(name=name, host=host, port=port, places=places, **numbers, **most)
+
+
 def terms_of(told, kinds):
-    """A customer's terms: a budget for each class that is named, and how fast it may open sessions."""
-    told = dict(told)
-    limits = {kind.name: Amount(**told.pop(kind.name)) for kind in kinds if kind.name in told}
+    """A customer's terms: its classes, a budget for each that is named, and how fast it may open sessions."""
+    names = [kind.name for kind in kinds]
+    classes = told.texts("classes", lambda one: one in names, f"classes, of {', '.join(names)}") or names
+    limits = {}
+    for name in [name for name in names if name in told.told]:
+        if name not in classes:
+            told.refuse(name, f"a budget in the class {name}, which isn't one of its `classes`")
+        amount = Table(told.text, told.take(name, lambda value: isinstance(value, dict), "a table"), told.name, told.number)
+        limits[name] = Amount(**{key: amount.count(key, default=0) for key in ("sessions", "segments", "nodes")})
+        for key in amount.told:
+            told.refuse(name, f"`{key}` is an unknown word of `{name}`")
     most = sum(amount.sessions for amount in limits.values())
-    terms = Terms(limits, float(told.pop("rate", 10)), int(told.pop("burst", 100)), int(told.pop("connections", 4 * most + 16)))
-    if told:
-        raise ValueError(f"unknown words: {', '.join(told)}")
+    rate = told.take("rate", lambda value: type(value) in (int, float) and 0 < value < 10**6, "a number above 0", 10)
+    terms = Terms(limits, float(rate), told.count("burst", 1, default=100), told.count("connections", 1, default=4 * most + 16), tuple(classes))
+    told.end()
     return terms
 
 
-def keys_of(name, told):
+def keys_of(name, told, keys):
     """Takes a customer's tokens, certificates and addresses out of what the file says of it."""
-    keys = [(("token", digest.lower()), name) for digest in told.pop("token_sha256", [])]
-    keys += [(("certificate", certificate), name) for certificate in told.pop("certificate", [])]
-    return keys + [(ipaddress.ip_network(text), name) for text in told.pop("address", [])]
+    found = [("token", digest.lower()) for digest in told.texts("token_sha256", lambda one: re.fullmatch("[0-9A-Fa-f]{64}", one), "digests of 64 hexadecimal digits")]
+    found += [("certificate", certificate) for certificate in told.texts("certificate", lambda one: one.strip(), "names")]
+    found += [ipaddress.ip_network(text) for text in told.texts("address", is_network, "addresses or networks")]
+    if not found:
+        told.refuse("name", f"the customer {name} has no token, certificate or address")
+    for key in found:
+        if key in keys:
+            told.refuse("name", f"the customers {keys[key]} and {name} have a key in common")
+        keys[key] = name
 
 
 def guest_name(address):

@@ -4,6 +4,7 @@ The program is the one that the variable OTHELLO names, and else the one that `.
 has built: it is started itself, since the time that `./othello` takes to look at the sources would be added to each start.
 """
 import contextlib
+import functools
 import os
 import pathlib
 import random
@@ -34,13 +35,17 @@ def fail(text):
     sys.exit(f"{pathlib.Path(sys.argv[0]).name}: {text}")
 
 
-def built():
-    """The program that `./othello` builds, where it isn't there yet."""
-    subprocess.run([TOP / "othello", "serve", "--help"], stdout=subprocess.DEVNULL, check=True)
-    return str(TOP / "crates/othello_server/out/othello_server")
+@functools.cache
+def program():
+    """The program. Where `./othello` is to build it and hasn't yet, it is proved and built now: by the first who asks, and not by an import."""
+    return os.environ.get("OTHELLO") or subprocess.run([TOP / "othello", "--build"], stdout=subprocess.PIPE, text=True, check=True).stdout.strip()
 
 
-PROGRAM = os.environ.get("OTHELLO") or built()
+def __getattr__(name):
+    """`PROGRAM` for those who import this file, as a name of it: it is looked for when it is used."""
+    if name == "PROGRAM":
+        return program()
+    raise AttributeError(f"module {__name__!r} has no attribute {name!r}")
 
 
 def check(told, text):
@@ -76,7 +81,7 @@ def until(what, told, seconds=60):
 
 def solve(lines, *words):
     """Of each line `depth position` what `othello solve` answers, as a client gives it."""
-    run = subprocess.run([PROGRAM, "solve", *words], input="".join(f"{line}\n" for line in lines), capture_output=True, text=True, check=True)
+    run = subprocess.run([program(), "solve", *words], input="".join(f"{line}\n" for line in lines), capture_output=True, text=True, check=True)
     parted = [line.split() for line in run.stdout.splitlines()]
     return [("ERR", int(second)) if first == "ERR" else ("DONE", int(first), second) for first, second, *_ in parted]
 
@@ -150,7 +155,7 @@ def ended_after(process, number=signal.SIGTERM):
 @contextlib.contextmanager
 def server(*words):
     """A server; gives its process and the port that it says it listens at."""
-    process = subprocess.Popen([PROGRAM, "serve", *words], stdout=subprocess.PIPE, text=True)
+    process = subprocess.Popen([program(), "serve", *words], stdout=subprocess.PIPE, text=True)
     with ended_after(process), process.stdout:
         said = process.stdout.readline()
         if not said.startswith("listening "):
@@ -161,7 +166,7 @@ def server(*words):
 @contextlib.contextmanager
 def supervised(port, *words, most=8, log=subprocess.DEVNULL):
     """A supervisor with a server at a port."""
-    command = [str(HERE / "supervise"), "--most", str(most), PROGRAM, "serve", "--port", str(port), *words]
+    command = [str(HERE / "supervise"), "--most", str(most), program(), "serve", "--port", str(port), *words]
     with ended_after(subprocess.Popen(command, stdout=log)) as process:
         subprocess.run([str(HERE / "ready"), str(port), "120"], check=True)
         yield process
@@ -186,14 +191,14 @@ class Proxy:
     """HAProxy with deploy/haproxy.cfg and deploy/budgets with deploy/budgets.toml, at the ports of a trial.
 
     `certificate` is that of TLS, `authority` signs the certificates of customers; `terms` are changes of budgets.toml, and
-    `more` stands behind it. At `beside` are servers of the quick class besides its two."""
+    `more` stands behind it; `changes` are those of haproxy.cfg. At `beside` are servers of the quick class besides its two."""
 
-    def __init__(self, ports, certificate=None, authority=None, terms=(), more="", beside=()):
+    def __init__(self, ports, certificate=None, authority=None, terms=(), more="", beside=(), changes=()):
         self.port, self.metrics, self.ports, self.beside = free_port(), free_port(), ports, beside
         self.inner, self.classes = free_port(), [free_port() for _ in CLASSES]
         self.tls = f" ssl crt {certificate}" if certificate else ""
         self.tls += f" ca-file {authority} verify optional" if authority else ""
-        self.terms, self.more = terms, more
+        self.terms, self.more, self.changes = terms, more, changes
 
     def moved(self):
         """What ports are changed in both files."""
@@ -204,6 +209,7 @@ class Proxy:
         self.control, self.log = f"{self.folder.name}/control", pathlib.Path(self.folder.name, "log")
         moved = [(f"127.0.0.1:{old}\n", f"127.0.0.1:{new}\n") for old, new in zip(PORTS, self.ports)]
         moved += [("  bind :4700\n", f"  bind 127.0.0.1:{self.port}{self.tls}\n"), ("bind 127.0.0.1:8404", f"bind 127.0.0.1:{self.metrics}")]
+        moved += [("  bind [::]:4700 v6only\n", f"  bind [::1]:{self.port} v6only{self.tls}\n"), *self.changes]
         moved += [("/run/haproxy/admin.sock", self.control)]
         if os.geteuid() != 0:  # only root may take another user and another root
             moved += [(f"  {line}\n", "") for line in ("user haproxy", "group haproxy", "chroot /var/lib/haproxy")]
@@ -258,3 +264,28 @@ def is_there(port):
 def source_of(session):
     """Where a session comes from, as HAProxy writes it."""
     return ":".join(map(str, session.socket.getsockname()))
+
+
+@contextlib.contextmanager
+def kept_groups():
+    """What systemd-nspawn makes in this process's control groups is taken away again."""
+    yield
+    for line in pathlib.Path("/proc/self/cgroup").read_text().splitlines():
+        number, names, path = line.split(":", 2)
+        base = pathlib.Path("/sys/fs/cgroup", {"name=systemd": "systemd", "": "unified" if pathlib.Path("/sys/fs/cgroup/unified").exists() else ""}.get(names, names))
+        for made in ("payload", "supervisor"):
+            place = base / path.lstrip("/") / made
+            for folder in sorted((each for each in place.rglob("*") if each.is_dir()), reverse=True) + [place]:
+                with contextlib.suppress(OSError):
+                    folder.rmdir()
+
+
+def boot(root, unit, *words, seconds=300):
+    """Boots systemd with a unit on a folder's tree, in a container with a network of its own. Gives what the unit has written to /told,
+    and else what the container said."""
+    command = ["systemd-nspawn", "--quiet", "--register=no", "--keep-unit", "--private-network", "-D", str(root), *words, "-b", f"systemd.unit={unit}"]
+    # Control groups of the second version: those of the first don't tell a container when a unit has no process left.
+    around = dict(os.environ, SYSTEMD_NSPAWN_UNIFIED_HIERARCHY="1")
+    with kept_groups():
+        booted = subprocess.run(command, env=around, capture_output=True, text=True, timeout=seconds, errors="replace", stdin=subprocess.DEVNULL)
+    return (root / "told").read_text() if (root / "told").exists() else booted.stdout + booted.stderr

@@ -35,7 +35,7 @@ class Board:
 
     def __init__(self, words, shown):
         self.shown, self.heard = shown, queue.Queue()
-        command = [sys.executable, HERE / "bridge.py", *words]
+        command = [sys.executable, HERE / "bridge.py", "--silence", "20", *words]
         self.bridge = subprocess.Popen([*map(str, command)], stdin=subprocess.PIPE, stdout=subprocess.PIPE, text=True, bufsize=1)
         threading.Thread(target=self.listen, daemon=True).start()
 

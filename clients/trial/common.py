@@ -10,18 +10,19 @@ import threading
 import time
 
 TOP = pathlib.Path(__file__).resolve().parent.parent.parent
-sys.path.insert(0, str(TOP / "deploy"))
+sys.path[:0] = [str(TOP / "deploy"), str(TOP / "clients/python/src")]
 import stage  # noqa: E402
 from stage import OPENING, fail  # noqa: E402
 
 LONG = stage.positions(1, 2, 20, 20)[0]  # some seconds' work to depth 12, where 256 segments and 65,536 nodes are reserved of
 LASTING = ("--grain", "6", "--segments", "65536", "--nodes", "1048576")  # such a server
 SOON = 2  # seconds after which a fault is said
+NO_VALUE = 3  # the status of a client where a line has no value
 PATIENT = ("--silence", 20)  # where values are tried and no fault: on a busy machine an answer may take more than 1.5 seconds
 COMMANDS = {
     "python": [sys.executable, TOP / "clients/python/othello.py"],
     "javascript": ["node", TOP / "clients/javascript/othello.mjs"],
-    "java": ["java", "-cp", None, "Othello"],  # the folder of its classes: `compile_java`
+    "java": ["java", "-cp", None, "coluwen.Command"],  # the folder of its classes: `compile_java`
     "shell": [TOP / "clients/shell/ask.sh"],
 }
 
@@ -43,7 +44,7 @@ def fails(kind, call):
 def compile_java(folder):
     """Compiles Java's client, so that its start takes no seconds."""
     if shutil.which("javac"):
-        subprocess.run(["javac", "-d", folder, TOP / "clients/java/Othello.java"], check=True)
+        subprocess.run(["javac", "-d", folder, *(TOP / "clients/java/src/main/java/coluwen").glob("*.java")], check=True)
         COMMANDS["java"][2] = folder
 
 
@@ -120,10 +121,10 @@ def within(seconds, what, stream):
 
 
 def start_of(words):
-    """How long a command takes to begin: by its refusal of no words, which must be status 2 and a usage."""
+    """How long a command takes to begin: by its refusal of an option, which must be status 2 and a usage."""
     begun = time.monotonic()
-    done = subprocess.run([*map(str, words)], stdin=subprocess.DEVNULL, capture_output=True, text=True, check=False)
-    check(done.returncode == 2 and "host" in done.stderr.lower() and not done.stdout, f"{words[0]} without words: status {done.returncode}")
+    done = subprocess.run([*map(str, words), "--nonsense"], stdin=subprocess.DEVNULL, capture_output=True, text=True, check=False)
+    check(done.returncode == 2 and "host" in done.stderr.lower() and not done.stdout, f"{words[0]} --nonsense: status {done.returncode}: {done.stderr}")
     return time.monotonic() - begun
 
 

@@ -11,23 +11,26 @@ import othello
 import stage
 from common import LONG, OPENING, check, fails
 
-# Each says `[DONE, 0, d3]`-like what a job of depth 12 ended as that was waited for and cancelled meanwhile, then what one ended as
-# that had 300 ms, and whether the session is of use after it.
+# Each says what a job of depth 12 ended as that was waited for and cancelled meanwhile, that one which had 0.3 s is late, and whether the
+# session is of use after it.
 JAVASCRIPT = """
-import { Session } from "%s";
+import { Late, Session } from "%s";
 const session = await Session.open({ host: "127.0.0.1", port: %d, segments: 256, nodes: 65536 });
-const job = await session.ask("12 %s");
+const job = await session.askLine("12 %s");
 setTimeout(() => session.cancel(job), 200);
 console.log((await session.poll(job)).join(" "));
-console.log((await session.poll(await session.ask("12 %s"), 300)).join(" "));
-const last = await session.ask("2 %s");
+console.log(await session.poll(await session.askLine("12 %s"), { timeout: 0.3 }).catch((fault) => fault instanceof Late));
+const last = await session.askLine("2 %s");
 console.log((await session.wait(last)).join(" "), (await session.table(last))[0].join(""), String(await session.table(job)));
 await session.close();
 """
 JAVA = """
+import coluwen.ColuwenException.Late;
+import coluwen.Session;
+
 public final class Cancels {
   public static void main(String[] arguments) throws Exception {
-    try (var session = new Othello("127.0.0.1", %d, 256, 65536, false)) {
+    try (var session = new Session(new Session.Place("127.0.0.1", %d, false, null), 256, 65536, 0)) {
       int job = session.ask("12 %s");
       var other = new Thread(() -> {
         try {
@@ -38,10 +41,14 @@ public final class Cancels {
         }
       });
       other.start();
-      System.out.println(String.join(" ", session.poll(job, 0)));
-      System.out.println(String.join(" ", session.poll(session.ask("12 %s"), 300)));
+      System.out.println(session.poll(job, 0));
+      try {
+        System.out.println(session.poll(session.ask("12 %s"), 0.3));
+      } catch (Late late) {
+        System.out.println(true);
+      }
       int last = session.ask("2 %s");
-      System.out.println(String.join(" ", session.await(last)) + " " + session.table(last).get(0) + " " + session.table(job));
+      System.out.println(session.await(last) + " " + session.table(last, false).get(0) + " " + session.table(job, false));
     }
   }
 }
@@ -157,7 +164,7 @@ def try_programs(port, folder):
         with open(path, "w", encoding="utf-8") as file:
             file.write(text)
         done = subprocess.run(command, capture_output=True, text=True, check=False, timeout=60)
-        wish = ["CANCELLED", "CANCELLED", "DONE -4 d3 d3=-4 null"]
+        wish = ["CANCELLED", "true", "DONE -4 d3 d3=-4 null"]
         check(done.stdout.splitlines() == wish, f"{name}: {done.stdout} {done.stderr}")
         print(f"{name}: a job that is waited for is cancelled by another call, and by a limit of time; {wish[-1]}")
 

@@ -1,19 +1,19 @@
 """Trials of each client's token, by deploy/budgets where guests have no session: with it a client is served, else not."""
 import contextlib
 import hashlib
-import json
 import pathlib
 import socket
 import subprocess
 import sys
 import threading
-import urllib.request
 
 import common
 import stage
-import teaching
 import tools
 from common import OPENING, PATIENT, TOP, as_answer, check, run
+
+sys.path.append(str(TOP / "clients/trial/board"))
+import stand  # noqa: E402
 
 TOKEN = "Some-Token_of.64/signs"
 GUESTS = [("quick = { sessions = 2, segments = 2048, nodes = 19998 }", "quick = { sessions = 0, segments = 0, nodes = 0 }"),
@@ -51,15 +51,14 @@ def try_lines(name, port, files, asked, wanted):
     """With the token the lines are answered; without it, and with another one, HELLO is refused by 14."""
     own, other, foul = files
     here = ("127.0.0.1", port, *(["-"] if name == "shell" else []), 64, 4096)
-    slow = () if name == "shell" else PATIENT
-    given, done = run(name, ("--token", own, *slow, *here), asked)
+    given, done = run(name, ("--token", own, *PATIENT, *here), asked)
     if name == "shell":
         parted = [line.split() for line in given]
         given = [" ".join([words[0], *words[2:]]) if words[0] == "DONE" else " ".join(words) for words in parted]
     check(list(map(as_answer, given)) == wanted, f"{name} with a token: {done.stderr}")
     for words in ((), ("--token", other)):
-        given, done = run(name, (*words, *(() if name == "shell" else (*PATIENT, "--patience", 0)), *here), asked)
-        said = given[0] if name == "shell" and given else done.stderr
+        given, done = run(name, (*words, *PATIENT, "--patience", 0, *here), asked)
+        said = done.stderr
         check(done.returncode == 1 and "ERR 14" in said and not any(line.startswith("DONE") for line in given), f"{name} {words}: {said}")
     with unfit() as false_port:
         told = run(name, ("--token", own, "127.0.0.1", false_port, *here[2:]), asked)[1]
@@ -76,7 +75,7 @@ def try_batch(port, folder, own):
     here = ("127.0.0.1", port, results)
     blind = tools.batch("--patience", 0, *PATIENT, *here, text=text)
     check(blind.returncode == 1 and "ERR 14" in blind.stderr, f"batch without a token: {blind.stderr}")
-    done = tools.batch("--depth", 3, "--sessions", 5, "--patience", 1, "--token", own, *PATIENT, *here, text=text)
+    done = tools.batch("--depth", 3, "--sessions", 5, "--segments", 256, "--nodes", 65536, "--patience", 1, "--token", own, *PATIENT, *here, text=text)
     check(done.returncode == 0 and "3 of 5 sessions were granted" in done.stderr, f"batch: {done.stderr}")
     wanted = [[str(value), move] for _, value, move in stage.solve([f"3 {position}" for position in positions])]
     check([row[2:4] for row in tools.rows_of(results)] == wanted, "batch: a wrong row of few sessions")
@@ -92,9 +91,10 @@ def try_tools(port, own):
     review = (sys.executable, TOP / "clients/teacher/review.py", "--depth", 2, "--token", own, *PATIENT, *here, "f5d6c3")
     told = subprocess.run([*map(str, review)], capture_output=True, text=True, check=False)
     check(told.returncode == 0 and "  3 black  c3" in told.stdout, f"review.py with a token: {told.stderr}")
-    with teaching.served("--token", own, *PATIENT, *here) as address, urllib.request.urlopen(f"{address}review?depth=2&moves=f5d6") as answer:
-        given = [json.loads(line) for line in answer if line.strip()]
-    check(len(given) == 2 and all("said" in row for row in given), f"the page with a token: {given[:1]}")
+    with stand.page(port, "--token", own) as (_, address):
+        lines = stand.analysed(address, OPENING, 2)
+    found = [line["best"] for line in lines if line["kind"] == "step" and line["depth"] == 2]
+    check(found == [stage.solve([f"2 {OPENING}"])[0][2]], f"the page with a token: {lines}")
 
 
 def try_all(port, folder, asked, wanted):

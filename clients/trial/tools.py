@@ -7,9 +7,11 @@ import signal
 import subprocess
 import sys
 import time
+import xml.etree.ElementTree
 
 import common
 import stage
+from coluwen import formats
 from common import LONG, OPENING, TOP, check
 
 BATCH = [sys.executable, TOP / "clients/batch"]
@@ -47,7 +49,9 @@ def try_batch(port, folder):
     asked, wanted = asked_positions()
     text, one, two = "".join(f"{line}\n" for line in asked), f"{folder}/one.csv", f"{folder}/two.csv"
     done = batch("--depth", 2, *common.PATIENT, "127.0.0.1", port, one, text=text)
-    check(done.returncode == 0 and f"{len(asked)} positions" in done.stderr, f"batch: {done.stderr}")
+    faulty = sum(row[2].startswith("ERR") for row in wanted)
+    check(done.returncode == common.NO_VALUE and f"{len(asked)} positions: {len(asked) - faulty} done, 0 spent, {faulty} at fault" in done.stderr, f"batch: {done.stderr}")
+    check("standard input:48:66: 'Y' spells no cell" in done.stderr, f"batch: it doesn't say which line can't be read: {done.stderr}")
     check([row[:4] for row in rows_of(one)] == wanted, f"batch: {[pair for pair in zip(rows_of(one), wanted) if pair[0][:4] != pair[1]][:2]}")
     check(all(float(row[4]) > 0 for row in rows_of(one) if not row[2].startswith("ERR")), "batch: a job without a time")
     pathlib.Path(f"{folder}/asked").write_text(text)
@@ -55,16 +59,52 @@ def try_batch(port, folder):
     with open(two, "a", encoding="latin-1") as file:
         file.write("-----")  # a row that was cut off
     done = batch("--depth", 2, *common.PATIENT, "--sessions", 3, "--nodes", 40, "127.0.0.1", port, two, f"{folder}/asked")  # sessions are used up
-    check(done.returncode == 0 and f"{len(first)} positions were done earlier" in done.stderr, f"batch: {done.stderr}")
-    check(f"{len(asked)} of {len(asked)} positions (100 %)" in done.stderr, f"batch: no progress in {done.stderr}")
+    check(done.returncode == common.NO_VALUE and f"{len(first)} positions were done earlier" in done.stderr, f"batch: {done.stderr}")
     rows = rows_of(two)
     check(rows[: len(first)] == first, "batch: it began anew")
     check([row[:4] for row in rows] == wanted, "batch: another row after it went on")
-    check(batch("--depth", 2, *common.PATIENT, "127.0.0.1", port, two, f"{folder}/asked").returncode == 0 and rows_of(two) == rows, "batch: a run that was done")
+    check(batch("--depth", 2, *common.PATIENT, "127.0.0.1", port, two, f"{folder}/asked").returncode == common.NO_VALUE and rows_of(two) == rows, "batch: a run that was done")
     other = batch("--depth", 3, "127.0.0.1", port, two, f"{folder}/asked")
     check(other.returncode == 1 and "row 2 of" in other.stderr and rows_of(two) == rows, f"batch: rows of another depth are taken: {other.stderr}")
     try_compare(one, two)
+    try_formats(port, folder)
     print(f"batch: {len(asked)} rows right; killed after {len(first)} it went on; other positions are refused; two runs compared")
+
+
+def try_formats(port, folder):
+    """An .obf with expected moves, a GGF game and a .wtb, transcripts: rows, agreement, a plot; what can't be read is said with its place."""
+    positions = [position for position in stage.positions(40, 23, 10, 40)]
+    answers = stage.solve([f"3 {position}" for position in positions], "--visited")
+    lines = [f"{position}; {move}:+2; % {number}" if number % 4 else f"{position}; % nothing is expected" for number, (position, (_, _, move)) in enumerate(zip(positions, answers)) if move not in ("pass", "-")]
+    problems, results = pathlib.Path(folder, "expected.obf"), f"{folder}/expected.csv"
+    problems.write_text("# made by the trial\n" + "\n".join(lines) + "\n")
+    done = batch("--depth", 3, *common.PATIENT, "--plot", f"{folder}/plot.svg", "127.0.0.1", port, results, problems)
+    expected = sum(";" in line and ":+2" in line for line in lines)
+    check(done.returncode == 0 and f"{expected} of {expected} moves are among those expected (100.0 %)" in done.stderr, f"batch: {done.stderr}")
+    drawn = pathlib.Path(folder, "plot.svg").read_text()
+    xml.etree.ElementTree.fromstring(drawn)
+    check(drawn.count("<rect") > 15 and f"{len(lines)} positions" in drawn, "batch: the plot")
+    same = batch("--compare", results, problems)
+    check(f"{expected} positions in both" in same.stdout, f"batch: {same.stdout}")
+    check(" 0 with another" in batch("--compare", results, results).stdout, "batch: a run differs from itself")
+    game = stage.random_game(22)
+    plain, told = pathlib.Path(folder, "game.txt"), formats.transcript.read(game)
+    plain.write_text(formats.transcript.write(told, "numbered") + "\n")
+    pathlib.Path(folder, "game.ggf").write_text(formats.ggf.write([told]))
+    pathlib.Path(folder, "game.wtb").write_bytes(formats.wthor.write([told], 2020))
+    rows = []
+    for name in ("game.txt", "game.ggf", "game.wtb"):
+        done = batch("--depth", 1, *common.PATIENT, "127.0.0.1", port, f"{folder}/{name}.csv", pathlib.Path(folder, name))
+        check(done.returncode == 0, f"batch: {name}: {done.stderr}")
+        rows.append([row[:4] for row in rows_of(f"{folder}/{name}.csv")])
+    check(rows[0] == rows[1] == rows[2] and len(rows[0]) == len(told.words()), f"batch: the formats of a game have {[len(each) for each in rows]} rows")
+    plain.write_text("f5d6c3\nf5d6a1\n")
+    foul = batch("--depth", 1, *common.PATIENT, "127.0.0.1", port, f"{folder}/foul.csv", plain)
+    check(foul.returncode == common.NO_VALUE and "game.txt:2:5: move 3, a1" in foul.stderr, f"batch: {foul.stderr}")
+    pathlib.Path(folder, "cut.wtb").write_bytes(formats.wthor.write([told], 2020)[:-3])
+    foul = batch("--depth", 1, *common.PATIENT, "127.0.0.1", port, f"{folder}/cut.csv", f"{folder}/cut.wtb")
+    check(foul.returncode == 1 and "cut.wtb:5: its head counts 1 games" in foul.stderr, f"batch: {foul.stderr}")
+    print(f"batch: an .obf of {len(lines)} positions, a game as transcript, GGF and .wtb; a plot; what can't be read is said with its place")
 
 
 def killed_in_between(port, folder, path, asked):

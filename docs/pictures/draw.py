@@ -1,6 +1,7 @@
 #!/usr/bin/env python3
-"""Writes the pictures of docs/ARCHITECTURE.md as SVG files beside this script: the crates (from crates.txt), the states of
-a frame, the words of a frame, the threads and the lock, and the way of an ASK.
+"""Writes the pictures of the documents as SVG files beside this script: the crates (from crates.txt, without
+those of tests), what a promise rests on, the states of a frame, the words of a frame, the threads and the lock, and the
+way of an ASK.
 
 usage: docs/pictures/draw.py          writes them
        docs/pictures/draw.py check    ends with status 1 where a file isn't what this script writes
@@ -101,19 +102,24 @@ def read_crates():
     return group_of, {name: [low for low in used if low in uses] for name, used in uses.items()}
 
 
+TESTS = ("storage_tests", "core_tests", "search_tests", "hall_tests", "pool_tests", "session_tests", "definition_tests", "sched_toys", "counted_alloc")
+
+
 def crates():
     group_of, uses = read_crates()
+    uses = {name: [low for low in used if low not in TESTS] for name, used in uses.items() if name not in TESTS}
     below = {}
     for name in uses:  # lowest first
         below[name] = set(uses[name]).union(*(below[low] for low in uses[name]))
     direct = {name: [low for low in used if not any(low in below[other] for other in used)] for name, used in uses.items()}
-    level = {}
-    for name in uses:
-        level[name] = 1 + max((level[low] for low in uses[name]), default=-1)
-    for name in uses:  # a crate of tests stands as low as it can, one that nothing below needs as high as it can
-        above = [level[high] for high in uses if name in direct[high]]
-        if above and not uses[name]:
-            level[name] = min(above) - 1
+    level, base, bands = {}, 0, []
+    for group in dict.fromkeys(group_of[name] for name in uses):  # a band of rows for each group
+        names = [name for name in uses if group_of[name] == group]
+        for name in names:
+            level[name] = max((level[low] + 1 for low in uses[name] if low in names), default=base)
+        top = max(level[name] for name in names)
+        bands.append((group.split(",")[0].replace("`", ""), base, top))
+        base = top + 1
     # a long line gets a place of its own in each row that it crosses
     rows, edges, place = [[] for _ in range(max(level.values()) + 1)], [], {}
     for name in uses:
@@ -155,32 +161,47 @@ def crates():
         for _ in range(30):
             spread(row)
     least = min(place[n] - size[n] / 2 for n in place)
-    across = int(max(place[n] + size[n] / 2 for n in place) - least + 40)
-    high = 62
-    picture = Picture("crates", across, high * len(rows) + 80)
-    groups = list(dict.fromkeys(group_of[name] for name in uses))[0:]
-    colours = dict(zip(groups, (GREEN, YELLOW, BLUE, VIOLET, RED, "#cffafe", "#fde7d3", "#e2e8f0", "#fce7f3", "#ecfccb")))
+    margin = 150  # for the bands' names
+    across = int(max(place[n] + size[n] / 2 for n in place) - least + margin + 20)
+    high = 56
+    picture = Picture("crates", across, high * len(rows) + 16)
+    colours = dict(zip((band[0] for band in bands), (GREEN, YELLOW, BLUE, VIOLET, RED, "#cffafe", "#fde7d3", "#e2e8f0", "#fce7f3")))
 
     def at(node):
         row = next(number for number, names in enumerate(rows) if node in names)
-        return place[node] - least + 20, high * (len(rows) - 1 - row) + 32
+        return place[node] - least + margin, high * (len(rows) - 1 - row) + 36
 
+    for band, low, top in bands:
+        y = high * (len(rows) - 1 - top) + 10
+        picture.back.append(f'<rect x="6" y="{y:g}" width="{across - 12}" height="{high * (top - low + 1) - 4:g}" rx="8" fill="#f8fafc"/>')
+        picture.text(16, y + 18, band, 11, "start", bold=True, fill=LINE)
     for path in edges:
         picture.curve([at(node) for node in path])
     for row in rows:
         for name in row:
             if ">" not in name:
                 x, y = at(name)
-                picture.box(x - size[name] / 2, y - 14, size[name], 28, [name], colours[group_of[name]], bold=False, dashed=name.endswith("_rows") or name == "counted_alloc")
-    x, y = 20, picture.down - 56
-    for group in [*colours, "tests"]:
-        name = group.split(",")[0]
-        if x + width(name, 11) + 30 > across:
-            x, y = 20, y + 24
-        picture.box(x, y, 14, 14, fill=colours.get(group, PALE), dashed=group == "tests")
-        picture.text(x + 20, y + 11, name, 11, "start")
-        x += width(name, 11) + 44
+                picture.box(x - size[name] / 2, y - 14, size[name], 28, [name], colours[group_of[name].split(",")[0].replace("`", "")], bold=False)
     return picture
+
+
+def trust():
+    p = Picture("trust", 900, 372)
+    rows = (
+        ("a promise in words", "README.md, docs/promises", GREEN, "you compare: do the definitions mean these words?"),
+        ("its contract: clauses and definitions", "crates/promises: a page for each", GREEN, "the gate compares: the page is what the tree says"),
+        ("contracts of the crates below", "each crate relies on those below it alone", BLUE, "the prover: each body meets its contract"),
+        ("bodies, from the line to the raw words", "source code with its proofs", BLUE, "the prover: safe, and no pointer goes astray"),
+        ("toolchain: prover, logic, library, compiler", "rt version; two compilers, compared", YELLOW, "trusted"),
+        ("C library, kernel, processor", "files, sockets, locks, memory", YELLOW, "trusted"),
+    )
+    for number, (title, note, fill, why) in enumerate(rows):
+        y = 16 + 58 * number
+        p.box(16, y, 420, 44, [title, note], fill)
+        p.text(460, y + 26, why, 12, "start", fill=INK if why != "trusted" else "#9a3412")
+        if number:
+            p.arrow([(226, y - 14), (226, y)])
+    return p
 
 
 def states():
@@ -250,7 +271,7 @@ def threads():
     p.frame(20, 20, 250, 250, "sessions: a thread each", "#f8fafc")
     for number in range(3):
         p.box(40, 52 + 70 * number, 210, 54, ["serve_desk", "lines, an office, a seat"], GREEN)
-    p.box(40, 300, 210, 54, ["takes connections", "closes the desk at the end"], GREY)
+    p.box(40, 300, 210, 54, ["the taker of connections", "closes the desk at the end"], GREY)
     p.arrow([(145, 300), (145, 272)])
     p.frame(380, 20, 250, 400, "Desk", "#f8fafc")
     p.frame(395, 50, 220, 240, "one lock", YELLOW)
@@ -276,9 +297,11 @@ def threads():
     p.lines(850, 195, ["a thief takes the oldest"], 11)
     p.box(380, 452, 250, 64, ["count of computations", "a lock of its own, held for", "no search and no step"], GREY, 11)
     p.arrow([(740, 484), (630, 484)], both=True)
-    p.box(40, 452, 210, 64, ["the thread of serve", "starts the taker and the workers,", "and joins them"], GREY, 11)
+    p.box(40, 452, 210, 64, ["the thread of serve", "starts the taker of connections", "and the workers, joins them"], GREY, 11)
     p.arrow([(145, 452), (145, 354)])
     p.lines(314, 478, ["no search runs", "under a lock"], 11)
+    p.arrow([(145, 516), (145, 548), (850, 548), (850, 540)])
+    p.text(500, 542, "starts and joins the workers", 11)
     return p
 
 
@@ -296,9 +319,9 @@ def ask():
             ("sched_core", "Submit: a root is Ready", "words copied into a node"),
         ]),
         ("a worker's turns", VIOLET, [
-            ("pool_rules", "Steal, Advance, .. Inlet", "4 words to a view, a Board each turn"),
-            ("leaf_search", "a leaf, outside the lock", "5 words to a Leaf, and back in an Answer"),
-            ("sched_core", "Finish: the job keeps 76 words", ""),
+            ("pool_rules", "Steal, Advance, .. Inlet, under the lock", "4 words to a view, a Board each turn"),
+            ("leaf_search", "a leaf's search, outside the lock", "5 words to a Leaf, and back in an Answer"),
+            ("sched_core", "Finish, under the lock: 76 words are kept", ""),
         ]),
         ("under the lock", YELLOW, [
             ("jamboree_core", "outcome_of, Reply::read", "6 words to a Reply"),
@@ -333,7 +356,7 @@ def ask():
 
 def main():
     check = sys.argv[1:] == ["check"]
-    for picture in (crates(), states(), words(), threads(), ask()):
+    for picture in (crates(), trust(), states(), words(), threads(), ask()):
         path = HERE / f"{picture.name}.svg"
         if check and (not path.exists() or path.read_text() != picture.svg()):
             sys.exit(f"{path} isn't what this script writes: run docs/pictures/draw.py")

@@ -26,7 +26,7 @@ pub struct After<A: Allocator> {
 }
 
 /// Offers a list of steps, in which each Submit asks for a search, to a new core of these totals, by any workers
-/// for any tenants. It fails only where memory for the core or the answers was refused.
+/// for any tenants. Nothing is promised of an `AllocError`.
 fn ran<A>(
     alloc: A,
     procedure: Jamboree,
@@ -48,7 +48,7 @@ where
 /// for any tenants. A step that is no Admit or AdmitMore is refused only for its own tenant's state, or with Busy
 /// where the worker that has to be free for it is busy with another tenant (`refused`). Each job that is done, of
 /// any tenant, replies to the board and the depth of the Submit of its number: the minimax value, the best
-/// choice, and a true table (`replies`). It fails only where memory for the core or the answers was refused.
+/// choice, and a true table (`replies`). Nothing is promised of an `AllocError`.
 pub fn run<A: Allocator + Clone>(
     alloc: A,
     procedure: Jamboree,
@@ -70,7 +70,7 @@ pub fn run<A: Allocator + Clone>(
 /// and got the same answers to these steps: no other tenant disturbs it (`undisturbed`). That also holds where the
 /// second list is the tenant's own taken steps of the first, without all other tenants' steps, if the admissions in
 /// it are taken, for which there must be room and memory: then each of its steps is taken, and answered as in the
-/// first (`alone`). It fails only where memory for a core or its answers was refused.
+/// first (`alone`). Nothing is promised of an `AllocError`.
 pub fn run_two<A: Allocator + Clone>(
     alloc: A,
     procedure: Jamboree,

@@ -22,8 +22,8 @@
 //! root's are.
 //!
 //! ```text
-//! // what a finished job keeps of a root of 20 words
-//! let node = stack.open(None, &[2, 2, 1], 20)?;
+//! // a finished job keeps the first 76 words of its root: of a root of 12 words, all
+//! let node = stack.open(None, &[2, 2, 1], 12)?;
 //! JobWords::of(&stack.own(node)).as_slice() == [2, 2, 1, 0, 0, 0, 0, 0, 0, 0, 0, 0]
 //! ```
 #![tactic(auto)]

@@ -7,7 +7,7 @@
 //! below are not proved once more with them.
 //!
 //! ```text
-//! is_served(rt, office, b"HELLO 4 64\nQUOTA\nBYE\n", b"WELCOME 4 64\nQUOTA 0 4 0 64\nBYE\n")
+//! is_served(rt, office, b"HELLO 4 64\nQUOTA\nBYE\n", b"WELCOME 4 64\nQUOTA 4 64 1024\nBYE\n")
 //! ```
 #![tactic(auto)]
 

@@ -1,0 +1,107 @@
+package coluwen;
+
+import coluwen.ColuwenException.Broken;
+import coluwen.ColuwenException.Refused;
+import java.util.ArrayList;
+import java.util.Arrays;
+import java.util.HashSet;
+import java.util.List;
+import java.util.Map;
+import java.util.regex.Matcher;
+import java.util.regex.Pattern;
+import java.util.stream.Stream;
+
+/**
+ * An answer of the server that fits its line, by the one grammar of answers (answers.py of the Python package states it in words;
+ * clients/conformance.txt has the rows that the clients of all languages are tried by). {@code numbers}: of WELCOME, RESERVED, QUOTA, LIVE.
+ */
+record Answer(String state, int job, int value, String move, List<Entry> entries, List<Integer> numbers) {
+  static final int LONGEST = 1115; // bytes of an answer, with its LF
+
+  /** An entry of a table. */
+  record Entry(String move, char sign, int value) {
+    @Override
+    public String toString() {
+      return move + sign + value;
+    }
+  }
+
+  private static final String NUMBER = "(?:0|[1-9][0-9]{0,7})";
+  private static final String VALUE = "(?:0|-?[1-9][0-9]{0,5})";
+  private static final String PLACE = "(?:[a-h][1-8]|pass)";
+  private static final Pattern ENTRY = Pattern.compile("(" + PLACE + ")([=<>])(" + VALUE + ")");
+  private static final Pattern ERR = Pattern.compile("ERR ([1-9][0-9])");
+  private static final String JOB = " (?<job>" + NUMBER + ")";
+  private static final String DONE = "(?<state>DONE)" + JOB + " (?<value>" + VALUE + ") (?<move>" + PLACE + "|-)";
+  private static final String TWO = " (?<a>" + NUMBER + ") (?<b>" + NUMBER + ")";
+  private static final Map<String, Pattern> FORMS = Map.of(
+      "HELLO", Pattern.compile("(?<state>WELCOME)" + TWO), "RESERVE", Pattern.compile("(?<state>RESERVED)" + TWO),
+      "ASK", Pattern.compile("(?<state>JOB)" + JOB), "GET", Pattern.compile(DONE + "|" + ended("PENDING|SPENT|CANCELLED")),
+      "WAIT", Pattern.compile(DONE + "|" + ended("SPENT|CANCELLED")),
+      "TABLE", Pattern.compile("(?<state>TABLE)" + JOB + "(?<entries>(?: (?:" + PLACE + ")[=<>]" + VALUE + ")*)|" + ended("PENDING|SPENT|CANCELLED")),
+      "CANCEL", Pattern.compile("(?<state>CANCELLED)" + JOB), "QUOTA", Pattern.compile("(?<state>QUOTA)" + TWO + " (?<c>" + NUMBER + ")"),
+      "LIVE", Pattern.compile("(?<state>LIVE)" + TWO), "BYE", Pattern.compile("(?<state>BYE)"));
+
+  private static String ended(String states) {
+    return "(?<other>" + states + ") (?<otherJob>" + NUMBER + ")";
+  }
+
+  /**
+   * The answer to a line (both without LF), where so many jobs were asked before. {@code Refused} where it is an ERR, and {@code Broken}
+   * where it is none to that line.
+   */
+  static Answer parse(String line, String text, int jobs) {
+    var refused = ERR.matcher(text);
+    if (text.length() < LONGEST && refused.matches()) throw new Refused(Integer.parseInt(refused.group(1)));
+    var words = List.of(line.split(" "));
+    var found = FORMS.get(words.get(0)).matcher(text);
+    if (text.length() >= LONGEST || !found.matches()) throw misfit(line, text);
+    var numbers = Stream.of("a", "b", "c").map(name -> group(found, name)).filter(number -> number != null).toList();
+    var job = group(found, "job") != null ? group(found, "job") : group(found, "otherJob");
+    var entries = new ArrayList<Entry>();
+    var each = ENTRY.matcher(group(found, "entries") == null ? "" : group(found, "entries"));
+    while (each.find()) entries.add(new Entry(each.group(1), each.group(2).charAt(0), Integer.parseInt(each.group(3))));
+    var value = group(found, "value") == null ? 0 : Integer.parseInt(group(found, "value"));
+    var moves = new HashSet<>(entries.stream().map(Entry::move).toList());
+    var tooGreat = Math.abs(value) > Score.GREATEST || entries.stream().anyMatch(entry -> Math.abs(entry.value()) > Score.GREATEST);
+    var again = wanted(words, jobs);
+    var given = numbers.isEmpty() ? Arrays.asList(job) : numbers;
+    if ((again != null && !again.equals(given)) || moves.size() != entries.size() || tooGreat) throw misfit(line, text);
+    var state = group(found, "state") != null ? group(found, "state") : group(found, "other");
+    var move = group(found, "move") == null ? "" : group(found, "move");
+    return new Answer(state, job == null ? 0 : Integer.parseInt(job), value, move, entries, numbers.stream().map(Integer::valueOf).toList());
+  }
+
+  /** The words that must stand again in the answer: of ASK the next job's number; null where none must. */
+  private static List<String> wanted(List<String> words, int jobs) {
+    return switch (words.get(0)) {
+      case "HELLO" -> words.subList(1, 3);
+      case "ASK" -> List.of(String.valueOf(jobs + 1));
+      case "QUOTA", "LIVE", "BYE" -> null;
+      default -> words.subList(1, words.size());
+    };
+  }
+
+  /** What stands in a named group; null where the form has none of that name or it took no part. */
+  private static String group(Matcher found, String name) {
+    try {
+      return found.group(name);
+    } catch (IllegalArgumentException absent) {
+      return null;
+    }
+  }
+
+  private static Broken misfit(String line, String text) {
+    return new Broken(line + " was answered by " + text.substring(0, Math.min(text.length(), 120)).replaceAll("[^ -~]", "?"));
+  }
+
+  /** As it stands in a row of the conformance file. */
+  String words() {
+    var found = new ArrayList<Object>(List.of(state));
+    if (job > 0) found.add(job);
+    found.addAll(numbers);
+    if (state.equals("DONE")) found.addAll(List.of(value, move));
+    found.addAll(entries);
+    return String.join(" ", found.stream().map(String::valueOf).toList());
+  }
+}

@@ -1,0 +1,111 @@
+package coluwen;
+
+import coluwen.ColuwenException.IllegalMove;
+import java.util.ArrayList;
+import java.util.List;
+import java.util.Map;
+import java.util.stream.Collectors;
+import java.util.stream.IntStream;
+
+/**
+ * 64 cells from a1 to h8, row by row (X black, O white, - empty), and the side to move. A move is a square, {@code d3}, or {@code pass}.
+ */
+public record Position(String cells, char side) {
+  public static final String PASS = "pass";
+  public static final List<String> SQUARES = IntStream.range(0, 64).mapToObj(at -> "" + (char) ('a' + at % 8) + (char) ('1' + at / 8)).toList();
+  private static final String START = "-".repeat(27) + "OX" + "-".repeat(6) + "XO" + "-".repeat(27);
+
+  public Position {
+    if (!cells.matches("[XO-]{64}") || (side != 'X' && side != 'O')) throw new IllegalMove(cells + " and " + side + " are no position");
+  }
+
+  public static Position opening() {
+    return new Position(START, 'X');
+  }
+
+  /** The position of a text of 66 letters: X, x or * is black, O or o white, - or . empty. */
+  public static Position parse(String text) {
+    var found = text.replaceAll("\\s", "").replace('x', 'X').replace('*', 'X').replace('o', 'O').replace('.', '-');
+    if (!found.matches("[XO-]{64}[XO]")) throw new IllegalMove(text + " is no position: 64 cells, a space, and the side to move");
+    return new Position(found.substring(0, 64), found.charAt(64));
+  }
+
+  public String text() {
+    return cells + " " + side;
+  }
+
+  @Override
+  public String toString() {
+    return text();
+  }
+
+  public int empties() {
+    return (int) cells.chars().filter(cell -> cell == '-').count();
+  }
+
+  private static char other(char side) {
+    return side == 'X' ? 'O' : 'X';
+  }
+
+  /** The squares (0 to 63) whose discs a move of the side flips. */
+  private static List<Integer> flips(String cells, char side, int square) {
+    var found = new ArrayList<Integer>();
+    for (int down = -1; down <= 1; down++) {
+      for (int right = -1; right <= 1; right++) {
+        var run = new ArrayList<Integer>();
+        int row = square / 8 + down;
+        int column = square % 8 + right;
+        for (; isCell(cells, row, column, other(side)); row += down, column += right) run.add(8 * row + column);
+        if (isCell(cells, row, column, side)) found.addAll(run);
+      }
+    }
+    return found;
+  }
+
+  private static boolean isCell(String cells, int row, int column, char disc) {
+    return row >= 0 && row < 8 && column >= 0 && column < 8 && cells.charAt(8 * row + column) == disc;
+  }
+
+  private static List<String> squares(String cells, char side) {
+    return IntStream.range(0, 64).filter(at -> cells.charAt(at) == '-' && !flips(cells, side, at).isEmpty()).mapToObj(SQUARES::get).toList();
+  }
+
+  /** The moves, from a1 to h8; {@code pass} alone where only the opponent can move; none where the game is over. */
+  public List<String> legalMoves() {
+    var found = squares(cells, side);
+    return !found.isEmpty() || squares(cells, other(side)).isEmpty() ? found : List.of(PASS);
+  }
+
+  public boolean isOver() {
+    return legalMoves().isEmpty();
+  }
+
+  /** The position after a move; {@code IllegalMove} where the rules don't allow it. */
+  public Position play(String move) {
+    var word = move.toLowerCase();
+    if (!legalMoves().contains(word)) throw new IllegalMove(move + " isn't legal here");
+    if (word.equals(PASS)) return new Position(cells, other(side));
+    var after = new StringBuilder(cells);
+    var square = SQUARES.indexOf(word);
+    for (int at : flips(cells, side, square)) after.setCharAt(at, side);
+    after.setCharAt(square, side);
+    return new Position(after.toString(), other(side));
+  }
+
+  /** The same with the colours exchanged. */
+  public Position flip() {
+    return new Position(cells.replace('X', '?').replace('O', 'X').replace('?', 'O'), other(side));
+  }
+
+  /** The board for a terminal, with what {@code marks} has for its empty squares; a pass stands below it. */
+  public String drawn(Map<String, String> marks) {
+    var width = Math.max(1, marks.values().stream().mapToInt(String::length).max().orElse(0)) + 1;
+    var form = "%" + width + "s";
+    var text = new StringBuilder("  ").append("abcdefgh".chars().mapToObj(c -> form.formatted((char) c)).collect(Collectors.joining()));
+    for (int at = 0; at < 64; at++) {
+      if (at % 8 == 0) text.append('\n').append(at / 8 + 1).append(' ');
+      text.append(form.formatted(marks.getOrDefault(SQUARES.get(at), cells.substring(at, at + 1).replace('-', '.'))));
+    }
+    return marks.containsKey(PASS) ? text + "\n" + PASS + " " + marks.get(PASS) : text.toString();
+  }
+}

@@ -1,0 +1,82 @@
+// The rules of Othello: positions, legal moves, and what a move flips. A position is written with 66 letters: 64 cells from a1 to h8, row
+// by row (X black, O white, - empty), a space, and the side to move. A move is a square, `d3`, or `pass`.
+import { IllegalMove } from "./faults.mjs";
+
+export const START = `${"-".repeat(27)}OX${"-".repeat(6)}XO${"-".repeat(27)}`;
+export const SQUARES = [..."12345678"].flatMap((row) => [..."abcdefgh"].map((column) => column + row));
+export const PASS = "pass";
+const OTHER = { X: "O", O: "X" };
+const CELLS = { X: "X", x: "X", "*": "X", O: "O", o: "O", "-": "-", ".": "-" };
+const WAYS = [-1, 0, 1].flatMap((down) => [-1, 0, 1].map((right) => [down, right])).filter(([down, right]) => down || right);
+
+/** The squares (0 to 63) whose discs a move of the side flips. */
+function flipsOf(cells, side, square) {
+  return WAYS.flatMap(([down, right]) => {
+    const run = [];
+    let [row, column] = [(square >> 3) + down, (square & 7) + right];
+    while (row >= 0 && row < 8 && column >= 0 && column < 8 && cells[8 * row + column] === OTHER[side]) {
+      run.push(8 * row + column);
+      [row, column] = [row + down, column + right];
+    }
+    return row >= 0 && row < 8 && column >= 0 && column < 8 && cells[8 * row + column] === side ? run : [];
+  });
+}
+
+const squaresOf = (cells, side) => SQUARES.filter((_, at) => cells[at] === "-" && flipsOf(cells, side, at).length);
+
+/** 64 cells and the side to move. It can't be changed: `play` gives another. */
+export class Position {
+  constructor(cells = START, side = "X") {
+    if (!/^[XO-]{64}$/.test(cells) || !(side in OTHER)) throw new IllegalMove(`${cells} and ${side} are no position`);
+    this.cells = cells;
+    this.side = side;
+    Object.freeze(this);
+  }
+
+  static opening() { return new Position(); }
+
+  /** The position of a text of 66 letters: X, x or * is black, O or o white, - or . empty. */
+  static parse(text) {
+    const found = [...text.replaceAll(/\s/g, "")].map((letter) => CELLS[letter] ?? "?").join("");
+    if (!/^[XO-]{64}[XO]$/.test(found)) throw new IllegalMove(`${text} is no position: 64 cells, a space, and the side to move`);
+    return new Position(found.slice(0, 64), found[64]);
+  }
+
+  get text() { return `${this.cells} ${this.side}`; }
+  toString() { return this.text; }
+  get empties() { return [...this.cells].filter((cell) => cell === "-").length; }
+
+  /** The moves, from a1 to h8; `pass` alone where only the opponent can move; none where the game is over. */
+  legalMoves() {
+    const squares = squaresOf(this.cells, this.side);
+    return squares.length || !squaresOf(this.cells, OTHER[this.side]).length ? squares : [PASS];
+  }
+
+  get isOver() { return this.legalMoves().length === 0; }
+
+  /** The position after a move; IllegalMove where the rules don't allow it. */
+  play(move) {
+    const word = move.toLowerCase();
+    if (!this.legalMoves().includes(word)) throw new IllegalMove(`${move} isn't legal here`);
+    if (word === PASS) return new Position(this.cells, OTHER[this.side]);
+    const square = SQUARES.indexOf(word);
+    const turned = new Set([square, ...flipsOf(this.cells, this.side, square)]);
+    return new Position([...this.cells].map((cell, at) => (turned.has(at) ? this.side : cell)).join(""), OTHER[this.side]);
+  }
+
+  /** The same with the colours exchanged. */
+  flip() {
+    return new Position([...this.cells].map((cell) => OTHER[cell] ?? cell).join(""), OTHER[this.side]);
+  }
+
+  /** The board for a terminal, with what `marks` (a map) has for its empty squares; a pass stands below it. */
+  drawn(marks = new Map()) {
+    const width = Math.max(1, ...[...marks.values()].map((text) => text.length)) + 1;
+    const lines = [`  ${[..."abcdefgh"].map((column) => column.padStart(width)).join("")}`];
+    for (let row = 0; row < 8; row += 1) {
+      const cells = [...this.cells.slice(8 * row, 8 * row + 8)].map((cell, at) => marks.get(SQUARES[8 * row + at]) ?? cell.replace("-", "."));
+      lines.push(`${row + 1} ${cells.map((cell) => cell.padStart(width)).join("")}`);
+    }
+    return [...lines, ...(marks.has(PASS) ? [`pass ${marks.get(PASS)}`] : [])].join("\n");
+  }
+}

@@ -1,0 +1,4 @@
+"""`python -m coluwen`: the command `coluwen`."""
+from .lines import command
+
+command()

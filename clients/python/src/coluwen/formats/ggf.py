@@ -1,0 +1,133 @@
+"""GGF, the format of games of the server GGS and of NBoard: one game or many in a file.
+
+    (;GM[Othello]PC[GGS/os]DT[2003.12.15]PB[one]PW[other]RE[+4.000]TI[15:00]TY[8]BO[8 ---..---- *]B[d3//0.01]W[c5/-1.20/3.5];)
+
+Tags are NAME[value]; BO is the board: its size, 64 cells and the side to move, with spaces anywhere; B and W are moves, in their
+order, as square/evaluation/seconds, of which the last two may be missing; PA is a pass. Before the games of one match stands how many
+there are: `2 (;..;)(;..;)`. Only othello of 8 lines is read. GGF's own description wasn't at hand: the tags are those that NBoard and
+the archives of GGS are known to write; others are kept as they stand.
+"""
+from __future__ import annotations
+
+import re
+from collections.abc import Iterable, Iterator
+
+from ..board import PASS, START, Position
+from .records import Builder, Game, Place
+
+TAG = re.compile(r"\s*([A-Za-z]+)\s*\[([^\]]*)\]")
+MOVE = re.compile(r"\s*(?P<move>[a-hA-H][1-8]|(?i:pass|pa)|--)\s*(?:/\s*(?P<eval>[^/]*?)\s*(?:/\s*(?P<time>[^/]*?)\s*)?)?")
+BOARD = re.compile(r"\s*8\s+((?:[-.*XxOo]\s*){64})([*XxOo])\s*")
+SIDES = {"B": "X", "W": "O"}
+FIELDS = ("PB", "PW", "PC", "DT")
+
+
+def read(text: str, file: str = "") -> Iterator[Game]:
+    """The games of a text."""
+    at, text = 0, text.removeprefix("\ufeff")
+    expected = 0  # games that a count before them announced
+    while True:
+        found = re.compile(r"\s*(\d+\s+)?").match(text, at)
+        at = found.end() if found else at
+        if found and found[1]:
+            if expected:
+                raise place_of(text, found.start(1), file).fault(f"{expected} games are missing")
+            expected = int(found[1])
+        if at == len(text):
+            if expected:
+                raise place_of(text, at, file).fault(f"{expected} games are missing")
+            return
+        game, at = read_game(text, at, file)
+        expected = max(expected - 1, 0)
+        yield game
+
+
+def place_of(text: str, at: int, file: str) -> Place:
+    """The line and column of a letter."""
+    return Place(file, text.count("\n", 0, at) + 1, at - (text.rfind("\n", 0, at) + 1) + 1)
+
+
+def read_game(text: str, at: int = 0, file: str = "") -> tuple[Game, int]:
+    """The game that begins at a letter, and where it ends."""
+    begun = at
+    if not text.startswith("(;", at):
+        raise place_of(text, at, file).fault("no game begins here: (;")
+    at += 2
+    tags: list[tuple[str, str, int]] = []
+    while True:
+        found = TAG.match(text, at)
+        if found:
+            tags.append((found[1].upper(), found[2], found.start(2)))
+            at = found.end()
+            continue
+        end = re.compile(r"\s*;\s*\)").match(text, at)
+        if not end:
+            raise place_of(text, at, file).fault("here is no tag, NAME[value], and no end of the game, ;)")
+        return game_of(text, tags, place_of(text, begun, file), file), end.end()
+
+
+def game_of(text: str, tags: list[tuple[str, str, int]], place: Place, file: str) -> Game:
+    named = {name: value for name, value, _ in tags if name not in SIDES}
+    places = {name: place_of(text, at, file) for name, _, at in tags}
+    if not tags:
+        raise place.fault("this game has no tags")
+    if named.get("GM", "Othello").strip().lower() not in ("othello", "reversi"):
+        raise places["GM"].fault(f"this is a game of {named['GM']}")
+    if named.get("TY", "8").strip()[:1] not in ("8", "s") or "anti" in named.get("TY", ""):
+        raise places["TY"].fault(f"its type is {named['TY']}")
+    board = BOARD.fullmatch(named.get("BO", f"8 {START} *"))
+    if not board:
+        raise places["BO"].fault("its board isn't one of 8 lines: 8, 64 cells and the side to move")
+    builder = Builder(Position.parse(f"{board[1]} {board[2]}"), file)
+    for name, value, at in tags:
+        if name not in SIDES:
+            continue
+        found, here = MOVE.fullmatch(value), place_of(text, at, file)
+        if not found:
+            raise here.fault(f"{value!r} is no move")
+        move = found["move"].lower()
+        builder.play(PASS if move in ("pass", "pa", "--") else move, here, SIDES[name], number_of(found["eval"]), number_of(found["time"]))
+    others = tuple((name, value) for name, value, _ in tags if name not in (*SIDES, *FIELDS, "BO", "GM", "RE", "TY"))
+    black, white, event, date = (named.get(name, "") for name in FIELDS)
+    return Game(builder.board.start, tuple(builder.moves), black, white, event, date, result_of(named.get("RE", "")), tags=others, place=place)
+
+
+def number_of(text: str | None) -> float | None:
+    """A number, of which some programs write other signs behind it; None where there is none."""
+    found = re.match(r"[+-]?\d+(\.\d*)?", text or "")
+    return float(found[0]) if found else None
+
+
+def result_of(text: str) -> float | None:
+    """`+4.000`, or with what ended the game behind it, `-64.000:r`; ? is none."""
+    return number_of(text.strip())
+
+
+def write(games: Iterable[Game]) -> str:
+    """A game a line."""
+    return "".join(f"{write_game(game)}\n" for game in games)
+
+
+def write_game(game: Game) -> str:
+    fields = {"GM": "Othello", "PC": game.event, "DT": game.date, "PB": game.black, "PW": game.white}
+    tags = [f"{name}[{clean(value)}]" for name, value in fields.items() if value]
+    tags.append(f"RE[{'?' if game.result is None else f'{game.result:+.3f}'}]")
+    tags += [f"{name}[{clean(value)}]" for name, value in game.tags]
+    cells = game.start.cells.replace("X", "*")
+    rows = " ".join(cells[at : at + 8] for at in range(0, 64, 8))
+    tags.append(f"TY[8]BO[8 {rows} {game.start.side.replace('X', '*')}]")
+    side = game.start.side
+    for played in game.moves:
+        words = ["PA" if played.move == PASS else played.move.upper()]
+        if played.evaluation is not None or played.seconds is not None:
+            words.append("" if played.evaluation is None else f"{played.evaluation:.2f}")
+        if played.seconds is not None:
+            words.append(f"{played.seconds:.2f}")
+        tags.append(f"{'B' if side == 'X' else 'W'}[{'/'.join(words)}]")
+        side = "O" if side == "X" else "X"
+    return "(;" + "".join(tags) + ";)"
+
+
+def clean(text: str) -> str:
+    """A value without what would end it."""
+    return text.replace("]", ")").replace("\n", " ")

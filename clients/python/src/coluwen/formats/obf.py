@@ -1,0 +1,63 @@
+"""Edax's .obf: a problem a line.
+
+    --XXXXX--OOOXX-O-OOOXXOX-OXOXOXXOXXXOXXX--XOXOXX-XXXOOO--OOOOO-- X; A1:+38; H4:+12; C2:+10; % a comment
+
+A board of 64 cells, the side to move, then fields, each ended or parted by a semicolon: a move with its score in discs, or a move
+alone. What follows a % or # is a comment. A line that is empty but for a comment is none. Edax's documents weren't at hand: this is
+what its files of problems look like, as they are described by its users; so a field that is neither is refused.
+"""
+from __future__ import annotations
+
+import re
+from collections.abc import Iterable, Iterator
+
+from ..board import PASS, Position
+from ..errors import FormatError
+from .records import Expected, Place, Problem
+
+FIELD = re.compile(r"\s*(?P<move>[a-hA-H][1-8]|(?i:pass|pa|ps)|--)\s*(?::\s*(?P<score>[+-]?\d{1,2})\s*)?")
+
+
+def read(lines: Iterable[str], file: str = "") -> Iterator[Problem]:
+    for number, line in enumerate(lines, 1):
+        problem = read_line(line.rstrip("\r\n"), Place(file, number))
+        if problem:
+            yield problem
+
+
+def read_line(line: str, place: Place = Place()) -> Problem | None:
+    """The problem of a line; None where it has none."""
+    text, _, comment = re.sub("[%#]", "\n", line, count=1).partition("\n")
+    if not text.strip():
+        return None
+    head, *fields = text.split(";")
+    try:
+        position = Position.parse(head)
+    except FormatError as fault:
+        raise place.fault(fault.text, fault.column) from None
+    expected, at = [], len(head) + 1
+    for field in fields:
+        found = FIELD.fullmatch(field)
+        if found:
+            word = found["move"].lower()
+            move = word if len(word) == 2 and word[1] in "12345678" else PASS
+            here = at + len(field) - len(field.lstrip()) + 1
+            if not position.is_legal(move):
+                raise place.fault(f"{found['move']} isn't legal here", here)
+            score = int(found["score"]) if found["score"] else None
+            if score is not None and abs(score) > 64:
+                raise place.fault(f"a score of {score} discs", here)
+            expected.append(Expected(move, score))
+        elif field.strip():
+            raise place.fault(f"{field.strip()!r} is no move with a score", at + len(field) - len(field.lstrip()) + 1)
+        at += len(field) + 1
+    return Problem(position, None, tuple(expected), comment.strip(), place)
+
+
+def write(problems: Iterable[Problem]) -> str:
+    lines = []
+    for problem in problems:
+        fields = [f"{'PA' if one.move == PASS else one.move.upper()}" + (f":{one.discs:+d}" if one.discs is not None else "") for one in problem.expected]
+        line = "; ".join([problem.position.text, *fields]) + ";"
+        lines.append(f"{line} % {problem.comment}" if problem.comment else line)
+    return "".join(f"{line}\n" for line in lines)

@@ -1,0 +1,131 @@
+"""What the formats' readers give: problems, games, and where each was read."""
+from __future__ import annotations
+
+import dataclasses
+from collections.abc import Iterator
+
+from ..board import PASS, Board, Position
+from ..errors import FormatError, IllegalMove
+
+
+@dataclasses.dataclass(frozen=True)
+class Place:
+    """Where something was read: the file's name, line and column, from 1; 0 where it has none."""
+
+    file: str = ""
+    line: int = 0
+    column: int = 0
+
+    def fault(self, text: str, column: int | None = None) -> FormatError:
+        return FormatError(text, self.file, self.line, self.column if column is None else column)
+
+    def __str__(self) -> str:
+        return ":".join([self.file or "text", *(str(number) for number in (self.line, self.column) if number)])
+
+
+@dataclasses.dataclass(frozen=True)
+class Expected:
+    """A move that a problem expects, with its score in discs, if one is given."""
+
+    move: str
+    discs: int | None = None
+
+
+@dataclasses.dataclass(frozen=True)
+class Problem:
+    """A position, how deep it is to be searched, if that is said, and what is expected: the best moves first."""
+
+    position: Position
+    depth: int | None = None
+    expected: tuple[Expected, ...] = ()
+    comment: str = ""
+    place: Place = Place()
+
+    def best(self) -> tuple[str, ...]:
+        """The moves that are expected as best: those of the greatest score, or all where none has one."""
+        scores = [one.discs for one in self.expected if one.discs is not None]
+        return tuple(one.move for one in self.expected if not scores or one.discs == max(scores))
+
+    def discs(self) -> int | None:
+        """The score that is expected of the position."""
+        return max((one.discs for one in self.expected if one.discs is not None), default=None)
+
+
+@dataclasses.dataclass(frozen=True)
+class Played:
+    """A move of a game (`pass` among them), with what its player said of it: an evaluation in discs, and seconds."""
+
+    move: str
+    evaluation: float | None = None
+    seconds: float | None = None
+
+
+@dataclasses.dataclass(frozen=True)
+class Game:
+    """A start and the moves from it, passes among them, and what else a format tells: names, place, date, result.
+
+    A result is how many discs black has more than white."""
+
+    start: Position = Position()
+    moves: tuple[Played, ...] = ()
+    black: str = ""
+    white: str = ""
+    event: str = ""
+    date: str = ""
+    result: float | None = None
+    theoretical: int | None = None
+    tags: tuple[tuple[str, str], ...] = ()
+    place: Place = Place()
+
+    def words(self) -> list[str]:
+        """The moves without passes."""
+        return [played.move for played in self.moves if played.move != PASS]
+
+    def board(self) -> Board:
+        """The game as it was played."""
+        board = Board(self.start)
+        for played in self.moves:
+            board.play(played.move)
+        return board
+
+    def positions(self) -> Iterator[tuple[Position, str]]:
+        """Each position with the move that was played at it, passes left out."""
+        return ((position, move) for position, move in self.board().positions() if move != PASS)
+
+    def final(self) -> Position:
+        return self.board().position
+
+    def problems(self) -> Iterator[Problem]:
+        """Each of its positions; expected is what was played."""
+        for number, (position, move) in enumerate(self.positions(), 1):
+            yield Problem(position, None, (Expected(move),), f"move {number}", self.place)
+
+
+class Builder:
+    """Makes a game's moves one after another, and says where one can't be made. Passes that aren't written are put in."""
+
+    def __init__(self, start: Position, file: str = ""):
+        self.board, self.file = Board(start), file
+        self.moves: list[Played] = []
+
+    def play(self, move: str, place: Place, side: str | None = None, evaluation: float | None = None, seconds: float | None = None) -> None:
+        """Makes a move; with a side it must be that one's."""
+        position = self.board.position
+        number = sum(played.move != PASS for played in self.moves) + 1
+        if position.is_over:
+            raise place.fault(f"move {number}, {move}: the game is over")
+        if move == PASS and not position.must_pass:
+            raise place.fault(f"a pass before move {number}, and the player can move")
+        if side and side == position.side and move != PASS and position.must_pass:
+            raise place.fault(f"move {number}, {move}: that player can't move")
+        if move != PASS and position.must_pass:
+            self.board.play(PASS)
+            self.moves.append(Played(PASS))
+            position = self.board.position
+        if side and side != position.side:
+            raise place.fault(f"move {number}, {move}: it is the other player's turn")
+        try:
+            self.board.play(move)
+        except IllegalMove as fault:
+            raise place.fault(f"move {number}, {fault}") from None
+        self.moves.append(Played(move, evaluation, seconds))

@@ -1,0 +1,347 @@
+"""A match of two engines over a list of openings, each played in both colours: a table with the error of the score.
+
+usage: coluwen-match [--openings FILE] [--games FILE] [--seconds 60] ONE OTHER
+
+ONE and OTHER are each `depth:6` (the server of `--host` and `--port`, so many plies), `gtp:COMMAND` or `nboard:COMMAND` (a program, with its
+words, as 'gtp:gtp-rhino -l 2'), with `NAME=` before it if it is to have a name. FILE of --openings has games of any format, transcripts a
+line for example; without it each pair of games begins from one of the four first moves and their replies. --games keeps the games as GGF.
+
+    $ coluwen-match --openings openings.txt depth:4 'gtp:gtp-rhino -l 1 -b 0'
+
+The referee keeps the rules itself: an engine that plays what isn't legal, says nothing for --seconds or ends loses that game by 64 discs,
+and is told. Passes are made by the referee, and are told to engines that take them. The score is wins and half the draws; its error is
+that of the mean of the pairs (both colours of an opening), one standard deviation.
+"""
+from __future__ import annotations
+
+import dataclasses
+import math
+import pathlib
+import queue
+import shlex
+import subprocess
+import sys
+import threading
+from collections.abc import Callable, Iterable
+
+from . import formats
+from .board import BLACK, NAMES, OTHER, PASS, WHITE, Board, Position
+from .client import Client
+from .command import client_of, leave, parser, run, say, teller
+from .engine import Engine
+from .errors import ColuwenError, IllegalMove
+from .formats import Game, Played, ggf
+
+NAME = "coluwen-match"
+LOST = 64  # discs by which a game is lost that isn't played to its end
+
+
+class Forfeit(ColuwenError):
+    """An engine has lost a game otherwise than on the board."""
+
+
+class Player:
+    """One side of a match."""
+
+    def __init__(self, name: str):
+        self.name = name
+
+    def begin(self, board: Board) -> None:
+        """A game begins, with what was played already."""
+
+    def told(self, move: str, side: str) -> None:
+        """A move of either side, or a pass."""
+
+    def move(self, board: Board) -> str:
+        """What this side plays."""
+        raise NotImplementedError
+
+    def close(self) -> None:
+        pass
+
+
+class Plies(Player):
+    """So many plies of the server."""
+
+    def __init__(self, name: str, client: Client, depth: int):
+        super().__init__(name)
+        self.engine = Engine(client, depth, teller(NAME))
+
+    def move(self, board: Board) -> str:
+        return self.engine.search(board.position).best
+
+
+class Program(Player):
+    """An engine that is spoken to by its standard input and output."""
+
+    def __init__(self, name: str, command: str, seconds: float):
+        super().__init__(name)
+        self.seconds, self.heard = seconds, queue.Queue[str | None]()
+        self.process = subprocess.Popen(shlex.split(command), stdin=subprocess.PIPE, stdout=subprocess.PIPE, text=True, bufsize=1)
+        threading.Thread(target=self.listen, daemon=True).start()
+
+    def listen(self) -> None:
+        if self.process.stdout:
+            for line in self.process.stdout:
+                self.heard.put(line.rstrip("\r\n"))
+        self.heard.put(None)
+
+    def say(self, line: str) -> None:
+        try:
+            if self.process.stdin:
+                self.process.stdin.write(f"{line}\n")
+        except OSError:
+            raise Forfeit(f"{self.name} has ended") from None
+
+    def line(self) -> str:
+        try:
+            found = self.heard.get(timeout=self.seconds)
+        except queue.Empty:
+            raise Forfeit(f"{self.name} says nothing for {self.seconds:g} seconds") from None
+        if found is None:
+            raise Forfeit(f"{self.name} has ended")
+        return found
+
+    def close(self) -> None:
+        try:
+            self.say("quit")
+            self.process.wait(2)
+        except (Forfeit, subprocess.TimeoutExpired):
+            self.process.kill()
+        self.process.wait()
+
+
+class GtpProgram(Program):
+    """An engine by the Go Text Protocol."""
+
+    takes_passes = True  # until it has refused one
+
+    def ask(self, line: str) -> tuple[bool, str]:
+        """Whether a command was carried out, and its response."""
+        self.say(line)
+        found = self.line()
+        while not found.startswith(("=", "?")):
+            found = self.line()
+        lines = [found[1:].strip()]
+        while text := self.line():
+            lines.append(text)
+        return found.startswith("="), "\n".join(lines).strip()
+
+    def begin(self, board: Board) -> None:
+        if board.start != Position.opening():
+            raise ColuwenError("a game by GTP begins at the opening")
+        if self.ask("known_command set_game")[1] == "true":
+            self.ask("set_game Othello")
+        self.ask("boardsize 8")
+        self.ask("clear_board")
+        for position, move in board.positions():
+            self.told(move, position.side)
+
+    def told(self, move: str, side: str) -> None:
+        if move == PASS and not self.takes_passes:
+            return
+        done, text = self.ask(f"play {NAMES[side]} {move.upper()}")
+        if not done and move == PASS:
+            self.takes_passes = False
+        elif not done:
+            raise Forfeit(f"{self.name} doesn't take {move}: {text}")
+
+    def move(self, board: Board) -> str:
+        done, text = self.ask(f"genmove {NAMES[board.side]}")
+        if not done:
+            raise Forfeit(f"{self.name} has no move: {text}")
+        return text.lower()
+
+
+class NBoardProgram(Program):
+    """An engine by NBoard's protocol: each position is set up as a game."""
+
+    def move(self, board: Board) -> str:
+        game = Game(board.start, tuple(Played(move) for move in board.moves))
+        self.say("set game " + ggf.write_game(game))
+        self.say("go")
+        while not (found := self.line()).startswith("==="):
+            pass
+        word = found[3:].split("/")[0].strip().lower()
+        return PASS if word == "pa" else word
+
+    def begin(self, board: Board) -> None:
+        self.say("nboard 1")
+
+    def told(self, move: str, side: str) -> None:
+        pass
+
+
+def player_of(word: str, client: Client, seconds: float) -> Player:
+    """The player that a word of the command line says."""
+    name, _, rest = word.partition("=") if word.split(":")[0].count("=") else ("", "", word)
+    kind, _, command = rest.partition(":")
+    name = name or rest
+    if kind == "depth" and command.isdecimal() and 1 <= int(command) <= 12:
+        return Plies(name, client, int(command))
+    if kind in ("gtp", "nboard") and command.strip():
+        return (GtpProgram if kind == "gtp" else NBoardProgram)(name, command, seconds)
+    raise ColuwenError(f"{word!r} is no player: depth:1..12, gtp:COMMAND or nboard:COMMAND")
+
+
+@dataclasses.dataclass(frozen=True)
+class Outcome:
+    """A game as it was played: black's discs more than white's, an empty square being the winner's, and what ended it otherwise."""
+
+    game: Game
+    discs: int
+    fault: str = ""
+
+
+def play(black: Player, white: Player, opening: Board, number: int) -> Outcome:
+    """One game, by the referee's rules."""
+    board, players, fault, discs = Board(opening.start), {BLACK: black, WHITE: white}, "", 0
+    for move in opening.moves:
+        board.play(move)
+    try:
+        for player in players.values():
+            player.begin(board)
+        while not board.is_over:
+            move, side = PASS, board.side
+            if not board.position.must_pass:
+                move = moved(players[side], board)
+            board.play(move)
+            for at, player in players.items():
+                if at != side or move == PASS:
+                    player.told(move, side)
+        discs = final_discs(board.position)
+    except Forfeit as forfeit:
+        fault = str(forfeit)
+        discs = -LOST if fault.startswith(black.name) else LOST
+    moves = tuple(Played(move) for move in board.moves)
+    return Outcome(Game(board.start, moves, black.name, white.name, f"{NAME} {number}", result=float(discs)), discs, fault)
+
+
+def moved(player: Player, board: Board) -> str:
+    """A player's move, which must be legal."""
+    move = player.move(board)
+    try:
+        board.position.play(move)
+    except IllegalMove as illegal:
+        raise Forfeit(f"{player.name} plays {move!r}: {illegal}") from None
+    return move
+
+
+def final_discs(position: Position) -> int:
+    """Black's discs more than white's at the end, with the empty squares the winner's."""
+    discs = position.discs(BLACK) - position.discs(WHITE)
+    return discs + position.empties * ((discs > 0) - (discs < 0))
+
+
+def openings_of(path: str | None) -> list[Board]:
+    """The openings of a file; else the four first moves with each reply."""
+    if path:
+        return [game.board() for game in formats.games(path)]
+    found = []
+    for first in Position.opening().legal_moves():
+        for reply in Position.opening().play(first).legal_moves():
+            board = Board()
+            board.play(first)
+            board.play(reply)
+            found.append(board)
+    return found
+
+
+class Table:
+    """The results, by pairs of games of an opening."""
+
+    def __init__(self, one: str, other: str):
+        self.one, self.other = one, other
+        self.discs: list[tuple[str, int]] = []  # of each game the colour of the first, and its discs more
+
+    def add(self, side: str, outcome: Outcome) -> None:
+        self.discs.append((side, outcome.discs if side == BLACK else -outcome.discs))
+
+    def score(self) -> tuple[float, float]:
+        """The first one's score, from 0 to 1, and its error."""
+        points = [(discs > 0) + (discs == 0) / 2 for _, discs in self.discs]
+        return mean_and_error([sum(points[at : at + 2]) / len(points[at : at + 2]) for at in range(0, len(points), 2)])
+
+    def lines(self) -> list[str]:
+        rows = [f"{'':24}{'games':>6}{'won':>6}{'drawn':>6}{'lost':>6}{'score':>9}{'error':>8}{'discs':>8}{'error':>8}"]
+        for label, discs in ((f"{self.one} as black", [d for side, d in self.discs if side == BLACK]), ("as white", [d for side, d in self.discs if side == WHITE])):
+            rows.append(row_of(label, discs, [(d > 0) + (d == 0) / 2 for d in discs]))
+        every = [discs for _, discs in self.discs]
+        pairs = [sum(every[at : at + 2]) / len(every[at : at + 2]) for at in range(0, len(every), 2)]
+        score, error = self.score()
+        mean, spread = mean_and_error(pairs)
+        won, drawn = sum(d > 0 for d in every), sum(d == 0 for d in every)
+        rows.append(f"{'in all':24}{len(every):>6}{won:>6}{drawn:>6}{len(every) - won - drawn:>6}{100 * score:>8.1f}%{100 * error:>7.1f}%{mean:>+8.2f}{spread:>8.2f}")
+        return rows
+
+
+def row_of(label: str, discs: list[int], points: list[float]) -> str:
+    score, error = mean_and_error(points)
+    mean, spread = mean_and_error([float(each) for each in discs])
+    won, drawn = sum(d > 0 for d in discs), sum(d == 0 for d in discs)
+    return f"{label[:24]:24}{len(discs):>6}{won:>6}{drawn:>6}{len(discs) - won - drawn:>6}{100 * score:>8.1f}%{100 * error:>7.1f}%{mean:>+8.2f}{spread:>8.2f}"
+
+
+def mean_and_error(numbers: list[float]) -> tuple[float, float]:
+    """The mean, and the standard deviation of the mean; that of one number isn't known, and is written as 0."""
+    if not numbers:
+        return 0.0, 0.0
+    mean = sum(numbers) / len(numbers)
+    if len(numbers) < 2:
+        return mean, 0.0
+    return mean, math.sqrt(sum((each - mean) ** 2 for each in numbers) / (len(numbers) - 1) / len(numbers))
+
+
+def match(one: Player, other: Player, openings: Iterable[Board], tell: Callable[[str], None]) -> tuple[Table, list[Outcome]]:
+    """Each opening in both colours."""
+    table = Table(one.name, other.name)
+    outcomes: list[Outcome] = []
+    for opening in openings:
+        for side in (BLACK, WHITE):
+            black, white = (one, other) if side == BLACK else (other, one)
+            outcome = play(black, white, opening, len(outcomes) + 1)
+            outcomes.append(outcome)
+            table.add(side, outcome)
+            passes = sum(played.move == PASS for played in outcome.game.moves)
+            told = outcome.fault or f"{len(outcome.game.words())} moves, {passes} passes"
+            tell(f"{len(outcomes)}: {black.name} {outcome.discs:+d} {white.name} ({told})")
+    return table, outcomes
+
+
+def main() -> int:
+    words = parser(__doc__, NAME, words=False)
+    words.add_argument("one", metavar="ONE")
+    words.add_argument("other", metavar="OTHER")
+    words.add_argument("--host", default="127.0.0.1")
+    words.add_argument("--port", type=int, default=4711)
+    words.add_argument("--openings", metavar="FILE", help="games of any format that each pair begins with")
+    words.add_argument("--games", metavar="FILE", help="keeps the games, as GGF")
+    words.add_argument("--seconds", type=float, default=60, metavar="S", help="after which an engine that says nothing has lost (60)")
+    asked = words.parse_args()
+    client = client_of(asked, NAME)
+    players: list[Player] = []
+    try:
+        for word in (asked.one, asked.other):
+            players.append(player_of(word, client, asked.seconds))
+        table, outcomes = match(players[0], players[1], openings_of(asked.openings), say)
+    finally:
+        for player in players:
+            player.close()
+        client.close()
+    if asked.games:
+        pathlib.Path(asked.games).write_text(ggf.write(outcome.game for outcome in outcomes), encoding="latin-1")
+    say("\n".join(table.lines()))
+    faults = [outcome.fault for outcome in outcomes if outcome.fault]
+    if faults:
+        print(f"{NAME}: {len(faults)} games were lost otherwise than on the board", file=sys.stderr)
+    return 3 if faults else 0
+
+
+def command() -> None:
+    leave(run(NAME, main))
+
+
+__all__ = ["OTHER", "Forfeit", "GtpProgram", "NBoardProgram", "Outcome", "Player", "Plies", "Program", "Table", "match", "openings_of", "play"]
+
+if __name__ == "__main__":
+    command()

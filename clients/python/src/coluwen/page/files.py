@@ -1,0 +1,76 @@
+"""The page's files, and to whom anything is given: browsers that name this host as they may, and pages of this host alone."""
+from __future__ import annotations
+
+import hashlib
+import ipaddress
+import pathlib
+from collections.abc import Callable, Iterable
+
+from .service import Service
+from .web import Answer, Fault, Request
+
+KINDS = {"html": "text/html", "css": "text/css", "js": "text/javascript", "json": "application/json", "svg": "image/svg+xml"}
+
+
+FOLDER = pathlib.Path(__file__).parent / "static"
+
+
+def texts() -> dict[str, tuple[str, bytes]]:
+    """The page's files by their paths, with their kinds."""
+    found = sorted(one for one in FOLDER.rglob("*") if one.suffix[1:] in KINDS)
+    return {f"/{one.relative_to(FOLDER).as_posix()}": (f"{KINDS[one.suffix[1:]]}; charset=utf-8", one.read_bytes()) for one in found}
+
+
+def names_of(host: str, port: int, names: Iterable[str]) -> bool:
+    """Whether a browser names this host as it may: by an address, which no foreign page can be given for its name, or by a name. Behind
+    another web server the port is that one's."""
+    name, _, rest = host.rpartition(":") if ":" in host and not host.endswith("]") else (host, "", "")
+    if rest and not (rest.isascii() and rest.isdigit()):
+        return False
+    if name in names:
+        return True
+    try:
+        return bool(ipaddress.ip_address(name.strip("[]"))) and rest in (str(port), "")
+    except ValueError:
+        return False
+
+
+class Site:
+    """All that a browser may ask: the files and the service."""
+
+    def __init__(self, service: Service, is_named: Callable[..., bool]):
+        self.service, self.is_named, self.port = service, is_named, 0
+        self.files = texts()
+        self.files["/"] = self.files["/index.html"]
+        self.tags = {path: f'"{hashlib.sha256(body).hexdigest()[:20]}"' for path, (_, body) in self.files.items()}
+
+    async def answer(self, request: Request) -> Answer:
+        self.check(request)
+        if request.path in self.files:
+            return self.file(request)
+        if request.path == "/review":  # the older page's address of a game
+            _, _, query = request.target.partition("?")
+            return Answer(302, headers={"Location": f"/?{query}" if query else "/"})
+        answer = await self.service.answer(request)
+        if answer is None:
+            raise Fault(404, "path", "there is no such page")
+        return answer
+
+    def check(self, request: Request) -> None:
+        """Refuses what a page of elsewhere asks."""
+        host, origin = request.headers.get("host", ""), request.headers.get("origin")
+        if not self.is_named(host, self.port):
+            raise Fault(403, "name", "this host isn't known by that name")
+        if origin is not None and origin.partition("://")[2] != host:
+            raise Fault(403, "origin", "a page of elsewhere asks nothing here")
+        if request.method != "GET" and request.headers.get("sec-fetch-site", "same-origin") != "same-origin":
+            raise Fault(403, "origin", "a page of elsewhere asks nothing here")
+
+    def file(self, request: Request) -> Answer:
+        if request.method not in ("GET", "HEAD"):
+            raise Fault(405, "method", "files are read")
+        kind, body = self.files[request.path]
+        headers = {"ETag": self.tags[request.path], "Cache-Control": "no-cache"}
+        if request.headers.get("if-none-match") == headers["ETag"]:
+            return Answer(304, kind, headers=headers)
+        return Answer(200, kind, body, headers=headers)

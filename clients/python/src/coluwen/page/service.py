@@ -1,0 +1,225 @@
+"""What the page asks: `/analyse` and its kin, as answers of `Web`.
+
+    POST /analyse  {"position": 66 letters, "depth": 8, "exact": "all" or ["f5", ..], "steps": true}    lines of JSON, as things
+                   become known; without steps the greatest depth alone is asked
+    GET  /about    {"depths": [4, 6, 8], "sure": 8, "places": 8, "settled": true}
+    POST /read     the bytes of a text or file; ?name= gives its name                     {"games": [..], "faults": [..]}
+    POST /write    {"format": "ggf", "start": .., "moves": "f5d6.."}                      {"text": ..}
+    POST /class    and POST, GET /class/ROOM: a teacher's board and those who follow it
+
+Scores are seen by the player to move: {"sign": "=", "points": -3}, or at the game's end {"sign": "=", "discs": 10, "empty": 1}, where the
+empty squares are counted to the winner; without `empty` they aren't known, and not counted.
+"""
+from __future__ import annotations
+
+import asyncio
+import contextlib
+import json
+import re
+from collections.abc import AsyncGenerator, Iterable
+from typing import Any
+
+from ..board import PASS, Position
+from ..client import DEEPEST
+from ..errors import ColuwenError, FormatError, Refused, TooDeep
+from ..score import EXACT, Score
+from . import games
+from .library import Found, Library, Told, steps_of
+from .rooms import Rooms
+from .web import Answer, Fault, Request
+
+LONGEST_FILE = 8 << 20  # bytes of an import: a year of a database of games has some two million
+LONGEST_QUESTION = 16384
+FILES_AT_ONCE = 2
+Events = asyncio.Queue[dict[str, Any] | None]  # None is the last
+
+
+def score_of(score: Score, empty: int | None = None) -> dict[str, Any]:
+    """A score as the page takes it."""
+    if not score.ends:
+        return {"sign": score.sign, "points": score.value}
+    discs = score.number
+    if empty is None:
+        return {"sign": score.sign, "discs": discs}
+    return {"sign": score.sign, "discs": discs + empty * ((discs > 0) - (discs < 0)), "empty": empty}
+
+
+def step_of(found: Found) -> dict[str, Any]:
+    """What a step tells: the score, the best move, the line, and what is known of each move. The best one's is the position's."""
+    result = found.result
+    table = {entry.move: score_of(entry.score, found.empty if entry.move == result.best else None) for entry in result.table}
+    line = found.line or ((result.best,) if result.best not in ("", "-") else ())
+    ends = result.score.ends
+    return {"kind": "step", "depth": result.depth, "ends": ends, "score": score_of(result.score, found.empty), "best": result.best, "table": table, "line": line}
+
+
+def telling(events: Events, **more: object) -> Told:
+    """What puts an event among others, with these words."""
+    return lambda event: events.put_nowait({**event, **more})
+
+
+class Service:
+    """Answers the page's questions from a library of what is known."""
+
+    def __init__(self, library: Library, depths: list[int], settled: bool = False):
+        self.library, self.depths, self.settled = library, depths, settled
+        self.rooms = Rooms()
+        self.reading = asyncio.Semaphore(FILES_AT_ONCE)
+
+    @property
+    def deepest(self) -> int:
+        return self.depths[-1]
+
+    async def answer(self, request: Request) -> Answer | None:
+        """The answer of one of the paths above; None where it is none of them."""
+        path = request.path
+        if path == "/about" and self.allowed(request, "GET"):
+            return Answer.json({"depths": self.depths, "places": self.library.turns.places, "settled": self.settled})
+        if path == "/analyse" and self.allowed(request, "POST"):
+            return Answer(kind="application/x-ndjson", lines=self.analyse(*self.question_of(request.json())))
+        if path == "/read" and self.allowed(request, "POST"):
+            async with self.reading:
+                return Answer.json(await games.read(request.body, request.query.get("name", "")[:200]))
+        if path == "/write" and self.allowed(request, "POST"):
+            return Answer.json({"text": self.written(request.json())})
+        if path == "/class" or path.startswith("/class/"):
+            return self.of_class(request, path.removeprefix("/class").removeprefix("/"))
+        return None
+
+    def allowed(self, request: Request, *methods: str) -> bool:
+        if request.method not in methods:
+            raise Fault(405, "method", f"this is asked by {' or '.join(methods)}")
+        return True
+
+    def most(self, method: str, path: str) -> int:
+        """How many bytes a request's body may have."""
+        if method != "POST":
+            return 0
+        return LONGEST_FILE if path.startswith("/read") else LONGEST_QUESTION
+
+    # /analyse
+
+    def question_of(self, asked: Any) -> tuple[Position, int, list[str], bool]:
+        """A question's position, depth, the moves whose values are to be exact, and whether it is to be answered step by step. Each word
+        of it is tested."""
+        if not isinstance(asked, dict) or not isinstance(asked.get("position"), str) or len(asked["position"]) > 200:
+            raise Fault(400, "position", "a question has a position")
+        try:
+            position = Position.parse(asked["position"])
+        except ValueError as fault:
+            raise Fault(400, "position", str(fault)) from None
+        depth, exact, steps = asked.get("depth"), asked.get("exact", []), asked.get("steps", True)
+        if not isinstance(depth, int) or isinstance(depth, bool) or depth < 1:
+            raise Fault(400, "depth", "the depth is a number of plies")
+        if not self.settled and self.deepest < depth <= DEEPEST:
+            raise Fault(503, "learning", "how deep the server looks isn't known yet")
+        if depth > self.deepest and not (depth <= position.empties <= DEEPEST):
+            raise Fault(400, "depth", f"this page looks {self.deepest} plies deep, and to the end where {DEEPEST} squares are empty")
+        moves = position.legal_moves()
+        exact = moves if exact == "all" else exact
+        if not isinstance(exact, list) or not all(isinstance(move, str) and move in moves for move in exact):
+            raise Fault(400, "exact", "exact values are of legal moves")
+        if not isinstance(steps, bool):
+            raise Fault(400, "steps", "with steps or without")
+        return position, depth, exact, steps
+
+    async def analyse(self, position: Position, depth: int, exact: list[str], steps: bool = True) -> AsyncGenerator[bytes, None]:
+        """What is learnt, line by line: each step, and then the exact values that are wanted of other moves than the best."""
+        events: Events = asyncio.Queue()
+        worker = asyncio.ensure_future(self.learn(position, depth, exact, steps, events))
+        try:
+            while (event := await events.get()) is not None:
+                yield json.dumps(event, separators=(",", ":")).encode() + b"\n"
+        finally:
+            worker.cancel()
+            with contextlib.suppress(asyncio.CancelledError):
+                await worker
+
+    async def learn(self, position: Position, depth: int, exact: list[str], steps: bool, events: Events) -> None:
+        try:
+            found = await (self.by_steps(position, depth, events) if steps else self.at_once(position, depth, events))
+            if found:
+                await self.exactly(found, exact, events)
+            events.put_nowait({"kind": "done"})
+        except (ColuwenError, Refused) as fault:
+            events.put_nowait({"kind": "fault", "code": "server", "text": str(fault)})
+        finally:
+            events.put_nowait(None)
+
+    async def by_steps(self, position: Position, depth: int, events: Events) -> Found | None:
+        """The steps; the last one that could be had. What is known of a deeper one already isn't asked less deep."""
+        found = None
+        steps = steps_of(position, depth)
+        known = [step for step in steps if self.library.known(position, step)]
+        for step in steps[steps.index(known[-1]) :] if known else steps:
+            try:
+                found = await self.library.find(position, step, telling(events, depth=step))
+            except TooDeep:
+                events.put_nowait({"kind": "deepest", "depth": found.result.depth if found else 0})
+                break
+            events.put_nowait(step_of(found))
+        return found
+
+    async def at_once(self, position: Position, depth: int, events: Events) -> Found | None:
+        """The last step alone; where it can't be had, the one before it."""
+        steps = steps_of(position, depth)
+        for step in reversed(steps):
+            try:
+                found = await self.library.find(position, step, telling(events, depth=step))
+            except TooDeep:
+                continue
+            events.put_nowait(step_of(found))
+            if step != steps[-1]:
+                events.put_nowait({"kind": "deepest", "depth": step})
+            return found
+        return None
+
+    async def exactly(self, found: Found, exact: Iterable[str], events: Events) -> None:
+        """The exact values of these moves, each by a question of the position behind it. At the game's end also those that are exact
+        in the table are asked, as only their lines tell how many squares stay empty."""
+        result = found.result
+        table = {entry.move: entry.score for entry in result.table}
+        for move in exact:
+            score = table.get(move)
+            if move == result.best or (score and score.sign == EXACT and not score.ends):
+                continue
+            left = result.depth if move == PASS else result.depth - 1
+            try:
+                behind = await self.library.find(result.position.play(move), left, telling(events, depth=result.depth, exact=True))
+            except TooDeep:
+                continue
+            worth = Score(-behind.result.score.value, EXACT, result.score.ends and result.depth >= result.position.empties or behind.result.score.ends)
+            events.put_nowait({"kind": "exact", "depth": result.depth, "move": move, "score": score_of(worth, behind.empty)})
+
+    # /write, /class
+
+    def written(self, asked: Any) -> str:
+        if not isinstance(asked, dict) or not all(isinstance(asked.get(name), str) for name in ("format", "start", "moves")):
+            raise Fault(400, "write", "a game has a format, a start and moves")
+        try:
+            return games.write_game(asked["format"], asked["start"], asked["moves"])
+        except (FormatError, ValueError) as fault:
+            raise Fault(400, "write", str(fault)) from None
+
+    def of_class(self, request: Request, room: str) -> Answer:
+        if not room:
+            self.allowed(request, "POST")
+            return Answer.json(self.rooms.open(request.address, state_of(request.json())))
+        if not re.fullmatch("[a-z0-9]{1,32}", room):
+            raise Fault(404, "class", "there is no such class")
+        if request.method == "POST":
+            asked = request.json()
+            self.rooms.show(room, asked.get("key") if isinstance(asked, dict) else None, state_of(asked, ends=True))
+            return Answer.json({})
+        self.allowed(request, "GET")
+        return Answer(kind="application/x-ndjson", lines=self.rooms.follow(room))
+
+
+def state_of(asked: Any, ends: bool = False) -> str | None:
+    """The state of a teacher's board: the part of an address behind `#`; None ends the class."""
+    state = asked.get("state") if isinstance(asked, dict) else 0
+    if state is None and ends:
+        return None
+    if not isinstance(state, str) or len(state) > LONGEST_QUESTION:
+        raise Fault(400, "state", "a class has a state")
+    return state

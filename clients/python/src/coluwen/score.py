@@ -1,0 +1,111 @@
+"""What a position or a move is worth: points of the evaluation or discs at the game's end, exactly or as a bound.
+
+The server's values lie between -128,000 and 128,000, seen by the player to move. In a finished game a value is 2,000 for each disc more
+than the opponent's; the evaluation of any other position lies between -1,184 and 1,184. So a value beyond that is the end of the
+game, as one is whose search reached the end in every line, where 0 is a draw.
+"""
+from __future__ import annotations
+
+import dataclasses
+
+from .board import Position
+
+GREATEST_EVALUATION, A_DISC, GREATEST = 1184, 2000, 128000
+EXACT, AT_MOST, AT_LEAST = "=", "<", ">"
+SIGNS = {EXACT: "is worth just", AT_MOST: "is worth at most", AT_LEAST: "is worth at least"}
+TURNED = {EXACT: EXACT, AT_MOST: AT_LEAST, AT_LEAST: AT_MOST}
+
+
+@dataclasses.dataclass(frozen=True)
+class Score:
+    """A value seen by the player to move. `sign`: = exactly, < at most, > at least. `ends`: it is known to be the game's end."""
+
+    value: int
+    sign: str = EXACT
+    ends: bool = False
+
+    def __post_init__(self) -> None:
+        if self.sign not in SIGNS or abs(self.value) > GREATEST:
+            raise ValueError(f"{self.sign}{self.value} is no score")
+        if abs(self.value) > GREATEST_EVALUATION:
+            object.__setattr__(self, "ends", True)
+
+    @classmethod
+    def of(cls, value: int, position: Position, depth: int, sign: str = EXACT) -> Score:
+        """A value of a position that was searched so deep: where no cell would be left then, it is the end of the game."""
+        return cls(value, sign, depth >= position.empties)
+
+    @property
+    def is_exact(self) -> bool:
+        return self.sign == EXACT
+
+    @property
+    def unit(self) -> str:
+        """`discs` at the game's end, else `points`."""
+        return "discs" if self.ends else "points"
+
+    @property
+    def number(self) -> int:
+        """How many of them."""
+        return self.value // A_DISC if self.ends and self.value >= 0 else -(-self.value // A_DISC) if self.ends else self.value
+
+    @property
+    def discs(self) -> float:
+        """In discs as boards show them: the evaluation's points divided by a hundred, so less than 12."""
+        return self.value / A_DISC if self.ends else self.value / 100
+
+    @property
+    def is_draw(self) -> bool:
+        return self.ends and self.value == 0 and self.is_exact
+
+    def flip(self) -> Score:
+        """The same, seen by the opponent."""
+        return Score(-self.value, TURNED[self.sign], self.ends)
+
+    def __neg__(self) -> Score:
+        return self.flip()
+
+    def __str__(self) -> str:
+        """`-3`, `+12 discs`, `draw`, `at most -4`."""
+        if self.ends and not self.value:
+            text = "draw"
+        elif self.ends:
+            text = f"{self.number:+d} disc{'s' * (abs(self.number) != 1)}"
+        else:
+            text = f"{self.value:+d}" if self.value else "0"
+        return {EXACT: "", AT_MOST: "at most ", AT_LEAST: "at least "}[self.sign] + text
+
+    def words(self) -> str:
+        """The same as a sentence's end: `wins by 12 discs`, `a draw`, `-3`, `at most a draw`."""
+        bound = {EXACT: "", AT_MOST: "at most ", AT_LEAST: "at least "}[self.sign]
+        if not self.ends:
+            return str(self)
+        if not self.value:
+            return f"{bound}a draw"
+        count = abs(self.number)
+        return f"{bound}{'wins' if self.value > 0 else 'loses'} by {count} disc{'s' * (count != 1)}"
+
+
+@dataclasses.dataclass(frozen=True)
+class Entry:
+    """What is known of a move: it is worth its score, one ply less deep than the position."""
+
+    move: str
+    score: Score
+
+    def __str__(self) -> str:
+        return f"{self.move}{self.score.sign}{self.score.value}"
+
+
+def loss_of(best: Score, score: Score) -> str:
+    """What was lost by a move of this score where another has the best one, in words; nothing where they are the same."""
+    if best.value == score.value:
+        return ""
+    if not best.ends and not score.ends:
+        return str(best.value - score.value)
+    if best.ends and score.ends:
+        discs = (best.value - score.value) // A_DISC
+        return f"{discs} disc{'s' * (discs != 1)}"
+    if best.ends:
+        return "a sure win" if best.value > 0 else "a sure draw"
+    return "the game" if score.value < 0 else str(best.value - score.value)

@@ -1,0 +1,54 @@
+"""The rows of clients/conformance.txt, as the clients of the other languages have them too."""
+import pathlib
+import re
+
+import pytest
+from coluwen import Broken, IllegalMove, Position, Refused, Score
+from coluwen.answers import parse
+
+FILE = pathlib.Path(__file__).resolve().parents[2] / "conformance.txt"
+
+
+def bytes_of(text: str) -> bytes:
+    spelled = {"n": b"\n", "r": b"\r", "t": b"\t", "\\": b"\\"}
+    return b"".join(spelled[part[1]] if part[:1] == "\\" and part[1] != "x" else bytes([int(part[2:], 16)]) if part[:1] == "\\" else part.encode()
+                    for part in re.findall(r"\\x..|\\.|[^\\]+", text))  # fmt: skip
+
+
+ROWS = [line.rstrip("\n").split("\t") for line in FILE.open(encoding="ascii") if not line.startswith("#")]
+
+
+def rows(kind: str) -> list[list[str]]:
+    found = [row[1:] for row in ROWS if row[0] == kind]
+    assert len(found) > 10
+    return found
+
+
+@pytest.mark.parametrize("jobs, line, answer, result", rows("answer"))
+def test_answer(jobs: str, line: str, answer: str, result: str) -> None:
+    try:
+        found = parse(line, bytes_of(answer), int(jobs)).words()
+    except Refused as fault:
+        found = f"REFUSED {fault.number}"
+    except Broken:
+        found = "BROKEN"
+    assert found == result
+
+
+@pytest.mark.parametrize("text, moves", rows("legal"))
+def test_legal(text: str, moves: str) -> None:
+    assert Position.parse(text).legal_moves() == moves.split()
+
+
+@pytest.mark.parametrize("text, move, after", rows("play"))
+def test_play(text: str, move: str, after: str) -> None:
+    try:
+        found = Position.parse(text).play(move).text
+    except IllegalMove:
+        found = "ILLEGAL"
+    assert found == after
+
+
+@pytest.mark.parametrize("value, sign, ends, text", rows("score"))
+def test_score(value: str, sign: str, ends: str, text: str) -> None:
+    assert str(Score(int(value), sign, ends == "1")) == text

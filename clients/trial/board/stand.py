@@ -1,0 +1,116 @@
+"""What the trials of the board share: servers and pages that they start, and what a page of the browser shows."""
+import contextlib
+import json
+import os
+import pathlib
+import random
+import subprocess
+import sys
+import urllib.error
+import urllib.request
+
+TOP = pathlib.Path(__file__).resolve().parents[3]
+SOURCE = pathlib.Path(os.environ.get("COLUWEN", TOP / "clients/python/src"))
+sys.path[:0] = [str(SOURCE), str(TOP / "deploy"), str(TOP / "clients/trial")]
+import stage  # noqa: E402
+from coluwen.board import OTHER, Position  # noqa: E402
+from patience import until  # noqa: E402
+from stage import check, fail, free_port  # noqa: E402, F401
+
+OPENING = Position.opening()
+PATIENT = ("--silence", 30)  # of a page: on a busy machine an answer may take more than 1.5 seconds
+SQUARES = "[...document.querySelectorAll('.square')]"
+CELLS = SQUARES + ".map((one) => { const disc = one.querySelector('.disc'); return !disc ? '-' : disc.classList.contains('black') ? 'X' : 'O' }).join('')"
+NAMES = "Object.fromEntries(" + SQUARES + ".map((one) => [one.dataset.square, one.getAttribute('aria-label')]))"
+ROWS = "[...document.querySelectorAll('#moves tbody tr[data-ply]')].map((row) => [...row.cells].map((cell) => cell.innerText.trim()))"
+KNOWN = "document.documentElement.dataset.known === 'yes'"  # all that is wanted now
+TEXT = "decodeURIComponent(new URLSearchParams(location.hash.slice(1)).get('moves') ?? '')"
+
+
+@contextlib.contextmanager
+def page(port, *words, https=False):
+    """The page's program; gives its process and address."""
+    command = [sys.executable, "-m", "coluwen.page", "--port", 0, *PATIENT, *words, "127.0.0.1", port]
+    surroundings = os.environ | {"PYTHONPATH": str(SOURCE), "PYTHONDONTWRITEBYTECODE": "1"}
+    process = subprocess.Popen([*map(str, command)], stdout=subprocess.PIPE, text=True, env=surroundings)
+    with stage.ended_after(process), process.stdout:
+        address = process.stdout.readline().strip()
+        if not address.startswith("http"):
+            fail("the page doesn't begin")
+        if not https:
+            until("how deep the server looks", lambda: about(address)["settled"], 120)
+        yield process, address
+
+
+def about(address):
+    return json.loads(asked(f"{address}about")[1])
+
+
+def asked(address, body=None, method=None, headers=None):
+    """The status and the text of an answer, and its headers."""
+    data = json.dumps(body).encode() if body is not None and not isinstance(body, bytes) else body
+    kind = {"Content-Type": "application/json"} if data is not None else {}
+    request = urllib.request.Request(address, data, {**kind, **(headers or {})}, method=method)
+    try:
+        with urllib.request.urlopen(request, timeout=900) as answer:
+            return answer.status, answer.read().decode(), answer.headers
+    except urllib.error.HTTPError as fault:
+        return fault.code, fault.read().decode(), fault.headers
+
+
+def analysed(address, position, depth, exact=()):
+    """What the service says of a position: its lines."""
+    body = {"position": position if isinstance(position, str) else position.text, "depth": depth, "exact": exact if exact == "all" else list(exact)}
+    status, text, _ = asked(f"{address}analyse", body)
+    return [json.loads(line) for line in text.splitlines() if line.strip()] if status == 200 else fail(f"/analyse: {status} {text}")
+
+
+def random_moves(seed, count=60, start=OPENING):
+    """The moves of a random game, passes left out, and the position after each."""
+    chance, position, found = random.Random(seed), start, []
+    while not position.is_over and len(found) < count:
+        if position.must_pass:
+            position = position.play("pass")
+        move = chance.choice(position.squares())
+        position = position.play(move)
+        found.append((move, position))
+    return found
+
+
+def settled(position):
+    """The position with the move of a player who can move."""
+    return position.play("pass") if position.must_pass else position
+
+
+def values(asked_for):
+    """Of each pair of a position and a depth its value by `othello solve`."""
+    pairs = list(asked_for)
+    return [value for _, value, _ in stage.solve([f"{depth} {position.text}" for position, depth in pairs])] if pairs else []
+
+
+def worths(position, depth):
+    """What each move is worth, so many plies deep, by `othello solve`: the value of the position behind it, turned."""
+    moves = position.legal_moves()
+    behind = values((position.play(move), depth if move == "pass" else depth - 1) for move in moves)
+    return {move: -value for move, value in zip(moves, behind)}
+
+
+def ended(position, depth):
+    """The result for the player to move of the line that `othello solve` plays to the game's end, empty squares to the winner, and
+    how many these are. The depth reaches the end."""
+    side, discs = position.side, None
+    while not position.is_over:
+        (_, _, move), *_ = stage.solve([f"{depth} {position.text}"])
+        position, depth = position.play(move), depth - (move != "pass")
+    discs, empty = position.discs(side) - position.discs(OTHER[side]), position.empties
+    return discs + empty * ((discs > 0) - (discs < 0)), empty
+
+
+def worded(score):
+    """A result in words."""
+    return "draw" if not score else f"{'win' if score > 0 else 'loss'} by {abs(score)}"
+
+
+def play(shown, moves):
+    for move in moves:
+        shown.click(f'[data-square="{move}"]')
