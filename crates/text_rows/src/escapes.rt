@@ -1,0 +1,104 @@
+//! The bytes that a line of a talk stands for.
+use std::alloc::AllocError;
+
+/// Ends a line.
+const LF: u8 = 10;
+
+/// What the text of a line ended with.
+#[derive(Clone, Copy, Debug, PartialEq, Eq)]
+pub enum Ending {
+    /// Its last byte: an LF follows.
+    Whole,
+    /// The sign `\-`: no LF follows, as the input ends there or is lost.
+    Cut,
+    /// An escape that is none.
+    Bad,
+}
+
+/// How much of an escape was read.
+#[derive(Clone, Copy)]
+enum Escape {
+    /// None has begun.
+    Plain,
+    /// The byte `\`.
+    Begun,
+    /// `\x`.
+    High,
+    /// `\x` and this digit.
+    Low(u8),
+    /// `\-`, after which nothing may come.
+    Cut,
+}
+
+/// Appends the bytes that a text stands for, and an LF. A byte stands for itself, but for the escapes: `\xHH` is the byte
+/// of these two hexadecimal digits, `\r` a CR, `\s` a space, `\\` a `\`, and `\-` at the end says that no LF follows.
+pub fn push_line(text: &str, bytes: &mut Vec<u8>) -> Result<Ending, AllocError> {
+    let mut escape = Escape::Plain;
+    for byte in text.as_bytes() {
+        let Some(next) = take(escape, *byte, bytes)? else {
+            return Ok(Ending::Bad);
+        };
+        escape = next;
+    }
+    end(escape, bytes)
+}
+
+/// Appends the LF, where one follows.
+fn end(escape: Escape, bytes: &mut Vec<u8>) -> Result<Ending, AllocError> {
+    match escape {
+        Escape::Plain => {
+            bytes.push(LF)?;
+            Ok(Ending::Whole)
+        }
+        Escape::Cut => Ok(Ending::Cut),
+        Escape::Begun | Escape::High | Escape::Low(_) => Ok(Ending::Bad),
+    }
+}
+
+/// Takes the next byte of a text. None where it goes on with no escape.
+fn take(escape: Escape, byte: u8, bytes: &mut Vec<u8>) -> Result<Option<Escape>, AllocError> {
+    match escape {
+        Escape::Plain if byte == b'\\' => Ok(Some(Escape::Begun)),
+        Escape::Plain => {
+            bytes.push(byte)?;
+            Ok(Some(Escape::Plain))
+        }
+        Escape::Begun => begin(byte, bytes),
+        Escape::High => Ok(hex_value(byte).map(|digit| Escape::Low(digit))),
+        Escape::Low(high) => finish(high, byte, bytes),
+        Escape::Cut => Ok(None),
+    }
+}
+
+/// Takes the byte after a `\`.
+fn begin(byte: u8, bytes: &mut Vec<u8>) -> Result<Option<Escape>, AllocError> {
+    let stands_for = match byte {
+        b'x' => return Ok(Some(Escape::High)),
+        b'-' => return Ok(Some(Escape::Cut)),
+        b'r' => b'\r',
+        b's' => b' ',
+        b'\\' => b'\\',
+        _ => return Ok(None),
+    };
+    bytes.push(stands_for)?;
+    Ok(Some(Escape::Plain))
+}
+
+/// Takes the second digit of a byte.
+fn finish(high: u8, byte: u8, bytes: &mut Vec<u8>) -> Result<Option<Escape>, AllocError> {
+    let Some(low) = hex_value(byte) else {
+        return Ok(None);
+    };
+    bytes.push(high << 4 | low)?;
+    Ok(Some(Escape::Plain))
+}
+
+/// The value of a hexadecimal digit.
+fn hex_value(byte: u8) -> Option<u8> {
+    match byte {
+        b'0'..=b'9' => Some(byte - b'0'),
+        b'a'..=b'f' => Some(byte - b'a' + 10),
+        b'A'..=b'F' => Some(byte - b'A' + 10),
+        _ => None,
+    }
+}

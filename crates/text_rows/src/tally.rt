@@ -1,0 +1,76 @@
+//! Counting rows.
+ghost use Rattle.std.specs.Prelude.{◌≡◌, ◌≢◌, ◌<◌, ◌≤◌};
+
+use std::alloc::{AllocError, Global};
+use std::fmt;
+
+/// How many rows that don't agree are told of.
+const TOLD: u64 = 40;
+
+/// Where a row stands.
+#[derive(Clone, Copy, Debug)]
+pub struct Place<'t> {
+    /// The name of its file.
+    pub file: &'t str,
+    /// The number of its line.
+    pub line: u32,
+}
+
+impl fmt::Display for Place<'_> {
+    fn fmt<W: fmt::Write>(&self, f: &mut fmt::Formatter<W>) -> fmt::Result {
+        let file = self.file;
+        let line = self.line;
+        write!(f, "{file}:{line}")
+    }
+}
+
+/// How the rows that were played came out.
+#[derive(Drop)]
+pub struct Tally {
+    /// How many agree, up to 2^64 - 1.
+    pub agreed: u64,
+    /// How many don't, up to 2^64 - 1.
+    pub missed: u64,
+    /// A line for each of the first 40 that don't: where it stands, what was due, and what came.
+    pub told: String,
+}
+
+impl Tally {
+    /// No row was played.
+    pub fn new(alloc: Global) -> Tally
+        ensures agreed { result.agreed ≡ 0 }
+        ensures missed { result.missed ≡ 0 }
+    {
+        Tally {
+            agreed: 0,
+            missed: 0,
+            told: String::new(alloc),
+        }
+    }
+
+    /// Counts a row where this was due and this came. One that doesn't agree is always counted, also where there is no
+    /// memory to tell of it.
+    pub fn compare(&mut self, place: Place<'_>, due: &str, came: &str) -> Result<(), AllocError>
+        ensures agrees { due.now ≡ came.now → self.new.missed ≡ self.old.missed }
+        ensures differs { due.now ≢ came.now → 0 < self.new.missed }
+        ensures kept { self.old.missed ≤ self.new.missed }
+    {
+        if due == came {
+            self.agreed = self.agreed.saturating_add(1);
+            return Ok(());
+        }
+        self.miss(place, due, came)
+    }
+
+    /// Counts a row that doesn't agree.
+    pub fn miss(&mut self, place: Place<'_>, due: &str, came: &str) -> Result<(), AllocError>
+        ensures counted { 0 < self.new.missed }
+        ensures kept { self.old.missed ≤ self.new.missed }
+    {
+        self.missed = self.missed.saturating_add(1);
+        if self.missed <= TOLD {
+            writeln!(self.told, "{place}: due {due}, came {came}")?;
+        }
+        Ok(())
+    }
+}

@@ -1,0 +1,119 @@
+//! Scenes of sessions.
+//!
+//! The head is `desk segments S nodes N`, with `grain G` (0 where it isn't named), `worker W` (1) and `pieces P`, the most bytes that
+//! a session's reader gives at once (4,096).
+ghost use Rattle.std.specs.Prelude.{◌≡◌, ◌≤◌};
+
+use crate::crew::Crew;
+use crate::guests::House;
+use crate::sessions::Stage;
+use desk::{Config, Desk, Hall, Hands, PARTS, Worker};
+use std::alloc::{AllocError, Global};
+use std::marker::Brand;
+use std::sync::Wait;
+use std::sync::ledger::Blank;
+use text_rows::{Place, Row, Scene, Tally, option};
+
+/// What a head asks for.
+#[derive(Clone, Copy)]
+struct Setting {
+    config: Config,
+    grain: u8,
+    worker: Worker,
+    pieces: usize,
+    ghost fine: { grain ≤ 6 },
+}
+
+/// What a head asks for; None where a number is missing or not within its limits.
+fn read_setting(head: &str) -> Option<Setting> {
+    let segments = u32::try_from(option(head, "segments")?).ok()?;
+    let nodes = u32::try_from(option(head, "nodes")?).ok()?;
+    let grain = u8::try_from(option(head, "grain").unwrap_or(0)).ok()?;
+    let worker = u8::try_from(option(head, "worker").unwrap_or(1)).ok()?;
+    let pieces = usize::try_from(option(head, "pieces").unwrap_or(4096)).ok()?;
+    if grain > 6 {
+        return None;
+    }
+    Some(Setting {
+        config: Config::new(segments, nodes)?,
+        grain,
+        worker: Worker::new(worker)?,
+        pieces,
+    })
+}
+
+/// Plays a scene at a desk of its own.
+pub fn play_sessions<R: Wait>(
+    rt: &R,
+    alloc: Global,
+    file: &str,
+    scene: &Scene<'_>,
+    tally: &mut Tally,
+) -> Result<(), AllocError> {
+    let place = Place {
+        file,
+        line: scene.head.line,
+    };
+    let Some(setting) = read_setting(scene.head.text) else {
+        return tally.miss(
+            place,
+            "segments, nodes, and a grain from 0 to 6",
+            scene.head.text,
+        );
+    };
+    let hall = Hall::new(alloc, setting.config, setting.grain)?;
+    play_at::<Brand, R>(
+        rt,
+        alloc,
+        Blank::new(PARTS),
+        hall,
+        setting,
+        place,
+        scene.rows.as_slice(),
+        tally,
+    )
+}
+
+/// Plays rows at a desk with this hall.
+fn play_at<L: Hands, R: Wait>(
+    rt: &R,
+    alloc: Global,
+    blank: Blank,
+    hall: Hall,
+    setting: Setting,
+    place: Place<'_>,
+    rows: &[Row<'_>],
+    tally: &mut Tally,
+) -> Result<(), AllocError>
+    requires name { blank.name ≡ L.name }
+    requires parts { (blank.parts ≡ L.parts) × (L.all ≡ L.parts) × (L.all ≡ 13835058055282163712) }
+{
+    let desk: Desk<L> = Desk::new(hall, blank);
+    play_rows(rt, alloc, &desk, setting, place, rows, tally)
+}
+
+/// Plays rows at a desk.
+fn play_rows<L: Hands, R: Wait>(
+    rt: &R,
+    alloc: Global,
+    desk: &Desk<L>,
+    setting: Setting,
+    place: Place<'_>,
+    rows: &[Row<'_>],
+    tally: &mut Tally,
+) -> Result<(), AllocError>
+    requires { L.all ≡ L.parts }
+{
+    let Some(crew) = Crew::new(alloc, rt, desk, setting.worker) else {
+        return tally.miss(place, "a badge", "none");
+    };
+    let mut stage = Stage {
+        rt,
+        alloc,
+        desk,
+        house: House::new(alloc, crew),
+        file: place.file,
+        pieces: setting.pieces,
+    };
+    stage.play(rows, tally)
+}

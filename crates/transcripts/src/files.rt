@@ -1,0 +1,131 @@
+//! The files of the folder that the program runs in.
+use crate::desks::play_sessions;
+use crate::solving::play_solve;
+use std::alloc::{AllocError, Global};
+use std::process::ExitCode;
+use std::rt::Files;
+use std::sync::Wait;
+use std::{fs, io};
+use step_texts::play_steps;
+use text_rows::{Place, Scene, Tally, read_scenes};
+
+/// The names of all files here, by rising name.
+fn names<R: Files + AllocGlobal + Clone + Drop>(rt: &R) -> io::Result<Vec<String>> {
+    let mut names = Vec::new(rt.alloc());
+    for entry in fs::read_dir(rt, ".")? {
+        let name = String::from_str(rt.alloc(), entry?.file_name())?;
+        names.push(name)?;
+    }
+    names.sort_unstable();
+    Ok(names)
+}
+
+/// Plays all files here that have scenes. Returns how many these are.
+pub fn play_all<R: Files + AllocGlobal + Wait + Clone + Drop>(
+    rt: &R,
+    tally: &mut Tally,
+) -> io::Result<u64> {
+    let names = names(rt)?;
+    let mut count = 0u64;
+    for name in names.iter() {
+        if play_file(rt, name.as_str(), tally)? {
+            count = count.saturating_add(1);
+        }
+    }
+    Ok(count)
+}
+
+/// Plays a file, if its ending is one of a text.
+fn play_file<R: Files + AllocGlobal + Wait>(
+    rt: &R,
+    file: &str,
+    tally: &mut Tally,
+) -> io::Result<bool> {
+    let Some(kind) = kind_of(file) else {
+        return Ok(false);
+    };
+    let text = fs::read_to_string(rt, file)?;
+    play_text(rt, rt.alloc(), kind, file, text.as_str(), tally)?;
+    Ok(true)
+}
+
+/// What plays a file.
+#[derive(Clone, Copy)]
+enum Kind {
+    Solve,
+    Session,
+    Steps,
+}
+
+/// What plays a file of this name, by its ending.
+fn kind_of(file: &str) -> Option<Kind> {
+    let (_name, ending) = file.rsplit_once('.')?;
+    if ending == "solve" {
+        return Some(Kind::Solve);
+    }
+    if ending == "session" {
+        return Some(Kind::Session);
+    }
+    if ending == "steps" {
+        return Some(Kind::Steps);
+    }
+    None
+}
+
+/// Plays the scenes of a text.
+fn play_text<R: Wait>(
+    rt: &R,
+    alloc: Global,
+    kind: Kind,
+    file: &str,
+    text: &str,
+    tally: &mut Tally,
+) -> Result<(), AllocError> {
+    let scenes = read_scenes(alloc, text)?;
+    for scene in scenes.iter() {
+        play_scene(rt, alloc, kind, file, scene, tally)?;
+    }
+    Ok(())
+}
+
+/// Plays a scene.
+fn play_scene<R: Wait>(
+    rt: &R,
+    alloc: Global,
+    kind: Kind,
+    file: &str,
+    scene: &Scene<'_>,
+    tally: &mut Tally,
+) -> Result<(), AllocError> {
+    match kind {
+        Kind::Solve if scene.head.text.starts_with("solve ") => {
+            play_solve(alloc, file, scene, tally)
+        }
+        Kind::Session if scene.head.text.starts_with("desk ") => {
+            play_sessions(rt, alloc, file, scene, tally)
+        }
+        Kind::Steps if scene.head.text.starts_with("core ") => {
+            play_steps(alloc, file, scene, tally)
+        }
+        _ => {
+            let place = Place {
+                file,
+                line: scene.head.line,
+            };
+            tally.miss(place, "a head of this kind of text", scene.head.text)
+        }
+    }
+}
+
+/// Prints what disagrees and how many rows agree. The exit status is 1 where some don't.
+pub fn report(rt: &impl Print, count: u64, tally: &Tally) -> io::Result<ExitCode> {
+    let agreed = tally.agreed;
+    let missed = tally.missed;
+    rt.print(tally.told.as_str())?;
+    if missed == 0 {
+        println!(rt; "{agreed} rows of {count} texts agree")?;
+        return Ok(ExitCode::from(0));
+    }
+    println!(rt; "{agreed} rows of {count} texts agree, {missed} do not")?;
+    Ok(ExitCode::from(1))
+}

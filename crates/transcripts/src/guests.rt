@@ -1,0 +1,254 @@
+//! The sessions at a desk, and their office.
+//!
+//! A session that others interrupt is served in parts: each part is a call of `serve_lines`. A part of a session whose tenant
+//! is there begins with a HELLO of the player's own, which the office takes without a call of the desk, and at its end the
+//! tenant stays where more lines of the session follow.
+ghost use Rattle.std.specs.Prelude.{◌≡◌, ◌==◌, true};
+
+use crate::crew::Crew;
+use crate::pieces::Pieces;
+use desk::{Desk, Hands, Refusal};
+use desk_office::DeskOffice;
+use line_io::FromWriter;
+use session::{End, Live, Office, Question, Standing, serve_lines};
+use std::alloc::Global;
+use std::sync::Wait;
+use tenant_quota::{Left, Reserve};
+
+/// More steps than the jobs of all tenants can be offered: 16 for each of the 4,194,304 nodes, and as many again that are
+/// refused.
+const ALL_STEPS: u64 = 2 * 16 * 4_194_304;
+
+/// The line by which a session whose tenant is there goes on.
+pub const GOES_ON: &[u8] = b"HELLO 1 1\n";
+
+/// What is answered to it.
+pub const WENT_ON: &[u8] = b"WELCOME 1 1\n";
+
+/// A session.
+pub struct Guest<'t, 'a, L: Hands, R: Wait> {
+    /// The name that its rows bear.
+    pub name: &'t str,
+    office: DeskOffice<'a, L, R>,
+    /// The number of its tenant; None where none is there.
+    tenant: Option<u64>,
+}
+
+impl<L: Hands, R: Wait> Drop for Guest<'_, '_, L, R> {
+    fn drop(self) {
+        let Guest {
+            name: _name,
+            office,
+            tenant: _tenant,
+        } = self;
+        office.close();
+    }
+}
+
+impl<'t, 'a, L: Hands, R: Wait> Guest<'t, 'a, L, R> {
+    /// A session without a tenant.
+    pub fn new(name: &'t str, rt: &'a R, desk: &'a Desk<L>) -> Guest<'t, 'a, L, R> {
+        Guest {
+            name,
+            office: DeskOffice::new(rt, desk),
+            tenant: None,
+        }
+    }
+
+    /// Whether its tenant is there.
+    pub fn is_seated(&self) -> bool {
+        self.tenant.is_some()
+    }
+}
+
+/// The sessions at a desk so far, and the worker. It is the office of the part of a session that is served: it passes each
+/// call on to the tenant's office at the desk, and at `wait` the worker runs all jobs first.
+pub struct House<'t, 'a, L: Hands, R: Wait> {
+    /// The worker.
+    pub crew: Crew<'a, L, R>,
+    /// The sessions.
+    pub guests: Vec<Guest<'t, 'a, L, R>>,
+    /// The place of the session that is served.
+    at: usize,
+    /// Whether its next HELLO is the player's own.
+    resumes: bool,
+    /// Whether its tenant stays at the end of the part.
+    stays: bool,
+}
+
+impl<L: Hands, R: Wait> Drop for House<'_, '_, L, R> {
+    fn drop(self) {
+        let House {
+            crew: _crew,
+            guests: _guests,
+            at: _at,
+            resumes: _resumes,
+            stays: _stays,
+        } = self;
+    }
+}
+
+impl<'t, 'a, L: Hands, R: Wait> House<'t, 'a, L, R> {
+    /// No session yet.
+    pub fn new(alloc: Global, crew: Crew<'a, L, R>) -> House<'t, 'a, L, R> {
+        House {
+            crew,
+            guests: Vec::new(alloc),
+            at: 0,
+            resumes: false,
+            stays: false,
+        }
+    }
+
+    /// A part of the session at this place, and what it writes. The tenant stays at its end where `stays` says so, but not
+    /// after a line BYE.
+    pub fn serve(
+        &mut self,
+        rt: &R,
+        alloc: Global,
+        at: usize,
+        pieces: Pieces<'_>,
+        stays: bool,
+    ) -> Vec<u8>
+        requires { L.all ≡ L.parts }
+    {
+        self.resumes = self.is_seated(at);
+        self.at = at;
+        self.stays = stays;
+        let mut source = pieces;
+        let mut sink = FromWriter::new(Vec::new(alloc));
+        let end = serve_lines(rt, &mut source, &mut sink, self);
+        if end == Ok(End::Bye) {
+            self.stays = false;
+            self.leave();
+        }
+        sink.writer
+    }
+
+    /// Whether the tenant of the session at this place is there.
+    pub fn is_seated(&self, at: usize) -> bool {
+        match self.guests.get(at) {
+            Some(guest) => guest.is_seated(),
+            None => false,
+        }
+    }
+
+    /// The place of the session of this name; None where there was none.
+    pub fn find(&self, name: &str) -> Option<usize> {
+        let mut at = 0usize;
+        for guest in self.guests.iter() {
+            if guest.name == name {
+                return Some(at);
+            }
+            at = at.saturating_add(1);
+        }
+        None
+    }
+
+    /// The session that is served has a tenant of this number now, or none.
+    fn seat(&mut self, tenant: Option<u64>) {
+        if let Some(guest) = self.guests.get_mut(self.at) {
+            guest.tenant = tenant;
+        }
+    }
+}
+
+impl<L: Hands, R: Wait> Office for House<'_, '_, L, R> {
+    ghost does = { λ _ _ _ _. Unit {0} };
+
+    ghost ready = { L.all == L.parts };
+
+    fn hello(&mut self, reserve: Reserve) -> Result<(), Refusal> {
+        if self.resumes {
+            self.resumes = false;
+            return Ok(());
+        }
+        match self.guests.get_mut(self.at) {
+            Some(guest) => guest.office.hello(reserve)?,
+            None => return Err(Refusal::NoTenant),
+        }
+        let tenant = self.crew.admitted();
+        self.seat(Some(tenant));
+        Ok(())
+    }
+
+    fn reserve(&mut self, reserve: Reserve) -> Result<(), Refusal> {
+        match self.guests.get_mut(self.at) {
+            Some(guest) => guest.office.reserve(reserve),
+            None => Err(Refusal::NoTenant),
+        }
+    }
+
+    fn ask(&mut self, question: &Question) -> Result<u64, Refusal> {
+        let (job, tenant) = match self.guests.get_mut(self.at) {
+            Some(guest) => (guest.office.ask(question)?, guest.tenant),
+            None => return Err(Refusal::NoTenant),
+        };
+        if let Some(tenant) = tenant {
+            self.crew.asked(tenant);
+        }
+        Ok(job)
+    }
+
+    fn get(&mut self, job: u64) -> Result<Standing, Refusal> {
+        match self.guests.get_mut(self.at) {
+            Some(guest) => guest.office.get(job),
+            None => Err(Refusal::NoJob),
+        }
+    }
+
+    /// A job that is pending although nothing is left to do would be waited for for ever, so its standing is answered.
+    fn wait(&mut self, job: u64) -> Result<Standing, Refusal> {
+        if !self.crew.is_closed {
+            self.crew.work(ALL_STEPS);
+        }
+        match self.guests.get_mut(self.at) {
+            Some(guest) => wait_at(guest, job, self.crew.is_closed),
+            None => Err(Refusal::NoJob),
+        }
+    }
+
+    fn cancel(&mut self, job: u64) -> Result<(), Refusal> {
+        match self.guests.get_mut(self.at) {
+            Some(guest) => guest.office.cancel(job),
+            None => Err(Refusal::NoJob),
+        }
+    }
+
+    fn quota(&mut self) -> Result<Left, Refusal> {
+        match self.guests.get_mut(self.at) {
+            Some(guest) => guest.office.quota(),
+            None => Err(Refusal::NoTenant),
+        }
+    }
+
+    fn live(&mut self) -> Result<Live, Refusal> {
+        match self.guests.get_mut(self.at) {
+            Some(guest) => guest.office.live(),
+            None => Err(Refusal::NoTenant),
+        }
+    }
+
+    fn leave(&mut self) {
+        if self.stays {
+            return;
+        }
+        if let Some(guest) = self.guests.get_mut(self.at) {
+            guest.office.leave();
+        }
+        self.seat(None);
+    }
+}
+
+/// Waits for a job, but not where it is pending at a desk that is open.
+fn wait_at<L: Hands, R: Wait>(
+    guest: &mut Guest<'_, '_, L, R>,
+    job: u64,
+    is_closed: bool,
+) -> Result<Standing, Refusal> {
+    let standing = guest.office.get(job);
+    if !is_closed && standing == Ok(Standing::Pending) {
+        return standing;
+    }
+    guest.office.wait(job)
+}

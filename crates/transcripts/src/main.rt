@@ -1,0 +1,38 @@
+//! `transcripts`: plays the texts of the folder that it runs in, and tells which of their rows agree.
+//!
+//! A row is a line of a text: what is sent, asked or done, or what is due. So what needs no thread, no socket and no clock is
+//! tried by a line that a person writes, and costs no proof: this program is proved once, safe and total as all else, for
+//! every text. A file's ending says what plays it:
+//!
+//! - `NAME.solve` (`solving`): the lines of `othello solve`, at each grain that the head names, or by `--visited`;
+//! - `NAME.session` (`sessions`): sessions at a desk, whose jobs one worker runs (`crew`) at each WAIT.
+//!
+//! All is what a client would meet but for the sockets and the threads: lines go through `solve_bytes`, `solve_visited` and
+//! `serve_lines` with a `DeskOffice`. Printed are the first rows that disagree, and last how many rows of how many files
+//! agree; the exit status is 1 where some don't.
+//!
+//! ```text
+//! = solve grain 0 2 6
+//! > 1 ---------------------------OX------XO--------------------------- X
+//! < -3 d3
+//! ```
+#![tactic(auto)]
+
+mod compared;
+mod crew;
+mod desks;
+mod files;
+mod guests;
+mod pieces;
+mod sessions;
+mod solving;
+
+use std::io;
+use std::process::ExitCode;
+use text_rows::Tally;
+
+fn main(rt: HostRuntime) -> io::Result<ExitCode> {
+    let mut tally = Tally::new(rt.alloc());
+    let count = files::play_all(&rt, &mut tally)?;
+    files::report(&rt, count, &tally)
+}
