@@ -51,7 +51,7 @@ class Pages:
         self.counts = []
 
     def call(self, name):
-        """The call that a row names, with those of its clauses that the row asks for: `crate::call#clause`, or all."""
+        """The call that a row names, with those of its clauses that the row asks for: `crate::call#clause+clause`, or all."""
         name, _, clause = name.partition("#")
         key = tuple(name.split("::", 1))
         if key not in self.code.calls:
@@ -59,9 +59,10 @@ class Pages:
         call = self.code.calls[key]
         if not clause:
             return call
-        if clause not in {part[1] for part in call.clauses}:
-            fail(f"pages.txt names a clause that isn't there: {name}#{clause}")
-        return dataclasses.replace(call, clauses=[part for part in call.clauses if part[0].startswith("requires") or part[1] == clause])
+        wanted = clause.split("+")
+        if gone := set(wanted) - {part[1] for part in call.clauses}:
+            fail(f"pages.txt names clauses that aren't there: {name}#{'+'.join(gone)}")
+        return dataclasses.replace(call, clauses=[part for part in call.clauses if part[0].startswith("requires") or part[1] in wanted], left_out=[part[1] for part in call.clauses if part[0] == "ensures" and part[1] not in wanted])
 
     def clause_lines(self, call, indent="    "):
         """A call's signature and clauses as code."""
@@ -129,20 +130,21 @@ class Pages:
     def type_lines(self, key):
         """A type as code: one with a model by what contracts see of it, a trait by its members without bodies."""
         shown = self.code.types[key]
+        if shown.kind == "struct" and not shown.model:  # its invariant is no part of what a statement says
+            return [line for line in shown.lines if not line.strip().startswith("ghost")]
         if shown.model:
             head = re.sub(r"\s*\{.*", "", shown.lines[0]) if shown.lines else f"pub struct {shown.name}"
             return [f"{head} {{ .. }}", *("    " + line.replace("\n", "\n    ") for line in shown.model)]
         return shown.lines
 
     def values_of(self, keys):
-        """The definitions of the values that contracts see of these types."""
+        """What the values that contracts see of these types, and the contracts of these traits, name."""
         for key in keys:
             shown = self.code.types[key]
-            text = "\n".join(shown.model[:1] or re.findall(r"ghost \w+.*", "\n".join(shown.lines)))
+            text = "\n".join(shown.model[:1]) if shown.model else "\n".join(shown.lines) if shown.kind == "trait" else ""
             for name in dict.fromkeys(NAME.findall(text)):
-                meaning = self.specs.resolve(name, shown.imports)
-                if meaning and meaning[0] == "spec":
-                    yield meaning[1]
+                if meaning := self.specs.resolve(name, shown.imports):
+                    yield meaning
 
     def word_lines(self, words):
         """The words of the toolchain's library, each with its meaning."""
@@ -157,8 +159,19 @@ class Pages:
         if unknown := [name for name in unknown if "contracts" not in name[0]]:
             fail(f"{call.title}: can't follow {unknown}")
         seen = list(self.seen_of(call))
-        beside = [key for key in dict.fromkeys(self.values_of(seen)) if key not in order]
-        return order, self.types_of(types), words, seen, beside
+        named = list(self.values_of(seen))
+        beside = [key for key in dict.fromkeys(meaning[1] for meaning in named if meaning[0] == "spec") if key not in order]
+        types += [meaning[1:] for meaning in named if meaning[0] == "type"]
+        words += [meaning[1:] for meaning in named if meaning[0] == "std"]
+        for key in beside:  # one level: a record that a value is, a function that a trait's contract names
+            for meaning in self.specs.names_of(key):
+                if meaning[0] == "spec" and meaning[1] not in order and meaning[1] not in beside:
+                    beside.append(meaning[1])
+                elif meaning[0] == "type":
+                    types.append(meaning[1:])
+                elif meaning[0] == "std":
+                    words.append(meaning[1:])
+        return order, self.types_of(dict.fromkeys(types)), list(dict.fromkeys(words)), seen, beside
 
     def head(self, page, call, sentence, order):
         lines = sum(len(self.specs.definitions[key].lines) for key in order)
@@ -168,7 +181,8 @@ class Pages:
         return [MADE, f"# {page.replace('-', ' ').capitalize()}", "", sentence, "",
                 f"{rests} [How to read a promise](HOW-TO-READ.md) explains the signs, [what is assumed](WHAT-IS-ASSUMED.md) says what you have to trust.", "",
                 f"## The call `{call.title}`, in `{call.path}`", "", *([" ".join(call.comment), ""] if call.comment else []),
-                "```rust", *self.clause_lines(call), "```", ""]
+                "```rust", *self.clause_lines(call), "```", "",
+                *([f"Its other clauses ({', '.join(f'`{name}`' for name in call.left_out)}) have pages of their own."] + [""] if call.left_out else [])]
 
     def law_page(self, page, name, sentence):
         """A page with all that its promise rests on."""
@@ -178,16 +192,16 @@ class Pages:
         out += ["## The definitions, lowest first", "", *self.show_definitions(order)]
         if seen:
             out += ["## What the clauses see of the call's types", "",
-                    "A contract sees a value of a type with `{ .. }` as its `Value`; `view` says which. What a program can learn of such a value are the answers of its public calls, whose contracts speak of the same `Value`.", ""]
+                    "A contract sees a value of a type written with `{ .. }` as its `Value`; `view` says how that is made of its private fields. You need not read those: all that a program can learn of such a value are the answers of its public calls, and their contracts speak of the same `Value` (the pages of the crates have them). A trait's ghost members are what its implementations define for contracts alone.", ""]
             for key in seen:
                 out += self.show_type(key)
             out += self.show_definitions(beside)
         if types:
-            out += ["## The types that the definitions name", ""]
+            out += ["## The types that the definitions name", "", "Their fields and cases, which a statement may name; what else holds of their values stands on the pages of their crates.", ""]
             for key in types:
                 if key not in seen:
                     out += self.show_type(key)
-        out += ["## Words of the toolchain's library", "", "Nothing else is cited but these words:", "", *self.word_lines(words), ""]
+        out += ["## Words of the toolchain's library", "", "Beside Rust's own types nothing else is cited but these words:", "", *self.word_lines(words), ""]
         self.pages[f"{page}.md"] = "\n".join(out)
 
     def further_page(self, page, name, sentence):
@@ -280,11 +294,14 @@ class Pages:
             if call.startswith("promises::"):
                 self.law_page(page, call, sentence)
             else:
-                self.further_page(page, call, sentence)
-        named = {tuple(call.partition("#")[0].split("::", 1)) for _, call, _ in self.promises}
-        for key in self.code.calls:
-            if key[0] == "promises" and key not in named:
-                fail(f"pages.txt has no page for {'::'.join(key)}")
+                self.further_page(page, call.removeprefix("~"), sentence)
+        shown = {}  # of each law of `promises`: its clauses that some page has
+        for _, name, _ in self.promises:
+            call = self.call(name.removeprefix("~"))
+            shown.setdefault((call.crate, call.title), set()).update(part[1] for part in call.promised)
+        for key, call in self.code.calls.items():
+            if key[0] == "promises" and {part[1] for part in call.promised} - shown.get(key, set()):
+                fail(f"pages.txt has no page for each clause of {'::'.join(key)}")
         self.crate_pages()
         self.index()
         self.definition_index()

@@ -62,6 +62,7 @@ class Call:
     signature: list
     clauses: list
     imports: dict
+    left_out: list = dataclasses.field(default_factory=list)  # the names of the clauses that a page of some doesn't show
 
     @property
     def title(self):

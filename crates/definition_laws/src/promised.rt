@@ -149,6 +149,7 @@ pub fn solving<S: Source, K: Sink>()
     ensures solution { (depth : ℕ) (position : Position) → solution depth position ≡ value_text (minimax depth (cells position.board)) (best_choice depth (cells position.board)) }
     ensures is_question_is { (line : LineText) (depth : ℕ) (position : Position) (is : IsQuestion line depth position) → line ≡ Whole (is.word ++ byte " " ∷ is.text) }
     ensures is_question_asks { (line : LineText) (depth : ℕ) (position : Position) (is : IsQuestion line depth position) → AsksFor is.word is.text depth position }
+    ensures is_true_solution_formed { (line : LineText) (text : List ℕ) (is : IsTrueSolution line text) → ((number : ℕ) × (text ≡ error_text number)) ⊎ ((depth : ℕ) × (position : Position) × IsQuestion line depth position × (text ≡ solution depth position)) }
     ensures is_true_solution_solved { (line : LineText) (text : List ℕ) (is : IsTrueSolution line text) → begins text (codes "ERR ") ≡ false → (depth : ℕ) × (position : Position) × IsQuestion line depth position × (text ≡ solution depth position) }
     ensures is_true_solution_answered { (line : LineText) (text : List ℕ) (is : IsTrueSolution line text) → (depth : ℕ) (position : Position) → IsQuestion line depth position → (text ≡ solution depth position) ⊎ (text ≡ error_text 19) }
     ensures are_true_solutions_none_more { (text : List ℕ) (texts : List (List ℕ)) → AreTrueSolutions [] (text ∷ texts) → ⊥ }

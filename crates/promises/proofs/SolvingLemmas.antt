@@ -8,6 +8,8 @@ use Rattle.othello_board.specs.declared.cells.Cell.{Cell}
 use Rattle.othello_board.specs.Words.{cells}
 use Rattle.position_text.specs.declared.positions.Position.{Position}
 use Rattle.protocol.specs.declared.faults.ProtocolFault.{ProtocolFault}
+use Rattle.protocol.specs.declared.faults.ProtocolFault.TheVariants.{NoCommand, LongLine}
+use Rattle.protocol.specs.Faults.{fault_number}
 use Rattle.protocol.specs.Words.{split_at_space, word_number, number_after}
 use Rattle.protocol.specs.Questions.{QuestionOf, question}
 use Rattle.protocol.specs.Texts.{error_text}
@@ -88,8 +90,31 @@ solved-line : (flag : Bool) (line : LineText) → Solved line (solve_line_unless
 solved-line flag TooLong = λ other. absurd cc
 solved-line flag (Whole bytes) = by-words flag bytes (split_at_space bytes) refl
 
+-- each answer is ERR and a number, or the solution of what its line asks for
+abbrev Formed : LineText → List ℕ → Type 0
+Formed line text = ((number : ℕ) × (text ≡ error_text number)) ⊎ ((depth : ℕ) × (position : Position) × IsQuestion line depth position × (text ≡ solution depth position))
+
+formed-flag : (flag : Bool) (line : LineText) (word text : List ℕ) (asked : QuestionOf) → line ≡ Whole (word ++ 32 ∷ text) → question word text ≡ Ok asked → Formed line (solved_unless flag asked.depth asked.board)
+formed-flag true line word text asked is reads = inl (19, refl)
+formed-flag false line word text asked is reads =
+    let a = asks-for word text asked reads in
+    inr (asked.depth, a.position, record { word = word; text = text; is = is; asks = a.asks }, ap (λ (board : List Cell). solved asked.depth board) (sym a.is))
+
+formed-question : (flag : Bool) (line : LineText) (word text : List ℕ) (found : Result QuestionOf ProtocolFault) → line ≡ Whole (word ++ 32 ∷ text) → question word text ≡ found → Formed line (question_answer (solved_unless flag) found)
+formed-question flag line word text (Err fault) is reads = inl (fault_number fault, refl)
+formed-question flag line word text (Ok asked) is reads = formed-flag flag line word text asked is reads
+
+formed-words : (flag : Bool) (bytes : List ℕ) (found : Option (List ℕ × List ℕ)) → split_at_space bytes ≡ found → Formed (Whole bytes) (question_answer (solved_unless flag) (words_question found))
+formed-words flag bytes None at = inl (fault_number NoCommand, refl)
+formed-words flag bytes (Some (word, text)) at = formed-question flag (Whole bytes) word text (question word text) (ap (λ (l : List ℕ). Whole l) (split-is bytes word text at)) refl
+
+formed-line : (flag : Bool) (line : LineText) → Formed line (solve_line_unless flag line)
+formed-line flag TooLong = inl (fault_number LongLine, refl)
+formed-line flag (Whole bytes) = formed-words flag bytes (split_at_space bytes) refl
+
 true-solution : (flag : Bool) (line : LineText) → IsTrueSolution line (solve_line_unless flag line)
 true-solution flag line = record {
+  formed = formed-line flag line;
   solved = solved-line flag line;
   answered = λ depth position q. rw (line-question-of line depth position q) (answered-by flag depth position);
 }

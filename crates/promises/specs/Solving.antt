@@ -26,9 +26,11 @@ pub record IsQuestion (line : LineText) (depth : ℕ) (position : Position) : Ty
   pub is : line ≡ Whole (word ++ byte " " ∷ text)
   pub asks : AsksFor word text depth position
 
--- a text is a true answer to its line. One that doesn't begin with ERR is the solution of what the line asks for;
--- and a line that asks for a position to a depth is answered by the solution, or by ERR 19 where memory ran out
+-- a text is a true answer to its line. It is ERR and a number, or the solution of what the line asks for (`formed`); so
+-- one that doesn't begin with ERR and a space is that solution; and a line that asks for a position to a depth is answered
+-- by the solution or by ERR 19
 pub record IsTrueSolution (line : LineText) (text : List ℕ) : Type 0 where
+  pub formed : ((number : ℕ) × (text ≡ error_text number)) ⊎ ((depth : ℕ) × (position : Position) × IsQuestion line depth position × (text ≡ solution depth position))
   pub solved : begins text (codes "ERR ") ≡ false → (depth : ℕ) × (position : Position) × IsQuestion line depth position × (text ≡ solution depth position)
   pub answered : (depth : ℕ) (position : Position) → IsQuestion line depth position → (text ≡ solution depth position) ⊎ (text ≡ error_text 19)
 

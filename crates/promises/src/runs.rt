@@ -48,7 +48,8 @@ where
 /// for any tenants. A step that is no Admit or AdmitMore is refused only for its own tenant's state, or with Busy
 /// where the worker that has to be free for it is busy with another tenant (`refused`). Each job that is done, of
 /// any tenant, replies to the board and the depth of the Submit of its number: the minimax value, the best
-/// choice, and a true table (`replies`). Nothing is promised of an `AllocError`.
+/// choice, and a true table (`replies`). The answers are those that the definitions give these steps on a new core,
+/// and the core is what they leave (`headline`). Nothing is promised of an `AllocError`.
 pub fn run<A: Allocator + Clone>(
     alloc: A,
     procedure: Jamboree,
@@ -56,6 +57,7 @@ pub fn run<A: Allocator + Clone>(
     steps: &[Step<Jamboree>],
 ) -> Result<After<A>, AllocError>
     requires { AreSearches steps.now }
+    ensures headline { IfOk result (λ run. IsHeadlineFromNew procedure.grain config steps.now run.answers.items run.core.shared) }
     ensures answered { IfOk result (λ run. length run.answers.items ≡ length steps.now) }
     ensures refused { IfOk result (λ run. AreRefusedForThese procedure.grain steps.now run.answers.items) }
     ensures replies { IfOk result (λ run. (number job : ℕ) (tenant : Tenant) (words : List ℕ) →
@@ -70,7 +72,8 @@ pub fn run<A: Allocator + Clone>(
 /// and got the same answers to these steps: no other tenant disturbs it (`undisturbed`). That also holds where the
 /// second list is the tenant's own taken steps of the first, without all other tenants' steps, if the admissions in
 /// it are taken, for which there must be room and memory: then each of its steps is taken, and answered as in the
-/// first (`alone`). Nothing is promised of an `AllocError`.
+/// first (`alone`). That both are runs of these lists on new cores is `headline`. Nothing is promised of an
+/// `AllocError`.
 pub fn run_two<A: Allocator + Clone>(
     alloc: A,
     procedure: Jamboree,
@@ -81,6 +84,8 @@ pub fn run_two<A: Allocator + Clone>(
 ) -> Result<(After<A>, After<A>), AllocError>
     requires searches { AreSearches steps.now }
     requires other_searches { AreSearches other_steps.now }
+    ensures headline { IfOk result (λ runs. IsHeadlineFromNew procedure.grain config steps.now runs.0.answers.items runs.0.core.shared
+        × IsHeadlineFromNew procedure.grain other_config other_steps.now runs.1.answers.items runs.1.core.shared) }
     ensures undisturbed { IfOk result (λ runs. (number : ℕ) →
         own_steps number steps.now runs.0.answers.items ≡ own_steps number other_steps.now runs.1.answers.items →
         AreSame (tenant_in runs.0.core.shared.tenants number) (tenant_in runs.1.core.shared.tenants number)

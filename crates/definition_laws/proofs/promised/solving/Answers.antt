@@ -6,6 +6,7 @@ returns g c = record {
   solution = λ depth position. refl;
   is_question_is = λ line depth position is. is.is;
   is_question_asks = λ line depth position is. is.asks;
+  is_true_solution_formed = λ line text is. is.formed;
   is_true_solution_solved = λ line text is. is.solved;
   is_true_solution_answered = λ line text is. is.answered;
   are_true_solutions_none_more = λ text texts is. is;

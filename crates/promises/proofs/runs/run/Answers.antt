@@ -3,6 +3,9 @@ use Rattle.promises.proofs.Refused.{refused-for-these}
 use Rattle.promises.proofs.Replied.{replies-to-submits}
 use Rattle.promises.proofs.runs.run.Goals as goal
 
+pub returns-clause-headline : goal.returns-clause-headline
+returns-clause-headline g c = c.ran.ensures.headline
+
 pub returns-clause-answered : goal.returns-clause-answered
 returns-clause-answered g c = if-ok c.ran.result (λ run whole. as-many _ _ _ _ whole.tenants.refused) c.ran.ensures.headline
 
