@@ -50,7 +50,7 @@ def sound(value: int = 5, state: Callable[[int, int], str] = lambda depth, nodes
             if word == "CANCEL":
                 jobs[int(rest[0]) - 1] = "CANCELLED"
                 return f"CANCELLED {rest[0]}\n"
-            if word == "GET":
+            if word in ("GET", "WAIT"):
                 ended = jobs[int(rest[0]) - 1]
                 return f"{ended} {rest[0]} {value} d3\n" if ended == "DONE" else f"{ended} {rest[0]}\n"
             return {"TABLE": f"TABLE {rest[0] if rest else 0} d3={value} c4<-1\n", "QUOTA": f"QUOTA 1 {nodes[0]} 1\n"}.get(word, "BYE\n")

@@ -15,6 +15,7 @@ faults = []  # all that is found: each of them is to be mended, and not the firs
 def check(told, text):
     if not told and text not in faults:
         faults.append(text)
+        print(f"  {text}", flush=True)
 
 
 TEXTS = json.loads((SOURCE / "coluwen/page/static/texts/texts.json").read_text())
@@ -150,7 +151,7 @@ def try_view(browser, address, width, language, scheme):
     """One size, language and scheme: a game with values, a variation, a fault, all parts open."""
     with browser.page(width=width, height=900, language=language, scheme=scheme) as shown:
         shown.open(f"{address}#moves={GAME}h6(g6)g6&at=9&depth=4")
-        shown.until("the values", f"document.getElementById('progress').hidden && document.querySelector('.star') && document.getElementById('value').textContent", 300)
+        shown.until("the values", KNOWN, 300)
         for one in ("setup", "legend"):
             shown.evaluate(f"document.getElementById('{one}').open = true")
         shown.evaluate("document.getElementById('pasted').value = 'f5 d6 xx'")

@@ -8,6 +8,7 @@ import threading
 import time
 
 from coluwen.board import Position
+from coluwen.formats import Game, Played, ggf
 from stand import CELLS, KNOWN, OPENING, SOURCE, TEXT, analysed, asked, check, free_port, page, stage, until
 
 
@@ -121,7 +122,7 @@ def try_markup(browser, address):
         shown.open(f"{address}?moves={bad}&start={bad}&depth={bad}&lang={bad}")
         check("<img" in shown.text("#faults"), "the fault doesn't show what was typed")
         shown.open(f"{address}#moves={bad}&at={bad}&follow=%3Cb%3E&view={bad}")
-        shown.evaluate(f"document.getElementById('pasted').value = {json.dumps('(;GM[Othello]PB[' + bad + ']PW[b]RE[?]TY[8]BO[8 ---------------------------O*------*O--------------------------- *]B[F5];)' * 2)}")
+        shown.evaluate(f"document.getElementById('pasted').value = {json.dumps(ggf.write([Game(moves=(Played('f5'),), black=bad, white='b')] * 2))}")
         shown.click("#import")
         shown.until("the games", "document.getElementById('games').options.length === 2")
         check("<img" in shown.evaluate("document.getElementById('games').options[0].text"), "the name of a player")

@@ -23,7 +23,7 @@ SQUARES = "[...document.querySelectorAll('.square')]"
 CELLS = SQUARES + ".map((one) => { const disc = one.querySelector('.disc'); return !disc ? '-' : disc.classList.contains('black') ? 'X' : 'O' }).join('')"
 NAMES = "Object.fromEntries(" + SQUARES + ".map((one) => [one.dataset.square, one.getAttribute('aria-label')]))"
 ROWS = "[...document.querySelectorAll('#moves tbody tr[data-ply]')].map((row) => [...row.cells].map((cell) => cell.innerText.trim()))"
-KNOWN = "document.getElementById('progress').hidden && /^Analysed|^$/.test(document.getElementById('state').textContent)"
+KNOWN = "document.documentElement.dataset.known === 'yes'"  # all that is wanted now
 TEXT = "decodeURIComponent(new URLSearchParams(location.hash.slice(1)).get('moves') ?? '')"
 
 
@@ -38,7 +38,7 @@ def page(port, *words, https=False):
         if not address.startswith("http"):
             fail("the page doesn't begin")
         if not https:
-            until("how deep the server looks", lambda: about(address)["settled"], 120)
+            until("how deep the server looks", lambda: about(address)["settled"], 600)
         yield process, address
 
 
@@ -52,7 +52,7 @@ def asked(address, body=None, method=None, headers=None):
     kind = {"Content-Type": "application/json"} if data is not None else {}
     request = urllib.request.Request(address, data, {**kind, **(headers or {})}, method=method)
     try:
-        with urllib.request.urlopen(request, timeout=120) as answer:
+        with urllib.request.urlopen(request, timeout=900) as answer:
             return answer.status, answer.read().decode(), answer.headers
     except urllib.error.HTTPError as fault:
         return fault.code, fault.read().decode(), fault.headers

@@ -32,6 +32,7 @@ class AsyncSession:
         self.reader, self.writer, self.silence = reader, writer, silence
         self.jobs, self.reserved = 0, Reservation(0, 0)
         self.broken: str | None = None
+        self.rest = b""  # what came behind the last answer
         self.lock = asyncio.Lock()
 
     @classmethod
@@ -59,6 +60,9 @@ class AsyncSession:
         async with self.lock:
             if self.broken:
                 raise Broken(f"this session can't be used any more: {self.broken}")
+            if self.rest:
+                self.broken = f"the server said {self.rest[:60]!r}, which wasn't asked"
+                raise Broken(self.broken)
             self.broken = f"{word} was interrupted"  # until its answer has been read
             self.writer.write((f"{line} {token}\n" if token else f"{line}\n").encode("latin-1"))
             try:
@@ -79,13 +83,15 @@ class AsyncSession:
             return found
 
     async def read_line(self) -> bytes:
-        try:
-            await self.writer.drain()
-            return await self.reader.readuntil(b"\n")
-        except asyncio.IncompleteReadError as fault:
-            return fault.partial
-        except asyncio.LimitOverrunError:
-            return b"x" * LONGEST  # it is no line, and no part of it is an answer
+        """The next line with its LF; what the connection's end or the longest answer cut has none."""
+        await self.writer.drain()
+        while b"\n" not in self.rest and len(self.rest) < LONGEST:
+            block = await self.reader.read(LONGEST + 1)
+            if not block:
+                break
+            self.rest += block
+        line, found, self.rest = self.rest.partition(b"\n")
+        return line + found
 
     async def ask(self, depth: int, position: str | HasText) -> int:
         return (await self.call("ASK", f"{depth} {text_of_position(position)}")).job
@@ -238,7 +244,7 @@ class AsyncClient:
                     raise
                 except OSError as fault:
                     await session.close()
-                    losses += 1
+                    losses, fresh = losses + 1, True  # other idle ones may be lost too
                     if losses > 3 or isinstance(fault, TimeoutError):
                         raise Unreachable(f"{self.host}:{self.port}: {fault.strerror or fault}") from fault
                     continue
@@ -284,7 +290,12 @@ class AsyncClient:
     async def depths(self) -> Depths:
         """As `Client.depths`."""
         if not self._depths:
-            grain = min([await self.grain_by(probe) for probe in PROBES])
+            try:
+                grain = min([await self.grain_by(probe) for probe in PROBES])
+            except Unreachable:
+                raise
+            except OSError as fault:
+                raise Unreachable(f"{self.host}:{self.port}: {fault.strerror or fault}") from fault
             self._depths = Depths(grain, min(grain + 4, DEEPEST), min(grain + 5, DEEPEST))
         return self._depths
 

@@ -8,6 +8,7 @@ from .compare import Row
 from .score import A_DISC, GREATEST_EVALUATION
 
 WIDTH, HEIGHT, LEFT, TOP, GAP = 720, 220, 70, 50, 90
+RANGES = 12  # of points of the evaluation
 
 
 def draw(rows: list[Row], title: str) -> str:
@@ -33,14 +34,13 @@ def time_bars(times: list[float]) -> list[tuple[str, int]]:
 
 def value_bars(values: list[int]) -> list[tuple[str, int]]:
     """How many values lie in each range: lost games, twelve ranges of points, won games."""
-    step, found = 2 * GREATEST_EVALUATION / 12, []
+    found = []
     ends = [value // A_DISC if value >= 0 else -(-value // A_DISC) for value in values if abs(value) > GREATEST_EVALUATION]
     for least, most in ((-64, -33), (-32, -17), (-16, -1)):
         found.append((f"{least}..{most} d", sum(least <= discs <= most for discs in ends)))
-    points = [value for value in values if abs(value) <= GREATEST_EVALUATION]
-    for number in range(12):
-        begin, last = -GREATEST_EVALUATION + number * step, number == 11
-        found.append((f"{begin:+.0f}", sum(begin <= value < begin + step or (last and value == GREATEST_EVALUATION) for value in points)))
+    places = [min(RANGES * (value + GREATEST_EVALUATION) // (2 * GREATEST_EVALUATION), RANGES - 1) for value in values if abs(value) <= GREATEST_EVALUATION]
+    for number in range(RANGES):
+        found.append((f"{-GREATEST_EVALUATION + 2 * GREATEST_EVALUATION * number / RANGES:+.0f}", places.count(number)))
     for least, most in ((1, 16), (17, 32), (33, 64)):
         found.append((f"{least}..{most} d", sum(least <= discs <= most for discs in ends)))
     return found

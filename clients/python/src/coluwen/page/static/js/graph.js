@@ -8,7 +8,7 @@ import { shape } from "./dom.js";
 import { isEnd } from "./scores.js";
 import { t } from "./texts.js";
 
-const HEIGHT = 170, TOP = 8, BOTTOM = 20, LEFT = 54, RIGHT = 10, POINTS = 0.62;
+const HEIGHT = 170, TOP = 8, BOTTOM = 20, LEFT = 66, RIGHT = 10, POINTS = 0.62;
 
 /** The greatest number of points that the scale shows: a round one at least as great as all there are. */
 function scaleOf(scores) {

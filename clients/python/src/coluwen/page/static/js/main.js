@@ -178,6 +178,7 @@ function showGame() {
   Object.assign(slide, { max: String(line.length), value: String(tree.current.ply) });
   slide.setAttribute("aria-valuetext", tree.current.parent ? `${tree.current.ply}. ${tree.current.move}` : t("said.start"));
   const missing = wanted().filter((each) => !analyst.isKnown(each)).length;
+  document.documentElement.dataset.known = missing ? "no" : "yes";
   say($("progress"), $("analyse").checked && $("game").checked && missing ? t("progress", { n: missing }) : "");
 }
 
