@@ -84,7 +84,7 @@ def try_shell():
 
 def try_written(folder):
     """The rows of the conformance file are what its writer writes, and its moves are those of a server's rules (`solve`'s)."""
-    text = done("conformance.py", (SYSTEM, CLIENTS / "conformance.py"), folder)
+    text = done("conformance.py", (SYSTEM, CLIENTS / "trial/conformance.py"), folder)
     check(text == (CLIENTS / "conformance.txt").read_text(), "conformance.txt isn't what conformance.py writes")
 
 

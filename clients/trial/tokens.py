@@ -1,19 +1,19 @@
 """Trials of each client's token, by deploy/budgets where guests have no session: with it a client is served, else not."""
 import contextlib
 import hashlib
-import json
 import pathlib
 import socket
 import subprocess
 import sys
 import threading
-import urllib.request
 
 import common
 import stage
-import teaching
 import tools
 from common import OPENING, PATIENT, TOP, as_answer, check, run
+
+sys.path.append(str(TOP / "clients/trial/board"))
+import stand  # noqa: E402
 
 TOKEN = "Some-Token_of.64/signs"
 GUESTS = [("quick = { sessions = 2, segments = 2048, nodes = 19998 }", "quick = { sessions = 0, segments = 0, nodes = 0 }"),
@@ -91,9 +91,10 @@ def try_tools(port, own):
     review = (sys.executable, TOP / "clients/teacher/review.py", "--depth", 2, "--token", own, *PATIENT, *here, "f5d6c3")
     told = subprocess.run([*map(str, review)], capture_output=True, text=True, check=False)
     check(told.returncode == 0 and "  3 black  c3" in told.stdout, f"review.py with a token: {told.stderr}")
-    with teaching.served("--token", own, *PATIENT, *here) as address, urllib.request.urlopen(f"{address}review?depth=2&moves=f5d6") as answer:
-        given = [json.loads(line) for line in answer if line.strip()]
-    check(len(given) == 2 and all("said" in row for row in given), f"the page with a token: {given[:1]}")
+    with stand.page(port, "--token", own) as (_, address):
+        lines = stand.analysed(address, OPENING, 2)
+    found = [line["best"] for line in lines if line["kind"] == "step" and line["depth"] == 2]
+    check(found == [stage.solve([f"2 {OPENING}"])[0][2]], f"the page with a token: {lines}")
 
 
 def try_all(port, folder, asked, wanted):

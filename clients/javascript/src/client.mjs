@@ -214,7 +214,7 @@ export class Client extends EventEmitter {
         } catch (fault) {
           if (fault !== session.broken) throw fault;
           this.emit("lost", fault);
-          losses += 1;
+          [losses, fresh] = [losses + 1, true]; // other idle ones may be lost too
           if (losses > 3 || fault.name === "Silent") throw this.#unreachable(fault);
         } finally {
           if (!session.broken && session.jobs < 256) this.#idle.push(session);

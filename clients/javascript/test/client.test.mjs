@@ -85,6 +85,15 @@ for (const cut of ["DONE 1 5 d3", "DONE 1 5 d", "DONE 1 5 z9\n", "DONE 1 x d3\n"
     })));
 }
 
+test("a server that began anew: all idle sessions are lost, and a call opens another one", async () => {
+  const life = { ended: false };
+  await told(() => { const [right, isOld] = [sound(), !life.ended]; return (line) => (isOld && life.ended ? null : right(line)); }, (port) => having({ port, sessions: 6 }, async (client) => {
+    await Promise.all([1, 2, 3, 4, 5, 6].map((depth) => client.analyse(OPENING, depth)));
+    life.ended = true;
+    assert.equal((await client.analyse(OPENING, 2)).best, "d3");
+  }));
+});
+
 test("what wasn't asked", () => told(() => { const right = sound(); return (line) => right(line) + (line.startsWith("ASK") ? "DONE 1 7 d3\n" : ""); }, async (port) => {
   const session = await Session.open({ host: "127.0.0.1", port, segments: 8, nodes: 8 });
   const job = await session.ask(1, OPENING);

@@ -97,6 +97,59 @@ def test_what_was_not_asked() -> None:
         asyncio.run(asyncio.wait_for(trial(server.port), 20))
 
 
+def test_a_server_that_is_lost_while_its_grain_is_found_out() -> None:
+    right = sound()
+
+    def answers():  # type: ignore[no-untyped-def]
+        answer_of = right()
+        return lambda line: None if line.startswith("QUOTA") else answer_of(line)
+
+    with told(answers) as server, pytest.raises(Unreachable, match=str(server.port)):
+        Client("127.0.0.1", server.port).depths()
+
+
+def test_a_server_that_began_anew() -> None:
+    """All sessions that were kept are lost; a call opens another one."""
+    ended = [False]
+
+    def answers():  # type: ignore[no-untyped-def]
+        answer_of, is_old = sound()(), not ended[0]
+        return lambda line: None if is_old and ended[0] else answer_of(line)
+
+    async def trial(port: int) -> None:
+        async with AsyncClient("127.0.0.1", port, sessions=6) as client:
+            await asyncio.gather(*(client.analyse(OPENING, depth) for depth in range(6)))
+            ended[0] = True
+            assert len(client.idle) > 4 and (await client.analyse(OPENING, 2)).best == "d3"
+
+    with told(answers) as server, Client("127.0.0.1", server.port, sessions=6) as client:
+        client.idle = [client.open() for _ in range(6)]
+        ended[0] = True
+        assert client.analyse(OPENING, 2).best == "d3" and client.lost == 1
+    ended[0] = False
+    with told(answers) as server:
+        asyncio.run(asyncio.wait_for(trial(server.port), 20))
+
+
+def test_depths() -> None:
+    nodes = [1000]
+
+    def answers():  # type: ignore[no-untyped-def]
+        answer_of, depth = sound()(), [0]
+
+        def told_of(line: str) -> str | None:
+            if line.startswith("ASK"):
+                depth[0] = int(line.split()[1])
+                nodes[0] -= 30 if depth[0] <= 5 else 200  # a server of grain 4
+            return f"QUOTA 1 {nodes[0]} 1\n" if line == "QUOTA" else answer_of(line)
+
+        return told_of
+
+    with told(answers) as server:
+        found = Client("127.0.0.1", server.port).depths()
+        assert (found.grain, found.sure, found.mostly) == (4, 8, 9)
+
+
 def test_silence_and_patience() -> None:
     with told(lambda: lambda line: time.sleep(3)) as server, pytest.raises(Silent):  # type: ignore[arg-type, return-value]
         Session("127.0.0.1", server.port, 8, 8, silence=0.2)

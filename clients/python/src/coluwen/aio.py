@@ -244,7 +244,7 @@ class AsyncClient:
                     raise
                 except OSError as fault:
                     await session.close()
-                    losses += 1
+                    losses, fresh = losses + 1, True  # other idle ones may be lost too
                     if losses > 3 or isinstance(fault, TimeoutError):
                         raise Unreachable(f"{self.host}:{self.port}: {fault.strerror or fault}") from fault
                     continue
@@ -290,7 +290,12 @@ class AsyncClient:
     async def depths(self) -> Depths:
         """As `Client.depths`."""
         if not self._depths:
-            grain = min([await self.grain_by(probe) for probe in PROBES])
+            try:
+                grain = min([await self.grain_by(probe) for probe in PROBES])
+            except Unreachable:
+                raise
+            except OSError as fault:
+                raise Unreachable(f"{self.host}:{self.port}: {fault.strerror or fault}") from fault
             self._depths = Depths(grain, min(grain + 4, DEEPEST), min(grain + 5, DEEPEST))
         return self._depths
 

@@ -313,7 +313,7 @@ class Client:
                     raise
                 except OSError as fault:
                     session.close()
-                    losses += 1
+                    losses, fresh = losses + 1, True  # other idle ones may be lost too
                     self.lost += 1
                     if losses > 3 or isinstance(fault, TimeoutError):
                         raise Unreachable(f"{self.address}: {fault.strerror or fault}") from fault
@@ -396,11 +396,12 @@ class Client:
         """How deep this server looks at mid-game positions, found out once: by how many nodes two of them take, from depth to depth."""
         if self._depths:
             return self._depths
-        found = []
-        for probe in PROBES:
-            grain = self.grain_by(probe)
-            found.append(grain)
-        grain = min(found)
+        try:
+            grain = min(self.grain_by(probe) for probe in PROBES)
+        except Unreachable:
+            raise
+        except OSError as fault:
+            raise Unreachable(f"{self.address}: {fault.strerror or fault}") from fault
         self._depths = Depths(grain, min(grain + 4, DEEPEST), min(grain + 5, DEEPEST))
         return self._depths
 

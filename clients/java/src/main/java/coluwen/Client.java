@@ -233,6 +233,7 @@ public final class Client implements AutoCloseable {
         fresh = true;
       } catch (IOException | Broken | Silent fault) {
         if (session != null) session.close();
+        fresh = true; // other idle ones may be lost too
         if (++losses > 3 || fault instanceof Silent) throw unreachable(fault.getMessage(), fault);
       } catch (InterruptedException fault) {
         if (session != null) session.close();
