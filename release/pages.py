@@ -25,7 +25,7 @@ COMMANDS = {
     "othello-page": "clients/teacher/page.py",
     "othello-review": "clients/teacher/review.py",
 }
-SERVICES = {"othello-budgets": "deploy/budgets", "othello-drain": "deploy/drain", "othello-ready": "deploy/ready", "othello-supervise": "deploy/supervise"}
+SERVICES = {"othello-budgets": "deploy/budgets", "othello-drain": "deploy/drain", "othello-ready": "deploy/ready", "othello-reload": "deploy/reload", "othello-supervise": "deploy/supervise"}
 WITH_PAGES = {"othello-start": 1, "othello-budgets": 8, "othello-supervise": 8}
 DESCRIPTION = """
 othello answers, for an Othello position and a depth, the minimax value and the first move that attains it. Every answer
