@@ -261,7 +261,7 @@ function offer(depths) {
   game.depths = depths;
   $("depth").replaceChildren(...depths.map((depth) => made("option", { value: depth }, t("depth.option", { n: depth }))));
   chooseDepth(game.wish);
-  show();
+  if (game.begun) show();
 }
 
 // --- Import and export ---
@@ -514,6 +514,7 @@ async function begun() {
   teacher = new Teacher(showClass);
   offer([4]);
   wire();
+  game.begun = true; // nothing is asked before the address has been read
   open(location);
   if (teacher.room) {
     teacher.show(written(stateNow()));
