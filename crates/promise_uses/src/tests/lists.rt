@@ -3,7 +3,7 @@
 //! The steps that a hall was offered are the list.
 ghost use Rattle.std.specs.Prelude.{◌≤◌};
 ghost use Rattle.jamboree_rules.specs.declared.leaf.LeafAnswer.{LeafAnswer};
-ghost use Rattle.jamboree_core.specs.Replies.{IsSearch};
+ghost use Rattle.jamboree_core.specs.Replies.{AreSearches, IsSearch};
 
 use super::driving::{Offers, drive};
 use crate::{
@@ -68,6 +68,15 @@ fn grain_1() -> Result<Jamboree, Fail> {
     Ok(Jamboree::new(1).ok_or("the grain")?)
 }
 
+/// Adds a step to a list of searches, if there is memory, and answers whether there was.
+fn keeps(steps: &mut Vec<Step<Jamboree>>, step: Step<Jamboree>) -> bool
+    requires all { AreSearches steps.old.items }
+    requires search { IsSearch {A = LeafAnswer} step }
+    ensures { AreSearches steps.new.items }
+{
+    steps.push(step).is_ok()
+}
+
 impl Recorded {
     /// A new hall of 128 segments and nodes.
     fn new(alloc: Global) -> Result<Recorded, Fail> {
@@ -87,7 +96,9 @@ impl Recorded {
         let answer = self.hall.offer(&step);
         self.tenants.push(tenant)?;
         self.answers.push(answer)?;
-        self.steps.push(step)?;
+        if !keeps(&mut self.steps, step) {
+            return Err(AllocError);
+        }
         Ok(answer)
     }
 
