@@ -264,7 +264,7 @@ class Pages:
 
     def index(self):
         out = [MADE, "# The promises, a page each", "",
-               "Each page has one promise in a sentence, the public call whose contract it is, and every definition that the contract reaches. Begin with [how to read a promise](HOW-TO-READ.md), then [no tenant is disturbed](no-tenant-is-disturbed.md), the shortest; [what is assumed](WHAT-IS-ASSUMED.md) says what you have to trust. A change of a clause or a definition changes a page, and the gate fails until the page is made again, so a reviewer sees it.", "",
+               "Each page has one promise in a sentence, the public call whose contract it is, and every definition that the contract reaches. Begin with [how to read a promise](HOW-TO-READ.md), then [no tenant is disturbed](no-tenant-is-disturbed.md), the shortest; [what is assumed](WHAT-IS-ASSUMED.md) says what you have to trust; the words are in the [glossary](../GLOSSARY.md). A change of a clause or a definition changes a page, and the gate fails until the page is made again, so a reviewer sees it.", "",
                "| Page | Call | Promise | Definitions | Lines |", "|---|---|---|---|---|"]
         for page, call, sentence, definitions, lines, _ in self.counts:
             out.append(f"| [{page.replace('-', ' ')}]({page}.md) | `{call}` | {sentence.replace('|', chr(92) + '|')} | {definitions} | {lines} |")
