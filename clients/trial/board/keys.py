@@ -34,6 +34,8 @@ def try_play(shown, address):
         check(shown.evaluate(FOCUS) == move, "the focus has left the square that was played")
         said = shown.text("#live")
         check(said.startswith(f"Move {number + 1}: {'black' if number % 2 == 0 else 'white'} {move}."), f"the live region says {said}")
+    shown.until("the value by its own live region", "/plies deep: best is [a-h][1-8]/.test(document.getElementById('live-value').textContent)")
+    check(shown.text("#live") == said, f"the value takes the move's sentence away: {shown.text('#live')}")
     square_to(shown, "a1")
     for _ in range(3):
         shown.key("ArrowLeft")

@@ -153,12 +153,26 @@ def questions(shown):
             if method == "Network.requestWillBeSent" and words["request"]["url"].endswith("/analyse")]  # fmt: skip
 
 
+def asking(shown):
+    """What became of each question, for a fault: what was asked and when, the status of its answer, and why it ended early."""
+    found = {}
+    for method, words in shown.events:
+        told = found.get(words.get("requestId"))
+        if method == "Network.requestWillBeSent" and words["request"]["url"].endswith("/analyse"):
+            found[words["requestId"]] = [words["request"]["postData"], round(words["timestamp"], 3)]
+        elif told and method == "Network.responseReceived":
+            told.append(words["response"]["status"])
+        elif told and method in ("Network.loadingFailed", "Network.loadingFinished"):
+            told += [round(words["timestamp"], 3), words.get("errorText", "all was said")]
+    return list(found.values())
+
+
 def try_once(shown, address):
     """Each position is asked once, however often it is looked at; a move that is played from it asks at most for that move's value."""
     shown.open(f"{address}#moves=f5d6c3d3c4&depth=4&at=0")
     shown.until("the whole game", KNOWN, 200)
     first = questions(shown)
-    check(len(first) == len(set(first)) == 6, f"6 positions are asked by {len(first)} questions")
+    check(len(first) == len(set(first)) == 6, f"6 positions are asked by {len(first)} questions: {asking(shown)}")
     for _ in range(3):
         for key in ("End", "Home", "ArrowRight", "ArrowRight", "ArrowLeft"):
             shown.key(key)

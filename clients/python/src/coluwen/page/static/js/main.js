@@ -117,7 +117,13 @@ function undo(kind) {
 
 // --- What is shown ---
 
-const tell = (text) => ($("live").textContent = text);
+/** Says what was done. Values have a region of their own, so that a quick one doesn't take this sentence away before it is read. */
+function tell(text) {
+  $("live").textContent = text;
+  $("live-value").textContent = "";
+}
+
+const tellValue = (text) => ($("live-value").textContent = text);
 
 /** Where one is, in words. */
 function whereText() {
@@ -229,7 +235,7 @@ function learnt() {
     const { current } = game.tree, known = analyst.of(current.position), before = game.told;
     show();
     const done = known && analyst.isKnown(wanted()[0]) && `${current.position} ${known.depth} ${known.best}`;
-    if (done && done !== before && !isOver(current.position)) tell(t("said.value", { depth: known.depth, move: known.best, value: words(forBlack(known.score, sideOf(current.position))) }));
+    if (done && done !== before && !isOver(current.position)) tellValue(t("said.value", { depth: known.depth, move: known.best, value: words(forBlack(known.score, sideOf(current.position))) }));
     if (done) game.told = done;
   });
 }
