@@ -89,7 +89,8 @@ def try_names(shown, language):
     value = {"en": "value", "de": "Wert"}[language]
     check(any(re.fullmatch(rf"[a-h][1-8], {legal}(, [^,]+)*, {value} [^,]+", name) for name in squares.values()), f"no square says its value: {list(squares.values())[:8]}")
     regions = [one for one in tree if one["role"] == "status"]
-    check(len(regions) == 1 and regions[0].get("live") == "polite", f"live regions: {regions}")
+    # one for what happened, one for values, so that neither takes the other's sentence away
+    check(len(regions) == 2 and all(region.get("live") == "polite" for region in regions), f"live regions: {regions}")
     check(not [one["name"] for one in tree if "⟨" in one["name"]], "a text is missing")
     check(not shown.evaluate(FORM), f"the document: {shown.evaluate(FORM)}")
 
