@@ -192,16 +192,16 @@ class Pages:
         out += ["## The definitions, lowest first", "", *self.show_definitions(order)]
         if seen:
             out += ["## What the clauses see of the call's types", "",
-                    "A contract sees a value of a type written with `{ .. }` as its `Value`; `view` says how that is made of its private fields. You need not read those: all that a program can learn of such a value are the answers of its public calls, and their contracts speak of the same `Value` (the pages of the crates have them). A trait's ghost members are what its implementations define for contracts alone.", ""]
+                    "A contract sees a value of a type that is written with `{ .. }` as its `Value`; `view` says how the `Value` is made from private fields. You need not read these fields: a program can learn about such a value only through its public calls, and their contracts (on the pages of the crates) speak of the same `Value`. A trait's ghost members are defined by its implementations, only for contracts.", ""]
             for key in seen:
                 out += self.show_type(key)
             out += self.show_definitions(beside)
         if types:
-            out += ["## The types that the definitions name", "", "Their fields and cases, which a statement may name; what else holds of their values stands on the pages of their crates.", ""]
+            out += ["## The types that the definitions name", "", "A statement may name their fields and cases. The pages of their crates say what else holds of their values.", ""]
             for key in types:
                 if key not in seen:
                     out += self.show_type(key)
-        out += ["## Words of the toolchain's library", "", "Beside Rust's own types nothing else is cited but these words:", "", *self.word_lines(words), ""]
+        out += ["## Words of the toolchain's library", "", "Besides Rust's own types, the definitions use only these words:", "", *self.word_lines(words), ""]
         self.pages[f"{page}.md"] = "\n".join(out)
 
     def further_page(self, page, name, sentence):
@@ -211,7 +211,7 @@ class Pages:
         self.word_lines(words)
         out = self.head(page, call, sentence, order)
         if order:
-            out += ["## The definitions, lowest first", "", "Each stands on the page of its crate.", ""]
+            out += ["## The definitions, lowest first", "", "The page of its crate shows each definition.", ""]
             for key in order:
                 definition = self.specs.definitions[key]
                 says = " ".join(line.removeprefix("--").strip() for line in definition.comment) or "(see there)"
@@ -264,12 +264,12 @@ class Pages:
 
     def index(self):
         out = [MADE, "# The promises, a page each", "",
-               "Each page has one promise in a sentence, the public call whose contract it is, and every definition that the contract reaches. Begin with [how to read a promise](HOW-TO-READ.md), then [no tenant is disturbed](no-tenant-is-disturbed.md), the shortest; [what is assumed](WHAT-IS-ASSUMED.md) says what you have to trust; the words are in the [glossary](../GLOSSARY.md). A change of a clause or a definition changes a page, and the gate fails until the page is made again, so a reviewer sees it.", "",
+               "Each page states one promise. It has the public call whose contract the promise is, and every definition that the contract reaches. Begin with [how to read a promise](HOW-TO-READ.md), then [no tenant is disturbed](no-tenant-is-disturbed.md), the shortest. [What is assumed](WHAT-IS-ASSUMED.md) says what you have to trust, and the [glossary](../GLOSSARY.md) explains the words. If a clause or a definition changes, so does a page, and the gate fails until the page is made again. So a reviewer sees the change.", "",
                "| Page | Call | Promise | Definitions | Lines |", "|---|---|---|---|---|"]
         for page, call, sentence, definitions, lines, _ in self.counts:
             out.append(f"| [{page.replace('-', ' ')}]({page}.md) | `{call}` | {sentence.replace('|', chr(92) + '|')} | {definitions} | {lines} |")
         out += ["", "## All public contracts, by crate", "",
-                "Each crate's page has its public contracts and its definitions that some public contract reaches; crates of tests are left out. In brackets the names of the clauses.", ""]
+                "Each crate's page has the crate's public contracts and those of its definitions that some public contract reaches. Crates of tests are left out. The names of the clauses are in brackets.", ""]
         for name in self.pages:
             if name.startswith("crates/"):
                 crate = name.removeprefix("crates/").removesuffix(".md")
@@ -278,7 +278,7 @@ class Pages:
                     if home == crate and call.promised:
                         names = ", ".join(part[1] for part in call.promised if part[1])
                         calls.append(f"`{call.title}`" + (f" ({names})" if names else ""))
-                out.append(f"- [{crate}]({name}): {', '.join(calls) or 'definitions alone'}")
+                out.append(f"- [{crate}]({name}): {', '.join(calls) or 'only definitions'}")
         self.pages["README.md"] = "\n".join([*out, ""])
 
     def definition_index(self):
