@@ -24,6 +24,8 @@ FALSE = [
     (2, b"DONE 1 05 d3\n"), (2, b"DONE 1 5 d3\r\n"), (2, b"DONE 1 5 \xb33\n"), (2, b"y" * 3_000_000), (2, None), (2, b"TABLE 1 d3=5\n"), (3, b"TABLE 1 d3=5 c4<\n"), (3, b"TABLE 1 d3=5 d3<4\n"),
     (3, b"TABLE 2 d3=5\n"), (3, b"TABLE 1 d3=5 c4<-1"), (3, b"TABLE 1 d9=5\n"), (3, b"DONE 1 5 d3\n"), (3, None),
 ]  # fmt: skip
+AHEAD = b"WELCOME 64 4096\nJOB 1\nDONE 1 5 d3\nTABLE 1 d3=5\nBYE\n"  # answers to what wasn't asked yet; the connection stays open
+FALSE.append((0, AHEAD))
 
 
 def right(line):
@@ -56,8 +58,9 @@ class Server:
                     stream.sendall(answer)
                 elif self.played is not None:
                     stream.sendall(self.played)
-                    stream.shutdown(socket.SHUT_RDWR)
-                    return
+                    if self.played != AHEAD:
+                        stream.shutdown(socket.SHUT_RDWR)
+                        return
 
     def __enter__(self):
         return self.port
@@ -97,7 +100,10 @@ def try_false(name):
     start = common.start_of(common.COMMANDS[name])
     asked = [(at, played) for at, played in FALSE if name != "shell" or at < 3] + cuts(name)
     with concurrent.futures.ThreadPoolExecutor(4) as pool:
-        said = list(pool.map(lambda one: refused(name, *one, 4 * start), asked))
+        try:
+            said = list(pool.map(lambda one: refused(name, *one, 4 * start), asked))
+        finally:
+            pool.shutdown(cancel_futures=True)
     print(f"{name}: {len(asked)} answers that are none, {len(cuts(name))} of them cut: one line each, status 1, no value; the last after {max(taken for _, taken in said):.1f} s")
 
 
