@@ -25,7 +25,8 @@ FALSE = [
     (3, b"TABLE 2 d3=5\n"), (3, b"TABLE 1 d3=5 c4<-1"), (3, b"TABLE 1 d9=5\n"), (3, b"DONE 1 5 d3\n"), (3, None),
 ]  # fmt: skip
 AHEAD = b"WELCOME 64 4096\nJOB 1\nDONE 1 5 d3\nTABLE 1 d3=5\nBYE\n"  # answers to what wasn't asked yet; the connection stays open
-FALSE.append((0, AHEAD))
+PAUSES = {b"x" * 65536: 0, b"z": 0.3}  # what has no end, and the seconds between two of it
+FALSE += [(0, AHEAD), *((at, played) for at in (0, 2) for played in PAUSES)]
 
 
 def right(line):
@@ -58,6 +59,9 @@ class Server:
                     stream.sendall(answer)
                 elif self.played is not None:
                     stream.sendall(self.played)
+                    while self.played in PAUSES:
+                        time.sleep(PAUSES[self.played])
+                        stream.sendall(self.played)
                     if self.played != AHEAD:
                         stream.shutdown(socket.SHUT_RDWR)
                         return
@@ -79,7 +83,7 @@ def refused(name, at, played, start):
         with Server(at, played) as port:
             words = common.words_of(name, port, 64, 4096, *(("--tables",) if name != "shell" else ()))
             begun = time.monotonic()
-            done = subprocess.run(words, input=f"1 {OPENING}\n", capture_output=True, text=True, check=False, timeout=60, errors="replace")
+            done = subprocess.run(words, input=f"1 {OPENING}\n", capture_output=True, text=True, check=False, timeout=30, errors="replace")
             taken = time.monotonic() - begun - start
         check(done.returncode == 1, f"{what}: status {done.returncode}: {done.stdout!r} {done.stderr!r}")
         check(not done.stdout, f"{what}: it shows {done.stdout!r}")

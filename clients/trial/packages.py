@@ -111,6 +111,11 @@ def pytest(name):
     done("pytest", (SYSTEM, "-m", "pytest", "-q", "-x", "-p", "no:cacheprovider", f"tests/test_{name}.py"), where, PYTHONPATH=f"{where}/src:{where}/tests")
 
 
+def node():
+    """JavaScript's tests of its client, for `wrong`."""
+    done("node --test", ("node", "--test", "test/client.test.mjs"), CLIENTS / "javascript")
+
+
 def conformance(name, folder):
     """The rows of the conformance file by one language, for `wrong`."""
     if name == "shell":
