@@ -30,12 +30,12 @@ PAUSES = {b"x" * 65536: 0, b"z": 0.3}  # what has no end, and the seconds betwee
 FALSE += [(0, AHEAD), *((at, played) for at in (0, 2) for played in PAUSES)]
 
 
-def right(line):
-    """The answer of a server that is right in its form; the value is 5."""
+def right(line, job=1):
+    """The answer of a server that is right in its form; the value is 5. `job`: the number of the one that is asked."""
     word, *rest = line.split(" ")
     numbers = " ".join(rest[:2])
-    return {"HELLO": f"WELCOME {numbers}\n", "RESERVE": f"RESERVED {numbers}\n", "ASK": "JOB 1\n", "GET": "DONE 1 5 d3\n", "WAIT": "DONE 1 5 d3\n", "TABLE": "TABLE 1 d3=5 c4<-12\n",
-            "QUOTA": "QUOTA 64 4085 65456\n", "BYE": "BYE\n"}[word].encode()  # fmt: skip
+    return {"HELLO": f"WELCOME {numbers}\n", "RESERVE": f"RESERVED {numbers}\n", "ASK": f"JOB {job}\n", "GET": f"DONE {numbers} 5 d3\n", "WAIT": f"DONE {numbers} 5 d3\n",
+            "TABLE": f"TABLE {numbers} d3=5 c4<-12\n", "QUOTA": "QUOTA 64 4085 65456\n", "BYE": "BYE\n"}[word].encode()  # fmt: skip
 
 
 class Server:
@@ -55,9 +55,11 @@ class Server:
                 threading.Thread(target=self.serve, args=(stream,), daemon=True).start()
 
     def serve(self, stream):
+        jobs = 0
         with contextlib.suppress(OSError), stream.makefile("rb") as lines:
             for line in lines:
-                answer = right(line.decode("latin-1").rstrip("\n"))
+                jobs += line.startswith(b"ASK")
+                answer = right(line.decode("latin-1").rstrip("\n"), jobs)
                 if TRANSCRIPT[self.at] != answer.split()[0].decode():
                     stream.sendall(answer)
                 elif self.played is not None:
