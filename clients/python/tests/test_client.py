@@ -8,8 +8,8 @@ import time
 
 import pytest
 from coluwen import Broken, Client, Late, Position, Refused, Session, Silent, Stopped, TooDeep, Unreachable
-from coluwen.aio import AsyncClient
-from told import sound, told
+from coluwen.aio import AsyncClient, AsyncSession
+from told import Told, sound, told
 
 OPENING = Position.opening()
 
@@ -112,6 +112,10 @@ def test_what_was_not_asked() -> None:
             session.get(job)
 
     async def trial(port: int) -> None:
+        session = await AsyncSession.open("127.0.0.1", port, 8, 8)
+        job = await session.ask(1, OPENING)
+        with pytest.raises(Broken):
+            await session.get(job)
         async with AsyncClient("127.0.0.1", port) as client:
             with pytest.raises(Unreachable):
                 await client.analyse(OPENING, 1)
@@ -199,20 +203,20 @@ def test_asyncio() -> None:
                 await client.analyse(OPENING, 7)
             assert fault.value.greatest == 5
 
-    async def cancelled(port: int) -> None:
-        async with AsyncClient("127.0.0.1", port) as client:
+    async def cancelled(server: Told) -> None:
+        async with AsyncClient("127.0.0.1", server.port) as client:
             for _ in range(3):
                 with pytest.raises(TimeoutError):
                     async with asyncio.timeout(0.15):
                         await client.analyse(OPENING, 4)
+            assert any(line.startswith("CANCEL") for line in server.heard)
             with pytest.raises(Late):
                 await client.analyse(OPENING, 4, timeout=0.1)
 
     with told(sound(state=lambda depth, nodes: "SPENT" if depth > 5 else "DONE")) as server:
         asyncio.run(asyncio.wait_for(trial(server.port), 20))
     with told(sound(state=lambda depth, nodes: "PENDING")) as server:
-        asyncio.run(asyncio.wait_for(cancelled(server.port), 20))
-        assert any(line.startswith("CANCEL") for line in server.heard)
+        asyncio.run(asyncio.wait_for(cancelled(server), 20))
 
 
 @pytest.mark.skipif("COLUWEN_PORT" not in os.environ, reason="COLUWEN_PORT names no server")
