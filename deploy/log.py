@@ -1,6 +1,7 @@
 """Lines of a log that may fail: on a full disk, at a closed pipe or at one that nobody reads, lines are left out, and
-the program lives on. And what a unit of Type=notify tells systemd."""
+the program lives on. What a unit of Type=notify tells systemd. And which options a server has."""
 import os
+import pathlib
 import queue
 import socket
 import threading
@@ -25,6 +26,14 @@ def tell(text):
         os.write(2, text.encode(errors="replace"))
     except OSError:
         pass
+
+
+def with_options(command, path):
+    """The command `PROGRAM serve --port PORT OPTIONS..` with the options of the last line `OPTIONS=` of a file; its own ones where
+    there is no such line or file. OSError where the file can't be read."""
+    lines = pathlib.Path(path).read_text(errors="replace").splitlines() if path and os.path.exists(path) else []
+    found = [line.strip().removeprefix("OPTIONS=").strip("\"'").split() for line in lines if line.strip().startswith("OPTIONS=")]
+    return [*command[:4], *found[-1]] if found else command
 
 
 class Unit:
