@@ -179,7 +179,7 @@ class Pages:
         self.counts.append((page, f"{call.crate}::{call.title}", sentence, len(order), lines, len(files)))
         rests = f"It rests on {len(order)} definitions, {lines} lines in {len(files)} files." if order else "It rests on no definition of this repository."
         return [MADE, f"# {page.replace('-', ' ').capitalize()}", "", sentence, "",
-                f"{rests} [How to read a promise](HOW-TO-READ.md) explains the signs, and [what is assumed](WHAT-IS-ASSUMED.md) says what you have to trust.", "",
+                f"{rests} [How to read a promise](HOW-TO-READ.md) explains the signs, and the [glossary](../GLOSSARY.md) explains the words. [What is assumed](WHAT-IS-ASSUMED.md) says what you have to trust.", "",
                 f"## The call `{call.title}`, in `{call.path}`", "", *([" ".join(call.comment), ""] if call.comment else []),
                 "```rust", *self.clause_lines(call), "```", "",
                 *([f"The call's other clauses ({', '.join(f'`{name}`' for name in call.left_out)}) have pages of their own."] + [""] if call.left_out else [])]
