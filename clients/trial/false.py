@@ -25,7 +25,7 @@ FALSE = [
     (2, b"DONE 1 05 d3\n"), (2, b"DONE 1 5 d3\r\n"), (2, b"DONE 1 5 \xb33\n"), (2, b"y" * 3_000_000), (2, None), (2, b"TABLE 1 d3=5\n"), (3, b"TABLE 1 d3=5 c4<\n"), (3, b"TABLE 1 d3=5 d3<4\n"),
     (3, b"TABLE 2 d3=5\n"), (3, b"TABLE 1 d3=5 c4<-1"), (3, b"TABLE 1 d9=5\n"), (3, b"DONE 1 5 d3\n"), (3, None),
 ]  # fmt: skip
-AHEAD = b"WELCOME 64 4096\nJOB 1\nDONE 1 5 d3\nTABLE 1 d3=5\nBYE\n"  # answers to what wasn't asked yet; the connection stays open
+AHEAD = b"WELCOME 64 4096\nJOB 1\nDONE 1 5 d3\nTABLE 1 d3=5\nBYE\n"  # answers to what wasn't asked yet
 PAUSES = {b"x" * 65536: 0, b"z": 0.3}  # what has no end, and the seconds between two of it
 FALSE += [(0, AHEAD), *((at, played) for at in (0, 2) for played in PAUSES)]
 
@@ -39,7 +39,8 @@ def right(line, job=1):
 
 
 class Server:
-    """Plays bytes in place of one answer, on each connection. None is silence; what is played is the connection's end."""
+    """Plays bytes in place of one answer, on each connection. None is silence. What has no LF is the connection's end; behind an LF the
+    server goes on as a right one, so that who believes what was played shows a value."""
 
     def __init__(self, stage_of, played):
         self.at, self.played = stage_of, played
@@ -67,7 +68,7 @@ class Server:
                     while self.played in PAUSES:
                         time.sleep(PAUSES[self.played])
                         stream.sendall(self.played)
-                    if self.played != AHEAD:
+                    if not self.played.endswith(b"\n"):
                         stream.shutdown(socket.SHUT_RDWR)
                         return
 

@@ -97,7 +97,7 @@ export class Client extends EventEmitter {
 
   /** A session. Where the server is full for now it is asked again for `patience`; where it can't be reached or says nothing, until it
    * has been silent for as long as `silence` says. */
-  async open(level = 0) {
+  async open(level = 0, signal = undefined) {
     const { host, port, secure, token, silence, patience } = this;
     const begun = seconds();
     let [told, heard] = [false, begun];
@@ -117,6 +117,7 @@ export class Client extends EventEmitter {
           throw this.#unreachable(fault);
         }
       }
+      signal?.throwIfAborted();
     }
   }
 
@@ -179,9 +180,23 @@ export class Client extends EventEmitter {
   }
 
   /** One of the places for sessions, once one is free. */
-  async #place() {
-    if (this.#free > 0) this.#free -= 1;
-    else await new Promise((resolve) => { this.#queue.push(resolve); });
+  async #place(signal) {
+    if (this.#free > 0) {
+      this.#free -= 1;
+      return;
+    }
+    await new Promise((resolve, reject) => {
+      const leave = () => {
+        this.#queue.splice(this.#queue.indexOf(next), 1);
+        reject(signal.reason);
+      };
+      const next = () => {
+        signal?.removeEventListener("abort", leave);
+        resolve();
+      };
+      this.#queue.push(next);
+      signal?.addEventListener("abort", leave);
+    });
   }
   #leave() {
     const next = this.#queue.shift();
@@ -192,11 +207,11 @@ export class Client extends EventEmitter {
   async #spentOrDone(position, depth, { timeout = this.timeout, signal } = {}) {
     signal?.throwIfAborted();
     let [level, fresh, losses] = [this.needs.get(String(depth)) ?? 0, false, 0];
-    await this.#place();
+    await this.#place(signal);
     try {
       for (;;) {
         const at = this.#idle.findIndex((session) => !fresh && !session.broken && session.reserved.nodes >= this.levels[level].nodes);
-        const session = at >= 0 ? this.#idle.splice(at, 1)[0] : await this.open(level);
+        const session = at >= 0 ? this.#idle.splice(at, 1)[0] : await this.open(level, signal);
         try {
           const job = await this.asked(session, `${depth} ${position}`);
           if (job === null) {

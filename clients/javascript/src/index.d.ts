@@ -92,7 +92,7 @@ export declare class Client extends EventEmitter {
   depths(): Promise<{ grain: number; sure: number; mostly: number }>;
   answers(lines: AsyncIterable<string> | Iterable<string>): AsyncGenerator<Answer>;
   answered(lines: AsyncIterable<string> | Iterable<string>, how?: { tabled?: boolean }): AsyncGenerator<{ line: string; answer: Answer; table?: TableEntry[] }>;
-  open(level?: number): Promise<Session>;
+  open(level?: number, signal?: AbortSignal): Promise<Session>;
   close(): Promise<void>;
 }
 

@@ -74,6 +74,22 @@ test("a signal and a limit of time cancel the job", () => told(() => sound(() =>
   assert.deepEqual(heard.filter((line) => line.startsWith("CANCEL")), ["CANCEL 1", "CANCEL 2"]);
 })));
 
+test("a signal gives up what waits for a session, and what a full server is asked for", async () => {
+  await told(() => sound(() => "PENDING"), (port, heard) => having({ port, sessions: 1 }, async (client) => {
+    const stop = new AbortController();
+    const first = client.analyse(OPENING, 6, { signal: stop.signal });
+    await assert.rejects(client.analyse(OPENING, 4, { signal: AbortSignal.timeout(100) }), { name: "TimeoutError" });
+    stop.abort();
+    await assert.rejects(first, { name: "AbortError" });
+    assert.ok(!heard.some((line) => line.startsWith("ASK 4")));
+    await assert.rejects(client.analyse(OPENING, 3, { signal: AbortSignal.timeout(100) }), { name: "TimeoutError" }); // its place is free again
+    assert.ok(heard.some((line) => line.startsWith("ASK 3")));
+  }));
+  const begun = performance.now();
+  await told(() => () => "ERR 14\n", (port) => having({ port }, (client) => assert.rejects(client.analyse(OPENING, 6, { signal: AbortSignal.timeout(200) }), { name: "TimeoutError" })));
+  assert.ok(performance.now() - begun < 5000);
+});
+
 for (const cut of ["DONE 1 5 d3", "DONE 1 5 d", "DONE 1 5 z9\n", "DONE 1 x d3\n", "y".repeat(5000), null]) {
   test(`no answer: ${String(cut).slice(0, 20)}`, () => told(() => { const right = sound(); return (line) => (line.startsWith("GET") ? cut : right(line)); },
     (port) => having({ port }, async (client) => {

@@ -57,6 +57,29 @@ def test_late_and_stopped() -> None:
         assert [line for line in server.heard if line.startswith("CANCEL")] == ["CANCEL 1", "CANCEL 2"]
 
 
+def test_what_waits_is_stopped() -> None:
+    """For a session that another call has, and for a server that is full."""
+    first, second = threading.Event(), threading.Event()
+    with told(sound(state=lambda depth, nodes: "PENDING")) as server, Client("127.0.0.1", server.port, sessions=1) as client:
+        other = threading.Thread(target=lambda: pytest.raises(Stopped, client.analyse, OPENING, 6, stop=first))
+        other.start()
+        while not any(line.startswith("ASK 6") for line in server.heard):
+            time.sleep(0.01)
+        threading.Timer(0.1, second.set).start()
+        with pytest.raises(Stopped):
+            client.analyse(OPENING, 4, stop=second)
+        first.set()
+        other.join(10)
+        assert not any(line.startswith("ASK 4") for line in server.heard)
+        with pytest.raises(Late):
+            client.analyse(OPENING, 3, timeout=0.1)  # its place is free again
+    begun, third = time.monotonic(), threading.Event()
+    threading.Timer(0.1, third.set).start()
+    with told(lambda: lambda line: "ERR 14\n") as server, pytest.raises(Stopped):
+        Client("127.0.0.1", server.port).analyse(OPENING, 1, stop=third)
+    assert time.monotonic() - begun < 5
+
+
 @pytest.mark.parametrize("cut", ["DONE 1 5 d3", "DONE 1 5 d", "DONE 1 5 z9\n", "DONE 1 x d3\n", "JOB 1\n", "y" * 5000, ""])
 def test_what_is_no_answer(cut: str) -> None:
     right = sound()

@@ -126,6 +126,16 @@ def try_contrast(shown, where):
     return len(found), min(one["ratio"] / one["least"] for one in found)
 
 
+def try_rings(shown, where):
+    """Where nothing is known of a position its legal squares have rings, which are seen."""
+    shown.click("#analyse")
+    shown.click(".square.legal:not(.next)")
+    check(shown.evaluate("document.querySelectorAll('.square.legal .dot').length === document.querySelectorAll('.square.legal').length"), f"{where}: a legal square has no ring")
+    try_contrast(shown, where)
+    shown.click("#undo")
+    shown.click("#analyse")
+
+
 def try_shapes(shown):
     """1.4.1: nothing is told by colour alone."""
     check(shown.evaluate("[...document.querySelectorAll('.square.best')].every((one) => one.querySelector('.star'))"), "the best move by colour alone")
@@ -167,6 +177,7 @@ def try_view(browser, address, width, language, scheme):
         try_names(shown, language)
         try_shapes(shown)
         try_focus(shown)
+        try_rings(shown, where)
         shown.click("#import")
         shown.until("a fault", "!document.getElementById('faults').hidden")
         try_contrast(shown, where)

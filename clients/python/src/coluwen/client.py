@@ -15,6 +15,7 @@ from __future__ import annotations
 
 import collections
 import concurrent.futures
+import contextlib
 import dataclasses
 import socket
 import ssl
@@ -210,7 +211,7 @@ class Client:
         """A new connection and its HELLO."""
         return Session(self.host, self.port, reservation.segments, reservation.nodes, tls=self.tls, silence=silence, token=self.token)
 
-    def open(self, patience: float | None = None, level: int = 0) -> Session:
+    def open(self, patience: float | None = None, level: int = 0, stop: threading.Event | None = None) -> Session:
         """A new session. Where the server is full for now it is tried again for `patience` seconds; where it can't be reached or says
         nothing, until it has been silent for as long as `silence` says."""
         begun = heard = time.monotonic()
@@ -234,7 +235,7 @@ class Client:
             except OSError as fault:
                 if time.monotonic() - heard > 0.8 * self.silence:
                     raise Unreachable(f"{self.address}: {fault.strerror or fault}") from fault
-            if self.stopped:
+            if self.stopped or (stop and stop.is_set()):
                 raise Stopped("it was stopped")
             time.sleep(0.1)
 
@@ -292,9 +293,9 @@ class Client:
         """How a job ended, and its table. It is SPENT where it was so alone, with all that the client reserves."""
         line = f"{depth} {position.text}"
         level, fresh, losses = self.needs.get(str(depth), 0), False, 0
-        with self.places:
+        with self.place(stop):
             while True:
-                session = self.taken(level, fresh)
+                session = self.taken(level, fresh, stop)
                 try:
                     before = self.used(session)
                     job = self.asked(session, line)
@@ -329,11 +330,22 @@ class Client:
                 session.close()
                 level, fresh = min(level + 1, len(self.levels) - 1), True
 
+    @contextlib.contextmanager
+    def place(self, stop: threading.Event | None) -> Iterator[None]:
+        """One of the places for sessions, once one is free; `Stopped` where nobody wants it any more."""
+        while not self.places.acquire(timeout=0.05 if stop else None):
+            if stop and stop.is_set():
+                raise Stopped("it was stopped")
+        try:
+            yield
+        finally:
+            self.places.release()
+
     def used(self, session: Session) -> int:
         """The nodes that a session has used up, where they are counted."""
         return session.reserved.nodes - session.quota()[1] if self.counts_frames else 0
 
-    def taken(self, level: int, fresh: bool) -> Session:
+    def taken(self, level: int, fresh: bool, stop: threading.Event | None) -> Session:
         """A session of this level that is idle, or a new one."""
         with self.lock:
             for at, session in enumerate(self.idle):
@@ -342,7 +354,7 @@ class Client:
             spare = self.idle.pop(0) if self.idle and len(self.idle) >= self.at_once else None
         if spare:
             spare.close()
-        return self.open(level=level)
+        return self.open(level=level, stop=stop)
 
     def kept(self, session: Session) -> None:
         """Keeps a session for the next call."""

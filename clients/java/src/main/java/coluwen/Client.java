@@ -96,7 +96,7 @@ public final class Client implements AutoCloseable {
    * A session. Where the server is full for now it is asked again for {@code patience}; where it can't be reached or says nothing,
    * until it has been silent for as long as {@code silence} says.
    */
-  Session open(int level) throws InterruptedException {
+  Session open(int level, BooleanSupplier stop) throws InterruptedException {
     var silence = (int) (1000 * options.silence());
     var begun = System.nanoTime();
     var heard = begun;
@@ -118,6 +118,7 @@ public final class Client implements AutoCloseable {
       } catch (IOException | Broken | Silent fault) {
         if (fault instanceof SSLException || Session.since(heard) > silence * 0.8) throw unreachable(fault.getMessage(), fault);
       }
+      if (stop.getAsBoolean()) throw new Stopped();
     }
   }
 
@@ -182,7 +183,7 @@ public final class Client implements AutoCloseable {
   }
 
   private int grainBy(String probe) {
-    try (var session = open(0)) {
+    try (var session = open(0, () -> false)) {
       for (int depth = 2; depth < 9; depth++) {
         var before = session.quota().get(1);
         session.poll(session.ask(depth, Position.parse(probe)), 0);
@@ -216,7 +217,7 @@ public final class Client implements AutoCloseable {
     for (int losses = 0; ; ) {
       Session session = null;
       try {
-        session = taken(level, fresh);
+        session = taken(level, fresh, stop);
         var job = asked(session, depth + " " + position.text());
         if (job == 0) {
           fresh = true;
@@ -244,7 +245,7 @@ public final class Client implements AutoCloseable {
     }
   }
 
-  private Session taken(int level, boolean fresh) throws InterruptedException {
+  private Session taken(int level, boolean fresh, BooleanSupplier stop) throws InterruptedException {
     synchronized (idle) {
       for (var session : idle) {
         if (!fresh && session.nodes() >= levels.get(level).nodes()) {
@@ -253,7 +254,7 @@ public final class Client implements AutoCloseable {
         }
       }
     }
-    return open(level);
+    return open(level, stop);
   }
 
   private void kept(Session session) {

@@ -218,7 +218,7 @@ public final class Command {
     reader.start();
     var without = 0;
     for (int count = 0; ; ) {
-      if (session == null) session = client.open(window.isEmpty() ? 0 : Math.max(window.peek().level, client.levelOf(window.peek().depth())));
+      if (session == null) session = client.open(window.isEmpty() ? 0 : Math.max(window.peek().level, client.levelOf(window.peek().depth())), () -> false);
       while (window.isEmpty() && !ended) fill(1000);
       fill(0);
       if (window.isEmpty()) break;

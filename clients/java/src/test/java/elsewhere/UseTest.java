@@ -123,6 +123,24 @@ class UseTest {
     }
   }
 
+  /** A thread that asks a full server is free for another call once nobody waits for the first. */
+  @Test
+  void aCancelledFutureAsksNoMore() throws Exception {
+    var full = new java.util.concurrent.atomic.AtomicBoolean(true);
+    Function<String, String> answers = line -> line.startsWith("HELLO") && full.get() ? "ERR 14\n" : sound(true).apply(line);
+    try (var server = new Told(answers); var client = new Client(new Client.Options("127.0.0.1", server.listener.getLocalPort(), false, null, 1, 60, 1.5, 0, 0, 0, text -> {}))) {
+      var first = client.analyseAsync(Position.opening(), 6);
+      while (server.heard.isEmpty()) TimeUnit.MILLISECONDS.sleep(5);
+      first.cancel(true);
+      TimeUnit.MILLISECONDS.sleep(400);
+      var count = server.heard.size();
+      TimeUnit.MILLISECONDS.sleep(400);
+      assertEquals(count, server.heard.size());
+      full.set(false);
+      assertEquals("d3", client.analyseAsync(Position.opening(), 4).get(5, TimeUnit.SECONDS).best());
+    }
+  }
+
   @Test
   void aLateJobIsCancelled() throws IOException {
     var cancelled = new boolean[1];
