@@ -96,7 +96,11 @@ reach() { # SEGMENTS NODES
 
 # Sends a line, with a token behind it if there is one, and reads its answer.
 call() { # LINE [TOKEN]
-  local status=0
+  local status=0 early
+  if read -r -t 0 -u "$server"; then # something is there already, or the connection's end
+    IFS= read -r -n 1 -t 1 -u "$server" early || lost "the server ended the session"
+    lost "the server said what wasn't asked"
+  fi
   printf '%s\n' "$1${2:+ $2}" 2> /dev/null >&"$server" || lost "the server ended the session"
   answer=
   IFS= read -r -n "$longest" -t "$silence" -u "$server" answer 2> /dev/null || status=$?

@@ -16,7 +16,7 @@ from stage import OPENING, fail  # noqa: E402
 
 LONG = stage.positions(1, 2, 20, 20)[0]  # some seconds' work to depth 12, where 256 segments and 65,536 nodes are reserved of
 LASTING = ("--grain", "6", "--segments", "65536", "--nodes", "1048576")  # such a server
-SOON = 2  # seconds after which a fault is said
+SOON, SOON_WHERE_BUSY = 2, 4  # seconds after which a fault is said; where others have the machine, the second
 NO_VALUE = 3  # the status of a client where a line has no value
 PATIENT = ("--silence", 20)  # where values are tried and no fault: on a busy machine an answer may take more than 1.5 seconds
 COMMANDS = {
@@ -140,11 +140,16 @@ def said_soon(process, what, begun, start=0.0):
     return told.strip(), max(taken, 0.0)
 
 
+def soon():
+    """Within how many seconds a fault is to be said: 2, and 4 where more than twice as many processes want to run as there are processors."""
+    return SOON_WHERE_BUSY if os.getloadavg()[0] > 2 * os.cpu_count() else SOON
+
+
 def in_time(what, trial):
-    """What a trial says of a fault, which is to come within 2 seconds. A machine that is busy has three tries."""
+    """What a trial says of a fault, which is to come soon. A machine that is busy has three tries."""
     for _ in range(3):
         told, taken = trial()
-        if taken < SOON:
+        if taken < soon():
             return told, taken
     return fail(f"{what}: said after {taken:.1f} s: {told}")
 

@@ -8,12 +8,13 @@ import contextlib
 import re
 import socket
 import subprocess
+import sys
 import threading
 import time
 
 import common
 import stage
-from common import OPENING, check
+from common import OPENING, TOP, check
 
 TRANSCRIPT = ("WELCOME", "JOB", "DONE", "TABLE", "BYE")
 # What isn't an answer, in place of the one of HELLO (0), ASK (1), GET (2) or TABLE (3). The bytes are those that are sent.
@@ -24,12 +25,17 @@ FALSE = [
     (2, b"DONE 1 05 d3\n"), (2, b"DONE 1 5 d3\r\n"), (2, b"DONE 1 5 \xb33\n"), (2, b"y" * 3_000_000), (2, None), (2, b"TABLE 1 d3=5\n"), (3, b"TABLE 1 d3=5 c4<\n"), (3, b"TABLE 1 d3=5 d3<4\n"),
     (3, b"TABLE 2 d3=5\n"), (3, b"TABLE 1 d3=5 c4<-1"), (3, b"TABLE 1 d9=5\n"), (3, b"DONE 1 5 d3\n"), (3, None),
 ]  # fmt: skip
+AHEAD = b"WELCOME 64 4096\nJOB 1\nDONE 1 5 d3\nTABLE 1 d3=5\nBYE\n"  # answers to what wasn't asked yet; the connection stays open
+PAUSES = {b"x" * 65536: 0, b"z": 0.3}  # what has no end, and the seconds between two of it
+FALSE += [(0, AHEAD), *((at, played) for at in (0, 2) for played in PAUSES)]
 
 
-def right(line):
-    """The answer of a server that is right in its form; the value is 5."""
+def right(line, job=1):
+    """The answer of a server that is right in its form; the value is 5. `job`: the number of the one that is asked."""
     word, *rest = line.split(" ")
-    return {"HELLO": f"WELCOME {' '.join(rest[:2])}\n", "ASK": "JOB 1\n", "GET": "DONE 1 5 d3\n", "TABLE": "TABLE 1 d3=5 c4<-12\n", "BYE": "BYE\n"}[word].encode()
+    numbers = " ".join(rest[:2])
+    return {"HELLO": f"WELCOME {numbers}\n", "RESERVE": f"RESERVED {numbers}\n", "ASK": f"JOB {job}\n", "GET": f"DONE {numbers} 5 d3\n", "WAIT": f"DONE {numbers} 5 d3\n",
+            "TABLE": f"TABLE {numbers} d3=5 c4<-12\n", "QUOTA": "QUOTA 64 4085 65456\n", "BYE": "BYE\n"}[word].encode()  # fmt: skip
 
 
 class Server:
@@ -49,15 +55,21 @@ class Server:
                 threading.Thread(target=self.serve, args=(stream,), daemon=True).start()
 
     def serve(self, stream):
+        jobs = 0
         with contextlib.suppress(OSError), stream.makefile("rb") as lines:
             for line in lines:
-                answer = right(line.decode("latin-1").rstrip("\n"))
+                jobs += line.startswith(b"ASK")
+                answer = right(line.decode("latin-1").rstrip("\n"), jobs)
                 if TRANSCRIPT[self.at] != answer.split()[0].decode():
                     stream.sendall(answer)
                 elif self.played is not None:
                     stream.sendall(self.played)
-                    stream.shutdown(socket.SHUT_RDWR)
-                    return
+                    while self.played in PAUSES:
+                        time.sleep(PAUSES[self.played])
+                        stream.sendall(self.played)
+                    if self.played != AHEAD:
+                        stream.shutdown(socket.SHUT_RDWR)
+                        return
 
     def __enter__(self):
         return self.port
@@ -68,18 +80,17 @@ class Server:
             stream.close()
 
 
-def refused(name, at, played, start):
+def refused(name, words_of, text, at, played, start, value="."):
     """One try: what the client says. It fails where a value is shown, or the fault isn't said as it must be."""
     what = f"{name}: of {played if played is None else played[:60]!r} for {TRANSCRIPT[at]}"
 
     def trial():
         with Server(at, played) as port:
-            words = common.words_of(name, port, 64, 4096, *(("--tables",) if name != "shell" else ()))
             begun = time.monotonic()
-            done = subprocess.run(words, input=f"1 {OPENING}\n", capture_output=True, text=True, check=False, timeout=60, errors="replace")
+            done = subprocess.run([*map(str, words_of(port))], input=text, capture_output=True, text=True, check=False, timeout=30, errors="replace")
             taken = time.monotonic() - begun - start
         check(done.returncode == 1, f"{what}: status {done.returncode}: {done.stdout!r} {done.stderr!r}")
-        check(not done.stdout, f"{what}: it shows {done.stdout!r}")
+        check(not re.search(value, done.stdout, re.MULTILINE), f"{what}: it shows {done.stdout!r}")
         check(len(done.stderr.splitlines()) == 1, f"{what}: it says {done.stderr!r}")
         return done.stderr.strip(), taken
 
@@ -92,13 +103,45 @@ def cuts(name):
     return [(at, line[:length]) for at, line in enumerate(lines) for length in range(len(line))]
 
 
+def some_at_a_time(call, asked):
+    """The results of calls; the first that fails ends all."""
+    with concurrent.futures.ThreadPoolExecutor(4) as pool:
+        try:
+            return list(pool.map(call, asked))
+        finally:
+            pool.shutdown(cancel_futures=True)
+
+
 def try_false(name):
     """All of them, some at a time."""
     start = common.start_of(common.COMMANDS[name])
     asked = [(at, played) for at, played in FALSE if name != "shell" or at < 3] + cuts(name)
-    with concurrent.futures.ThreadPoolExecutor(4) as pool:
-        said = list(pool.map(lambda one: refused(name, *one, 4 * start), asked))
+    words_of = lambda port: common.words_of(name, port, 64, 4096, *(("--tables",) if name != "shell" else ()))  # noqa: E731
+    said = some_at_a_time(lambda one: refused(name, words_of, f"1 {OPENING}\n", *one, 4 * start), asked)
     print(f"{name}: {len(asked)} answers that are none, {len(cuts(name))} of them cut: one line each, status 1, no value; the last after {max(taken for _, taken in said):.1f} s")
+
+
+SAMPLE = [(0, b"HTTP/1.1 400 Bad Request\r\n\r\n"), (0, b"z"), (1, b"JOB 2\n"), (2, b"DONE 1 5 z9\n"), (2, b"DONE 1 5 d3"), (3, b"TABLE 1 d3=5 c4<-1")]
+# Of the package's other programs: how each is started, what it is told, and how a value would look.
+TOOLS = {
+    "gtp": (("clients/gtp/bridge.py", "--depth", 1), (), "genmove black\n", "^=.*[A-H][1-8]"),
+    "nboard": (("clients/nboard/bridge.py", "--depth", 1), (), "nboard 1\ngo\n", "==="),
+    "review": (("clients/teacher/review.py", "--depth", 1), ("f5d6",), "", "^ +1 black"),
+    "batch": (("clients/batch", "--depth", 1, "--sessions", 1), (), f"{OPENING}\n", "^-.*d3"),
+}
+SHOWN = ["bash", "-c", 'file=$(mktemp -u); "$@" "$file"; status=$?; cat "$file"; rm -f "$file"; exit $status', "bash"]  # a command that writes a file
+
+
+def try_tools():
+    """Some of them against the other programs that have a server."""
+    for name, ((script, *options), more, text, value) in TOOLS.items():
+        command = [sys.executable, TOP / script, *options]
+        start = common.start_of(command)
+        asked, before = SAMPLE, []
+        if name == "batch":
+            asked, before = [one for one in SAMPLE if one[0] < 3], SHOWN  # it asks for no table
+        some_at_a_time(lambda one: refused(name, lambda port: [*before, *command, "127.0.0.1", port, *more], text, *one, 4 * start, value), asked)  # noqa: B023
+    print(f"{', '.join(TOOLS)}: {len(SAMPLE)} answers that are none: one line each, status 1, no value")
 
 
 def try_patience(name):
@@ -246,6 +289,7 @@ def try_raises(name):
 
 
 def try_all(port):
+    try_tools()
     for name in filter(common.is_here, common.COMMANDS):
         try_false(name)
         try_patience(name)

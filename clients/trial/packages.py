@@ -11,6 +11,24 @@ from common import OPENING, TOP, check
 CLIENTS = TOP / "clients"
 SYSTEM = "/usr/bin/python3"  # Debian's, which has pytest, mypy and hatchling
 NOTHING = "/usr/share/maven-repo"
+TYPED = """import { Client, Late, Position, Score, type Result } from "coluwen";
+const client: Client = new Client({ port: 4711, silence: 20 });
+const found: Result = await client.analyse(Position.opening(), 2, { signal: new AbortController().signal, timeout: 3 });
+const worth: Score = found.score.flip();
+for await (const answer of client.answers(["2 x"])) if (answer[0] === "DONE") console.log(answer[1] + 1, worth.unit === "discs", found.table[0].move);
+client.on("full", (text: string) => console.log(text));
+const late: boolean = (await client.analyseAll("x", 2).catch((fault: unknown) => fault instanceof Late)) === true;
+// @ts-expect-error a depth is a number
+client.analyse(Position.opening(), "2");
+// @ts-expect-error a score can't be changed
+found.score.value = late ? 3 : 4;
+"""
+NODE_TYPES = """declare module "node:events" { export class EventEmitter { on(name: string, heard: (...words: any[]) => void): this; } }
+declare module "node:tls" { export type ConnectionOptions = object; }
+"""
+TYPES = """{ "compilerOptions": { "noEmit": true, "strict": true, "target": "es2022", "module": "node16", "lib": ["es2022", "dom"], "types": [] },
+  "files": ["typed.mts", "node.d.ts"] }
+"""
 
 
 def done(what, words, where, **more):
@@ -31,7 +49,7 @@ def try_python(port, folder):
     done("pip", (SYSTEM, "-m", "pip", "install", "-q", "--no-build-isolation", "--no-index", "--no-deps", "--target", target, source), folder)
     check((target / "coluwen/py.typed").exists() and (target / "coluwen/formats/ggf.py").exists(), "pip installs only a part")
     commands = sorted(path.name for path in (target / "bin").iterdir())
-    check({"coluwen", "coluwen-batch", "coluwen-nboard", "coluwen-gtp", "coluwen-match"} <= set(commands), f"pip installs {commands}")
+    check(commands == ["coluwen", "coluwen-batch", "coluwen-gtp", "coluwen-match", "coluwen-nboard", "coluwen-page"], f"pip installs {commands}")
     run = subprocess.run([SYSTEM, str(target / "bin/coluwen"), "--silence", "20", "127.0.0.1", str(port)], input=f"2 {OPENING}\n", capture_output=True, text=True, check=False, env=dict(os.environ, PYTHONPATH=str(target)))
     check(run.stdout == "DONE -4 d3\n", f"the installed command says {run.stdout} {run.stderr}")
     version = done("its version", (SYSTEM, "-c", "import coluwen; print(coluwen.__version__)"), folder, PYTHONPATH=target).strip()
@@ -56,7 +74,12 @@ def try_javascript(port, folder):
     program.write_text('import { Client, Position } from "coluwen";\nconst client = new Client({ port: Number(process.argv[2]), silence: 20 });\n'
                        "const found = await client.analyse(Position.opening(), 2);\nconsole.log(found.score.value, found.best);\nawait client.close();\n")  # fmt: skip
     check(done("the packed module", ("node", program, port), folder) == "-4 d3\n", "the packed module")
-    print(f"javascript: {count} of node's own runner; npm packs it, and a program elsewhere uses it")
+    typed = shutil.which("tsc")
+    if typed:
+        for name, text in (("typed.mts", TYPED), ("node.d.ts", NODE_TYPES), ("tsconfig.json", TYPES)):
+            (program.parent / name).write_text(text)
+        done("tsc", ("tsc", "-p", "."), program.parent)
+    print(f"javascript: {count} of node's own runner; npm packs it, and a program elsewhere uses it{', with its types' if typed else ''}")
 
 
 def try_java(port, folder):
@@ -80,6 +103,37 @@ def try_java(port, folder):
 
 def try_shell():
     print(done("conformance.sh", (CLIENTS / "shell/conformance.sh",), CLIENTS).strip())
+
+
+def pytest(name):
+    """One file of Python's tests, for `wrong`."""
+    where = CLIENTS / "python"
+    done("pytest", (SYSTEM, "-m", "pytest", "-q", "-x", "-p", "no:cacheprovider", f"tests/test_{name}.py"), where, PYTHONPATH=f"{where}/src:{where}/tests")
+
+
+def node():
+    """JavaScript's tests of its client, for `wrong`."""
+    done("node --test", ("node", "--test", "test/client.test.mjs"), CLIENTS / "javascript")
+
+
+def conformance(name, folder):
+    """The rows of the conformance file by one language, for `wrong`."""
+    if name == "shell":
+        done("conformance.sh", (CLIENTS / "shell/conformance.sh",), CLIENTS)
+    elif name == "python":
+        pytest("conformance")
+    elif name == "javascript":
+        done("node --test", ("node", "--test", "test/conformance.test.mjs"), CLIENTS / "javascript")
+    else:
+        junit("coluwen.ConformanceTest", folder)
+
+
+def junit(name, folder):
+    """One class of Java's tests by JUnit's own launcher."""
+    jars = ":".join(str(path) for path in pathlib.Path("/usr/share/java").glob("*.jar") if path.name.startswith(("junit-", "opentest4j", "apiguardian", "picocli", "univocity")))
+    done("javac", ("javac", "-d", f"{folder}/tests", "-cp", jars, *(CLIENTS / "java").glob("src/*/java/*/*.java")), folder)
+    return done("JUnit", ("java", f"-Dconformance={CLIENTS}/conformance.txt", "-cp", f"{folder}/tests:{jars}", "org.junit.platform.console.ConsoleLauncher", "--select-class", name,
+                          "--fail-if-no-tests", "--disable-banner"), folder)  # fmt: skip
 
 
 def try_written(folder):

@@ -59,9 +59,10 @@ def test_compare(tmp_path: pathlib.Path, capsys: pytest.CaptureFixture[str]) -> 
     assert compare(str(ours), str(expected))
     expected.write_text(f"{OPENING}; f5;\n{end}; c1:+4;\n")
     assert not compare(str(ours), str(expected)) and "0 d3 and f5" in capsys.readouterr().out
-    theirs.write_text("a,b\n1,2\n")
-    with pytest.raises(FormatError, match="theirs.csv:1: "):
-        rows_of(str(theirs))
+    for text, line in (("a,b\n1,2\n", 1), (f"position,move,discs\n\n{OPENING},d3,x\n", 3), (f"position,move,discs\n{OPENING},d3,inf\n", 2), (f"position,move,milliseconds\n{OPENING},d3,x\n", 2), (f"position,move\n{OPENING}\n", 2)):
+        theirs.write_text(text)
+        with pytest.raises(FormatError, match=f"theirs.csv:{line}: "):
+            rows_of(str(theirs))
 
 
 def test_plot() -> None:

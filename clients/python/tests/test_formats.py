@@ -99,6 +99,9 @@ def test_wthor() -> None:
     assert (read.made, read.year, read.depth) == ((2021, 3, 4), 2020, 22)
     assert [(game.moves, game.black, game.white, game.event) for game in read.games] == [(game.moves, "one", "other", "a place") for game in games]
     assert all(game.result == sign(game) for game in read.games)
+    other = data[: 16 + 6] + bytes([data[16 + 6] ^ 1]) + data[16 + 7 :]
+    with pytest.raises(FormatError, match="a.wtb:23: game 1: black is said to have"):
+        wthor.read(other, "a.wtb")
 
 
 def sign(game: formats.Game) -> float:

@@ -1,7 +1,11 @@
 """The page's parts without a browser: turns, what is asked once, what is cancelled, what is read, whom it answers."""
+import ast
 import asyncio
 import json
+import pathlib
+import re
 
+import coluwen
 import pytest
 from coluwen import Position
 from coluwen.client import Result
@@ -187,6 +191,44 @@ SIXTY = "f5d6c3d3c4f4f6g5e3f3g4h5"
 def test_reading(text, games, faults):
     found = read_games(text.encode(), "")
     assert [len(game["moves"].split()) for game in found["games"]] == games and len(found["faults"]) == faults
+
+
+@pytest.mark.parametrize("text, told", [
+    (OPENING.text[1:], "1:1: a position has 64 cells"), (OPENING.text + "; f5:+99;", "1:69: a score of 99 discs"), ("8/8/8/3OX3/3XO3/8/8 X", "1:20: the text ends in row 7"), (OPENING.text + "\n" + OPENING.text[:-1] + "Q", "2:66: 'Q' spells"),
+    ("f5d6\nxx", "2:1: 'xx' is no move"), ("bla", "1:1: 'bla' is no move"),
+])  # fmt: skip
+def test_what_is_wrong_is_said_of_what_it_is(text, told):
+    (fault,) = read_games(text.encode(), "")["faults"]
+    assert f"{fault['line']}:{fault['column']}: {fault['text']}".startswith(told)
+
+
+def sentences():
+    """Each sentence by which the formats say what is wrong, with 7 in the place of what it tells."""
+    source = pathlib.Path(coluwen.__file__).parent
+    for path in (*(source / "formats").glob("*.py"), source / "board.py", source / "page/games.py"):
+        for node in ast.walk(ast.parse(path.read_text())):
+            name = getattr(node.func, "attr", getattr(node.func, "id", "")) if isinstance(node, ast.Call) else ""
+            if name in ("fault", "FormatError") and node.args:
+                for one in (node.args[0].body, node.args[0].orelse) if isinstance(node.args[0], ast.IfExp) else node.args[:1]:
+                    parts = one.values if isinstance(one, ast.JoinedStr) else [one]
+                    text = "".join(str(part.value) if isinstance(part, ast.Constant) else "7" for part in parts)
+                    if re.search("[a-z]", text):  # else it hands on what another says
+                        yield text.removeprefix("game 7: ")
+    yield from (f"move 7, a1: {side} can't play there" for side in ("black", "white"))  # an IllegalMove's
+
+
+def test_each_fault_has_a_german_sentence():
+    """The page says it by the texts `read.`, of which one must have the same English."""
+    texts = json.loads((pathlib.Path(coluwen.__file__).parent / "page/static/texts/texts.json").read_text())
+    english = [both["en"] for name, both in texts.items() if name.startswith("read.")]
+    forms = [re.compile("(.+?)".join(re.escape(part) for part in re.split(r"\{\w+\}", text))) for text in english]
+    found = set(sentences())
+    assert len(found) > 30
+    # names of players are read by the package alone, and the last one hands on an IllegalMove
+    others = {"names are in .jou and .trn files", "its head counts 7 names of 7 bytes, and the file has 7 bytes", "move 7, 7", "7"}
+    assert {text for text in found - others if not any(form.fullmatch(text) for form in forms)} == set()
+    for form, text in zip(forms, english, strict=True):
+        assert any(form.fullmatch(one) for one in found) or text == "game {number}: {text}", text
 
 
 def test_a_written_game_is_read_again():

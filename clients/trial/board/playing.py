@@ -190,6 +190,23 @@ def try_import(shown, address, folder):
     print(f"board: 60 moves of each transcript, positions, GGF, .wtb, .obf, 300 games of a file ({len(many)} bytes)")
 
 
+def try_german(browser, address, folder):
+    """What can't be read is told in the page's language, of whatever format it is."""
+    with browser.page(language="de") as shown:
+        shown.open(address)
+        shown.click("#analyse")
+        for text, told in (("f5 d6 xx", "Zeile 1, Spalte 7: 'xx' ist kein Zug"), ("f5d6a1", "Zug 3, a1, ist nicht erlaubt"), (OPENING.text[1:], "hier stehen 65 Zeichen"), ("(;GM[Chess];)", "das ist eine Partie Chess"),
+                           (f"{OPENING.text}; f5:+99;", "ein Wert von 99 Steinen"), ("8/8/8/3OX3/3XO3/8/8 X", "der Text endet in Reihe 7"), ("f5pass", "ein Passen vor Zug 2")):  # fmt: skip
+            imported(shown, text)
+            check(told in shown.text("#faults"), f"of {text} it says {shown.text('#faults')}")
+        data = wthor.write([Game(moves=tuple(Played(move) for move, _ in random_moves(1)))], 2026)
+        for name, wrong, told in (("cut.wtb", data[:-5], "ihr Kopf zählt 1 Partien"), ("other.wtb", data[:24] + b"\x63" + data[25:], "Partie 1: 99 ist kein Feld")):
+            (folder / name).write_bytes(wrong)
+            shown.choose_file("#file", folder / name)
+            shown.until(f"{name}: {told}", f"document.getElementById('faults').textContent.includes({json.dumps(told)})")
+    print("board: faults of each format in German")
+
+
 def try_export(shown, address):
     """What goes out comes in again: moves, GGF; and a picture."""
     moves = [move for move, _ in random_moves(3, 14)]
@@ -246,5 +263,6 @@ def try_all(browser, address, folder):
         try_import(shown, address, folder)
         try_export(shown, address)
         try_setup(shown, address)
+        try_german(browser, address, folder)
         check(not shown.faults(), f"the browser complains: {shown.faults()}")
         check(len(shown.evaluate(SQUARES + ".map((one) => one.dataset.square)")) == 64, "64 squares")

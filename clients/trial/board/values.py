@@ -183,7 +183,8 @@ def try_once(shown, address):
 
 def try_left(browser):
     """A position that was left is no server's work any more, nor is one of a browser that left."""
-    with stage.server("--sessions", "99", "--grain", "6", "--segments", "65536", "--nodes", "1048576") as (server, port), page(port, "--sessions", 2) as (_, address), browser.page() as shown:
+    options = ("--sessions", "99", "--grain", "6", "--segments", "65536", "--nodes", "1048576", "--workers", "1")  # so that it is slow
+    with stage.server(*options) as (server, port), page(port, "--sessions", 2) as (_, address), browser.page() as shown:
         moves = "".join(move for move, _ in random_moves(4, 20))
         shown.open(f"{address}#moves={moves}&depth=10")
         shown.click("#game")

@@ -4,6 +4,7 @@ from __future__ import annotations
 import csv
 import dataclasses
 import io
+import math
 import pathlib
 import statistics
 
@@ -49,25 +50,35 @@ def rows_of(path: str) -> list[Row]:
     head = [name.strip().lower() for name in rows[0]]
     if "position" not in head or not {"move", "best"} & set(head):
         raise FormatError("its head doesn't name `position` and `move`", path, 1)
-    return [row_of(dict(zip(head, row)), path, number) for number, row in enumerate(rows[1:], 2)]
+    for number, row in enumerate(rows[1:], 2):
+        if row and len(row) < len(head):
+            raise FormatError(f"it has {len(row)} of the {len(head)} fields that the head names", path, number)
+    return [row_of(dict(zip(head, row)), path, number) for number, row in enumerate(rows[1:], 2) if row]
 
 
 def row_of(named: dict[str, str], path: str, line: int) -> Row:
     """A row of any engine: a move may be in capitals, a value in discs."""
     move = (named.get("move") or named.get("best") or "").strip().lower()
-    value = named.get("value", "").strip()
-    if not value and named.get("discs", "").strip():
-        value = str(round(A_DISC * float(named["discs"])))
-    try:
-        milliseconds = float(named.get("milliseconds") or 0)
-    except ValueError:
-        raise FormatError(f"{named['milliseconds']!r} is no number of milliseconds", path, line) from None
+    value, discs = named.get("value", "").strip(), named.get("discs", "").strip()
+    if not value and discs:
+        value = str(round(A_DISC * number_of(discs, "discs", path, line)))
+    milliseconds = number_of(named.get("milliseconds") or "0", "milliseconds", path, line)
     position = named["position"]
     try:
         position = Position.parse(position).text
     except FormatError:
         pass  # a line that is at fault in both
     return Row(position, named.get("depth", "").strip(), value, (PASS if move in ("pa", "ps", "--") else move,), milliseconds)
+
+
+def number_of(text: str, unit: str, path: str, line: int) -> float:
+    try:
+        found = float(text)
+    except ValueError:
+        found = math.nan
+    if not math.isfinite(found):
+        raise FormatError(f"{text!r} is no number of {unit}", path, line)
+    return found
 
 
 def differ(one: Row, other: Row) -> bool:

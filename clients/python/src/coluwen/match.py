@@ -36,10 +36,6 @@ NAME = "coluwen-match"
 LOST = 64  # discs by which a game is lost that isn't played to its end
 
 
-class Forfeit(ColuwenError):
-    """An engine has lost a game otherwise than on the board."""
-
-
 class Player:
     """One side of a match."""
 
@@ -58,6 +54,14 @@ class Player:
 
     def close(self) -> None:
         pass
+
+
+class Forfeit(ColuwenError):
+    """An engine has lost a game otherwise than on the board."""
+
+    def __init__(self, player: Player, text: str):
+        super().__init__(f"{player.name} {text}")
+        self.player = player
 
 
 class Plies(Player):
@@ -91,15 +95,15 @@ class Program(Player):
             if self.process.stdin:
                 self.process.stdin.write(f"{line}\n")
         except OSError:
-            raise Forfeit(f"{self.name} has ended") from None
+            raise Forfeit(self, "has ended") from None
 
     def line(self) -> str:
         try:
             found = self.heard.get(timeout=self.seconds)
         except queue.Empty:
-            raise Forfeit(f"{self.name} says nothing for {self.seconds:g} seconds") from None
+            raise Forfeit(self, f"says nothing for {self.seconds:g} seconds") from None
         if found is None:
-            raise Forfeit(f"{self.name} has ended")
+            raise Forfeit(self, "has ended")
         return found
 
     def close(self) -> None:
@@ -144,12 +148,12 @@ class GtpProgram(Program):
         if not done and move == PASS:
             self.takes_passes = False
         elif not done:
-            raise Forfeit(f"{self.name} doesn't take {move}: {text}")
+            raise Forfeit(self, f"doesn't take {move}: {text}")
 
     def move(self, board: Board) -> str:
         done, text = self.ask(f"genmove {NAMES[board.side]}")
         if not done:
-            raise Forfeit(f"{self.name} has no move: {text}")
+            raise Forfeit(self, f"has no move: {text}")
         return text.lower()
 
 
@@ -211,8 +215,7 @@ def play(black: Player, white: Player, opening: Board, number: int) -> Outcome:
                     player.told(move, side)
         discs = final_discs(board.position)
     except Forfeit as forfeit:
-        fault = str(forfeit)
-        discs = -LOST if fault.startswith(black.name) else LOST
+        fault, discs = str(forfeit), -LOST if forfeit.player is black else LOST
     moves = tuple(Played(move) for move in board.moves)
     return Outcome(Game(board.start, moves, black.name, white.name, f"{NAME} {number}", result=float(discs)), discs, fault)
 
@@ -223,7 +226,7 @@ def moved(player: Player, board: Board) -> str:
     try:
         board.position.play(move)
     except IllegalMove as illegal:
-        raise Forfeit(f"{player.name} plays {move!r}: {illegal}") from None
+        raise Forfeit(player, f"plays {move!r}: {illegal}") from None
     return move
 
 

@@ -20,6 +20,7 @@ from ..formats import Game, Place, ggf, transcript
 SHORT = 16384  # bytes that are read at once, without a process of its own
 SECONDS = 60  # that the process has
 Found = dict[str, Any]
+PLACED = re.compile(r"\s*(\d{1,2} )?([-.*XxOo]{8}|[1-8XxOo*BbWw]+/)")  # how a position begins: its faults aren't those of moves
 ILLEGAL = re.compile(r"move (\d+), (\w\w): (?:black|white) can't play there")
 
 
@@ -78,6 +79,9 @@ def lines_read(text: str, name: str) -> Iterator[Game | FormatError]:
         pass
     if start and first == len(lines):
         yield Game(start, place=Place(name, filled[0] + 1))
+        return
+    if PLACED.match(lines[first]):
+        yield from (one for number in filled for one in line_read(lines[number], Place(name, number + 1)))
         return
     whole = list(moves_read("\n".join(lines[first:]), Place(name, first + 1), start))
     single = [one for number in filled for one in line_read(lines[number], Place(name, number + 1))] if len(whole) > 1 else whole

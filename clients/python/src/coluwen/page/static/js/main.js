@@ -287,10 +287,10 @@ async function importBytes(bytes, name) {
   }
 }
 
-/** What the formats say is wrong: where, and in the reader's language where it is a move. */
+/** What the formats say is wrong: where, and what, in the reader's language. */
 function foreignFault({ file, line, column, text, kind, number, word }) {
   const where = [file, line ? t("fault.line", { line }) : "", column ? t("fault.column", { column }) : ""].filter(Boolean).join(", ");
-  return `${where ? `${where}: ` : ""}${kind === "illegal" ? t("fault.move", { number, word }) : text}`;
+  return `${where ? `${where}: ` : ""}${kind === "illegal" ? t("fault.move", { number, word }) : texts.translated(text)}`;
 }
 
 function importText(text) {

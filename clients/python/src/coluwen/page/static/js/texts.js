@@ -26,6 +26,22 @@ export function t(name, values = {}) {
   return text.replace(/\{(\w+)\}/g, (_, key) => String(values[key] ?? `⟨${key}⟩`));
 }
 
+/**
+ * A sentence of the formats, which speak English, in the language of the page: by the texts `read.`, of which the first fits whose English
+ * is the sentence, whatever stands in its places. One that none of them fits stays as it is, and a test sees it.
+ */
+export function translated(sentence) {
+  for (const [name, { en }] of Object.entries(table)) {
+    if (language === "en" || !name.startsWith("read.")) continue;
+    const parts = en.split(/\{(\w+)\}/), places = parts.filter((_, at) => at % 2);
+    const found = new RegExp(`^${parts.map((part, at) => (at % 2 ? "(.+?)" : part.replaceAll(/[^\w\s]/g, "\\$&"))).join("")}$`, "s").exec(sentence);
+    if (!found) continue;
+    const values = Object.fromEntries(places.map((place, at) => [place, found[at + 1]]));
+    return t(name, { ...values, ...("text" in values ? { text: translated(values.text) } : {}) });
+  }
+  return sentence;
+}
+
 /** Puts the texts into a document: `data-text` names what an element says, `data-label` its name, `data-hint` its placeholder. */
 export function fill(document) {
   document.documentElement.lang = language;
