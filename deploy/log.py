@@ -1,8 +1,11 @@
 """Lines of a log that may fail: on a full disk, at a closed pipe or at one that nobody reads, lines are left out, and
-the program lives on."""
+the program lives on. What a unit of Type=notify tells systemd. And which options a server has."""
 import os
+import pathlib
 import queue
+import socket
 import threading
+import time
 
 PLACES = 1000  # lines that wait to be written; where there are more they are left out
 A_LAST_MOMENT = 0.5  # seconds that the end waits for the log
@@ -23,6 +26,46 @@ def tell(text):
         os.write(2, text.encode(errors="replace"))
     except OSError:
         pass
+
+
+def with_options(command, path):
+    """The command `PROGRAM serve --port PORT OPTIONS..` with the options of the last line `OPTIONS=` of a file; its own ones where
+    there is no such line or file. OSError where the file can't be read."""
+    lines = pathlib.Path(path).read_text(errors="replace").splitlines() if path and os.path.exists(path) else []
+    found = [line.strip().removeprefix("OPTIONS=").strip("\"'").split() for line in lines if line.strip().startswith("OPTIONS=")]
+    return [*command[:4], *found[-1]] if found else command
+
+
+class Unit:
+    """What systemd is told of a unit's program, as sd_notify(3) does it. Where no unit has started it nobody is told. What
+    systemd has said in the environment is taken out of it, so that no child says anything."""
+
+    def __init__(self):
+        self.place = os.environ.pop("NOTIFY_SOCKET", "")
+        self.pause = int(os.environ.pop("WATCHDOG_USEC", "0")) / 4e6  # seconds between two signs of life
+        os.environ.pop("WATCHDOG_PID", None)
+        self.is_ready, self.next = False, 0.0
+
+    def tell(self, text):
+        if self.place:
+            try:
+                with socket.socket(socket.AF_UNIX, socket.SOCK_DGRAM) as stream:
+                    stream.setblocking(False)
+                    stream.sendto(text.encode(), self.place.replace("@", "\0", 1) if self.place[0] == "@" else self.place)
+            except OSError:
+                pass
+
+    def ready(self):
+        """It serves. Told once."""
+        if not self.is_ready:
+            self.is_ready = True
+            self.tell("READY=1")
+
+    def lives(self):
+        """A sign of life, where it is time for one."""
+        if self.pause and time.monotonic() >= self.next:
+            self.next = time.monotonic() + self.pause
+            self.tell("WATCHDOG=1")
 
 
 class Log:

@@ -28,6 +28,7 @@ PORTS = (4711, 4712, 4713)
 ALL = "budgets: that is all\n"
 CLASSES = (4721, 4722)  # HAProxy's ports of the two classes
 BUDGETS = 4720
+PEERS = 4723  # HAProxy's port for its reloads
 kept = []  # a lock for each port that this trial was given
 
 
@@ -210,7 +211,7 @@ class Proxy:
         moved = [(f"127.0.0.1:{old}\n", f"127.0.0.1:{new}\n") for old, new in zip(PORTS, self.ports)]
         moved += [("  bind :4700\n", f"  bind 127.0.0.1:{self.port}{self.tls}\n"), ("bind 127.0.0.1:8404", f"bind 127.0.0.1:{self.metrics}")]
         moved += [("  bind [::]:4700 v6only\n", f"  bind [::1]:{self.port} v6only{self.tls}\n"), *self.changes]
-        moved += [("/run/haproxy/admin.sock", self.control)]
+        moved += [("/run/haproxy/admin.sock", self.control), (f"127.0.0.1:{PEERS}", f"127.0.0.1:{free_port()}")]
         if os.geteuid() != 0:  # only root may take another user and another root
             moved += [(f"  {line}\n", "") for line in ("user haproxy", "group haproxy", "chroot /var/lib/haproxy")]
         path, self.file = (pathlib.Path(self.folder.name, name) for name in ("haproxy.cfg", "budgets.toml"))

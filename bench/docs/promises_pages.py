@@ -179,10 +179,10 @@ class Pages:
         self.counts.append((page, f"{call.crate}::{call.title}", sentence, len(order), lines, len(files)))
         rests = f"It rests on {len(order)} definitions, {lines} lines in {len(files)} files." if order else "It rests on no definition of this repository."
         return [MADE, f"# {page.replace('-', ' ').capitalize()}", "", sentence, "",
-                f"{rests} [How to read a promise](HOW-TO-READ.md) explains the signs, [what is assumed](WHAT-IS-ASSUMED.md) says what you have to trust.", "",
+                f"{rests} [How to read a promise](HOW-TO-READ.md) explains the signs, and the [glossary](../GLOSSARY.md) explains the words. [What is assumed](WHAT-IS-ASSUMED.md) says what you have to trust.", "",
                 f"## The call `{call.title}`, in `{call.path}`", "", *([" ".join(call.comment), ""] if call.comment else []),
                 "```rust", *self.clause_lines(call), "```", "",
-                *([f"Its other clauses ({', '.join(f'`{name}`' for name in call.left_out)}) have pages of their own."] + [""] if call.left_out else [])]
+                *([f"The call's other clauses ({', '.join(f'`{name}`' for name in call.left_out)}) have pages of their own."] + [""] if call.left_out else [])]
 
     def law_page(self, page, name, sentence):
         """A page with all that its promise rests on."""
@@ -192,12 +192,12 @@ class Pages:
         out += ["## The definitions, lowest first", "", *self.show_definitions(order)]
         if seen:
             out += ["## What the clauses see of the call's types", "",
-                    "A contract sees a value of a type that is written with `{ .. }` as its `Value`; `view` says how the `Value` is made from private fields. You need not read these fields: a program can learn about such a value only through its public calls, and their contracts (on the pages of the crates) speak of the same `Value`. A trait's ghost members are defined by its implementations, only for contracts.", ""]
+                    "If a type is shown with `{ .. }`, a contract sees each value of the type as its `Value`; `view` says how the `Value` is made from private fields. You need not read these fields: a program learns about the value only through public calls, and their contracts (on the pages of the crates) speak of the same `Value`. A trait's ghost members are defined by its implementations, only for contracts.", ""]
             for key in seen:
                 out += self.show_type(key)
             out += self.show_definitions(beside)
         if types:
-            out += ["## The types that the definitions name", "", "A statement may name their fields and cases. The pages of their crates say what else holds of their values.", ""]
+            out += ["## The types that the definitions name", "", "Definitions may name the fields and cases of these types. The pages of the crates say what else holds of their values.", ""]
             for key in types:
                 if key not in seen:
                     out += self.show_type(key)
@@ -211,7 +211,7 @@ class Pages:
         self.word_lines(words)
         out = self.head(page, call, sentence, order)
         if order:
-            out += ["## The definitions, lowest first", "", "The page of its crate shows each definition.", ""]
+            out += ["## The definitions, lowest first", "", "Each definition is shown on the page of its crate.", ""]
             for key in order:
                 definition = self.specs.definitions[key]
                 says = " ".join(line.removeprefix("--").strip() for line in definition.comment) or "(see there)"
@@ -250,7 +250,7 @@ class Pages:
                 for key in types:
                     out += self.show_type(key)
             if met:
-                out += ["## What types say of the traits that they meet", "", "```rust"]
+                out += ["## What types declare for the traits that they implement", "", "```rust"]
                 for lines in met:
                     out += [*lines, ""]
                 out[-1:] = ["```", ""]
@@ -264,12 +264,12 @@ class Pages:
 
     def index(self):
         out = [MADE, "# The promises, a page each", "",
-               "Each page states one promise. It has the public call whose contract the promise is, and every definition that the contract reaches. Begin with [how to read a promise](HOW-TO-READ.md), then [no tenant is disturbed](no-tenant-is-disturbed.md), the shortest. [What is assumed](WHAT-IS-ASSUMED.md) says what you have to trust, and the [glossary](../GLOSSARY.md) explains the words. If a clause or a definition changes, so does a page, and the gate fails until the page is made again. So a reviewer sees the change.", "",
+               "A promise is the contract of a public call. Each page shows one promise: the call with its clauses, and every definition that the clauses use. Begin with [how to read a promise](HOW-TO-READ.md), then [no tenant is disturbed](no-tenant-is-disturbed.md), the shortest. [What is assumed](WHAT-IS-ASSUMED.md) says what you have to trust, and the [glossary](../GLOSSARY.md) explains the words. If a clause or a definition changes, so does a page, and the gate fails until the page is made again. So a reviewer sees the change.", "",
                "| Page | Call | Promise | Definitions | Lines |", "|---|---|---|---|---|"]
         for page, call, sentence, definitions, lines, _ in self.counts:
             out.append(f"| [{page.replace('-', ' ')}]({page}.md) | `{call}` | {sentence.replace('|', chr(92) + '|')} | {definitions} | {lines} |")
         out += ["", "## All public contracts, by crate", "",
-                "Each crate's page has the crate's public contracts and those of its definitions that some public contract reaches. Crates of tests are left out. The names of the clauses are in brackets.", ""]
+                "Each crate's page has the crate's public contracts, and its definitions that public contracts use. Crates of tests are left out. The names of the clauses are in brackets.", ""]
         for name in self.pages:
             if name.startswith("crates/"):
                 crate = name.removeprefix("crates/").removesuffix(".md")
@@ -283,7 +283,7 @@ class Pages:
 
     def definition_index(self):
         """Every definition that a public contract reaches, by name."""
-        out = [MADE, "# Index of the definitions", "", "Every definition that a public contract reaches, with the page of its crate.", ""]
+        out = [MADE, "# Index of the definitions", "", "This index has every definition that a public contract uses, with the page of its crate.", ""]
         for key in sorted(self.reached_by_crates, key=lambda key: (key[2].lower(), key)):
             definition = self.specs.definitions[key]
             out.append(f"- [`{definition.name}`](crates/{definition.crate}.md) of `{definition.crate}`, {definition.file}")

@@ -190,7 +190,7 @@ def trust():
     rows = (
         ("a promise in words", "README.md, docs/promises", GREEN, "you compare: do the definitions mean these words?"),
         ("its contract: clauses and definitions", "crates/promises: a page for each", GREEN, "the gate compares: the page is what the tree says"),
-        ("contracts of the crates below", "each crate relies on those below it alone", BLUE, "the prover: each body meets its contract"),
+        ("contracts of the crates below", "each crate relies only on the crates below", BLUE, "the prover: each body meets its contract"),
         ("bodies, from the line to the raw words", "source code with its proofs", BLUE, "the prover: safe, and no pointer goes astray"),
         ("toolchain: prover, logic, library, compiler", "rt version; two compilers, compared", YELLOW, "trusted"),
         ("C library, kernel, processor", "files, sockets, locks, memory", YELLOW, "trusted"),
@@ -230,7 +230,7 @@ def states():
     p.text(672, 272, "Advance: Return without a child")
     p.arrow([(825, 356), (825, 410)])
     p.lines(816, 380, ["Inlet (a child)", "Finish (a root)"], anchor="end")
-    p.lines(40, 420, ["from every state: an abort at a frame above, Spend, Cancel or Leave ends", "the frame; its worker finds out at its next step"], anchor="start")
+    p.lines(40, 420, ["in every state: an abort at a frame above, Spend, Cancel or Leave ends", "the frame; its worker notices this at its next step"], anchor="start")
     p.arrow([(560, 428), (740, 428)], dashed=True)
     return p
 
@@ -249,7 +249,7 @@ def words():
         p.arrow([(a + 2, 114), (a + 2, 120), (b - 2, 120), (b - 2, 114)], head=False)
         p.lines((a + b) / 2, 136, lines, 11)
     p.text(20, 186, "An entry: status + 8 * kind + 32 * the word of a score", 13, "start", True)
-    for x, wide, lines, fill in ((20, 520, ["what the score is: score + 1,000,000, and 0 where nothing is found yet"], RED), (544, 180, ["kind: bits 3 and 4"], YELLOW), (728, 212, ["status: bits 0 to 2"], BLUE)):
+    for x, wide, lines, fill in ((20, 520, ["the score: score + 1,000,000, or 0 if nothing is found yet"], RED), (544, 180, ["kind: bits 3 and 4"], YELLOW), (728, 212, ["status: bits 0 to 2"], BLUE)):
         p.box(x, 198, wide, 32, lines, fill, 11, bold=False)
     columns = (
         (20, "role", ["0 root", "1 first child", "2 test", "3 search again"]),
@@ -262,7 +262,7 @@ def words():
     for x, name, lines in columns:
         p.text(x, 268, name, 12, "start", True)
         p.lines(x, 288, lines, 12, "start", step=18)
-    p.text(20, 386, "A job that is done keeps the first 76 words of its root (12 + 64); scores, roles and codes stand in words alone here, in enums elsewhere.", 11, "start", fill=LINE)
+    p.text(20, 386, "A job that is done keeps the first 76 words of its root (12 + 64). Only here are roles, phases and kinds numbers; in the code they are enums.", 11, "start", fill=LINE)
     return p
 
 
@@ -271,12 +271,12 @@ def threads():
     p.frame(20, 20, 250, 250, "sessions: a thread each", "#f8fafc")
     for number in range(3):
         p.box(40, 52 + 70 * number, 210, 54, ["serve_desk", "lines, an office, a seat"], GREEN)
-    p.box(40, 300, 210, 54, ["the taker of connections", "closes the desk at the end"], GREY)
+    p.box(40, 300, 210, 54, ["the accepting thread", "closes the desk at the end"], GREY)
     p.arrow([(145, 300), (145, 272)])
     p.frame(380, 20, 250, 400, "Desk", "#f8fafc")
     p.frame(395, 50, 220, 240, "one lock", YELLOW)
     p.box(410, 80, 190, 60, ["Hall", "a core of searches"], BLUE)
-    p.box(410, 150, 190, 44, ["a journal a tenant"], BLUE)
+    p.box(410, 150, 190, 44, ["a journal for each tenant"], BLUE)
     p.box(410, 204, 190, 72, ["ledger of shares", "sleepers, closed or not"], BLUE)
     p.box(395, 306, 220, 44, ["ended", "seats wait for their jobs"], PALE)
     p.box(395, 360, 220, 44, ["ready", "workers wait for a frame"], PALE)
@@ -297,7 +297,7 @@ def threads():
     p.lines(850, 195, ["a thief takes the oldest"], 11)
     p.box(380, 452, 250, 64, ["count of computations", "a lock of its own, held for", "no search and no step"], GREY, 11)
     p.arrow([(740, 484), (630, 484)], both=True)
-    p.box(40, 452, 210, 64, ["the thread of serve", "starts the taker of connections", "and the workers, joins them"], GREY, 11)
+    p.box(40, 452, 210, 64, ["the thread of serve", "starts the accepting thread", "and the workers, and joins them"], GREY, 11)
     p.arrow([(145, 452), (145, 354)])
     p.lines(314, 478, ["no search runs", "under a lock"], 11)
     p.arrow([(145, 516), (145, 548), (850, 548), (850, 540)])

@@ -1,4 +1,4 @@
-//! A hall at work: tests alone, of `hall`.
+//! Tests of `hall`.
 //!
 //! What each offer does is proved in `hall`. No contract can say that an admission succeeds where there is room, that
 //! nothing else asks the allocator, or that a search comes to its end. Here searches are driven step by step with

@@ -1,4 +1,4 @@
-//! A desk and deques at work: tests alone, of `desk` and `task_deques`.
+//! Tests of `desk` and `task_deques`.
 //!
 //! What each call does to what lies under the lock is proved in `desk`, and that no task is lost or doubled in
 //! `task_deques`. No contract can say that a thread which waits is woken, that a closed desk lets everyone go, or

@@ -1,19 +1,18 @@
-//! The promises of the project, each said once in the plainest form, from the contracts of public
-//! calls alone.
+//! The promises of the project, each said once, in the plainest form, by the contracts of public calls.
 //!
-//! Who doubts a promise reads this crate first: each function calls the public calls below it, and its
-//! contract says in terms of tenants, steps, numbers and bytes what comes of them. `specs/` has the few
-//! words that are used for it. Nothing else stands on this crate; it is there to be read, and to be
-//! proved: a clause below that says less no longer suffices here.
+//! Read this crate first if you doubt a promise. Each function calls the public calls below it, and its
+//! contract says what they do in terms of tenants, steps, numbers and bytes. `specs/` has the few words
+//! that the contracts use. No program calls this crate: it is there to be read and to be proved. If a
+//! clause below said less, a proof here would fail.
 //!
-//! - [`run_two`]: no tenant is disturbed. [`run`]: what a step is refused for, and that each completed
-//!   reply is the minimax value (with the best choice and a true table) of what was asked.
-//! - [`same_journals`], [`value_in`], [`entry_in`]: the same of a hall, which lies under the server's lock.
+//! - [`run_two`]: no tenant is disturbed. [`run`]: why a step is refused; each completed reply has the
+//!   minimax value, the best choice and a true table of what was asked.
+//! - [`same_journals`], [`value_in`], [`entry_in`]: the same for a hall, which is under the server's lock.
 //! - [`serve`]: each line that a session writes. [`solve`]: each line that `solve` writes.
 //!
 //! ```text
-//! // two lists of any steps on new cores of any totals: a tenant whose own taken steps are the same in
-//! // both is the same after both, and was answered the same
+//! // two lists of any steps on new cores with any totals: a tenant whose own taken steps are the same in
+//! // both is in the same state after both, and got the same answers
 //! let (one, other) = run_two(alloc, procedure, config, &steps, other_config, &other_steps)?;
 //! ```
 #![tactic(auto)]

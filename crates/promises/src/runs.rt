@@ -16,7 +16,7 @@ use jamboree_core::sched_core::Core;
 use sched_rules::{Config, Did, Refusal, Step};
 use std::alloc::{AllocError, Allocator};
 
-/// A core after a list of steps, and what each was answered.
+/// A core after a list of steps, and the answers to the steps.
 #[derive(Drop)]
 pub struct After<A: Allocator> {
     /// The core.
@@ -25,8 +25,8 @@ pub struct After<A: Allocator> {
     pub answers: Vec<Result<Did<Jamboree>, Refusal>, A>,
 }
 
-/// Offers a list of steps, in which each Submit asks for a search, to a new core of these totals, by any workers
-/// for any tenants. Nothing is promised of an `AllocError`.
+/// Offers a list of steps, by any workers for any tenants, to a new core with these totals. Each Submit of the list
+/// asks for a search. Nothing is promised of an `AllocError`.
 fn ran<A>(
     alloc: A,
     procedure: Jamboree,
@@ -44,12 +44,12 @@ where
     Ok(After { core, answers })
 }
 
-/// Offers a list of steps, in which each Submit asks for a search, to a new core of these totals, by any workers
-/// for any tenants. A step that is no Admit or AdmitMore is refused only for its own tenant's state, or with Busy
-/// where the worker that has to be free for it is busy with another tenant (`refused`). Each job that is done, of
-/// any tenant, replies to the board and the depth of the Submit of its number: the minimax value, the best
-/// choice, and a true table (`replies`). The answers are those that the definitions give these steps on a new core,
-/// and the core is what they leave (`headline`). Nothing is promised of an `AllocError`.
+/// Offers a list of steps, by any workers for any tenants, to a new core with these totals. Each Submit of the list
+/// asks for a search. A step that is no Admit or AdmitMore is refused only because of its own tenant's state, or with
+/// Busy because the worker that it needs is busy with another tenant (`refused`). Each completed job of any tenant
+/// replies to the board and the depth of the Submit of its number, with the minimax value, the best choice and a true
+/// table (`replies`). The answers are those that the definitions give for these steps on a new core, and the core is
+/// in the state to which these steps lead (`headline`). Nothing is promised of an `AllocError`.
 pub fn run<A: Allocator + Clone>(
     alloc: A,
     procedure: Jamboree,
@@ -67,13 +67,13 @@ pub fn run<A: Allocator + Clone>(
     ran(alloc, procedure, config, steps)
 }
 
-/// Offers two lists of steps, in which each Submit asks for a search, to two new cores of any totals, by any
-/// workers for any tenants. A tenant whose own taken steps are the same in both is in the same state after both,
-/// and got the same answers to these steps: no other tenant disturbs it (`undisturbed`). That also holds where the
-/// second list is the tenant's own taken steps of the first, without all other tenants' steps, if the admissions in
-/// it are taken, for which there must be room and memory: then each of its steps is taken, and answered as in the
-/// first (`alone`). That both are runs of these lists on new cores is `headline`. Nothing is promised of an
-/// `AllocError`.
+/// Offers two lists of steps, by any workers for any tenants, to two new cores with any totals. Each Submit of the
+/// lists asks for a search. If a tenant's own taken steps are the same in both runs, the tenant is in the same state
+/// after both and got the same answers to these steps: no other tenant disturbs it (`undisturbed`). This also holds if
+/// the second list has only the tenant's own taken steps of the first list, without the steps of all other tenants.
+/// The admissions of the second list must be taken, so there must be room and memory for them; then each step of the
+/// second list is taken and gets the same answer as in the first run (`alone`). Both are runs of their lists on new
+/// cores (`headline`). Nothing is promised of an `AllocError`.
 pub fn run_two<A: Allocator + Clone>(
     alloc: A,
     procedure: Jamboree,

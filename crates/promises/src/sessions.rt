@@ -9,11 +9,10 @@ use session::{End, SessionFault};
 use std::alloc::Allocator;
 use std::sync::Wait;
 
-/// Serves one session of one tenant at a desk. Each line that it writes and that begins with `DONE` is `DONE k
-/// value move`: an earlier line `ASK depth position` was answered by `JOB k`, and value and move are the minimax
-/// value and the best choice of the position that the text spells, to that depth. Each that begins with `TABLE`
-/// is `TABLE k` and the entries of a true table of what such a line asked for; each that begins with `JOB` has
-/// the next number.
+/// Serves one session of one tenant at a desk. A written line that begins with `DONE` is `DONE k value move`: an earlier
+/// line `ASK depth position` was answered with `JOB k`, and value and move are the minimax value and the best choice, to
+/// that depth, of the position that the text spells. A written line that begins with `TABLE` is `TABLE k` and the
+/// entries of a true table of what such a line asked for. A written line that begins with `JOB` has the next number.
 pub fn serve<S, K, L, R, A>(
     rt: &R,
     source: &mut S,

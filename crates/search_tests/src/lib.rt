@@ -1,4 +1,4 @@
-//! Lines, texts of positions, boards and searches at work: tests alone.
+//! Tests of lines, texts of positions, boards and searches.
 //!
 //! What each call of `line_io`, `protocol`, `position_text`, the crates of the game, `leaf_search` and
 //! `jamboree` does is proved in those crates. Here their public calls are run: on examples from outside,

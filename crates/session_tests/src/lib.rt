@@ -1,4 +1,4 @@
-//! Sessions at work: tests alone, of `session` and `desk_office`.
+//! Tests of `session` and `desk_office`.
 //!
 //! That each call is made as its line says, and each reply said as it is, is proved in `session` and `desk_office`. No
 //! contract can say that HELLO succeeds where there is room, that a line is answered before the next one is read, or

@@ -1,4 +1,4 @@
-//! Texts of steps: what a core is told, what it answers, and what is read of it in between.
+//! Texts of steps: the steps that a core takes, its answers, and looks at its state in between.
 //!
 //! A scene of such a text is played on a new core, by the procedure and of the totals that its head names. Its rows are steps
 //! with their answers, `Advance 2 1.3 -> Spawned 1.5`, and looks with what is seen, `left 1 = 7 3 119` ([`play_steps`] has

@@ -1,4 +1,4 @@
-//! The storage of the scheduling core at work: tests alone, of segments, nodes, guesses, quotas and frames.
+//! Tests of the scheduling core's storage: segments, nodes, guesses, quotas and frames.
 //!
 //! What each call of `segment_region`, `cactus_stack`, `number_index`, `tenant_quota` and `frame_table` does
 //! is proved in those crates. Their contracts can't say that a call succeeds where there is room, nor

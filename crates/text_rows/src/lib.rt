@@ -1,4 +1,4 @@
-//! Texts of rows: what a person writes to have something tried, and what is due.
+//! Texts of rows: a person writes what is to be tried, and the expected answers.
 //!
 //! A text is a list of scenes. A scene begins with a head, a line `= ` and words: what is played, and its options, each a
 //! word and its numbers. The lines up to the next head are its rows. Empty lines and those that begin with `#` are

@@ -1,4 +1,4 @@
-//! `transcripts`: plays the texts of the folder that it runs in, and tells which of their rows agree.
+//! `transcripts`: plays the texts of the folder that it runs in, and reports which of their rows agree.
 //!
 //! A row is a line of a text: what is sent, asked or done, or what is due. So what needs no thread, no socket and no clock is
 //! tried by a line that a person writes, and costs no proof: this program is proved once, safe and total as all else, for
