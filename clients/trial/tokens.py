@@ -75,9 +75,9 @@ def try_batch(port, folder, own):
     here = ("127.0.0.1", port, results)
     blind = tools.batch("--patience", 0, *PATIENT, *here, text=text)
     check(blind.returncode == 1 and "ERR 14" in blind.stderr, f"batch without a token: {blind.stderr}")
-    done = tools.batch("--depth", 3, "--sessions", 5, "--segments", 256, "--nodes", 65536, "--patience", 1, "--token", own, *PATIENT, *here, text=text)
+    done = tools.batch("--depth", 7, "--sessions", 5, "--segments", 256, "--nodes", 65536, "--patience", 1, "--token", own, *PATIENT, *here, text=text)
     check(done.returncode == 0 and "3 of 5 sessions were granted" in done.stderr, f"batch: {done.stderr}")
-    wanted = [[str(value), move] for _, value, move in stage.solve([f"3 {position}" for position in positions])]
+    wanted = [[str(value), move] for _, value, move in stage.solve([f"7 {position}" for position in positions])]
     check([row[2:4] for row in tools.rows_of(results)] == wanted, "batch: a wrong row of few sessions")
 
 

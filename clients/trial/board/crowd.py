@@ -13,10 +13,11 @@ PUPILS, BUDGET, PAGES = 30, 8, 6
 
 
 class Counter:
-    """A way to a server that counts how many connections there are at once, and lets no more through than a budget has."""
+    """A way to a server that counts how many connections there are at once, and lets no more through than a budget has; with a
+    pause before all that it hands on, if one is wanted."""
 
-    def __init__(self, port, most):
-        self.port, self.most, self.now, self.greatest, self.refused = port, most, 0, 0, 0
+    def __init__(self, port, most, pause=0.0):
+        self.port, self.most, self.pause, self.now, self.greatest, self.refused = port, most, pause, 0, 0, 0
         self.ready = threading.Event()
         threading.Thread(target=lambda: asyncio.run(self.serve()), daemon=True).start()
         self.ready.wait(20)
@@ -53,6 +54,7 @@ class Counter:
     async def pump(self, reader, writer):
         try:
             while block := await reader.read(65536):
+                await asyncio.sleep(self.pause)
                 writer.write(block)
                 await writer.drain()
         except OSError:
@@ -105,7 +107,7 @@ def try_browsers(browser, address):
 def try_turns():
     """In turn: first values in the order in which the questions came, and nobody's second before all have their first."""
     options = ("--sessions", "99", "--grain", "4", "--segments", "65536", "--nodes", "1048576")
-    with stage.server(*options) as (server, port), page(port, "--sessions", 1) as (_, address):
+    with stage.server(*options) as (server, port), page(Counter(port, 99, 0.01).own, "--sessions", 1) as (_, address):  # slow, so that what comes later is heard later
         server.send_signal(signal.SIGSTOP)  # so that all have come before the first is answered
         heard, pupils = [], []
         for number in range(7):

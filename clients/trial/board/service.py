@@ -157,8 +157,8 @@ def try_class(browser, address):
         check(two.text("#moves [aria-current]") == "c4", "a pupil who looks alone is led on")
         two.click("#class-again")
         two.until("the teacher's game again", "document.querySelector('#moves [aria-current]')?.textContent === 'd3'")
-        teacher.evaluate("location.reload()")
-        teacher.until("the class after the page was loaded again", "document.documentElement?.dataset.ready === 'yes' && !document.getElementById('class-link').hidden")
+        teacher.evaluate("window.before = true; location.reload()")  # the document that is there goes later
+        teacher.until("the class after the page was loaded again", "!window.before && document.documentElement?.dataset.ready === 'yes' && !document.getElementById('class-link').hidden")
         teacher.key("Home")
         one.until("the teacher's start after that", "!document.querySelector('#moves [aria-current]')")
         room = link.split("follow=")[1]
