@@ -156,9 +156,15 @@ class Page:
         return self.evaluate(f"document.querySelector({json.dumps(selector)})?.textContent ?? null")
 
     def middle(self, selector):
-        script = f"(() => {{ const found = document.querySelector({json.dumps(selector)}); if (!found) return null; found.scrollIntoView({{block: 'center'}});"
-        place = self.evaluate(script + " const box = found.getBoundingClientRect(); return [box.x + box.width / 2, box.y + box.height / 2] })()")
-        return place or sys.exit(f"there is no {selector}")
+        """Where the middle of a thing is, once it stays there: what is learnt meanwhile may move it."""
+        patience, before = Patience(20), None
+        while True:
+            script = f"(() => {{ const found = document.querySelector({json.dumps(selector)}); if (!found) return null; found.scrollIntoView({{block: 'center'}});"
+            place = self.evaluate(script + " const box = found.getBoundingClientRect(); return [box.x + box.width / 2, box.y + box.height / 2] })()")
+            if not place or (place == before) or patience.is_over():
+                return place or sys.exit(f"there is no {selector}")
+            before = place
+            time.sleep(0.03)
 
     def click(self, selector):
         """Clicks on the middle of what a selector finds."""
