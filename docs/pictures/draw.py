@@ -310,21 +310,21 @@ def ask():
     rows = (
         ("session's thread", GREEN, [
             ("line_io", "a line of at most 128 bytes", ""),
-            ("protocol", "read_question", "1 text to Question"),
+            ("protocol", "read_question", "(a) text to Question"),
             ("desk_office", "Desk::ask", ""),
         ]),
         ("under the lock", YELLOW, [
-            ("desk", "Kept::ask", "2 Position to root words; its Board is copied"),
-            ("hall", "Hall::offer, the journal", "3 words to a journal entry"),
+            ("desk", "Kept::ask", "(b) Position to root words; its Board is copied"),
+            ("hall", "Hall::offer, the journal", "(c) words to a journal entry"),
             ("sched_core", "Submit: a root is Ready", "words copied into a node"),
         ]),
         ("a worker's turns", VIOLET, [
-            ("pool_rules", "Steal, Advance, .. Inlet, under the lock", "4 words to a view, a Board each turn"),
-            ("leaf_search", "a leaf's search, outside the lock", "5 words to a Leaf, and back in an Answer"),
+            ("pool_rules", "Steal, Advance, .. Inlet, under the lock", "(d) words to a view, a Board each turn"),
+            ("leaf_search", "a leaf's search, outside the lock", "(e) words to a Leaf, and back in an Answer"),
             ("sched_core", "Finish, under the lock: 76 words are kept", ""),
         ]),
         ("under the lock", YELLOW, [
-            ("jamboree_core", "outcome_of, Reply::read", "6 words to a Reply"),
+            ("jamboree_core", "outcome_of, Reply::read", "(f) words to a Reply"),
             ("desk", "Kept::get, shown", "its board is compared with the list's"),
         ]),
         ("session's thread", GREEN, [
@@ -350,7 +350,7 @@ def ask():
         y += high + 12
     p.text(180, 20, "crate", 11, "start", fill=LINE)
     p.text(330, 20, "what it does", 11, "start", fill=LINE)
-    p.text(620, 20, "the position (numbered: taken apart or put together)", 11, "start", fill=LINE)
+    p.text(620, 20, "the position (letters: its conversions)", 11, "start", fill=LINE)
     return p
 
 

@@ -4,7 +4,7 @@ mod served;
 use crate::running::run;
 use command_line::{Options, WordsFault};
 use line_io::{FromWriter, ReadFailed, Sink, Source, WriteFailed};
-use solve_command::{Input, Output, Streams, words_of};
+use solve_command::{Explained, Input, Output, Streams, run_solve, words_of};
 use std::io::{self, ErrorKind, Read, Write};
 use std::net::{Net, TcpListener, TcpStream};
 use std::sync::Arc;
@@ -175,6 +175,110 @@ fn streams_that_fail(rt: HostRuntime) -> Result<(), Fail> {
     };
     let found = run(&rt, alloc, words.as_slice(), &mut full);
     assert_eq!(rt; found, 2, "refused words that can't be explained");
+    Ok(())
+}
+
+/// Lines with each fault that a line of `solve` can have by itself, and one that has none.
+const FAULTY: &[u8] = b"x
+000000000000000000000000000000000000000000000000000000000000000000000000000000000000000000000000000000000000000000000000000000000
+2 ---------------------------OX------XO--------------------------- X
+one ---------------------------OX------XO--------------------------- X
+2 ---------------------------OX
+2 ---------------------------OX------XO--------------------------Q X
+2 ---------------------------OX------XO--------------------------- Z
+13 ---------------------------OX------XO--------------------------- X
+";
+
+/// The answers to them.
+const NUMBERS: &[u8] = b"ERR 21
+ERR 22
+-4 d3
+ERR 23
+ERR 24
+ERR 25
+ERR 26
+ERR 27
+";
+
+/// What is said of them at a terminal, behind the line of hints.
+const IN_WORDS: &[u8] = b"othello: no such command
+othello: the line is too long
+othello: not a number within the limits
+othello: the position hasn't 66 bytes
+othello: a byte of the position spells no cell
+othello: no space and side after the cells
+othello: the depth is over 12
+";
+
+#[test]
+fn faults_are_said_in_words_at_a_terminal(rt: HostRuntime) -> Result<(), Fail> {
+    let alloc = rt.alloc();
+    for (typed, whole) in [(false, false), (false, true), (true, false), (true, true)] {
+        for words in [
+            ["othello", "solve"].as_slice(),
+            &["othello", "solve", "--visited"],
+        ] {
+            let source = Given {
+                bytes: FAULTY,
+                fails: false,
+                typed,
+            };
+            let mut streams = Streams::explained(
+                source,
+                FromWriter::new(Vec::new(alloc)),
+                FromWriter::new(Vec::new(alloc)),
+                FromWriter::new(Vec::new(alloc)),
+            );
+            let found = if whole {
+                run(&rt, alloc, words, &mut streams)
+            } else {
+                run_solve(alloc, words, &mut streams)
+            };
+            let Streams { sink, errors, .. } = streams;
+            assert_eq!(rt; found, 0, "{words:?}");
+            let said = if typed { IN_WORDS } else { b"".as_slice() };
+            assert_eq!(rt; sink.errors.writer.as_slice(), said, "{words:?}");
+            assert_eq!(rt; errors.writer.is_empty(), !typed, "{words:?}");
+            if words.len() == 2 {
+                assert_eq!(rt; sink.sink.writer.as_slice(), NUMBERS);
+            }
+        }
+    }
+    Ok(())
+}
+
+#[test]
+fn only_faults_are_said_in_words(rt: HostRuntime) -> Result<(), Fail> {
+    let alloc = rt.alloc();
+    for (answer, said) in [
+        ("ERR 19\n", "othello: out of memory\n"),
+        ("ERR 27\n", "othello: the depth is over 12\n"),
+        ("ERR 27", ""),
+        ("ERR 7\n", ""),
+        ("ERR 99\n", ""),
+        ("ERR 2:\n", ""),
+        ("ERR 227\n", ""),
+        ("-4 d3\n", ""),
+        ("0 -\n", ""),
+    ] {
+        let mut sink = Explained {
+            sink: FromWriter::new(Vec::new(alloc)),
+            errors: FromWriter::new(Vec::new(alloc)),
+            explains: true,
+        };
+        let taken = sink.put(answer.as_bytes()).ok();
+        assert_eq!(rt; taken, Some(answer.len()));
+        assert_eq!(rt; sink.sink.writer.as_slice(), answer.as_bytes());
+        assert_eq!(rt; sink.errors.writer.as_slice(), said.as_bytes());
+    }
+    let mut full = Explained {
+        sink: Full { closed: true },
+        errors: FromWriter::new(Vec::new(alloc)),
+        explains: true,
+    };
+    assert!(rt; full.put(b"ERR 27\n").is_err());
+    assert!(rt; full.is_closed());
+    assert!(rt; full.errors.writer.is_empty(), "an answer that nobody got");
     Ok(())
 }
 

@@ -2,8 +2,8 @@
 //!
 //! [`run_solve`] goes from the words of the command line and three streams to the exit status of a program that has
 //! this command alone (`othello_solve`). Its parts serve the program that has `serve` too (`othello_server`):
-//! [`words_of`] for the words, [`answer`] for the lines of `solve`, [`refuse`] for refused words, [`say`] for what the
-//! program has to say of itself.
+//! [`words_of`] for the words, [`answer`] for the lines of `solve`, [`Explained`] for what their faults mean, [`refuse`]
+//! for refused words, [`say`] for what the program has to say of itself.
 //!
 //! ```text
 //! run_solve(alloc, &["othello", "solve", "--visited"], &mut streams)  // "-4 d3 15\n", and status 0
@@ -12,11 +12,13 @@
 #![tactic(auto)]
 
 mod answering;
+mod explaining;
 mod saying;
 mod streams;
 mod words;
 
 pub use answering::{answer, run_solve};
+pub use explaining::Explained;
 pub use saying::{refuse, say};
 pub use streams::{Input, Output, Streams};
 pub use words::words_of;

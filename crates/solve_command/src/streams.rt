@@ -1,4 +1,5 @@
 //! The streams of a program, and what it has to know of them beside their bytes.
+use crate::explaining::Explained;
 use line_io::{FromReader, FromWriter, Sink, Source};
 use std::io::{ErrorKind, IsTerminal, Read, Write};
 use std::rt::{HostRuntime, Stderr, Stdin, Stdout};
@@ -14,14 +15,34 @@ pub struct Streams<S, K, E> {
     pub errors: E,
 }
 
-impl Streams<FromReader<Stdin>, FromWriter<Stdout>, FromWriter<Stderr>> {
+impl<S: Input, K, E> Streams<S, Explained<K, E>, E> {
+    /// Streams whose output's faults are said in words, on `words`, where the input is a terminal.
+    pub fn explained(source: S, sink: K, words: E, errors: E) -> Self {
+        let explains = source.is_typed();
+        Streams {
+            source,
+            sink: Explained {
+                sink,
+                errors: words,
+                explains,
+            },
+            errors,
+        }
+    }
+}
+
+/// The standard output, explained on the standard error.
+type StandardOutput = Explained<FromWriter<Stdout>, FromWriter<Stderr>>;
+
+impl Streams<FromReader<Stdin>, StandardOutput, FromWriter<Stderr>> {
     /// The standard streams of the process.
     pub fn standard(rt: &HostRuntime) -> Self {
-        Streams {
-            source: FromReader { reader: rt.stdin() },
-            sink: FromWriter::new(rt.stdout()),
-            errors: FromWriter::new(rt.stderr()),
-        }
+        Streams::explained(
+            FromReader { reader: rt.stdin() },
+            FromWriter::new(rt.stdout()),
+            FromWriter::new(rt.stderr()),
+            FromWriter::new(rt.stderr()),
+        )
     }
 }
 

@@ -261,6 +261,32 @@ fn a_deque_holds_as_many_as_it_has_room_for(rt: HostRuntime) -> Result<(), Fail>
     Ok(())
 }
 
+/// How many of 32 workers take a task that this one has pushed for each of them.
+fn takers<A: Allocator>(all: &mut Vec<DequeEnds<A>, A>, owner: Worker) -> u64 {
+    let pushed = kept(all, owner, 33);
+    let mut found = 0u64;
+    for number in 1..33u8 {
+        if let Some(worker) = Worker::new(number)
+            && takes(all, worker) != 0
+        {
+            found = found.saturating_add(1);
+        }
+    }
+    found.min(pushed)
+}
+
+/// Each of as many workers as can be steals, of the first, of the middle and of the last.
+#[test]
+fn each_of_32_workers_steals(rt: HostRuntime) -> Result<(), Fail> {
+    let last = Worker::new(32).ok_or("a worker")?;
+    let mut all = deal(rt.alloc(), last, 32)?;
+    for number in [1, 16, 32] {
+        let owner = Worker::new(number).ok_or("a worker")?;
+        assert_eq!(rt; takers(&mut all, owner), 32, "of worker {number}");
+    }
+    Ok(())
+}
+
 /// Room that can't be had is refused, for tasks and for ends that come back.
 #[test]
 fn no_room(rt: HostRuntime) -> Result<(), Fail> {

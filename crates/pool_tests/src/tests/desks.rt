@@ -2,6 +2,8 @@
 ghost use Rattle.std.specs.Prelude.{◌≡◌, ◌≤◌};
 
 mod endings;
+mod holds;
+mod many;
 mod reserving;
 mod waiting;
 mod wakes;
@@ -11,6 +13,7 @@ use desk::{
     Worker,
 };
 use frame_tree::FrameId;
+use holds::Call;
 use othello_board::Board;
 use othello_moves::Choice;
 use position_text::{Position, Side};
@@ -48,6 +51,16 @@ enum Trial {
     Late,
     /// A seat reserves more.
     More,
+    /// A seat with 256 frames reserves more 64 times.
+    ManyRaises,
+    /// All jobs of a seat are done, and each is told.
+    AllJobs,
+    /// As many tenants as there can be, each told of its own.
+    AllTenants,
+    /// This is called while a worker holds the desk.
+    Beside(Call),
+    /// A worker is woken for a frame that another has taken.
+    InVain,
     /// A seat that waits for a job of this depth is woken.
     Seat(u8, Waker),
     /// A worker that waits is woken.
@@ -64,6 +77,14 @@ const SEGMENTS: u32 = 32;
 /// The nodes of each desk.
 const NODES: u32 = 512;
 
+/// The segments and nodes of the desk at which this is tried.
+fn totals(trial: Trial) -> (u32, u32) {
+    match trial {
+        Trial::AllTenants | Trial::ManyRaises => (many::SEGMENTS, many::NODES),
+        _ => (SEGMENTS, NODES),
+    }
+}
+
 /// Tries something at a new desk, at which one worker searches each job.
 fn try_at<L, R>(rt: &R, alloc: Global, blank: Blank, trial: Trial) -> Result<(), Fail>
 where
@@ -72,7 +93,8 @@ where
     requires name { blank.name ≡ L.name }
     requires parts { (blank.parts ≡ L.parts) × (L.all ≡ L.parts) × (L.all ≡ PARTS) }
 {
-    let config = Config::new(SEGMENTS, NODES).ok_or("within the limits")?;
+    let (segments, nodes) = totals(trial);
+    let config = Config::new(segments, nodes).ok_or("within the limits")?;
     let desk: Desk<L> = Desk::new(Hall::new(alloc, config, 6)?, blank);
     is_tried(rt, alloc, desk, trial);
     Ok(())
@@ -100,6 +122,7 @@ where
         Trial::SeatStays => endings::seat_stays(rt, desk),
         Trial::BadgeDropped => endings::badge_is_dropped(rt, desk),
         Trial::More => reserving::more(rt, desk),
+        Trial::AllTenants => many::all_tenants(rt, alloc, &desk),
         _ => is_tried_at(rt, &desk, trial),
     }
 }
@@ -118,6 +141,10 @@ where
         Trial::Seat(depth, waker) => waiting::seat_waits(rt, desk, depth, waker),
         Trial::Worker(waker) => waiting::worker_waits(rt, desk, waker),
         Trial::Children => wakes::open_children(rt, desk),
+        Trial::InVain => wakes::wake_in_vain(rt, desk),
+        Trial::Beside(call) => holds::call_waits(rt, desk, call),
+        Trial::AllJobs => many::all_jobs(rt, desk),
+        Trial::ManyRaises => many::many_raises(rt, desk),
         Trial::Crowd(who, many, what) => wakes::come_back_there(rt, desk, who, many, what),
         _ => {}
     }
@@ -251,7 +278,13 @@ fn has_left<L: Hands, R: Wait + Abort>(
 
 /// A seat's tenant has one frame of 12 words.
 fn has_one_frame<L: Hands, R: Wait + Abort>(rt: &R, desk: &Desk<L>, seat: &Seat<L>) {
-    assert_eq!(rt; desk.live(rt, seat), Ok((1, 12)));
+    has_frames(rt, desk, seat, 1);
+}
+
+/// A seat's tenant has so many frames of 12 words.
+fn has_frames<L: Hands, R: Wait + Abort>(rt: &R, desk: &Desk<L>, seat: &Seat<L>, many: u32) {
+    let frames = many as usize;
+    assert_eq!(rt; desk.live(rt, seat), Ok((frames, 12 * frames)));
 }
 
 /// A worker does the first job, the opening at depth 0, and the seat that waited for it has its reply.

@@ -1,6 +1,6 @@
 //! Several threads that wait at a desk at once: each is woken for what it waits for, and they sleep until then.
 use super::{Trial, asks, badge_of, cancels, compute, root_of, seat_of, try_out, worker_of};
-use desk::{Badge, Desk, Hands, Held, Seat, StepOf, Worker};
+use desk::{Badge, Desk, DidOf, Hands, Held, Seat, StepOf, Worker};
 use frame_tree::FrameId;
 use std::alloc::Global;
 use std::process::Abort;
@@ -115,9 +115,9 @@ fn finish_all<L: Hands, R: Wait + Abort + Clock>(
     }
 }
 
-/// Seats ask one by one; a worker is back after each.
-fn ask_all<L: Hands, R: Wait + Abort + Clock>(rt: &R, desk: &Desk<L>, back: &AtomicU64) {
-    for done in 0..2u64 {
+/// So many seats ask one by one; a worker is back after each.
+fn ask_all<L: Hands, R: Wait + Abort + Clock>(rt: &R, desk: &Desk<L>, back: &AtomicU64, many: u64) {
+    for done in 0..many {
         let mut seat = seat_of(rt, desk, 1, 1);
         asks(rt, desk, &mut seat, 0, Ok(1));
         drop(seat);
@@ -125,7 +125,23 @@ fn ask_all<L: Hands, R: Wait + Abort + Clock>(rt: &R, desk: &Desk<L>, back: &Ato
     }
 }
 
-/// The root of a new seat's search beyond the grain, taken by this worker: no frame is ready.
+/// A seat's search beyond the grain, whose root this worker takes: no frame is ready.
+pub(super) fn takes_root<L: Hands, R: Wait + Abort>(
+    rt: &R,
+    desk: &Desk<L>,
+    badge: &mut Badge<L>,
+    seat: &mut Seat<L>,
+    worker: Worker,
+) {
+    asks(rt, desk, seat, 7, Ok(1));
+    let root = root_of(seat);
+    assert!(rt;
+        desk.offer(rt, badge, &StepOf::Steal(worker, 0, root))
+            .is_ok()
+    );
+}
+
+/// The root of a new seat's search, taken by this worker.
 fn taken_root<L: Hands, R: Wait + Abort>(
     rt: &R,
     desk: &Desk<L>,
@@ -133,31 +149,26 @@ fn taken_root<L: Hands, R: Wait + Abort>(
     worker: Worker,
 ) -> FrameId {
     let mut seat = seat_of(rt, desk, 4, 4);
-    asks(rt, desk, &mut seat, 7, Ok(1));
-    let root = root_of(&seat);
-    assert!(rt;
-        desk.offer(rt, badge, &StepOf::Steal(worker, 0, root))
-            .is_ok()
-    );
-    root
+    takes_root(rt, desk, badge, &mut seat, worker);
+    root_of(&seat)
 }
 
 /// A root opens and has a child, by two steps of its worker.
-fn opens<L: Hands, R: Wait + Abort>(
+pub(super) fn opens<L: Hands, R: Wait + Abort>(
     rt: &R,
     held: &mut Held<'_, L>,
     badge: &mut Badge<L>,
     worker: Worker,
     root: FrameId,
-) {
+) -> FrameId {
     assert!(rt;
         held.offer(rt, badge, &StepOf::Advance(worker, root))
             .is_ok()
     );
-    assert!(rt;
-        held.offer(rt, badge, &StepOf::Advance(worker, root))
-            .is_ok()
-    );
+    match held.offer(rt, badge, &StepOf::Advance(worker, root)) {
+        Ok(DidOf::Spawned(child)) => child,
+        _ => panic!(rt; "no child"),
+    }
 }
 
 /// Two roots open a child each while one holds the desk, and two workers wait.
@@ -177,8 +188,8 @@ where
         thread::sleep(rt, Duration::from_millis(100));
         assert!(rt; are_back(back, 0), "no frame is ready");
         let mut held = desk.hold(rt, &mut badge);
-        opens(rt, &mut held, &mut badge, one, first);
-        opens(rt, &mut held, &mut badge, other, second);
+        let _one = opens(rt, &mut held, &mut badge, one, first);
+        let _other = opens(rt, &mut held, &mut badge, other, second);
         held.release();
         assert!(rt; come_back(rt, back, 2), "each child wakes a worker");
     })
@@ -205,7 +216,7 @@ fn come<L: Hands, R: Wait + Abort + Clock + CpuClock>(
             let mut badge = badge_of(rt, desk);
             finish_all(rt, desk, &mut badge, back);
         }
-        What::Asks => ask_all(rt, desk, back),
+        What::Asks => ask_all(rt, desk, back, 2),
         What::Closing => desk.close(rt),
         What::Silence => {
             assert!(rt; is_silent(rt), "nobody works while it waits");
@@ -247,6 +258,56 @@ fn each_of_two_asks_wakes_a_worker(rt: HostRuntime) -> Result<(), Fail> {
 #[test]
 fn each_of_two_children_wakes_a_worker(rt: HostRuntime) -> Result<(), Fail> {
     try_out(&rt, rt.alloc(), Trial::Children)
+}
+
+/// A root opens a child, which another worker takes before the desk is let go.
+fn opens_in_vain<L: Hands, R: Wait + Abort>(
+    rt: &R,
+    desk: &Desk<L>,
+    badge: &mut Badge<L>,
+    root: FrameId,
+) {
+    let mut held = desk.hold(rt, badge);
+    let child = opens(rt, &mut held, badge, worker_of(rt, 1), root);
+    let steal = StepOf::Steal(worker_of(rt, 2), 1, child);
+    assert!(rt; held.offer(rt, badge, &steal).is_ok());
+    held.release();
+}
+
+/// A worker waits for a frame, is counted once it is back, and tells whether it has found one.
+fn finds_there<L: Hands, R: Wait>(rt: &R, desk: &Desk<L>, back: &AtomicU64) -> bool {
+    let found = desk.next_ready(rt);
+    back.fetch_add(1, Ordering::SeqCst);
+    found.is_some()
+}
+
+/// A worker that waits is woken for a frame that is gone by then: it waits on, for the next.
+pub(super) fn wake_in_vain<L, R>(rt: &R, desk: &Desk<L>)
+where
+    L: Hands + Send + Sync,
+    R: Wait + Abort + Threads + Clock + Sync,
+{
+    let count = AtomicU64::new(0);
+    let back = &count;
+    let mut badge = badge_of(rt, desk);
+    let root = taken_root(rt, desk, &mut badge, worker_of(rt, 1));
+    thread::scope(thread::scope_env(), rt, |scope| {
+        let Ok(waiting) = scope.spawn(move || finds_there(rt, desk, back)) else {
+            panic!(rt; "no thread");
+        };
+        thread::sleep(rt, Duration::from_millis(100));
+        opens_in_vain(rt, desk, &mut badge, root);
+        thread::sleep(rt, Duration::from_millis(100));
+        assert!(rt; are_back(back, 0), "there is no frame for it");
+        ask_all(rt, desk, back, 1);
+        assert!(rt; waiting.join(rt), "a frame is found");
+    })
+}
+
+/// A worker that was woken for a frame which another took doesn't end.
+#[test]
+fn who_is_woken_in_vain_waits_on(rt: HostRuntime) -> Result<(), Fail> {
+    try_out(&rt, rt.alloc(), Trial::InVain)
 }
 
 /// So many seats wait, and then so many workers.
