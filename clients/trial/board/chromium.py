@@ -156,15 +156,28 @@ class Page:
         return self.evaluate(f"document.querySelector({json.dumps(selector)})?.textContent ?? null")
 
     def middle(self, selector):
-        script = f"(() => {{ const found = document.querySelector({json.dumps(selector)}); if (!found) return null; found.scrollIntoView({{block: 'center'}});"
-        place = self.evaluate(script + " const box = found.getBoundingClientRect(); return [box.x + box.width / 2, box.y + box.height / 2] })()")
-        return place or sys.exit(f"there is no {selector}")
+        """Where the middle of a thing is, once it stays there: what is learnt meanwhile may move it."""
+        patience, before = Patience(20), None
+        while True:
+            script = f"(() => {{ const found = document.querySelector({json.dumps(selector)}); if (!found) return null; found.scrollIntoView({{block: 'center'}});"
+            place = self.evaluate(script + " const box = found.getBoundingClientRect(); return [box.x + box.width / 2, box.y + box.height / 2] })()")
+            if not place or (place == before) or patience.is_over():
+                return place or sys.exit(f"there is no {selector}")
+            before = place
+            time.sleep(0.03)
 
     def click(self, selector):
-        """Clicks on the middle of what a selector finds."""
-        x, y = self.middle(selector)
-        for kind in ("mousePressed", "mouseReleased"):
-            self.call("Input.dispatchMouseEvent", type=kind, x=x, y=y, button="left", clickCount=1)
+        """Clicks on the middle of what a selector finds. Where it moved away in that moment, it is clicked again."""
+        word = json.dumps(selector)
+        hit = f"event.target.closest({word}) || event.target.closest('label')?.control?.matches({word})"
+        for _ in range(5):
+            x, y = self.middle(selector)
+            self.evaluate(f"window.hit = false; addEventListener('click', (event) => {{ window.hit ||= Boolean({hit}) }}, {{ capture: true, once: true }})")
+            for kind in ("mousePressed", "mouseReleased"):
+                self.call("Input.dispatchMouseEvent", type=kind, x=x, y=y, button="left", clickCount=1)
+            if self.evaluate("window.hit"):
+                return
+        sys.exit(f"{selector} isn't hit by a click on its middle")
 
     def key(self, name, *modifiers):
         """Presses a key, as a keyboard does."""

@@ -111,10 +111,7 @@ def try_turns():
         server.send_signal(signal.SIGSTOP)  # so that all have come before the first is answered
         heard, pupils = [], []
         for number in range(7):
-            position = settled(random_moves(410 + number, 10)[-1][1])
-            pupils.append(threading.Thread(target=hear, args=(address, position, heard, number)))
-            pupils[-1].start()
-            time.sleep(0.2)
+            pupils.append(come(address, settled(random_moves(410 + number, 10)[-1][1]), 6, number, heard))
         server.send_signal(signal.SIGCONT)
         for one in pupils:
             one.join()
@@ -123,13 +120,23 @@ def try_turns():
     print("board: served in turn, each with a first value before any has a second")
 
 
-def hear(address, position, heard, number):
-    """Asks for a position, and notes each step as it comes."""
-    request = urllib.request.Request(f"{address}analyse", json.dumps({"position": position.text, "depth": 6}).encode(), {"Content-Type": "application/json"})
-    with urllib.request.urlopen(request) as answer:
-        for line in answer:
-            if line.strip() and (told := json.loads(line))["kind"] == "step":
-                heard.append((number, told["depth"]))
+def come(address, position, depth, number, heard):
+    """Asks for a position by a thread of its own, which notes each step as it comes; returns when the question has its place."""
+    has_come = threading.Event()
+
+    def ask():
+        request = urllib.request.Request(f"{address}analyse", json.dumps({"position": position.text, "depth": depth}).encode(), {"Content-Type": "application/json"})
+        with urllib.request.urlopen(request) as answer:
+            for line in filter(bytes.strip, answer):
+                told = json.loads(line)
+                has_come.set()
+                if told["kind"] == "step":
+                    heard.append((number, told["depth"]))
+
+    thread = threading.Thread(target=ask)
+    thread.start()
+    check(has_come.wait(60), f"question {number} has no place")
+    return thread
 
 
 def try_word(browser):
@@ -137,10 +144,7 @@ def try_word(browser):
     options = ("--sessions", "99", "--grain", "4", "--segments", "65536", "--nodes", "1048576")
     with stage.server(*options) as (server, port), page(port, "--sessions", 1) as (_, address), browser.page() as shown:
         server.send_signal(signal.SIGSTOP)  # so that the others are before it
-        others = [threading.Thread(target=analysed, args=(address, settled(random_moves(300 + number, 20)[-1][1]), 4)) for number in range(4)]
-        for one in others:
-            one.start()
-        time.sleep(0.5)
+        others = [come(address, settled(random_moves(300 + number, 20)[-1][1]), 4, number, []) for number in range(4)]
         shown.open(f"{address}#moves=f5d6&depth=4")
         shown.until("a word to who waits", "document.getElementById('state').textContent === 'Others are being served: 4 are before you.'")
         server.send_signal(signal.SIGCONT)

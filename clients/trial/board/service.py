@@ -136,6 +136,7 @@ def try_class(browser, address):
     """A teacher's board is followed by its link; a pupil looks alone and follows again; a class ends; no other teaches it."""
     with browser.page() as teacher, browser.page(language="de") as one, browser.page() as two:
         teacher.open(f"{address}#moves=f5d6c3&at=3&depth=4")
+        teacher.until("the teacher's game", KNOWN)
         teacher.click("#class-open")
         teacher.until("the link", "!document.getElementById('class-link').hidden")
         link = teacher.evaluate("document.querySelector('#class-link a').href")
