@@ -1,0 +1,5 @@
+pub mod Commands
+pub mod Openings
+pub mod Seated
+pub mod Answers
+pub mod Views
