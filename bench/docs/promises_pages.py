@@ -179,7 +179,7 @@ class Pages:
         self.counts.append((page, f"{call.crate}::{call.title}", sentence, len(order), lines, len(files)))
         rests = f"It rests on {len(order)} definitions, {lines} lines in {len(files)} files." if order else "It rests on no definition of this repository."
         return [MADE, f"# {page.replace('-', ' ').capitalize()}", "", sentence, "",
-                f"{rests} [How to read a promise](HOW-TO-READ.md) explains the signs, and the [glossary](../GLOSSARY.md) explains the words. [What is assumed](WHAT-IS-ASSUMED.md) says what you have to trust.", "",
+                f"{rests} [How to read a promise](HOW-TO-READ.md) explains the signs, and the [glossary](../GLOSSARY.md) explains the terms. [What is assumed](WHAT-IS-ASSUMED.md) lists what you have to trust.", "",
                 f"## The call `{call.title}`, in `{call.path}`", "", *([" ".join(call.comment), ""] if call.comment else []),
                 "```rust", *self.clause_lines(call), "```", "",
                 *([f"The call's other clauses ({', '.join(f'`{name}`' for name in call.left_out)}) have pages of their own."] + [""] if call.left_out else [])]
@@ -191,13 +191,13 @@ class Pages:
         out = self.head(page, call, sentence, order)
         out += ["## The definitions, lowest first", "", *self.show_definitions(order)]
         if seen:
-            out += ["## What the clauses see of the call's types", "",
-                    "If a type is shown with `{ .. }`, a contract sees each value of the type as its `Value`; `view` says how the `Value` is made from private fields. You need not read these fields: a program learns about the value only through public calls, and their contracts (on the pages of the crates) speak of the same `Value`. A trait's ghost members are defined by its implementations, only for contracts.", ""]
+            out += ["## The call's types, as contracts see them", "",
+                    "If a type is shown with `{ .. }`, a contract describes each value of the type by its `Value`; `view` defines the `Value` from private fields. You need not read these fields: a program learns about the value only through public calls, whose contracts (on the pages of the crates) describe the same `Value`. The implementations of a trait define its ghost members, which exist only for contracts.", ""]
             for key in seen:
                 out += self.show_type(key)
             out += self.show_definitions(beside)
         if types:
-            out += ["## The types that the definitions name", "", "Definitions may name the fields and cases of these types. The pages of the crates say what else holds of their values.", ""]
+            out += ["## The types that the definitions name", "", "Definitions may name the fields and cases of these types. The pages of the crates state what else holds of values of these types.", ""]
             for key in types:
                 if key not in seen:
                     out += self.show_type(key)
@@ -264,12 +264,12 @@ class Pages:
 
     def index(self):
         out = [MADE, "# The promises, a page each", "",
-               "A promise is the contract of a public call. Each page shows one promise: the call with its clauses, and every definition that the clauses use. Begin with [how to read a promise](HOW-TO-READ.md), then [no tenant is disturbed](no-tenant-is-disturbed.md), the shortest. [What is assumed](WHAT-IS-ASSUMED.md) says what you have to trust, and the [glossary](../GLOSSARY.md) explains the words. If a clause or a definition changes, so does a page, and the gate fails until the page is made again. So a reviewer sees the change.", "",
+               "A promise is the contract of a public call. Each page shows one promise: the call with its clauses, and every definition that the clauses use. Begin with [how to read a promise](HOW-TO-READ.md), then [no tenant is disturbed](no-tenant-is-disturbed.md), the shortest. [What is assumed](WHAT-IS-ASSUMED.md) lists what you have to trust, and the [glossary](../GLOSSARY.md) explains the terms. If a clause or a definition changes, so does a page, and the gate fails until the page is made again. So a reviewer sees the change.", "",
                "| Page | Call | Promise | Definitions | Lines |", "|---|---|---|---|---|"]
         for page, call, sentence, definitions, lines, _ in self.counts:
             out.append(f"| [{page.replace('-', ' ')}]({page}.md) | `{call}` | {sentence.replace('|', chr(92) + '|')} | {definitions} | {lines} |")
         out += ["", "## All public contracts, by crate", "",
-                "Each crate's page has the crate's public contracts, and its definitions that public contracts use. Crates of tests are left out. The names of the clauses are in brackets.", ""]
+                "The page of a crate shows its public contracts, and the definitions of this crate that public contracts use. Crates of tests are left out. The names of the clauses are in brackets.", ""]
         for name in self.pages:
             if name.startswith("crates/"):
                 crate = name.removeprefix("crates/").removesuffix(".md")
@@ -283,7 +283,7 @@ class Pages:
 
     def definition_index(self):
         """Every definition that a public contract reaches, by name."""
-        out = [MADE, "# Index of the definitions", "", "This index has every definition that a public contract uses, with the page of its crate.", ""]
+        out = [MADE, "# Index of the definitions", "", "This index lists every definition that a public contract uses, with the page of its crate.", ""]
         for key in sorted(self.reached_by_crates, key=lambda key: (key[2].lower(), key)):
             definition = self.specs.definitions[key]
             out.append(f"- [`{definition.name}`](crates/{definition.crate}.md) of `{definition.crate}`, {definition.file}")

@@ -189,9 +189,9 @@ def trust():
     p = Picture("trust", 900, 372)
     rows = (
         ("a promise in words", "README.md, docs/promises", GREEN, "you compare: do the definitions mean these words?"),
-        ("its contract: clauses and definitions", "crates/promises: a page for each", GREEN, "the gate compares: the page is what the tree says"),
+        ("its contract: clauses and definitions", "crates/promises: a page for each", GREEN, "the gate compares the page with the code"),
         ("contracts of the crates below", "each crate relies only on the crates below", BLUE, "the prover: each body meets its contract"),
-        ("bodies, from the line to the raw words", "source code with its proofs", BLUE, "the prover: safe, and no pointer goes astray"),
+        ("bodies, from the protocol to raw memory", "source code with its proofs", BLUE, "the prover: each body is safe"),
         ("toolchain: prover, logic, library, compiler", "rt version; two compilers, compared", YELLOW, "trusted"),
         ("C library, kernel, processor", "files, sockets, locks, memory", YELLOW, "trusted"),
     )
@@ -225,7 +225,7 @@ def states():
     p.arrow([(485, 214), (485, 300)])
     p.lines(478, 252, ["Advance: Wait or", "Return with a child"], anchor="end")
     p.arrow([(400, 328), (125, 328), (125, 214)])
-    p.lines(250, 348, ["a child's Inlet wakes or aborts,", "or takes in the last child"])
+    p.lines(250, 348, ["a child's Inlet wakes the parent, or", "aborts, or removes the last child"])
     p.arrow([(545, 214), (545, 256), (800, 256), (800, 300)])
     p.text(672, 272, "Advance: Return without a child")
     p.arrow([(825, 356), (825, 410)])
@@ -262,7 +262,7 @@ def words():
     for x, name, lines in columns:
         p.text(x, 268, name, 12, "start", True)
         p.lines(x, 288, lines, 12, "start", step=18)
-    p.text(20, 386, "A job that is done keeps the first 76 words of its root (12 + 64). Only here are roles, phases and kinds numbers; in the code they are enums.", 11, "start", fill=LINE)
+    p.text(20, 386, "A job that is done keeps the first 76 words of its root (12 + 64). Only these words store roles, phases and kinds as numbers; the code has enums.", 11, "start", fill=LINE)
     return p
 
 
@@ -295,7 +295,7 @@ def threads():
     p.lines(686, 104, ["offer: one", "worker's step"], 11)
     p.lines(684, 264, ["next_ready:", "a ready frame"], 11)
     p.lines(850, 195, ["a thief takes the oldest"], 11)
-    p.box(380, 452, 250, 64, ["count of computations", "a lock of its own, held for", "no search and no step"], GREY, 11)
+    p.box(380, 452, 250, 64, ["count of computations", "a separate lock, not held", "during a search or a step"], GREY, 11)
     p.arrow([(740, 484), (630, 484)], both=True)
     p.box(40, 452, 210, 64, ["the thread of serve", "starts the accepting thread", "and the workers, and joins them"], GREY, 11)
     p.arrow([(145, 452), (145, 354)])
@@ -310,21 +310,21 @@ def ask():
     rows = (
         ("session's thread", GREEN, [
             ("line_io", "a line of at most 128 bytes", ""),
-            ("protocol", "read_question", "1 text to Question"),
+            ("protocol", "read_question", "(a) text to Question"),
             ("desk_office", "Desk::ask", ""),
         ]),
         ("under the lock", YELLOW, [
-            ("desk", "Kept::ask", "2 Position to root words; its Board is copied"),
-            ("hall", "Hall::offer, the journal", "3 words to a journal entry"),
+            ("desk", "Kept::ask", "(b) Position to root words; its Board is copied"),
+            ("hall", "Hall::offer, the journal", "(c) words to a journal entry"),
             ("sched_core", "Submit: a root is Ready", "words copied into a node"),
         ]),
         ("a worker's turns", VIOLET, [
-            ("pool_rules", "Steal, Advance, .. Inlet, under the lock", "4 words to a view, a Board each turn"),
-            ("leaf_search", "a leaf's search, outside the lock", "5 words to a Leaf, and back in an Answer"),
+            ("pool_rules", "Steal, Advance, .. Inlet, under the lock", "(d) words to a view, a Board each turn"),
+            ("leaf_search", "a leaf's search, outside the lock", "(e) words to a Leaf, and back in an Answer"),
             ("sched_core", "Finish, under the lock: 76 words are kept", ""),
         ]),
         ("under the lock", YELLOW, [
-            ("jamboree_core", "outcome_of, Reply::read", "6 words to a Reply"),
+            ("jamboree_core", "outcome_of, Reply::read", "(f) words to a Reply"),
             ("desk", "Kept::get, shown", "its board is compared with the list's"),
         ]),
         ("session's thread", GREEN, [
@@ -350,7 +350,7 @@ def ask():
         y += high + 12
     p.text(180, 20, "crate", 11, "start", fill=LINE)
     p.text(330, 20, "what it does", 11, "start", fill=LINE)
-    p.text(620, 20, "the position (numbered: taken apart or put together)", 11, "start", fill=LINE)
+    p.text(620, 20, "the position (letters: its conversions)", 11, "start", fill=LINE)
     return p
 
 

@@ -1,0 +1,12 @@
+pub mod PlanLemmas
+pub mod AmountLemmas
+pub mod NameLemmas
+pub mod GrantLemmas
+pub mod Seats
+pub mod Soundness
+pub mod Views
+pub mod Isolation
+pub mod RunLemmas
+pub mod Refusals
+pub mod GuestLemmas
+pub mod BookLemmas

@@ -1,0 +1,11 @@
+pub mod Names
+pub mod Amounts
+pub mod Rates
+pub mod Plans
+pub mod Grants
+pub mod Causes
+pub mod Ledgers
+pub mod Keeping
+pub mod Runs
+pub mod Allowed
+pub mod Rows

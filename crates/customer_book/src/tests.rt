@@ -1,0 +1,103 @@
+//! Small books at work: what is tried here is that calls succeed where they may, which no clause of memory can say.
+use super::*;
+use std::alloc::{AllocError, Global};
+use std::process::Abort;
+
+const ASK: Ask = Ask {
+    segments: 10,
+    nodes: 100,
+};
+
+const OFTEN: Rate = Rate {
+    period: 10,
+    burst: 100,
+};
+
+/// So many such sessions.
+fn budget(sessions: u8) -> [Amount; CLASSES] {
+    let sessions = u32::from(sessions);
+    let mut budgets = [Amount::NOTHING; CLASSES];
+    budgets[0] = Amount {
+        sessions,
+        segments: 10 * u64::from(sessions),
+        nodes: 100 * u64::from(sessions),
+    };
+    budgets
+}
+
+fn customer(sessions: u8) -> Customer {
+    Customer {
+        budgets: budget(sessions),
+        lines: OFTEN,
+        refusals: Rate {
+            period: 10,
+            burst: 1,
+        },
+    }
+}
+
+/// Two servers of two places, a school that may have two sessions, and guests that may have one each and two together.
+fn small_site(alloc: Global) -> Result<Site, AllocError> {
+    let mut classes = [Class::NONE; CLASSES];
+    classes[0] = Class {
+        most_segments: 10,
+        most_nodes: 100,
+    };
+    let server = Server {
+        class: 0,
+        places: 2,
+        segments: 20,
+        nodes: 200,
+    };
+    Ok(Site {
+        classes,
+        servers: vec![in alloc; server, server]?,
+        customers: vec![in alloc; customer(2)]?,
+        share: customer(1),
+        pool: budget(2),
+        addresses: 3,
+    })
+}
+
+fn opened(rt: &impl Abort, answer: Result<Grant, Refusal>) -> Grant {
+    match answer {
+        Ok(grant) => grant,
+        Err(refusal) => panic!(rt; "refused: {refusal:?}"),
+    }
+}
+
+fn refused(rt: &impl Abort, book: &mut Book, answer: Result<Grant, Refusal>) -> Cause {
+    match answer {
+        Ok(grant) => {
+            book.close(grant);
+            panic!(rt; "granted")
+        }
+        Err(refusal) => refusal.cause,
+    }
+}
+
+#[test]
+fn a_school_and_two_guests(rt: HostRuntime) -> Result<(), AllocError> {
+    let site = small_site(rt.alloc())?;
+    assert!(rt; site.sums_fit());
+    let mut book = Book::new(rt.alloc(), site)?;
+    let school = opened(&rt, book.open(Who::Named(0), 1, 0, ASK));
+    let guest = opened(&rt, book.open(Who::V4(7), 1, 0, ASK));
+    let again = book.open(Who::V4(7), 2, 0, ASK);
+    assert_eq!(rt; refused(&rt, &mut book, again), Cause::Budget);
+    let other = opened(&rt, book.open(Who::V6(7), 1, 0, ASK));
+    let third = book.open(Who::V4(8), 1, 0, ASK);
+    assert_eq!(rt; refused(&rt, &mut book, third), Cause::Pool);
+    assert_eq!(rt;
+        (school.server(), guest.server(), other.server()),
+        (0, 0, 1)
+    );
+    book.close(guest);
+    let third = opened(&rt, book.open(Who::V4(8), 1, 0, ASK));
+    assert_eq!(rt; third.server(), 0);
+    book.close(school);
+    book.close(other);
+    book.close(third);
+    assert_eq!(rt; book.sessions(), 0);
+    Ok(())
+}

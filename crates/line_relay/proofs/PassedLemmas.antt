@@ -1,0 +1,129 @@
+-- What some turns come to in all.
+use Rattle.std.proofs.Common.{◌≡◌, ℕ, suc, List, [], ◌∷◌, ◌++◌, map, length, Bool, true, false, ◌||◌, cond, eqb, refl, sym, ap, ◌∙◌, subst, append_assoc, Option, Some, Ok}
+use Rattle.std.proofs.lemmas.List.{append-nil, map-append}
+use Rattle.std.proofs.lemmas.List.Elements.{All-nil, All-cons}
+use Rattle.std.proofs.lemmas.List.Folds.{concat-append}
+use Rattle.std.specs.List.{concat, list_any, All}
+use Rattle.std.specs.Str.Lines.{strip_carriage_return}
+use Rattle.line_io.specs.Held.{held, with_byte, ended_line, held_after, ended_within}
+use Rattle.line_io.specs.Leads.{Leads}
+use Rattle.line_io.specs.Lines.{LineText, line_text, lines_of, up_to_last_end}
+use Rattle.line_io.specs.Streams.{ReadAnswer, WriteAnswer, Took}
+use Rattle.line_io.specs.Writes.{IsWritten, with_newline, written_texts}
+use Rattle.line_io.proofs.Chains.{Leads-append}
+use Rattle.line_io.proofs.Streamed.{with_byte-held, ended_line-held, ended_within-all, ended_within-append}
+use Rattle.line_relay.specs.declared.ahead.Peer.{Peer}
+use Rattle.line_relay.specs.declared.judging.Verdict.{Verdict}
+use Rattle.line_relay.specs.Passed.{PassedOn, deed_of, sent_first, sent_texts, told_first, told_texts}
+use Rattle.line_relay.specs.Relays.{Turn, Replied, TurnDone}
+use Rattle.line_relay.specs.Takes.{ByteTaken, has_end}
+use Rattle.line_relay.specs.Verdicts.{Deed, Sends, Answers, Ends}
+
+-- an LF is among these bytes
+or_true : (t : Bool) → (t || true) ≡ true
+or_true true = refl
+or_true false = refl
+
+end-there : (raw rest : List ℕ) → list_any (λ c. eqb c 10) (raw ++ 10 ∷ rest) ≡ true
+end-there [] rest = refl
+end-there (b ∷ bs) rest = ap (λ t. eqb b 10 || t) (end-there bs rest) ∙ or_true (eqb b 10)
+
+-- a line more in front
+pub whole-more : (raw rest : List ℕ) → up_to_last_end (raw ++ 10 ∷ rest) ≡ raw ++ 10 ∷ up_to_last_end rest
+whole-more [] rest = refl
+whole-more (b ∷ bs) rest =
+    ap (λ t. cond t (b ∷ up_to_last_end (bs ++ 10 ∷ rest)) []) (end-there (b ∷ bs) rest) ∙ ap (λ z. b ∷ z) (whole-more bs rest)
+
+or_false : (a b : Bool) → (a || b) ≡ false → (a ≡ false) × (b ≡ false)
+or_false true b e = cc
+or_false false b e = (refl, e)
+
+-- where no byte is LF, no line ends, and the bytes are held
+none-ended : (h : Option (List ℕ)) (bs : List ℕ) → has_end bs ≡ false → ended_within h bs ≡ []
+none-ended h [] e = refl
+none-ended h (b ∷ bs) e =
+    let p = or_false (eqb b 10) (has_end bs) e in
+    ap (λ t. cond t (ended_line h ∷ ended_within (Some []) bs) (ended_within (with_byte h b) bs)) p.0 ∙ none-ended (with_byte h b) bs p.1
+
+held-more : (pre bs : List ℕ) → has_end bs ≡ false → held_after (held pre) bs ≡ held (pre ++ bs)
+held-more pre [] e = ap held (sym (append-nil pre))
+held-more pre (b ∷ bs) e =
+    let p = or_false (eqb b 10) (has_end bs) e in
+    ap (λ t. held_after (cond t (Some []) (with_byte (held pre) b)) bs) p.0 ∙ (ap (λ h. held_after h bs) (with_byte-held pre b) ∙ (held-more (pre ++ b ∷ []) bs p.1 ∙ ap held (append_assoc pre (b ∷ []) bs)))
+
+pub lines-more : (raw rest : List ℕ) → has_end raw ≡ false → up_to_last_end rest ≡ rest → lines_of (raw ++ 10 ∷ rest) ≡ line_text (strip_carriage_return raw) ∷ lines_of rest
+lines-more raw rest none whole =
+    let all : up_to_last_end (raw ++ 10 ∷ rest) ≡ raw ++ 10 ∷ rest = whole-more raw rest ∙ ap (λ z. raw ++ 10 ∷ z) whole in
+    ap lines_of (sym all) ∙ (sym (ended_within-all (raw ++ 10 ∷ rest)) ∙ (ended_within-append (Some []) raw (10 ∷ rest) ∙ (ap (λ z. z ++ ended_within (held_after (Some []) raw) (10 ∷ rest)) (none-ended (Some []) raw none) ∙ (ap (λ h. ended_line h ∷ ended_within (Some []) rest) (held-more [] raw none) ∙ (ap (λ z. z ∷ ended_within (Some []) rest) (ended_line-held raw) ∙ ap (λ z. line_text (strip_carriage_return raw) ∷ z) (ended_within-all rest ∙ ap lines_of whole))))))
+
+-- pieces that were written
+pieces-more : {K : Type 0} (takes : K → WriteAnswer → K → Type 0) (a : K) (ps : List (List ℕ)) (b : K) (qs : List (List ℕ)) (c : K) → Leads takes a (map Took ps) b → Leads takes b (map Took qs) c → Leads takes a (map Took (ps ++ qs)) c
+pieces-more takes a ps b qs c p q =
+    subst (λ ws. Leads takes a ws c) (sym (map-append Took ps qs)) (Leads-append takes a (map Took ps) b (map Took qs) c p q)
+
+written-bytes : {K : Type 0} (takes : K → WriteAnswer → K → Type 0) (a : K) (bytes : List ℕ) (b : K) (u : Unit {0}) → (w : IsWritten takes a bytes b (Ok u)) → concat w.pieces ≡ bytes
+written-bytes takes a bytes b u w =
+    sym (append-nil (concat w.pieces)) ∙ (ap (λ z. concat w.pieces ++ z) (sym w.ends) ∙ w.taken)
+
+-- the server's side of some turns
+record ServerSide {S T : Type 0} (gives : S → ReadAnswer → S → Type 0) (takes : T → WriteAnswer → T → Type 0) (from to : Peer S T) (texts answers : List (List ℕ)) : Type 0 where
+  pub sent : List (List ℕ)
+  pub sending : Leads takes from.sink (map Took sent) to.sink
+  pub sent_is : concat sent ≡ written_texts texts
+  pub each_one : length answers ≡ length texts
+  pub one_line : All (λ a. has_end a ≡ false) answers
+  pub heard : Leads (ByteTaken gives) (from.source, from.ahead) (written_texts answers) (to.source, to.ahead)
+
+-- one turn more in front: its server's side, and what is told
+server-more : {S T J : Type 0} (gives : S → ReadAnswer → S → Type 0) (takes : T → WriteAnswer → T → Type 0) (hears : J → List ℕ → J → Type 0) (deed : Deed) (from mid to : Peer S T) (j j' : J) (told : List ℕ) (texts answers : List (List ℕ)) (more : List (List ℕ) → List (List ℕ)) → Replied gives takes hears deed from j told mid j' → ServerSide gives takes mid to texts answers → (all : List (List ℕ)) × ServerSide gives takes from to (sent_first deed texts) all × (with_newline told ++ written_texts (more answers) ≡ written_texts (told_first deed all more))
+server-more gives takes hears (Sends text) from mid to j j' told texts answers more p x =
+    let asked = p.0 in
+    let answer = asked.1.0 in
+    let side : ServerSide gives takes from to (text ∷ texts) (answer ∷ answers) = record {
+      sent = asked.0.pieces ++ x.sent;
+      sending = pieces-more takes from.sink asked.0.pieces mid.sink x.sent to.sink asked.0.writes x.sending;
+      sent_is = concat-append asked.0.pieces x.sent ∙ (ap (λ z. z ++ concat x.sent) (written-bytes takes from.sink (with_newline text) mid.sink tt asked.0) ∙ ap (λ z. with_newline text ++ z) x.sent_is);
+      each_one = ap suc x.each_one;
+      one_line = All-cons (λ a. has_end a ≡ false) answer answers asked.1.2.0 x.one_line;
+      heard = Leads-append (ByteTaken gives) (from.source, from.ahead) (with_newline answer) (mid.source, mid.ahead) (written_texts answers) (to.source, to.ahead) asked.1.2.1 x.heard;
+    } in
+    (answer ∷ answers, side, ap (λ z. z ++ written_texts (more answers)) asked.1.1)
+server-more gives takes hears (Answers n) from mid to j j' told texts answers more p x =
+    (answers, subst (λ z. ServerSide gives takes z to texts answers) p.0 x, ap (λ z. with_newline z ++ written_texts (more answers)) p.2)
+server-more gives takes hears Ends from mid to j j' told texts answers more p x = absurd p
+
+module _ {C K S T J : Type 0} (reads : C → ReadAnswer → C → Type 0) (tells : K → WriteAnswer → K → Type 0) (gives : S → ReadAnswer → S → Type 0) (takes : T → WriteAnswer → T → Type 0) (judges : J → LineText → Verdict → J → Type 0) (hears : J → List ℕ → J → Type 0) where
+  side-of : (from : Peer C K × Peer S T × J) (turns : List Turn) (to : Peer C K × Peer S T × J) → (x : PassedOn reads tells gives takes from turns to) → ServerSide gives takes from.1 to.1 (sent_texts turns) x.answers
+  side-of from turns to x =
+      record { sent = x.sent; sending = x.sending; sent_is = x.sent_is; each_one = x.each_one; one_line = x.one_line; heard = x.heard }
+
+  pub Passed-none : (from to : Peer C K × Peer S T × J) → from ≡ to → PassedOn reads tells gives takes from [] to
+  Passed-none from to e =
+      subst (λ z. PassedOn reads tells gives takes from [] z) e (record { used = []; taken = refl; whole = refl; lines = refl; sent = []; sending = refl; sent_is = refl; answers = []; each_one = refl; one_line = All-nil (λ a. has_end a ≡ false); heard = refl; told = []; telling = refl; told_is = refl })
+
+  pub Passed-more : (from : Peer C K × Peer S T × J) (t : Turn) (mid : Peer C K × Peer S T × J) (ts : List Turn) (to : Peer C K × Peer S T × J) → TurnDone reads tells gives takes judges hears from t mid → PassedOn reads tells gives takes mid ts to → PassedOn reads tells gives takes from (t ∷ ts) to
+  Passed-more from t mid ts to d x =
+      let raw = d.line.0 in
+      let one : List ℕ = raw ++ 10 ∷ [] in
+      let joined : one ++ x.used ≡ raw ++ 10 ∷ x.used = append_assoc raw (10 ∷ []) x.used in
+      let side = server-more gives takes hears (deed_of t) from.1 mid.1 to.1 d.answered.judging mid.2 t.told (sent_texts ts) x.answers (λ rest. told_texts ts rest) d.answered.replied (side-of mid ts to x) in
+      record {
+        used = one ++ x.used;
+        taken = Leads-append (ByteTaken reads) (from.0.source, from.0.ahead) one (mid.0.source, mid.0.ahead) x.used (to.0.source, to.0.ahead) d.line.1.1 x.taken;
+        whole = ap up_to_last_end joined ∙ (whole-more raw x.used ∙ (ap (λ z. raw ++ 10 ∷ z) x.whole ∙ sym joined));
+        lines = ap lines_of joined ∙ (lines-more raw x.used d.line.1.0 x.whole ∙ (ap (λ z. z ∷ lines_of x.used) (sym d.line.2) ∙ ap (λ z. t.line ∷ z) x.lines));
+        sent = side.1.sent;
+        sending = side.1.sending;
+        sent_is = side.1.sent_is;
+        answers = side.0;
+        each_one = side.1.each_one;
+        one_line = side.1.one_line;
+        heard = side.1.heard;
+        told = d.answered.told.pieces ++ x.told;
+        telling = pieces-more tells from.0.sink d.answered.told.pieces mid.0.sink x.told to.0.sink d.answered.told.writes x.telling;
+        told_is = concat-append d.answered.told.pieces x.told ∙ (ap (λ z. z ++ concat x.told) (written-bytes tells from.0.sink (with_newline t.told) mid.0.sink tt d.answered.told) ∙ (ap (λ z. with_newline t.told ++ z) x.told_is ∙ side.2));
+      }
+
+  pub turns-pass : (from : Peer C K × Peer S T × J) (turns : List Turn) (to : Peer C K × Peer S T × J) → Leads (TurnDone reads tells gives takes judges hears) from turns to → PassedOn reads tells gives takes from turns to
+  turns-pass from [] to e = Passed-none from to e
+  turns-pass from (t ∷ ts) to p = Passed-more from t p.0 ts to p.1 (turns-pass p.0 ts to p.2)

@@ -1,0 +1,103 @@
+-- A token is shorter than its line.
+use Rattle.std.proofs.Common.{◌≡◌, ℕ, suc, ◌-◌, ◌<◌, ◌≤◌, List, [], ◌∷◌, length, eqb, cond, Bool, true, false, refl, sym, ap, subst, nat_le, arith, Option, Some, None, codes}
+use Rattle.std.specs.Option.{option_map}
+use Rattle.std.specs.Str.{bytes_eq}
+use Rattle.std.proofs.lemmas.Bool.Decides.{nat_tests}
+use Rattle.std.proofs.lemmas.List.{length-take}
+use Rattle.protocol.specs.Words.{split_at_space}
+use Rattle.line_io.specs.Lines.{LineText, Whole, TooLong, line_text}
+use Rattle.line_relay.specs.declared.judging.Verdict.{Verdict}
+use Rattle.line_relay.specs.declared.judging.Verdict.TheVariants.{Pass, Cut, Refuse, End}
+use Rattle.line_relay.specs.Tokens.{last_word, word_after, word_after_two, token_after, token_by, token_of, less_token, without_token}
+use Rattle.line_relay.specs.Verdicts.{Deed, Sends, Answers, Ends, deed_for, IsShort, IsShortText}
+
+-- what follows the first space is shorter than this
+rest_short : Option (List ℕ × List ℕ) → ℕ → Type 0
+rest_short None n = Unit {0}
+rest_short (Some p) n = length p.1 < n
+
+abbrev pub word_short : Option (List ℕ) → ℕ → Type 0
+word_short None n = Unit {0}
+word_short (Some w) n = length w < n
+
+rest-weaker : (o : Option (List ℕ × List ℕ)) (m n : ℕ) → m ≤ n → rest_short o m → rest_short o n
+unfolding rest_short
+rest-weaker None m n le h = tt
+rest-weaker (Some p) m n le h = omega (arith, h)
+
+rest-map : (b : ℕ) (o : Option (List ℕ × List ℕ)) (n : ℕ) → rest_short o n → rest_short (option_map (λ p. (b ∷ p.0, p.1)) o) n
+unfolding rest_short
+rest-map b None n h = tt
+rest-map b (Some p) n h = h
+
+rest-step : (t : Bool) (b : ℕ) (bs : List ℕ) (o : Option (List ℕ × List ℕ)) → rest_short o (length bs) → rest_short (cond t (Some ([], bs)) (option_map (λ p. (b ∷ p.0, p.1)) o)) (suc (length bs))
+unfolding rest_short
+rest-step true b bs o h = omega arith
+rest-step false b bs o h =
+    rest-weaker (option_map (λ p. (b ∷ p.0, p.1)) o) (length bs) (suc (length bs)) (omega arith) (rest-map b o (length bs) h)
+
+split-short : (line : List ℕ) → rest_short (split_at_space line) (length line)
+unfolding rest_short
+split-short [] = tt
+split-short (b ∷ bs) = rest-step (eqb b 32) b bs (split_at_space bs) (split-short bs)
+
+last-short : (w : List ℕ) (o : Option (List ℕ × List ℕ)) (n : ℕ) → length w < n → word_short (last_word w o) n
+last-short w None n h = h
+last-short w (Some p) n h = tt
+
+after-short : (o : Option (List ℕ × List ℕ)) (n : ℕ) → rest_short o n → word_short (word_after o) n
+unfolding rest_short
+after-short None n h = tt
+after-short (Some p) n h = last-short p.1 (split_at_space p.1) n h
+
+two-short : (o : Option (List ℕ × List ℕ)) (n : ℕ) → rest_short o n → word_short (word_after_two o) n
+unfolding rest_short
+two-short None n h = tt
+two-short (Some p) n h =
+    after-short (split_at_space p.1) n (rest-weaker (split_at_space p.1) (length p.1) n (omega (arith, h)) (split-short p.1))
+
+by-step : (t : Bool) (w : Option (List ℕ)) (n : ℕ) → word_short w n → word_short (cond t w None) n
+by-step true w n h = h
+by-step false w n h = tt
+
+by-short : (o : Option (List ℕ × List ℕ)) (n : ℕ) → rest_short o n → word_short (token_by o) n
+unfolding rest_short
+by-short None n h = tt
+by-short (Some p) n h =
+    by-step (bytes_eq p.0 (codes "HELLO")) (token_after p.1) n (two-short (split_at_space p.1) n (rest-weaker (split_at_space p.1) (length p.1) n (omega (arith, h)) (split-short p.1)))
+
+pub token-short : (line token : List ℕ) → Some token ≡ token_of line → length token < length line
+token-short line token e =
+    subst (λ o. word_short o (length line)) (sym e) (by-short (split_at_space line) (length line) (split-short line))
+
+-- what is sent is no longer than the line
+less-short : (line : List ℕ) (o : Option (List ℕ)) → length (less_token line o) ≤ length line
+less-short line None = omega arith
+less-short line (Some token) = omega (arith, length-take (length line - length token - 1) line)
+
+text_sent : Deed → List ℕ → List ℕ
+text_sent (Sends text) other = text
+text_sent (Answers n) other = other
+text_sent Ends other = other
+
+sends : {a b : List ℕ} → Sends a ≡ Sends b → a ≡ b
+unfolding text_sent
+sends {a} {b} e = ap (λ d. text_sent d a) e
+
+pub sends-short : (verdict : Verdict) (line : LineText) (text : List ℕ) → IsShort line → Sends text ≡ deed_for verdict line → IsShortText text
+sends-short Pass (Whole bytes) text short e = subst IsShortText (sym (sends e)) short
+sends-short Pass TooLong text short e = cc
+sends-short Cut (Whole bytes) text short e =
+    let fits : length (without_token bytes) ≤ 128 = omega (arith, less-short bytes (token_of bytes), short) in
+    subst IsShortText (sym (sends e)) fits
+sends-short (Refuse n) line text short e = cc
+sends-short End line text short e = cc
+sends-short Cut TooLong text short e = cc
+
+-- a line that is read is short
+short-text : (t : Bool) (bytes : List ℕ) → nat_le (length bytes) 128 ≡ t → IsShort (cond t (Whole bytes) TooLong)
+short-text true bytes e = grind (arith, nat_tests)
+short-text false bytes e = tt
+
+pub read-short : (bytes : List ℕ) → IsShort (line_text bytes)
+read-short bytes = short-text (nat_le (length bytes) 128) bytes refl
