@@ -22,7 +22,7 @@ use thiserror::Error;
 
 /// Why the command `serve` failed.
 #[derive(Debug, Drop, Error)]
-enum Unserved {
+pub(crate) enum Unserved {
     /// The system refused to let it listen at this port.
     #[error("port {0}: {1}")]
     Port(u16, io::Error),

@@ -1,5 +1,7 @@
 //! What the words of the command line ask for, the exit statuses, and where each text goes.
+mod grains;
 mod served;
+mod streams;
 
 use crate::running::run;
 use command_line::{Options, WordsFault};
@@ -322,7 +324,7 @@ const SPENT: [Row; 7] = [
     ("LIVE\n", "LIVE 0 0\n"),
 ];
 
-/// Asks for what one node suffices for at grain 2, and not at grain 0.
+/// Asks for what one node doesn't suffice for.
 const SHALLOW: &str = "ASK 2 ---------------------------OX------XO--------------------------- X\n";
 
 /// The last line of a session.

@@ -6,6 +6,7 @@ mod announced;
 mod faults;
 mod games;
 mod idle;
+mod many;
 mod overlaps;
 mod rows;
 mod searches;

@@ -3,6 +3,7 @@
 ghost use Rattle.std.specs.Prelude.{◌≡◌};
 
 mod doors;
+mod failing;
 mod reserving;
 mod tables;
 
