@@ -110,6 +110,20 @@ def minimax(board, player, depth):
     return best
 
 
+def search(board, player, depth, alpha, beta):
+    """The serial window search: its score, which may lie outside the window (fail-soft), and how many positions it entered."""
+    moves = choices(board, player)
+    if depth == 0 or not moves:
+        return static(board, player), 1
+    best, entered = -200000, 1
+    for choice in moves:
+        below = search(after(board, player, choice), other(player), depth - plies(choice), -beta, -max(alpha, best))
+        best, entered = max(best, -below[0]), entered + below[1]
+        if best >= beta:
+            break
+    return best, entered
+
+
 def name(choice):
     if choice is None:
         return "-"

@@ -95,8 +95,12 @@ class Reader(Numbered):
 
 
 class Jamboree:
-    """By the table of a frame's words. Answers are known here of leaves of depth 0 and of finished games, so the grain is 0."""
+    """By the table of a frame's words. A child of a depth up to the grain is computed. Where a leaf's score lies outside its
+    window nothing says which choice comes with it, so no list looks at such a frame."""
     name = "Jamboree"
+
+    def __init__(self, grain=0):
+        self.grain = grain
 
     @staticmethod
     def window(words):
@@ -125,7 +129,8 @@ class Jamboree:
     def begin(self, sight):
         own, opp = self.board(sight)
         count = len(othello.choices(othello.board_of(own, opp), "X"))
-        if sight[0][2] == 0 or count == 0:
+        least = 0 if sight[0][5] == 0 else self.grain
+        if sight[0][2] <= least or count == 0:
             return [(0, own), (1, opp), (7, 1)], ("Compute",)
         return [(0, own), (1, opp), (7, 2), (8, 800000), (9, 65), (10, count), (11, 0)], ("Grow", count)
 
@@ -186,8 +191,10 @@ class Jamboree:
 
     def accept(self, own, answer):
         board = othello.board_of(answer[0], answer[1])
-        assert answer[2] == 0 or not othello.choices(board, "X")
-        return [(8, othello.static(board, "X") + 1000000), (9, 65), (7, 4)]
+        score = othello.search(board, "X", answer[2], answer[3], answer[4])[0]
+        within = answer[3] < score < answer[4] and answer[2] > 0
+        choice = othello.minimax(board, "X", answer[2])[1] if within else None
+        return [(8, score + 1000000), (9, 65 if choice is None else choice), (7, 4)]
 
     def answer(self, random, asked):
         return asked

@@ -1,11 +1,11 @@
-//! Tests of lines, texts of positions, boards and searches.
+//! Tests of lines, boards and searches.
 //!
-//! What each call of `line_io`, `protocol`, `position_text`, the crates of the game, `leaf_search` and
-//! `jamboree` does is proved in those crates. Here their public calls are run: on examples from outside,
-//! as the known numbers of leaf positions from the opening; on readers and writers that fail, and that
-//! notice where an answer comes too late; and for what no contract says, as which of two scores outside a
-//! window is found. The tests stand in a crate of their own, so that the crates below are not proved once
-//! more with them.
+//! What each call of `line_io`, `protocol`, `position_text`, the crates of the game, `leaf_search`, `jamboree_core`,
+//! `lone_search` and `solve_engine` does is proved in those crates. Here the examples at their heads are run, and what
+//! no contract says: the known numbers of leaf positions from the opening; readers and writers that fail, and that
+//! notice where an answer comes too late; searches whose core has little memory, and how far a core goes. What needs no
+//! such thing is a row of a text (`transcripts`). The tests stand in a crate of their own, so that the crates below are
+//! not proved once more with them.
 //!
 //! Why it is so:
 //!

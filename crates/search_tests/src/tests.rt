@@ -1,4 +1,3 @@
-mod acts;
 mod alone;
 mod cores;
 mod leaves;

@@ -1,11 +1,7 @@
-ghost use Rattle.std.specs.Prelude.{◌≤◌};
-
 use counted_alloc::Counted;
 use frame_tree::FrameId;
-use jamboree_core::leaf_search::search_full;
 use linked_list_allocator::LocalHeap;
 use lone_search::{Searched, Way, search_within, solve_by_core};
-use othello_eval::Valued;
 use othello_moves::Choice;
 use pool_rules::{Action, Holding, Task, Turn};
 use position_text::{Position, read};
@@ -50,86 +46,6 @@ fn a_child_is_a_task(rt: HostRuntime) -> Result<(), Fail> {
         }),
     };
     assert_eq!(rt; turn, wanted);
-    Ok(())
-}
-
-/// The opening to depth 1 with grain 0 uses 5 nodes and 32 of the worker's steps.
-#[test]
-fn nodes_and_steps_of_one_job(rt: HostRuntime) -> Result<(), Fail> {
-    let reserve = Reserve::new(8, 8).ok_or("no reservation")?;
-    let found = search_within(rt.alloc(), &opening()?, 1, 0, reserve)?;
-    let left = Left {
-        segments: 8,
-        nodes: 3,
-        steps: 96,
-    };
-    assert_eq!(rt;
-        found,
-        Searched {
-            answer: Valued {
-                value: -3,
-                choice: Some(Choice::Square(19)),
-            },
-            way: Way::Done,
-            left,
-        }
-    );
-    Ok(())
-}
-
-/// Every reservation of 1 to 8 segments by 1 to 32 nodes: the job is done or spent, the answer is the same, and all
-/// segments are given back.
-#[test]
-fn every_small_reservation_is_answered(rt: HostRuntime) -> Result<(), Fail> {
-    let position = opening()?;
-    let mut done = 0u32;
-    let mut spent = 0u32;
-    for segments in 1..9 {
-        for nodes in 1..33 {
-            let reserve = Reserve::new(segments, nodes).ok_or("no reservation")?;
-            let found = search_within(rt.alloc(), &position, 2, 0, reserve)?;
-            assert_eq!(rt;
-                (found.answer.value, found.answer.choice),
-                (-4, Some(Choice::Square(19)))
-            );
-            assert_eq!(rt; found.left.segments, segments);
-            match found.way {
-                Way::Done => done = done.saturating_add(1),
-                Way::Spent => spent = spent.saturating_add(1),
-                Way::Stopped => assert!(rt; false, "{segments} segments and {nodes} nodes"),
-            }
-        }
-    }
-    assert!(rt; done > 0 && spent > 0, "{done} done and {spent} spent");
-    Ok(())
-}
-
-/// What is found doesn't depend on the grain: it is what the serial search finds.
-#[test]
-fn every_grain_finds_the_same(rt: HostRuntime) -> Result<(), Fail> {
-    let position = opening()?;
-    for depth in 0..5 {
-        let serial = search_full(position.board, depth);
-        for grain in 0..7 {
-            let found = solve_by_core(rt.alloc(), &position, depth, grain)?;
-            assert_eq!(rt;
-                (found.answer.value, found.answer.choice),
-                (serial.score, serial.choice)
-            );
-        }
-    }
-    Ok(())
-}
-
-/// To depth 0 a root is computed by itself, whatever the grain: one node and five steps of a core of 4,096 segments and
-/// 65,536 nodes.
-#[test]
-fn a_root_is_computed_at_depth_0(rt: HostRuntime) -> Result<(), Fail> {
-    let position = opening()?;
-    for grain in 0..7 {
-        let alone = solve_by_core(rt.alloc(), &position, 0, grain)?;
-        assert!(rt; is_done_with(&alone, 65_535, 1_048_571), "grain {grain}");
-    }
     Ok(())
 }
 

@@ -8,16 +8,13 @@ use session::{Analysis, Bounds, End, Live, Office, Question, SessionFault, Stand
 use std::alloc::Global;
 use std::cell::Cell;
 use std::io::{self, ErrorKind, Write};
-use std::mem;
 use std::sync::Wait;
 use std::test::Fail;
 use tenant_quota::{Left, Reserve};
 
-/// An office of prepared replies, which numbers the jobs and knows whether its tenant is there. Its first HELLO may be
-/// refused.
+/// An office of prepared replies, which numbers the jobs and knows whether its tenant is there.
 #[derive(Drop)]
 struct Prepared {
-    hello: Result<(), Refusal>,
     standing: Standing,
     left: Left,
     jobs: u64,
@@ -27,7 +24,6 @@ struct Prepared {
 impl Prepared {
     fn new(standing: Standing, segments: u32, nodes: u32, steps: u32) -> Prepared {
         Prepared {
-            hello: Ok(()),
             standing,
             left: Left {
                 segments,
@@ -51,9 +47,8 @@ impl Office for Prepared {
     ghost does = { λ _ _ _ _. Unit {0} };
 
     fn hello(&mut self, _reserve: Reserve) -> Result<(), Refusal> {
-        let reply = mem::replace(&mut self.hello, Ok(()));
-        self.here = reply.is_ok();
-        reply
+        self.here = true;
+        Ok(())
     }
 
     fn reserve(&mut self, reserve: Reserve) -> Result<(), Refusal> {
@@ -121,160 +116,6 @@ fn is_served<R: Wait>(
     let mut sink = FromWriter::new(Vec::new(alloc));
     let result = serve_lines(rt, &mut source, &mut sink, office);
     result == Ok(end) && !office.here && sink.writer.as_slice() == due
-}
-
-/// The lines of a session, how it ends, and what it writes.
-type Talk = (&'static [u8], End, &'static [u8]);
-
-/// Whether a session at this office goes so.
-fn is_talk<R: Wait>(rt: &R, alloc: Global, office: Prepared, talk: Talk) -> bool {
-    let mut office = office;
-    let (lines, end, due) = talk;
-    is_served(rt, alloc, &mut office, lines, end, due)
-}
-
-/// A job that is asked for and shown.
-const ASKED: Talk = (
-    b"HELLO 4 8
-ASK 0 ---------------------------OX------XO--------------------------- X
-WAIT 1
-QUOTA
-",
-    End::EndOfInput,
-    b"WELCOME 4 8\nJOB 1\nDONE 1 0 -\nQUOTA 4 7 123\n",
-);
-
-#[test]
-fn a_job_is_asked_for_and_shown(rt: HostRuntime) {
-    let office = Prepared::new(NOTHING_TO_PLAY, 4, 7, 123);
-    assert!(rt; is_talk(&rt, rt.alloc(), office, ASKED));
-}
-
-/// A spent job.
-const SPENT: Talk = (
-    b"HELLO 8 1
-ASK 3 ---------------------------OX------XO--------------------------- X
-WAIT 1
-QUOTA
-LIVE
-CANCEL 1
-GET 1
-BYE\r
-LIVE
-",
-    End::Bye,
-    b"WELCOME 8 1\nJOB 1\nSPENT 1\nQUOTA 8 0 14\nLIVE 0 0\nCANCELLED 1\nCANCELLED 1\nBYE\n",
-);
-
-#[test]
-fn a_spent_job_is_cancelled_no_more(rt: HostRuntime) {
-    let office = Prepared::new(Standing::Spent, 8, 0, 14);
-    assert!(rt; is_talk(&rt, rt.alloc(), office, SPENT));
-}
-
-/// Lines that are no command as they stand.
-const FOREIGN: Talk = (
-    b"GET 1
-WAIT x
-HELLO 4097 1
-HELLO 0 1
-HELLO 4 8
-HELLO 1 1
-
-get 1
-GET
-GET 1\x20
-AAAAAAAAAAAAAAAAAAAAAAAAAAAAAAAAAAAAAAAAAAAAAAAAAAAAAAAAAAAAAAAAAAAAAAAAAAAAAAAAAAAAAAAAAAAAAAAAAAAAAAAAAAAAAAAAAAAAAAAAAAAAAAAA\r
-AAAAAAAAAAAAAAAAAAAAAAAAAAAAAAAAAAAAAAAAAAAAAAAAAAAAAAAAAAAAAAAAAAAAAAAAAAAAAAAAAAAAAAAAAAAAAAAAAAAAAAAAAAAAAAAAAAAAAAAAAAAAAAAAA
-GET 123456789
-WAIT x
-GET 0
-ASK 13 ---------------------------OX------XO--------------------------- X
-ASK 0  ---------------------------OX------XO--------------------------- X
-ASK 0 ---\xff-----------------------OX------XO--------------------------- X
-ASK 0 ---------------------------OX------XO--------------------------- Q
-ASK 0 ",
-    End::EndOfInput,
-    b"ERR 28\nERR 28\nERR 23\nERR 23\nWELCOME 4 8\nERR 29\nERR 21\nERR 21\nERR 21\nERR 21\nERR 21\nERR 22\nERR 23\nERR 23\nERR 17\nERR 27\nERR 24\nERR 25\nERR 26\nERR 24\n",
-);
-
-#[test]
-fn foreign_lines_get_their_faults(rt: HostRuntime) {
-    let office = Prepared::new(Standing::Pending, 4, 8, 128);
-    assert!(rt; is_talk(&rt, rt.alloc(), office, FOREIGN));
-}
-
-/// A tenant that reserves more.
-const MORE: Talk = (
-    b"RESERVE 8 8
-HELLO 8 1
-ASK 0 ---------------------------OX------XO--------------------------- X
-RESERVE 8
-RESERVE 8 x
-RESERVE 0 8
-RESERVE 8 65537
-RESERVE 8 8 8
-RESERVE 8 8
-WAIT 1
-RESERVE 4 8
-",
-    End::EndOfInput,
-    b"ERR 28\nWELCOME 8 1\nJOB 1\nERR 21\nERR 23\nERR 23\nERR 23\nERR 21\nRESERVED 8 8\nDONE 1 0 -\nERR 20\n",
-);
-
-#[test]
-fn more_is_reserved_while_a_job_runs(rt: HostRuntime) {
-    let office = Prepared::new(NOTHING_TO_PLAY, 8, 1, 16);
-    assert!(rt; is_talk(&rt, rt.alloc(), office, MORE));
-}
-
-/// Whether a session of one line gets this answer.
-fn is_told<R: Wait>(rt: &R, alloc: Global, line: &[u8], answer: &[u8]) -> bool {
-    let mut office = Prepared::new(Standing::Pending, 4, 8, 128);
-    is_served(rt, alloc, &mut office, line, End::EndOfInput, answer)
-}
-
-#[test]
-fn a_line_too_long_is_answered_at_the_end_too(rt: HostRuntime) {
-    let long = [b'A'; 129];
-    assert!(rt; is_told(&rt, rt.alloc(), long.as_slice(), b"ERR 22\n"));
-    assert!(rt; is_told(&rt, rt.alloc(), &long[..128], b"ERR 21\n"));
-}
-
-/// The lines of a session whose first HELLO is refused.
-const REFUSED: &[u8] = b"HELLO 4 8
-GET 1
-QUOTA
-HELLO 4 8
-ASK 0 ---------------------------OX------XO--------------------------- X
-GET 1
-QUOTA
-";
-
-/// Whether that is answered so where it is refused by this.
-fn is_refused_first<R: Wait>(rt: &R, alloc: Global, refusal: Refusal, due: &[u8]) -> bool {
-    let mut office = Prepared::new(NOTHING_TO_PLAY, 4, 7, 123);
-    office.hello = Err(refusal);
-    is_served(rt, alloc, &mut office, REFUSED, End::EndOfInput, due)
-}
-
-#[test]
-fn a_refused_hello_may_come_again(rt: HostRuntime) {
-    for (refusal, due) in [
-        (
-            Refusal::OutOfMemory,
-            b"ERR 19\nERR 28\nERR 28\nWELCOME 4 8\nJOB 1\nDONE 1 0 -\nQUOTA 4 7 123\n".as_slice(),
-        ),
-        (
-            Refusal::Full,
-            b"ERR 14\nERR 28\nERR 28\nWELCOME 4 8\nJOB 1\nDONE 1 0 -\nQUOTA 4 7 123\n",
-        ),
-    ] {
-        assert!(rt;
-            is_refused_first(&rt, rt.alloc(), refusal, due),
-            "{refusal:?}"
-        );
-    }
 }
 
 /// A session of all lines but BYE.

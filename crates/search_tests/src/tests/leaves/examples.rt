@@ -4,7 +4,7 @@ use super::{BLACK, WHITE};
 use crate::tests::same;
 use othello_board::{Board, Cell, Direction};
 use othello_eval::{Valued, eval, final_value, plain};
-use othello_moves::{Choice, Choices, after, choice, choice_count, move_count, moves, over};
+use othello_moves::{Choice, after, choice, choice_count, move_count, moves, over};
 use std::test::Fail;
 
 /// The opening, Black to move.
@@ -46,32 +46,6 @@ fn moves_example(rt: HostRuntime) -> Result<(), Fail> {
     same(&rt, "moves", &move_count(opening), &4);
     same(&rt, "an end", &over(opening), &false);
     same(&rt, "the first", &choice(opening, 0), &Choice::Square(19));
-    Ok(())
-}
-
-#[test]
-fn choices_are_taken_in_order(rt: HostRuntime) -> Result<(), Fail> {
-    let mut left = Choices::new(opening()?);
-    same(&rt, "none left", &left.is_empty(), &false);
-    same(&rt, "how many", &left.len(), &4);
-    for square in [19, 26, 37, 44] {
-        same(&rt, "one", &left.pop_first(), &Some(Choice::Square(square)));
-    }
-    same(&rt, "no more", &left.pop_first(), &None);
-    Ok(())
-}
-
-#[test]
-fn a_pass_and_the_end(rt: HostRuntime) -> Result<(), Fail> {
-    let board = Board::new(0b10, 0b01).ok_or("no shared bit")?;
-    assert_eq!(rt; choice_count(board), 1);
-    let pass = choice(board, 0);
-    assert_eq!(rt; pass, Choice::Pass);
-    let passed = after(board, pass);
-    assert_eq!(rt; choice(passed, 0), Choice::Square(2));
-    let ended = after(passed, Choice::Square(2));
-    assert!(rt; over(ended));
-    assert_eq!(rt; choice_count(ended), 0);
     Ok(())
 }
 

@@ -1,8 +1,15 @@
 //! HELLO and RESERVE where memory is wanting, and then isn't: sessions at a desk whose hall lies in a small heap.
 ghost use Rattle.std.specs.Prelude.{◌≡◌, ◌<◌};
 
-use super::*;
+use desk::{Config, Desk, Hall, Hands, PARTS};
+use desk_office::serve_desk;
+use line_io::{FromWriter, ReadFailed, Source};
 use linked_list_allocator::LocalHeap;
+use std::alloc::Global;
+use std::marker::Brand;
+use std::sync::Wait;
+use std::sync::ledger::Blank;
+use std::test::Fail;
 
 /// How many bytes are taken before the hall is made, and given back before a later line.
 const BALLAST: usize = 262_144;

@@ -1,8 +1,14 @@
 //! An office that has no tenant refuses by number, and one that has a tenant takes no other. Sessions ask neither of it.
-use super::*;
-use desk::Refusal;
+ghost use Rattle.std.specs.Prelude.{◌≡◌};
+
+use desk::{Config, Desk, Hall, Hands, PARTS, Refusal};
 use desk_office::DeskOffice;
 use session::Office;
+use std::alloc::Global;
+use std::marker::Brand;
+use std::sync::Wait;
+use std::sync::ledger::Blank;
+use std::test::Fail;
 use tenant_quota::Reserve;
 
 /// Whether there is no job 1 to be shown.
@@ -59,25 +65,34 @@ fn is_new_office_as_it_says<L: Hands, R: Wait>(rt: &R, desk: &Desk<L>, reserve: 
     answer
 }
 
-/// A new desk, whose new offices are so for this reservation.
-#[derive(Drop)]
-struct Strangers {
-    reserve: Reserve,
+/// A hall of 8 segments and 8 nodes.
+fn small_hall(alloc: Global) -> Result<Hall, Fail> {
+    let config = Config::new(8, 8).ok_or("no config")?;
+    Ok(Hall::new(alloc, config, 0)?)
 }
 
-impl Scene for Strangers {
-    fn play<L: Hands, R: Wait>(&self, rt: &R, _alloc: Global, desk: &Desk<L>) -> Result<(), Fail> {
-        if is_new_office_as_it_says(rt, desk, self.reserve) {
-            Ok(())
-        } else {
-            Err(Fail::new("an office has answered otherwise"))
-        }
-    }
+/// Whether the offices of a new desk are so.
+fn is_new_desk_as_it_says<L: Hands, R: Wait>(
+    rt: &R,
+    hall: Hall,
+    blank: Blank,
+    reserve: Reserve,
+) -> bool
+    requires name { blank.name ≡ L.name }
+    requires parts { (blank.parts ≡ L.parts) × (L.all ≡ L.parts) × (L.all ≡ 13835058055282163712) }
+{
+    let desk: Desk<L> = Desk::new(hall, blank);
+    is_new_office_as_it_says(rt, &desk, reserve)
+}
+
+/// The same with a blank of its own.
+fn are_offices_as_they_say<R: Wait>(rt: &R, hall: Hall, reserve: Reserve) -> bool {
+    is_new_desk_as_it_says::<Brand, R>(rt, hall, Blank::new(PARTS), reserve)
 }
 
 #[test]
 fn an_office_has_one_tenant_and_says_where_it_has_none(rt: HostRuntime) -> Result<(), Fail> {
     let reserve = Reserve::new(1, 1).ok_or("no reservation")?;
-    let size = Size::of(8, 8, 0);
-    found(&rt, rt.alloc(), size, &Strangers { reserve })
+    assert!(rt; are_offices_as_they_say(&rt, small_hall(rt.alloc())?, reserve));
+    Ok(())
 }

@@ -1,5 +1,5 @@
 //! The answers to TABLE.
-use super::{NOTHING_TO_PLAY, Prepared, Talk, is_served, is_talk};
+use super::{Prepared, is_served};
 use line_io::{FromReader, Sink, WriteFailed};
 use othello_eval::{Bound, BoundKind, Valued};
 use othello_moves::Choice;
@@ -34,22 +34,6 @@ fn done(value: i32, choice: Choice, entries: &[Bound]) -> Standing {
     })
 }
 
-#[test]
-fn entries_are_kept_in_their_order(rt: HostRuntime) {
-    let entries = [
-        square(19, BoundKind::Exact, -3),
-        square(26, BoundKind::Low, -3),
-    ];
-    let mut bounds = Bounds::NONE;
-    assert_eq!(rt; bounds.as_slice(), [].as_slice());
-    bounds.push(entries[0]);
-    let one = bounds;
-    bounds.push(entries[1]);
-    assert_eq!(rt; bounds.as_slice(), entries.as_slice());
-    assert_eq!(rt; one.as_slice(), &entries[..1]);
-    assert!(rt; one != bounds);
-}
-
 /// Whether this is written of `TABLE 1` and `GET 1` where a job stands so.
 fn is_shown<R: Wait>(rt: &R, alloc: Global, standing: Standing, due: &[u8]) -> bool {
     let mut office = Prepared::new(standing, 4, 7, 123);
@@ -59,24 +43,6 @@ TABLE 1
 GET 1
 ";
     is_served(rt, alloc, &mut office, lines, End::EndOfInput, due)
-}
-
-#[test]
-fn tables_of_finished_jobs_are_shown(rt: HostRuntime) {
-    let opening = done(
-        -3,
-        Choice::Square(19),
-        &[
-            square(19, BoundKind::Exact, -3),
-            square(26, BoundKind::Low, -3),
-            square(37, BoundKind::Low, -3),
-            square(44, BoundKind::Low, -3),
-        ],
-    );
-    let due = b"WELCOME 4 8\nJOB 1\nTABLE 1 d3=-3 c4<-3 f5<-3 e6<-3\nDONE 1 -3 d3\n";
-    assert!(rt; is_shown(&rt, rt.alloc(), opening, due));
-    let due = b"WELCOME 4 8\nJOB 1\nTABLE 1\nDONE 1 0 -\n";
-    assert!(rt; is_shown(&rt, rt.alloc(), NOTHING_TO_PLAY, due));
 }
 
 #[test]
@@ -97,51 +63,6 @@ fn a_pass_and_each_kind_are_shown(rt: HostRuntime) {
     let corner = done(89, Choice::Square(0), &three);
     let due = b"WELCOME 4 8\nJOB 1\nTABLE 1 a1=89 e1<40 h8>128000\nDONE 1 89 a1\n";
     assert!(rt; is_shown(&rt, rt.alloc(), corner, due));
-}
-
-#[test]
-fn other_jobs_have_no_table(rt: HostRuntime) {
-    for (standing, due) in [
-        (
-            Standing::Pending,
-            b"WELCOME 4 8\nJOB 1\nPENDING 1\nPENDING 1\n".as_slice(),
-        ),
-        (Standing::Spent, b"WELCOME 4 8\nJOB 1\nSPENT 1\nSPENT 1\n"),
-        (
-            Standing::Cancelled,
-            b"WELCOME 4 8\nJOB 1\nCANCELLED 1\nCANCELLED 1\n",
-        ),
-    ] {
-        assert!(rt; is_shown(&rt, rt.alloc(), standing, due));
-    }
-}
-
-/// Lines of TABLE, most with a fault.
-const FAULTS: Talk = (
-    b"TABLE 1
-TABLE x
-TABLE
-HELLO 4 8
-TABLE
-TABLE 1 1
-TABLE 1\x20
-table 1
-TABLE x
-TABLE 123456789
-TABLE 1
-TABLE 0
-ASK 0 ---------------------------OX------XO--------------------------- X
-TABLE 2
-TABLE 01\r
-",
-    End::EndOfInput,
-    b"ERR 28\nERR 28\nERR 21\nWELCOME 4 8\nERR 21\nERR 21\nERR 21\nERR 21\nERR 23\nERR 23\nERR 17\nERR 17\nJOB 1\nERR 17\nTABLE 1\n",
-);
-
-#[test]
-fn faults_of_table_are_those_of_get(rt: HostRuntime) {
-    let office = Prepared::new(NOTHING_TO_PLAY, 4, 7, 123);
-    assert!(rt; is_talk(&rt, rt.alloc(), office, FAULTS));
 }
 
 /// Takes each answer by one call, and keeps the last.

@@ -1,0 +1,10 @@
+mod cores;
+mod frames;
+mod growths;
+mod guess_tables;
+mod halls;
+mod nodes;
+mod plain_core;
+mod quotas;
+mod segments;
+mod sizes;
