@@ -1,0 +1,5 @@
+pub mod Headers
+pub mod Texts
+pub mod Fields
+pub mod Guests
+pub mod Views
