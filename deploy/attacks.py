@@ -466,11 +466,10 @@ def cut_sessions(port, count, seed):
 CUTTERS = 8
 
 
-def try_cuts(wanted, sessions=4000):
-    """Sessions with ends at every byte of the client, of the server, and of both: the book is empty after them, and serves."""
-    count = int(os.environ.get("CUTS", sessions))
-    servers = CutServers(5)
-    proxy = stage.Proxy(servers.ports, terms=POOL, more=SCHOOL.format(token=DIGEST) + "rate = 10000\nburst = 10000\n")
+@contextlib.contextmanager
+def gate_before(servers, **more):
+    """The gate before what stands in the place of servers, and no HAProxy."""
+    proxy = stage.Proxy(servers.ports, **more)
     with stage.tempfile.TemporaryDirectory() as folder:
         proxy.file, proxy.log = pathlib.Path(folder, "gate.toml"), pathlib.Path(folder, "log")
         proxy.log.touch()
@@ -480,21 +479,29 @@ def try_cuts(wanted, sessions=4000):
         proxy.start_gate()
         with stage.ended_after(proxy.budgets):
             subprocess.run([HERE / "ready", str(proxy.inner), "60"], check=True)
-            begun = time.monotonic()
-            cutters = [subprocess.Popen([sys.executable, HERE / "attacks.py", str(proxy.inner), str(count // CUTTERS), str(seed)], stdout=subprocess.PIPE, text=True) for seed in range(CUTTERS)]
-            seen = []
-            while any(each.poll() is None for each in cutters):
-                seen.append(sum(row[2] for row in proxy.held()))
-                time.sleep(0.2)
-            welcomed = sum(int(each.stdout.read()) for each in cutters)
-            took = time.monotonic() - begun
-            over = is_over(proxy, "sessions that were cut", 30)
-            check(max(seen) > 0 and welcomed > count // 20, f"{max(seen)} sessions seen at once, {welcomed} welcomed")
-            servers.is_kind.set()
-            found = [handed(proxy.inner, "127.6.0.1", b"HELLO 1024 9999\nRESERVE 1024 65536\nBYE\n") for _ in range(8)]
-            check(found == [b"WELCOME 1024 9999\nRESERVED 1024 65536\nBYE\n"] * 8, f"{found}")
-            is_over(proxy, "the last ones", 10)
-            check(proxy.budgets.poll() is None, "the gate has ended")
+            yield proxy
+
+
+def try_cuts(wanted, sessions=4000):
+    """Sessions with ends at every byte of the client, of the server, and of both: the book is empty after them, and serves."""
+    count = int(os.environ.get("CUTS", sessions))
+    servers = CutServers(5)
+    with gate_before(servers, terms=POOL, more=SCHOOL.format(token=DIGEST) + "rate = 10000\nburst = 10000\n") as proxy:
+        begun = time.monotonic()
+        cutters = [subprocess.Popen([sys.executable, HERE / "attacks.py", str(proxy.inner), str(count // CUTTERS), str(seed)], stdout=subprocess.PIPE, text=True) for seed in range(CUTTERS)]
+        seen = []
+        while any(each.poll() is None for each in cutters):
+            seen.append(sum(row[2] for row in proxy.held()))
+            time.sleep(0.2)
+        welcomed = sum(int(each.stdout.read()) for each in cutters)
+        took = time.monotonic() - begun
+        over = is_over(proxy, "sessions that were cut", 30)
+        check(max(seen) > 0 and welcomed > count // 20, f"{max(seen)} sessions seen at once, {welcomed} welcomed")
+        servers.is_kind.set()
+        found = [handed(proxy.inner, "127.6.0.1", b"HELLO 1024 9999\nRESERVE 1024 65536\nBYE\n") for _ in range(8)]
+        check(found == [b"WELCOME 1024 9999\nRESERVED 1024 65536\nBYE\n"] * 8, f"{found}")
+        is_over(proxy, "the last ones", 10)
+        check(proxy.budgets.poll() is None, "the gate has ended")
     print(f"  {count} sessions in {took:.0f} s that ended at any byte, {welcomed} of them welcomed, {max(seen)} at once: the book was empty {over:.1f} s after them, and serves")
 
 
@@ -683,21 +690,58 @@ def try_silent(wanted):
     print("  a session that was silent for 15 seconds is there")
 
 
+class LateServers:
+    """What listens in the place of servers, and ends a session a second after its BYE."""
+
+    def __init__(self):
+        self.listeners = [socket.create_server(("127.0.0.1", 0), backlog=100) for _ in stage.NAMES]
+        self.ports = [each.getsockname()[1] for each in self.listeners]
+        for listener in self.listeners:
+            threading.Thread(target=self.run, args=(listener,), daemon=True).start()
+
+    def run(self, listener):
+        while True:
+            threading.Thread(target=self.session, args=listener.accept()[:1], daemon=True).start()
+
+    @staticmethod
+    def session(stream):
+        with stream, stream.makefile("rb") as lines, contextlib.suppress(OSError):
+            for line in lines:
+                word, *numbers = line.split()
+                if word != b"PROXY":
+                    stream.sendall(b"BYE\n" if word == b"BYE" else b" ".join([b"WELCOME", *numbers]) + b"\n")
+                if word == b"BYE":
+                    time.sleep(1)
+                    return
+
+
 def try_again(wanted):
     """A customer at its limit that leaves and comes again at once is served: what is just ending is waited for."""
-    with site(1000) as proxy:
-        with From(address_of(1), "127.0.0.1", proxy.port, *QUICK):
-            for number in range(60):
-                session, refusal = told(address_of(1), proxy.port, *QUICK)
-                check(session, f"after {number} sessions: ERR {refusal}")
-                if number % 3 == 0:
-                    check(is_answered(session, number, wanted), "a wrong value")
-                if number % 2:
-                    session.socket.close()  # without a BYE
-                else:
-                    session.close()
-                time.sleep(0.1)  # (its rate is 10 a second)
-    print("  60 sessions one after another beside another one of the same guest, who may have two: each was welcomed")
+    with site(1000) as proxy, From(address_of(1), "127.0.0.1", proxy.port, *QUICK):
+        for number in range(60):
+            session, refusal = told(address_of(1), proxy.port, *QUICK)
+            check(session, f"after {number} sessions: ERR {refusal}")
+            if number % 3 == 0:
+                check(is_answered(session, number, wanted), "a wrong value")
+            if number % 2:
+                session.socket.close()  # without a BYE: on a busy machine the gate may hear of the next one first
+                time.sleep(0.3)
+            else:
+                session.close()
+    with gate_before(LateServers()) as gate:
+        held = [socket.create_connection(("127.0.0.1", gate.inner), 20) for _ in range(3)]
+        for stream in held[:2]:
+            stream.sendall(header_of("127.9.9.9") + b"HELLO 1 1\n")
+            check(stream.recv(100) == b"WELCOME 1 1\n", "no session")
+        held[0].sendall(b"BYE\n")
+        check(held[0].recv(100) == b"BYE\n", "no BYE")
+        begun = time.monotonic()
+        held[2].sendall(header_of("127.9.9.9") + b"HELLO 2 2\n")
+        found, took = held[2].recv(100), time.monotonic() - begun
+        check(found == b"WELCOME 2 2\n" and 0.5 < took < 5, f"{found} after {took:.1f} s")
+        for stream in held:
+            stream.close()
+    print(f"  60 sessions one after another beside another one of the same guest, who may have two: each was welcomed; one whose server was slow to end was waited for, {took:.1f} s")
 
 
 def fronted(proxy, folder, made, hosts):

@@ -208,7 +208,7 @@ def place_of(text):
 class Session:
     def __init__(self, stream, peer):
         self.lines, self.peer, self.customer, self.upstream, self.kind, self.has = Lines(stream), peer, None, None, None, [0, 0, 0]
-        self.has_asked = False
+        self.has_asked = self.is_ending = False
 
     def header(self):
         lines = self.lines
@@ -251,7 +251,7 @@ class Session:
     def run(self):
         try:
             if wrong == "waits_for_log":
-                print("a session", flush=True)
+                say("a session")
             self.header()
             while self.customer:
                 line = self.lines.line()
@@ -259,6 +259,7 @@ class Session:
                     break
         except OSError:
             pass
+        self.is_ending = True
         if self.upstream:
             self.upstream.part()
             if wrong != "keeps_a_grant":
@@ -333,7 +334,7 @@ class Session:
     def seat(self, kind, segments, nodes, line, is_move=False):
         end = time.monotonic() + 5
         while not book.take(self.customer, kind, (1, segments, nodes)):
-            if time.monotonic() > end or wrong == "impatient" or not any(each.upstream and each.lines.stream.fileno() < 0 for each in list(sessions) if each.customer is self.customer):
+            if time.monotonic() > end or wrong == "impatient" or not any(each.is_ending for each in list(sessions) if each.customer is self.customer):
                 return self.refuse()
             time.sleep(0.05)
         upstream, answer = self.dial(kind, line)
@@ -477,10 +478,17 @@ def control(listener):
             threading.Thread(target=control_line, args=(stream,), daemon=True).start()
 
 
+def say(line):
+    try:
+        print(line, flush=True)
+    except OSError:
+        pass
+
+
 def main():
     listeners = [socket.create_server(place_of(book.told[word]), backlog=1024) for word in ("listen", "control")]
     threading.Thread(target=control, args=(listeners[1],), daemon=True).start()
-    print("listening", flush=True)
+    say("listening")
     while True:
         stream, peer = listeners[0].accept()
         stream.setsockopt(socket.IPPROTO_TCP, socket.TCP_NODELAY, 1)
@@ -499,6 +507,8 @@ if __name__ == "__main__":
     if wrong != "right" and wrong not in FAULTS or len(sys.argv) != 2:
         sys.exit(__doc__)
     threading.stack_size(256 * 1024)
+    if wrong != "waits_for_log":
+        os.set_blocking(1, False)
     book = Book(sys.argv[1])
     book.read()
     main()

@@ -324,7 +324,7 @@ class Proxy:
         """Who has something: a row for each customer (the guests of a gate together) and class, with its sessions, segments and nodes."""
         if self.gate:
             return [row for row in map(held_in, self.stats()) if row and row[2:] != (0, 0, 0)]
-        return [(name, *numbers) for name, rest in re.findall(r"^budgets: (?:guest )?(\S+): (.*);", self.told(), re.M) for numbers in amounts(rest)]
+        return [(name, *numbers) for name, rest in re.findall(r"^budgets: (?:guest )?(\S+): (.*)$", self.told(), re.M) for numbers in amounts(rest)]
 
     def read_again(self, is_fit=True):
         """Lets the gate read its file again. Where the file has a fault it must say so: gives why."""
