@@ -28,7 +28,7 @@ const GREATEST: u32 = 1_000_000_000;
 const CONNECTIONS: u32 = 8192;
 
 /// How many guests are known at once.
-const ADDRESSES: u32 = 65_536;
+const ADDRESSES: u32 = 8192;
 
 /// The classes that a file names, with their servers.
 #[derive(Drop)]
@@ -211,7 +211,12 @@ impl Classes {
         };
         let first = self.addresses.len();
         for address in &addresses_in(section)? {
-            if self.addresses[..first].contains(address) {
+            if self
+                .addresses
+                .iter()
+                .take(first)
+                .any(|other| *other == *address)
+            {
                 return Err(section.fault("address", "another class has a server of this address"));
             }
             self.servers.push(server)?;
