@@ -1,12 +1,12 @@
 -- Each call keeps the grants within what everybody may claim, also while some have more than their budgets.
-use Rattle.std.proofs.Common.{◌≡◌, ℕ, zero, suc, ◌+◌, ◌<◌, ◌≤◌, Bool, true, false, max, cond, eqb, ltb, List, [], ◌∷◌, ◌++◌, length, get_or, Option, Some, None, refl, ap, sym, ◌∙◌, subst, inl, inr, zero-add, arith}
+use Rattle.std.proofs.Common.{◌≡◌, ℕ, zero, suc, ◌+◌, ◌<◌, ◌≤◌, true, false, max, cond, eqb, ltb, List, [], ◌∷◌, ◌++◌, length, get_or, refl, ap, sym, ◌∙◌, subst, inl, inr, zero-add, arith}
 use Rattle.std.proofs.lemmas.Bool.{cases_Bool, cases_lt, eqb-true, leb-true, le-leb, and_parts, ltb-true}
 use Rattle.std.specs.List.{AllByRecursion}
 use Rattle.customer_book.specs.declared.amount.Amount.{Amount}
 use Rattle.customer_book.specs.declared.amount.Ask.{Ask}
 use Rattle.customer_book.specs.declared.held.Held.{Held}
 use Rattle.customer_book.specs.declared.held.Part.{Part}
-use Rattle.customer_book.specs.declared.held.Part.TheVariants.{Own, Guests, At}
+use Rattle.customer_book.specs.declared.held.Part.TheVariants.{Own, Guests}
 use Rattle.customer_book.specs.declared.site.Customer.{Customer}
 use Rattle.customer_book.specs.declared.site.Server.{Server}
 use Rattle.customer_book.specs.declared.who.Who.{Who}

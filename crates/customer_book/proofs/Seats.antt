@@ -109,12 +109,12 @@ least-found class (s ∷ ss) number gs m is = elim (cases_Bool (is_free class nu
       let picked : lesser gs (Some number) (least_free class ss (number + 1) gs) ≡ Some m = rw free at is in
       elim (lesser-is gs number (least_free class ss (number + 1) gs) m picked) [
         | inl here ↦ (let goal : IsFreeAt class (s ∷ ss) number number gs = record {
-            at = 0;
-            within = omega arith;
-            is = omega arith;
-            own = eqb-true s.class class both.0;
-            free = ltb-true (used (At number) gs).sessions s.places both.1;
-          } in subst (λ n. IsFreeAt class (s ∷ ss) number n gs) here goal)
+          at = 0;
+          within = omega arith;
+          is = omega arith;
+          own = eqb-true s.class class both.0;
+          free = ltb-true (used (At number) gs).sessions s.places both.1;
+        } in subst (λ n. IsFreeAt class (s ∷ ss) number n gs) here goal)
         | inr there ↦ found-behind class s ss number m gs (least-found class ss (number + 1) gs m there)
       ])
   | inr taken ↦ (let there : least_free class ss (number + 1) gs ≡ Some m = rw taken at is in found-behind class s ss number m gs (least-found class ss (number + 1) gs m there))

@@ -1,7 +1,6 @@
 -- What holds after each list of events and plans.
-use Rattle.std.proofs.Common.{◌≡◌, ℕ, zero, suc, ◌+◌, ◌-◌, ◌<◌, ◌≤◌, ◌⊎◌, Bool, true, false, not, cond, eqb, leb, ◌&&◌, List, [], ◌∷◌, ◌++◌, length, get_or, take, replicate, Option, Some, None, refl, ap, sym, ◌∙◌, subst, inl, inr, arith}
-use Rattle.std.proofs.lemmas.Bool.{cases_Bool, eqb-true, leb-true, and_parts, not-false}
-use Rattle.std.specs.List.{AllByRecursion}
+use Rattle.std.proofs.Common.{◌≡◌, ℕ, zero, suc, ◌-◌, ◌<◌, ◌≤◌, ◌⊎◌, Bool, true, false, eqb, leb, ◌&&◌, List, [], ◌∷◌, ◌++◌, length, get_or, replicate, Option, Some, None, refl, ap, sym, ◌∙◌, subst, inl, inr, arith}
+use Rattle.std.proofs.lemmas.Bool.{cases_Bool, eqb-true, leb-true, and_parts}
 use Rattle.customer_book.specs.declared.amount.Amount.{Amount}
 use Rattle.customer_book.specs.declared.amount.Ask.{Ask}
 use Rattle.customer_book.specs.declared.event.Event.{Event}
@@ -16,19 +15,19 @@ use Rattle.customer_book.specs.declared.reload.ReplanFault.TheVariants.{Renumber
 use Rattle.customer_book.specs.Names.{same_who, is_guest}
 use Rattle.customer_book.specs.Amounts.{of_one, plus, IsWithin}
 use Rattle.customer_book.specs.Rates.{rested}
-use Rattle.customer_book.specs.Plans.{Plan, sums_fit, budget_of, budget_in}
+use Rattle.customer_book.specs.Plans.{Plan, budget_of, budget_in}
 use Rattle.customer_book.specs.Grants.{is_in, used, grant_of, without, with_ask, free_server}
-use Rattle.customer_book.specs.Ledgers.{Ledger, new_ledger, why_no_line, why_no_raise, why_not_open, why_not_raise, new_grant, after_line, after, charged}
-use Rattle.customer_book.specs.Keeping.{server_at, IsPlaced, HasClaims}
-use Rattle.customer_book.specs.Runs.{Name, grants_of, is_of, is_kept, names_of}
+use Rattle.customer_book.specs.Ledgers.{Ledger, why_no_line, why_no_raise, why_not_open, why_not_raise, new_grant, after_line, after}
+use Rattle.customer_book.specs.Keeping.{server_at, HasClaims}
+use Rattle.customer_book.specs.Runs.{Name, names_of}
 use Rattle.customer_book.specs.Reloads.{Step, happens, replans, step, step_answer, go, go_answers, stays, is_their_step, only_steps, step_answers_of, open_after_step, still_open_after, with_more, replanned, keeps_servers, keeps_numbers, classes_hold, why_not_replan, IsAllowed, AreAllowed}
 use Rattle.customer_book.proofs.AmountLemmas.{within_same}
 use Rattle.customer_book.proofs.NameLemmas.{same-is}
 use Rattle.customer_book.proofs.GrantLemmas.{used-push, used-without_le, used-with_ask, used-with_ask_other, sessions-with_ask, found-own}
 use Rattle.customer_book.proofs.Seats.{free-found}
 use Rattle.customer_book.proofs.Soundness.{none-both, may-open, may-raise}
-use Rattle.customer_book.proofs.Claims.{claims-new, claims-open, claims-raise, claims-close, claims-replanned}
-use Rattle.customer_book.proofs.RunLemmas.{plan-with, grants-with, plan-after, names-after}
+use Rattle.customer_book.proofs.Claims.{claims-open, claims-raise, claims-close, claims-replanned}
+use Rattle.customer_book.proofs.RunLemmas.{grants-with, plan-after, names-after}
 use Rattle.customer_book.proofs.Isolation.{AreAlike, IsWhole, after-alike, after-other, answer-alike, of-kept, of-many}
 
 -- an event leaves the plan

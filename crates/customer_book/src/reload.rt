@@ -41,8 +41,7 @@ pub(crate) fn why_not_replan(now: &Site, grants: &[Held], later: &Site) -> Optio
 fn keeps_numbers(now: &Site, later: &Site) -> bool
     ensures { result ≡ keeps_numbers (plan_of now.now) (plan_of later.now) }
 {
-    keeps_servers(&now.servers, &later.servers)
-        && now.customers.len() <= later.customers.len()
+    keeps_servers(&now.servers, &later.servers) && now.customers.len() <= later.customers.len()
 }
 
 /// Whether each server is there later too, in its class.

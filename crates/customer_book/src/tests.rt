@@ -113,10 +113,10 @@ fn replanned(
     book: &mut Book,
     school: u8,
     pool: u8,
-) -> Result<Option<ReplanFault>, AllocError> {
-    let site = site_of(rt.alloc(), school, pool)?;
+) -> Option<ReplanFault> {
+    let site = site_of(rt.alloc(), school, pool).expect(rt, "no memory");
     assert!(rt; site.sums_fit());
-    Ok(book.replan(site).err())
+    book.replan(site).err()
 }
 
 #[test]
@@ -125,8 +125,8 @@ fn a_school_that_is_gone(rt: HostRuntime) -> Result<(), AllocError> {
     assert!(rt; site.sums_fit());
     let mut book = Book::new(rt.alloc(), site)?;
     let school = opened(&rt, book.open(Who::Named(0), 1, 0, ASK));
-    assert_eq!(rt; replanned(&rt, &mut book, 0, 4)?, Some(ReplanFault::Beyond));
-    assert_eq!(rt; replanned(&rt, &mut book, 0, 3)?, None);
+    assert_eq!(rt; replanned(&rt, &mut book, 0, 4), Some(ReplanFault::Beyond));
+    assert_eq!(rt; replanned(&rt, &mut book, 0, 3), None);
     let again = book.open(Who::Named(0), 2, 0, ASK);
     assert_eq!(rt; refused(&rt, &mut book, again), Cause::Budget);
     let guest = opened(&rt, book.open(Who::V4(7), 1, 0, ASK));
@@ -137,7 +137,7 @@ fn a_school_that_is_gone(rt: HostRuntime) -> Result<(), AllocError> {
         (1, 0, 1)
     );
     book.close(school);
-    assert_eq!(rt; replanned(&rt, &mut book, 0, 4)?, None);
+    assert_eq!(rt; replanned(&rt, &mut book, 0, 4), None);
     book.close(guest);
     book.close(second);
     book.close(third);

@@ -1,5 +1,5 @@
 -- Who has more than the new plan allows claims what it has.
-use Rattle.std.proofs.Common.{rules, ◌≡◌, ◌≤◌, length, None, ap, sym, ◌∙◌, subst, arith}
+use Rattle.std.proofs.Common.{rules, ◌≡◌, ◌≤◌, length, None, ap, sym, ◌∙◌, subst}
 use Rattle.customer_book.specs.Plans.{plan_of}
 use Rattle.customer_book.specs.Keeping.{HasClaims}
 use Rattle.customer_book.specs.Reloads.{why_not_replan}
