@@ -1,5 +1,5 @@
 //! The definitions of the book, tried on one small site: each contract is computed from the definitions alone.
-ghost use Rattle.std.specs.Prelude.{◌≡◌, Some, None, [], ◌∷◌, true, false};
+ghost use Rattle.std.specs.Prelude.{◌≡◌, Some, None, [], ◌∷◌, map, true, false};
 ghost use Rattle.customer_book.specs.declared.refusal.Cause.TheVariants.{Fast, Twice, Great, Budget, Pool, Gone, Lower};
 ghost use Rattle.customer_book.specs.declared.held.Part.TheVariants.{Own, Guests, At};
 ghost use Rattle.customer_book.specs.declared.who.Who.TheVariants.{Named, V4, V6};
@@ -10,8 +10,11 @@ ghost use Rattle.customer_book.specs.Grants.{used};
 ghost use Rattle.customer_book.specs.Ledgers.{new_ledger};
 ghost use Rattle.customer_book.specs.declared.event.Event.TheVariants.{Opens, Raises, Says, Closes, Comes};
 ghost use Rattle.customer_book.specs.Runs.{run, only, still_open, answers};
+ghost use Rattle.customer_book.specs.declared.held.Held.{Held};
 ghost use Rattle.customer_book.specs.Names.{is_guest};
-ghost use Rattle.customer_book.specs.Rows.{amount, ask, rate, server, site, small, school, causes, waits};
+ghost use Rattle.customer_book.specs.Rows.{amount, ask, rate, server, site, small, school, causes, waits, two_servers, two_grants, step_causes};
+ghost use Rattle.customer_book.specs.Reloads.{happens, replans, replanned, why_not_replan};
+ghost use Rattle.customer_book.specs.declared.reload.ReplanFault.TheVariants.{Renumbered, Beyond};
 
 /// The sums of a site fit, or are beyond its servers in one amount.
 pub fn sums_of_small_sites()
@@ -59,6 +62,7 @@ pub fn a_school()
         ≡ Some 0 ∷ Some 10 ∷ None ∷ Some 10 ∷ [] }
     ensures servers { used (At 0) (run (new_ledger small) (Opens school 1 0 (ask 5 100) ∷ Opens school 2 0 (ask 7 100) ∷ [])).grants ≡ amount 1 5 100 }
     ensures second { used (At 1) (run (new_ledger small) (Opens school 1 0 (ask 5 100) ∷ Opens school 2 0 (ask 7 100) ∷ [])).grants ≡ amount 1 7 100 }
+    ensures fewest { map (λ (held : Held). held.server) (run (new_ledger (site (server 0 2 20 200 ∷ server 1 2 20 200 ∷ server 0 2 20 200 ∷ []) (amount 3 30 300) (amount 1 9 90))) (Opens school 1 0 (ask 5 10) ∷ Opens school 2 0 (ask 5 10) ∷ Opens school 3 0 (ask 5 10) ∷ [])).grants ≡ 0 ∷ 2 ∷ 0 ∷ [] }
     ensures ended { used (Own school 0) (run (new_ledger small) (Opens school 1 0 (ask 5 100) ∷ Opens school 2 0 (ask 7 100) ∷ Closes school 1 ∷ [])).grants ≡ amount 1 7 100 }
 {}
 
@@ -75,4 +79,18 @@ pub fn two_guests()
     ensures left { still_open [] (Opens (V4 7) 1 0 (ask 5 50) ∷ Opens (V4 8) 2 0 (ask 5 50) ∷ Opens school 3 0 (ask 5 50) ∷ Closes school 3 ∷ [])
         (answers (new_ledger small) (Opens (V4 7) 1 0 (ask 5 50) ∷ Opens (V4 8) 2 0 (ask 5 50) ∷ Opens school 3 0 (ask 5 50) ∷ Closes school 3 ∷ []))
         ≡ (V4 7, 1) ∷ [] }
+{}
+
+/// The school is to have less, or nothing, while it has two sessions: they stay, and it gets no more. Its two sessions and what
+/// the guests may have must fit the places, and each server must keep its number and its class.
+pub fn another_plan()
+    ensures gone { why_not_replan small two_grants (site two_servers (amount 0 0 0) (amount 1 9 90)) ≡ None }
+    ensures beyond { why_not_replan small two_grants (site two_servers (amount 0 0 0) (amount 2 9 90)) ≡ Some Beyond }
+    ensures ended { why_not_replan small [] (site two_servers (amount 0 0 0) (amount 2 9 90)) ≡ None }
+    ensures lost { why_not_replan small two_grants (site (server 0 3 30 300 ∷ []) (amount 2 12 200) (amount 1 9 90)) ≡ Some Renumbered }
+    ensures other_class { why_not_replan small two_grants (site (server 0 1 10 100 ∷ server 1 2 20 200 ∷ []) (amount 0 0 0) (amount 0 0 0)) ≡ Some Renumbered }
+    ensures told { step_causes (
+        happens (Opens school 1 0 (ask 5 90)) ∷ replans (site two_servers (amount 0 0 0) (amount 1 9 90)) ∷ happens (Raises school 1 (ask 6 90)) ∷ happens (Closes school 1) ∷ happens (Opens school 2 0 (ask 5 90)) ∷ [])
+        ≡ None ∷ None ∷ Some Budget ∷ None ∷ Some Budget ∷ [] }
+    ensures known { (replanned (run (new_ledger small) (Says (V4 7) ∷ [])) (site two_servers (amount 1 6 60) (amount 1 9 90))).plan.addresses ≡ 2 }
 {}
