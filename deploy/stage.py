@@ -274,7 +274,7 @@ class Proxy:
         with self.log.open("a") as log:
             self.process = subprocess.Popen(["haproxy", "-db", "-f", str(path)], stdout=log, stderr=log)
         for port in (self.metrics, self.inner):
-            until("HAProxy and the gate listen", lambda: self.is_over() or is_there(port))
+            until("HAProxy and the gate listen", lambda: self.is_over() or is_there(port) and os.path.exists(self.control))
         if self.is_over():
             fail(f"HAProxy or the gate ended:\n{self.log.read_text()}")
         return self
