@@ -1,31 +1,23 @@
-//! An allocator that counts the calls of another, and can refuse one.
+//! An allocator that counts the calls of another.
 
 use std::alloc::{AllocError, Allocator};
 use std::cell::Cell;
 
-/// An allocator that passes each call on to another one, and counts it. It can be told to refuse a growth.
+/// An allocator that passes each call on to another one, and counts it.
 pub struct Counted<B: Allocator> {
     /// The allocator that does the calls.
     inner: B,
     /// How many calls there were, modulo 2^64.
     calls: Cell<u64>,
-    /// Which of the next growths is refused, 1 for the next; 0 for none.
-    refused: Cell<u64>,
 }
 
 impl<B: Allocator> Counted<B> {
-    /// Passes calls on to `inner`; none is counted yet, and none is refused.
+    /// Passes calls on to `inner`; none is counted yet.
     pub fn new(inner: B) -> Counted<B> {
         Counted {
             inner,
             calls: Cell::new(0),
-            refused: Cell::new(0),
         }
-    }
-
-    /// Refuses the growth of this number, counted from the next on: 1 for the next, 0 for none. Only that one is refused.
-    pub fn refuse(&self, number: u64) {
-        self.refused.set(number);
     }
 
     /// How often memory was asked for or given back, modulo 2^64.
@@ -36,11 +28,7 @@ impl<B: Allocator> Counted<B> {
 
 impl<B: Allocator> Drop for Counted<B> {
     fn drop(self) {
-        let Self {
-            inner: _,
-            calls: _,
-            refused: _,
-        } = self;
+        let Self { inner: _, calls: _ } = self;
     }
 }
 
@@ -49,21 +37,11 @@ fn tick(calls: &Cell<u64>) {
     calls.set(calls.get().wrapping_add(1));
 }
 
-/// Whether this growth is the one that is refused. Each growth before it brings it nearer.
-fn is_refused(refused: &Cell<u64>) -> bool {
-    let number = refused.get();
-    refused.set(number.saturating_sub(1));
-    number == 1
-}
-
 unsafe impl<B: Allocator> Allocator for Counted<B> {
     ghost dealloc_token = { λ heap ty ptr. B.dealloc_token heap.inner ty ptr };
 
     fn allocate(&self, size: usize, align: usize) -> Result<*mut u8, AllocError> {
         tick(&self.calls);
-        if is_refused(&self.refused) {
-            return Err(AllocError);
-        }
         self.inner.allocate(size, align)
     }
 

@@ -119,7 +119,7 @@ fn tests(frame: &View, words: &Words) -> Plan
     if has_failed(words, open) {
         return search_again(frame, open, rest_at(words, open));
     }
-    let choices = frame.count.min(open + 1);
+    let choices = frame.count;
     if frame.spawned < choices {
         return test(frame, frame.spawned, rest_at(words, frame.spawned));
     }
