@@ -17,7 +17,7 @@ const SYSTEM_IS_FULL: i32 = 23;
 
 /// A listener and a spare descriptor, with which a connection can be taken where no other descriptor is left.
 #[derive(Drop)]
-pub(crate) struct Door<N> {
+pub struct Door<N> {
     listener: N,
     /// A second name of the listener; `None` where no descriptor was left for one.
     spare: Option<N>,
@@ -25,7 +25,7 @@ pub(crate) struct Door<N> {
 
 impl<N: OpenListener + Drop> Door<N> {
     /// A door for this listener, with a spare descriptor if the system gives one.
-    pub(crate) fn new(listener: N) -> Door<N> {
+    pub fn new(listener: N) -> Door<N> {
         let spare = listener.try_clone().ok();
         Door { listener, spare }
     }
@@ -33,7 +33,7 @@ impl<N: OpenListener + Drop> Door<N> {
     /// Waits for the next connection. `None`: one was taken and closed at once, as no descriptor was left to serve it.
     /// A connection that was lost before it could be taken is passed over. `Err`: `accept` failed otherwise, or no
     /// descriptor was left and there was no spare one.
-    pub(crate) fn next<R: Wait>(&mut self, rt: &R) -> io::Result<Option<N::Stream>> {
+    pub fn next<R: Wait>(&mut self, rt: &R) -> io::Result<Option<N::Stream>> {
         for _ in rt.forever() {
             match self.listener.accept() {
                 Ok((stream, _)) => return Ok(Some(stream)),

@@ -45,6 +45,7 @@ mod door;
 mod faults;
 mod server;
 
+pub use door::Door;
 pub use faults::ServeFault;
 pub use server::{ServerConfig, Sessions, serve, serve_announced};
 

@@ -1,0 +1,21 @@
+//! One client's session at a site's gate, from its first line to its last, over any readers and writers.
+#![tactic(auto)]
+
+mod books;
+mod entering;
+mod greeting;
+mod judging;
+mod moving;
+mod porch;
+mod seats;
+mod servers;
+mod serving;
+
+pub use books::{Books, Note};
+pub use entering::Entered;
+pub use judging::Seated;
+pub use porch::{Nobody, Porch};
+pub use seats::Seat;
+pub use servers::Servers;
+pub use serving::{SessionEnd, serve_session};
+

@@ -1,0 +1,132 @@
+//! Connections as sources and sinks, with limits in time.
+use line_io::{ReadFailed, Sink, Source, WriteFailed};
+use std::alloc::{AllocError, Global};
+use std::io::{ErrorKind, Read, Write};
+use std::net::{Shutdown, TcpStream};
+use std::sync::Arc;
+use std::time::{Clock, Duration, Instant};
+
+/// Seconds for which a connection may be silent: an hour.
+const SILENCE: u64 = 3600;
+
+/// Seconds in which a connection takes a byte of what waits for it: a minute.
+const STANDSTILL: u64 = 60;
+
+/// Seconds in which a first line is whole.
+const FIRST_LINE: u64 = 10;
+
+/// How often a read that a signal interrupts is made again.
+const READ_TRIES: u32 = 65536;
+
+/// The byte that ends a line.
+const LF: u8 = 10;
+
+/// The bytes of a connection. Its first line must be whole in time; from then on it may be silent for an hour.
+#[derive(Drop)]
+pub(crate) struct Incoming<'r, R> {
+    stream: Arc<TcpStream, Global>,
+    rt: &'r R,
+    /// Until when the first line must be whole; None once it is.
+    until: Option<Instant>,
+}
+
+/// What goes to a connection.
+#[derive(Drop)]
+pub(crate) struct Outgoing {
+    stream: Arc<TcpStream, Global>,
+}
+
+impl<R: Clock> Incoming<'_, R> {
+    /// Reads a block, if there is one before the limit, which stays. None at a failure.
+    pub(crate) fn read_early(&mut self, block: &mut [u8]) -> Option<usize> {
+        if let Some(until) = self.until {
+            let now = Instant::now(self.rt).ok()?;
+            let left = until.duration_since(now);
+            if left == Duration::from_secs(0) {
+                return None;
+            }
+            self.stream.set_read_timeout(Some(left)).ok()?;
+        }
+        for _ in 0..READ_TRIES {
+            match (&*self.stream).read(block) {
+                Ok(count) => return Some(count),
+                Err(error) if error.kind() == ErrorKind::Interrupted => {}
+                Err(_) => return None,
+            }
+        }
+        None
+    }
+
+    /// Reads a block, if there is one before the limit. None at a failure.
+    fn read(&mut self, block: &mut [u8]) -> Option<usize> {
+        let count = self.read_early(block)?;
+        self.settle(&block[..count]);
+        Some(count)
+    }
+
+    /// Lifts the limit of the first line, if these bytes end it.
+    pub(crate) fn settle(&mut self, bytes: &[u8]) {
+        if self.until.is_some() && bytes.contains(&LF) {
+            self.until = None;
+            let _ = self.stream.set_read_timeout(Some(Duration::from_secs(SILENCE)));
+        }
+    }
+
+    /// Says that no more lines come, and waits until the other side has ended, for this long at most.
+    pub(crate) fn end(&mut self, most: Duration) {
+        let _ = self.stream.shutdown(Shutdown::Write);
+        let Ok(now) = Instant::now(self.rt) else {
+            return;
+        };
+        self.until = now.checked_add(most);
+        let mut block = [0; 512];
+        for _ in 0..u64::MAX {
+            match self.read_early(&mut block) {
+                Some(0) => return,
+                None => return,
+                _ => {}
+            }
+        }
+    }
+}
+
+impl<R: Clock> Source for Incoming<'_, R> {
+    ghost gives = { λ _ _ _. Unit {0} };
+
+    fn fill(&mut self, block: &mut [u8]) -> Result<usize, ReadFailed> {
+        match self.read(block) {
+            Some(count) => Ok(count),
+            None => Err(ReadFailed),
+        }
+    }
+}
+
+impl Sink for Outgoing {
+    ghost takes = { λ _ _ _. Unit {0} };
+
+    fn put(&mut self, bytes: &[u8]) -> Result<usize, WriteFailed> {
+        match (&*self.stream).write(bytes) {
+            Ok(count) if count > 0 => Ok(count),
+            _ => Err(WriteFailed),
+        }
+    }
+}
+
+/// Both ends of a connection, whose first line must be whole so long from `from` on.
+pub(crate) fn ends_of<'r, R: Clock>(
+    rt: &'r R,
+    alloc: Global,
+    stream: TcpStream,
+    from: Instant,
+) -> Result<(Incoming<'r, R>, Outgoing), AllocError> {
+    let _ = stream.set_nodelay(true);
+    let _ = stream.set_write_timeout(Some(Duration::from_secs(STANDSTILL)));
+    let stream = Arc::new(alloc, stream)?;
+    let other = Arc::try_clone(&stream)?;
+    let incoming = Incoming {
+        stream,
+        rt,
+        until: from.checked_add(Duration::from_secs(FIRST_LINE)),
+    };
+    Ok((incoming, Outgoing { stream: other }))
+}
