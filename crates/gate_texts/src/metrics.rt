@@ -1,0 +1,160 @@
+//! The metrics, in the text format of Prometheus (version 0.0.4).
+use crate::buckets::{BOUNDS, Buckets};
+use crate::counts::{AccountRow, REASONS, Row, ServerRow};
+use crate::labels::{end_line, push_head, push_label, push_seconds};
+use customer_book::Amount;
+use std::alloc::AllocError;
+use std::fmt::Write;
+
+/// A number of a row.
+#[derive(Clone, Copy)]
+enum Number {
+    Sessions,
+    Segments,
+    Nodes,
+    Granted,
+    Lines,
+    Bytes,
+    Done,
+    Spent,
+}
+
+/// The numbers of a row: which, the metric's name, what it is, and its type.
+const NUMBERS: [(Number, &str, &str, &str); 8] = [
+    (Number::Sessions, "sessions", "Sessions now.", "gauge"),
+    (Number::Segments, "segments", "Segments that the sessions reserve now.", "gauge"),
+    (Number::Nodes, "nodes", "Nodes that the sessions reserve now.", "gauge"),
+    (Number::Granted, "granted_total", "Sessions that were opened.", "counter"),
+    (Number::Lines, "lines_total", "Lines of clients.", "counter"),
+    (Number::Bytes, "bytes_total", "Bytes of clients.", "counter"),
+    (Number::Done, "jobs_done_total", "Jobs that were done.", "counter"),
+    (Number::Spent, "jobs_spent_total", "Jobs that used up what their session reserves.", "counter"),
+];
+
+impl Number {
+    fn of(self, row: &Row<'_>) -> u64 {
+        match self {
+            Number::Sessions => u64::from(row.used.sessions),
+            Number::Segments => row.used.segments,
+            Number::Nodes => row.used.nodes,
+            Number::Granted => row.counts.granted,
+            Number::Lines => row.counts.lines,
+            Number::Bytes => row.counts.bytes,
+            Number::Done => row.counts.done,
+            Number::Spent => row.counts.spent,
+        }
+    }
+}
+
+/// Appends all metrics: of each customer in each class, of each customer, and of each server.
+pub fn push_metrics(
+    out: &mut String,
+    rows: &[Row<'_>],
+    accounts: &[AccountRow<'_>],
+    servers: &[ServerRow<'_>],
+) -> Result<(), AllocError> {
+    for (number, name, help, kind) in NUMBERS {
+        push_head(out, name, help, kind)?;
+        push_numbers(out, number, name, rows)?;
+    }
+    push_refusals(out, rows)?;
+    push_head(out, "hello_seconds", "From HELLO to its answer.", "histogram")?;
+    for row in rows {
+        push_histogram(out, "hello_seconds", row, &row.counts.hello)?;
+    }
+    push_head(out, "wait_seconds", "From WAIT to its answer.", "histogram")?;
+    for row in rows {
+        push_histogram(out, "wait_seconds", row, &row.counts.wait)?;
+    }
+    push_connections(out, accounts)?;
+    push_servers(out, servers)
+}
+
+/// Appends a line's name, and the labels of a row.
+fn push_row(out: &mut String, name: &str, more: &str, row: &Row<'_>) -> Result<(), AllocError> {
+    write!(out, "othello_gate_{name}{more}")?;
+    push_label(out, true, "customer", row.customer)?;
+    push_label(out, false, "class", row.class)
+}
+
+fn push_numbers(out: &mut String, number: Number, name: &str, rows: &[Row<'_>]) -> Result<(), AllocError> {
+    for row in rows {
+        push_row(out, name, "", row)?;
+        end_line(out, number.of(row))?;
+    }
+    Ok(())
+}
+
+fn push_refusals(out: &mut String, rows: &[Row<'_>]) -> Result<(), AllocError> {
+    push_head(out, "refused_total", "Refusals by their reason.", "counter")?;
+    for row in rows {
+        push_refused(out, row)?;
+    }
+    Ok(())
+}
+
+fn push_refused(out: &mut String, row: &Row<'_>) -> Result<(), AllocError> {
+    for (reason, count) in REASONS.iter().zip(row.counts.refused.iter()) {
+        push_row(out, "refused_total", "", row)?;
+        push_label(out, false, "reason", reason)?;
+        end_line(out, *count)?;
+    }
+    Ok(())
+}
+
+/// Appends a histogram of a row. Each bucket also has those of the buckets before.
+fn push_histogram(out: &mut String, name: &str, row: &Row<'_>, buckets: &Buckets) -> Result<(), AllocError> {
+    let mut sum: u64 = 0;
+    for (place, count) in buckets.counts.iter().enumerate() {
+        sum = sum.saturating_add(*count);
+        push_row(out, name, "_bucket", row)?;
+        push_bound(out, BOUNDS.get(place).copied())?;
+        end_line(out, sum)?;
+    }
+    push_row(out, name, "_sum", row)?;
+    out.push_str("} ")?;
+    push_seconds(out, buckets.sum)?;
+    out.push_str("\n")?;
+    push_row(out, name, "_count", row)?;
+    end_line(out, sum)
+}
+
+/// Appends the label of a bucket's bound.
+fn push_bound(out: &mut String, bound: Option<u64>) -> Result<(), AllocError> {
+    out.push_str(",le=\"")?;
+    match bound {
+        Some(micros) => push_seconds(out, micros)?,
+        None => out.push_str("+Inf")?,
+    }
+    out.push_str("\"")
+}
+
+fn push_connections(out: &mut String, accounts: &[AccountRow<'_>]) -> Result<(), AllocError> {
+    push_head(out, "connections", "Connections now.", "gauge")?;
+    for account in accounts {
+        out.push_str("othello_gate_connections")?;
+        push_label(out, true, "customer", account.customer)?;
+        end_line(out, account.connections)?;
+    }
+    Ok(())
+}
+
+fn push_servers(out: &mut String, servers: &[ServerRow<'_>]) -> Result<(), AllocError> {
+    push_head(out, "server_sessions", "Sessions at a server now.", "gauge")?;
+    for server in servers {
+        push_server(out, "server_sessions", server, server.used)?;
+    }
+    push_head(out, "server_places", "Sessions that a server takes at once.", "gauge")?;
+    for server in servers {
+        push_server(out, "server_places", server, server.whole)?;
+    }
+    Ok(())
+}
+
+fn push_server(out: &mut String, name: &str, server: &ServerRow<'_>, amount: Amount) -> Result<(), AllocError> {
+    let address = server.address;
+    write!(out, "othello_gate_{name}")?;
+    push_label(out, true, "class", server.class)?;
+    write!(out, ",server=\"{address}\"")?;
+    end_line(out, u64::from(amount.sessions))
+}

@@ -1,0 +1,271 @@
+//! A table of the file, whose words are taken by their types.
+ghost use Rattle.std.specs.Prelude.{◌≡◌, ◌≤◌, IfOk, IfSome};
+ghost use Rattle.site_file.specs.Plans.{count_of};
+
+use crate::address::Network;
+use crate::faults::{FileFault, line_of};
+use crate::parsing::{digest_of, network_of};
+use std::alloc::{AllocError, Global};
+use std::net::SocketAddr;
+use toml::{Table, Value};
+
+/// A table, with where it stands in the file.
+#[derive(Clone, Copy)]
+pub(crate) struct Section<'t> {
+    pub(crate) alloc: Global,
+    text: &'t str,
+    table: &'t Table,
+    head: &'t str,
+    number: usize,
+    inside: &'t str,
+}
+
+/// The number, where it is from `least` to `most`.
+pub(crate) fn count_of(number: i64, least: u32, most: u32) -> Option<u32>
+    ensures value { result ≡ count_of number least most }
+    ensures within { IfSome result (λ count. (least ≤ count) × (count ≤ most)) }
+{
+    match u32::try_from(number) {
+        Ok(count) if least <= count && count <= most => Some(count),
+        _ => None,
+    }
+}
+
+impl<'t> Section<'t> {
+    /// The file itself.
+    pub(crate) fn whole(alloc: Global, text: &'t str, table: &'t Table) -> Section<'t> {
+        Section {
+            alloc,
+            text,
+            table,
+            head: "",
+            number: 0,
+            inside: "",
+        }
+    }
+
+    /// The fault that stands at this word.
+    pub(crate) fn fault(&self, key: &str, what: &str) -> FileFault {
+        let place = if self.inside.is_empty() {
+            key
+        } else {
+            self.inside
+        };
+        let line = line_of(self.text, self.head, self.number, place);
+        FileFault::at(self.alloc, line, what)
+    }
+
+    /// That a word isn't what it is to be.
+    fn unfit(&self, key: &str, what: &str) -> FileFault {
+        match format!(in self.alloc; "`{key}` is to be {what}") {
+            Ok(words) => self.fault(key, words.as_str()),
+            Err(fault) => FileFault::Memory(fault),
+        }
+    }
+
+    fn missing(&self, key: &str) -> FileFault {
+        match format!(in self.alloc; "`{key}` is missing") {
+            Ok(words) => self.fault(key, words.as_str()),
+            Err(fault) => FileFault::Memory(fault),
+        }
+    }
+
+    /// Whether the word is there.
+    pub(crate) fn has(&self, key: &str) -> bool {
+        self.table.get(key).is_some()
+    }
+
+    /// A whole number within these limits, if the word is there.
+    pub(crate) fn count(&self, key: &str, least: u32, most: u32) -> Result<Option<u32>, FileFault>
+        ensures { IfOk result (λ found. IfSome found (λ count. (least ≤ count) × (count ≤ most))) }
+    {
+        let Some(value) = self.table.get(key) else {
+            return Ok(None);
+        };
+        let found = match value {
+            Value::Integer(number) => count_of(*number, least, most),
+            _ => None,
+        };
+        match found {
+            Some(count) => Ok(Some(count)),
+            None => {
+                let what = format!(in self.alloc; "a whole number from {least} to {most}")?;
+                Err(self.unfit(key, what.as_str()))
+            }
+        }
+    }
+
+    /// The same of a word that must be there.
+    pub(crate) fn needed_count(&self, key: &str, least: u32, most: u32) -> Result<u32, FileFault>
+        ensures { IfOk result (λ count. (least ≤ count) × (count ≤ most)) }
+    {
+        match self.count(key, least, most)? {
+            Some(count) => Ok(count),
+            None => Err(self.missing(key)),
+        }
+    }
+
+    /// A text, if the word is there.
+    fn word(&self, key: &str, what: &str) -> Result<Option<&'t str>, FileFault> {
+        match self.table.get(key) {
+            None => Ok(None),
+            Some(Value::String(text)) => Ok(Some(text.as_str())),
+            Some(_) => Err(self.unfit(key, what)),
+        }
+    }
+
+    /// An address and a port, if the word is there.
+    pub(crate) fn place(&self, key: &str) -> Result<Option<SocketAddr>, FileFault> {
+        let what = "an address and a port, as \"127.0.0.1:4711\"";
+        let Some(text) = self.word(key, what)? else {
+            return Ok(None);
+        };
+        match SocketAddr::parse_ascii(text.as_bytes()) {
+            Ok(place) if place.port() > 0 => Ok(Some(place)),
+            _ => Err(self.unfit(key, what)),
+        }
+    }
+
+    /// The same of a word that must be there.
+    pub(crate) fn needed_place(&self, key: &str) -> Result<SocketAddr, FileFault> {
+        match self.place(key)? {
+            Some(place) => Ok(place),
+            None => Err(self.missing(key)),
+        }
+    }
+
+    /// A name that must be there: letters, digits and these signs.
+    pub(crate) fn name(&self, signs: &[u8]) -> Result<&'t str, FileFault> {
+        let what = "one word";
+        match self.word("name", what)? {
+            None => Err(self.missing("name")),
+            Some(name) if is_name(name, signs) => Ok(name),
+            Some(_) => Err(self.unfit("name", what)),
+        }
+    }
+
+    /// The texts of a list; none where the word isn't there.
+    pub(crate) fn texts(&self, key: &str, what: &str) -> Result<Vec<&'t str>, FileFault> {
+        let mut texts = Vec::new(self.alloc);
+        let list = match self.table.get(key) {
+            None => return Ok(texts),
+            Some(Value::Array(list)) => list,
+            Some(_) => return Err(self.unfit(key, what)),
+        };
+        for value in list {
+            match value {
+                Value::String(text) => texts.push(text.as_str())?,
+                _ => return Err(self.unfit(key, what)),
+            }
+        }
+        Ok(texts)
+    }
+
+    /// The addresses and ports of a list.
+    pub(crate) fn places(&self, key: &str) -> Result<Vec<SocketAddr>, FileFault> {
+        let what = "a list of addresses and ports";
+        let mut places = Vec::new(self.alloc);
+        for text in &self.texts(key, what)? {
+            match SocketAddr::parse_ascii(text.as_bytes()) {
+                Ok(place) if place.port() > 0 => places.push(place)?,
+                _ => return Err(self.unfit(key, what)),
+            }
+        }
+        Ok(places)
+    }
+
+    /// The digests of a list.
+    pub(crate) fn digests(&self, key: &str) -> Result<Vec<[u8; 32]>, FileFault> {
+        let what = "a list of digests of 64 hexadecimal digits";
+        let mut digests = Vec::new(self.alloc);
+        for text in &self.texts(key, what)? {
+            match digest_of(text.as_bytes()) {
+                Some(digest) => digests.push(digest)?,
+                None => return Err(self.unfit(key, what)),
+            }
+        }
+        Ok(digests)
+    }
+
+    /// The networks of a list.
+    pub(crate) fn networks(&self, key: &str) -> Result<Vec<Network>, FileFault> {
+        let what = "a list of addresses or networks, as \"203.0.113.0/24\"";
+        let mut networks = Vec::new(self.alloc);
+        for text in &self.texts(key, what)? {
+            match network_of(text) {
+                Some(network) => networks.push(network)?,
+                None => return Err(self.unfit(key, what)),
+            }
+        }
+        Ok(networks)
+    }
+
+    /// The table of this name, whose head has this word.
+    pub(crate) fn table(&self, key: &str, head: &'t str) -> Result<Section<'t>, FileFault> {
+        match self.table.get(key) {
+            None => Err(self.missing(key)),
+            Some(Value::Table(table)) => Ok(Section {
+                table,
+                head,
+                ..*self
+            }),
+            Some(_) => Err(self.unfit(key, "a table")),
+        }
+    }
+
+    /// The table that stands at a word of this one, if it is there.
+    pub(crate) fn part(&self, key: &'t str) -> Result<Option<Section<'t>>, FileFault> {
+        match self.table.get(key) {
+            None => Ok(None),
+            Some(Value::Table(table)) => Ok(Some(Section {
+                table,
+                inside: key,
+                ..*self
+            })),
+            Some(_) => Err(self.unfit(key, "a table")),
+        }
+    }
+
+    /// The tables of this name, each with a head of two brackets.
+    pub(crate) fn tables(&self, key: &'t str) -> Result<Vec<Section<'t>>, FileFault> {
+        let what = "tables, each with a head of two brackets";
+        let mut tables = Vec::new(self.alloc);
+        let list = match self.table.get(key) {
+            None => return Ok(tables),
+            Some(Value::Array(list)) => list,
+            Some(_) => return Err(self.unfit(key, what)),
+        };
+        for (number, value) in list.iter().enumerate() {
+            match value {
+                Value::Table(table) => tables.push(Section {
+                    table,
+                    head: key,
+                    number,
+                    ..*self
+                })?,
+                _ => return Err(self.unfit(key, what)),
+            }
+        }
+        Ok(tables)
+    }
+
+    /// Refuses a word that is none of these.
+    pub(crate) fn end(&self, known: &[&str], more: &[String]) -> Result<(), FileFault> {
+        for key in self.table.keys() {
+            let key = key.as_str();
+            if !known.iter().any(|word| *word == key)
+                && !more.iter().any(|word| word.as_str() == key)
+            {
+                let what = format!(in self.alloc; "`{key}` is an unknown word")?;
+                return Err(self.fault(key, what.as_str()));
+            }
+        }
+        Ok(())
+    }
+}
+
+/// Whether a name has letters, digits and these signs alone.
+fn is_name(name: &str, signs: &[u8]) -> bool {
+    !name.is_empty()
+        && name.bytes().all(|byte| byte.is_ascii_alphanumeric() || signs.contains(&byte))
+}
