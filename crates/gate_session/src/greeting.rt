@@ -29,35 +29,69 @@ pub(crate) fn write_asked(text: &mut RelayText, word: &[u8], ask: Ask) {
     text.push(LF);
 }
 
-/// Whether the text, an answer with its LF, is a WELCOME.
-fn is_welcome(text: &RelayText) -> bool {
-    let bytes = text.as_slice();
-    read_answer(&bytes[..bytes.len() - 1]) == Said::Welcome
+/// What the text, an answer with its LF, says.
+fn said_in(text: &RelayText) -> Said {
+    match text.as_slice().split_last() {
+        Some((_, answer)) => read_answer(answer),
+        None => Said::Other,
+    }
 }
 
-/// Asks the server of this number to welcome a session that reserves so much. The text is its answer then, or ERR 14 where it
-/// gave none.
+/// What came of asking a server for a welcome.
+enum Tried<S, T> {
+    /// It welcomed the session. The text is its answer.
+    Welcomed(Peer<S, T>),
+    /// It gave no answer, or that it is full: it, or another, may be asked again. The text is ERR 14.
+    Unheard,
+    /// It gave another answer, which is the text; or there is no server to be asked any more, and the text is ERR 14.
+    Refused,
+}
+
+/// Asks a server for a welcome once.
+fn try_once<S: Source, T: Sink, V: Servers<S, T>>(
+    servers: &mut V,
+    place: usize,
+    tried: u32,
+    ask: Ask,
+    text: &mut RelayText,
+) -> Tried<S, T> {
+    let Some(mut server) = servers.dial(place, tried) else {
+        write_full(text);
+        return Tried::Refused;
+    };
+    write_asked(text, b"HELLO ", ask);
+    let asked = ask_server(&mut server, text);
+    let said = said_in(text);
+    if asked.is_ok() && said == Said::Welcome {
+        return Tried::Welcomed(server);
+    }
+    servers.part(server);
+    if asked.is_ok() && said != Said::Error(Some(u32::from(FULL))) {
+        return Tried::Refused;
+    }
+    write_full(text);
+    Tried::Unheard
+}
+
+/// How often servers are asked for one welcome at most.
+const MOST_TRIES: u32 = 4096;
+
+/// Asks the server of this number, or others in its place, to welcome a session that reserves so much. The text is the answer,
+/// or ERR 14 where none came.
 fn greet<S: Source, T: Sink, V: Servers<S, T>>(
     servers: &mut V,
     place: usize,
     ask: Ask,
     text: &mut RelayText,
 ) -> Option<Peer<S, T>> {
-    let Some(mut server) = servers.dial(place) else {
-        write_full(text);
-        return None;
-    };
-    write_asked(text, b"HELLO ", ask);
-    if ask_server(&mut server, text).is_err() {
-        servers.part(server);
-        write_full(text);
-        return None;
+    for tried in 0..MOST_TRIES {
+        match try_once(servers, place, tried, ask, text) {
+            Tried::Welcomed(server) => return Some(server),
+            Tried::Refused => return None,
+            Tried::Unheard => {}
+        }
     }
-    if !is_welcome(text) {
-        servers.part(server);
-        return None;
-    }
-    Some(server)
+    None
 }
 
 /// Opens a session for a customer: a grant of the book, and a server that has welcomed it. The text is the server's answer, or

@@ -5,7 +5,9 @@ use crate::shared::Shared;
 use customer_book::{Ask, Cause, Grant, Refusal, Who};
 use gate_rules::{Said, read_answer};
 use gate_session::{Books, Note};
+use gate_texts::{SessionRow, push_session};
 use protocol::split_at_space;
+use std::alloc::Global;
 use std::cell::Cell;
 use std::sync::{MutexGuard, Wait};
 use std::thread;
@@ -42,9 +44,12 @@ pub(crate) struct Clerk<'a, R> {
     is_fading: Cell<bool>,
     timed: Cell<Option<Timed>>,
     tally: Cell<Tally>,
-    /// Lines and bytes in all.
-    lines: Cell<u64>,
-    bytes: Cell<u64>,
+    /// What was told in all.
+    whole: Cell<Tally>,
+    /// The server that its last grant names, and what it reserves.
+    server: Cell<Option<usize>>,
+    ask: Cell<Ask>,
+    start: u64,
 }
 
 impl<'a, R: Clock + Wait> Clerk<'a, R> {
@@ -59,19 +64,45 @@ impl<'a, R: Clock + Wait> Clerk<'a, R> {
             is_fading: Cell::new(false),
             timed: Cell::new(None),
             tally: Cell::new(Tally::NONE),
-            lines: Cell::new(0),
-            bytes: Cell::new(0),
+            whole: Cell::new(Tally::NONE),
+            server: Cell::new(None),
+            ask: Cell::new(Ask {
+                segments: 0,
+                nodes: 0,
+            }),
+            start: shared.moment(rt),
         }
     }
 
-    /// As whose the connection counts now, and the class that it had last.
-    pub(crate) fn standing(&self) -> (Who, u8) {
-        (self.account.get(), self.class.get())
+    /// As whose the connection counts.
+    pub(crate) fn account(&self) -> Who {
+        self.account.get()
     }
 
-    /// Lines and bytes in all.
-    pub(crate) fn traffic(&self) -> (u64, u64) {
-        (self.lines.get(), self.bytes.get())
+    /// The session's line of the log; None where it never had a grant.
+    pub(crate) fn log_of(&self, alloc: Global, number: u64, end: &str) -> Option<String> {
+        let register = self.shared.lock.lock(self.rt);
+        let server = register.directory.servers.get(self.server.get()?).copied()?;
+        let customer = register.directory.name_of(alloc, self.account.get()).ok()?;
+        let class = register.directory.classes.get(self.class.get() as usize)?;
+        let whole = self.whole.get();
+        let row = SessionRow {
+            number,
+            customer: customer.as_str(),
+            class: class.as_str(),
+            server,
+            segments: self.ask.get().segments,
+            nodes: self.ask.get().nodes,
+            micros: self.shared.moment(self.rt).saturating_sub(self.start),
+            lines: whole.lines,
+            bytes: whole.bytes,
+            done: whole.done,
+            spent: whole.spent,
+            end,
+        };
+        let mut out = String::new(alloc);
+        push_session(&mut out, &row).ok()?;
+        Some(out)
     }
 
     /// Waits before a refusal, as it says.
@@ -107,7 +138,8 @@ impl<'a, R: Clock + Wait> Clerk<'a, R> {
     /// Tells what was counted.
     pub(crate) fn tell(&self) {
         let tally = self.tally.replace(Tally::NONE);
-        let (who, class) = self.standing();
+        self.whole.set(self.whole.get().with(&tally));
+        let (who, class) = (self.account.get(), self.class.get());
         let mut register = self.shared.lock.lock(self.rt);
         register.counts.add(who, class, &tally);
     }
@@ -124,6 +156,8 @@ impl<'a, R: Clock + Wait> Clerk<'a, R> {
                         counts.granted = counts.granted.saturating_add(1);
                     }
                     self.class.set(class);
+                    self.server.set(Some(grant.server()));
+                    self.ask.set(ask);
                     return Ok(grant);
                 }
                 Err(refusal) => {
@@ -177,13 +211,6 @@ impl<'a, R: Clock + Wait> Clerk<'a, R> {
             self.timed.set(Instant::now(self.rt).ok().map(Timed::Wait));
         }
     }
-
-    /// Counts bytes of a line or an answer, with its LF.
-    fn count_bytes(&self, tally: &mut Tally, bytes: &[u8]) {
-        let count = (bytes.len() as u64).saturating_add(1);
-        tally.bytes = tally.bytes.saturating_add(count);
-        self.bytes.set(self.bytes.get().saturating_add(count));
-    }
 }
 
 /// Microseconds, as many as a number can say.
@@ -203,7 +230,7 @@ impl<R: Clock + Wait> Books for Clerk<'_, R> {
         let mut register = self.shared.lock.lock(self.rt);
         let who = match token {
             None => Some(self.own),
-            Some(token) => register.directory.by_token(token),
+            Some(token) => register.directory.keys.by_token(token),
         };
         let found = match who {
             Some(who) if self.belong(&mut *register, who) => return Some(who),
@@ -237,8 +264,9 @@ impl<R: Clock + Wait> Books for Clerk<'_, R> {
             self.count_refusal(&mut *register, grant.who(), grant.class(), refusal.cause.number());
         }
         drop(register);
-        if let Err(refusal) = &answer {
-            self.pause(*refusal);
+        match &answer {
+            Ok(()) => self.ask.set(ask),
+            Err(refusal) => self.pause(*refusal),
         }
         answer
     }
@@ -279,8 +307,7 @@ impl<R: Clock + Wait> Books for Clerk<'_, R> {
             Note::Line(line) => {
                 self.note_line(line);
                 tally.lines = tally.lines.saturating_add(1);
-                self.lines.set(self.lines.get().saturating_add(1));
-                self.count_bytes(&mut tally, line);
+                tally.bytes = tally.bytes.saturating_add(line.len() as u64).saturating_add(1);
             }
             Note::Answer(answer) => {
                 self.time(&mut tally);
@@ -289,7 +316,6 @@ impl<R: Clock + Wait> Books for Clerk<'_, R> {
                     Said::Spent => tally.spent = tally.spent.saturating_add(1),
                     _ => {}
                 }
-                self.count_bytes(&mut tally, answer);
             }
         }
         let many = tally.lines >= OFTEN;

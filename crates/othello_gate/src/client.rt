@@ -17,6 +17,9 @@ use std::time::{Clock, Duration, Instant};
 /// The field in which HAProxy hands on a certificate's name.
 const NAME_FIELD: u8 = 0x05;
 
+/// Seconds in which a client's first line is whole, and the header before it.
+const FIRST_LINE: u64 = 10;
+
 /// The most bytes of a PROXY header.
 const HEADER_BYTES: usize = 4096;
 
@@ -31,19 +34,28 @@ struct Known {
 /// What is said to who has too many connections.
 const FULL: &[u8] = b"ERR 14\n";
 
+/// The address that a header tells, or the connection's own.
+fn address_of(origin: &Origin, peer: Address) -> Address {
+    match origin {
+        Origin::Local => peer,
+        Origin::V4(octets, _) => Address::v4(*octets),
+        Origin::V6(octets, _) => Address::v6(*octets),
+    }
+}
+
 /// Whose a connection is by the header with which its bytes begin: None where the header isn't whole yet. One without a
 /// header is its own address's.
 fn identify<R: Wait>(rt: &R, shared: &Shared, bytes: &[u8], peer: Address) -> Option<Known> {
     let (name, address, used) = match read_header(bytes) {
         Ok(None) => return None,
         Ok(Some(header)) => {
-            let address = Address::of(&header.origin).unwrap_or(peer);
+            let address = address_of(&header.origin, peer);
             (field_of(header.fields, NAME_FIELD), address, header.used)
         }
         Err(_) => (None, peer, 0),
     };
     let register = shared.lock.lock(rt);
-    let who = register.directory.by_connection(name, address);
+    let who = register.directory.keys.by_connection(name, address);
     Some(Known { who, used })
 }
 
@@ -71,7 +83,7 @@ fn greet_proxy<R: Clock + Wait>(
 }
 
 /// Serves one connection.
-pub(crate) fn serve_client<R: Net<Listener = TcpListener, Stream = TcpStream> + Clock + Wait>(
+pub(crate) fn serve_client<R: Net<Listener = TcpListener, Stream = TcpStream> + Clock + Wait + Eprint>(
     rt: &R,
     alloc: Global,
     shared: &Shared,
@@ -80,7 +92,8 @@ pub(crate) fn serve_client<R: Net<Listener = TcpListener, Stream = TcpStream> + 
 ) -> Option<()> {
     let start = Instant::now(rt).ok()?;
     let peer = Address::of_ip(stream.peer_addr().ok()?.ip());
-    let (mut source, mut sink) = ends_of(rt, alloc, stream, start).ok()?;
+    let until = start.checked_add(Duration::from_secs(FIRST_LINE));
+    let (mut source, mut sink) = ends_of(rt, alloc, stream, until).ok()?;
     let mut block = [0; HEADER_BYTES];
     let (known, size) = greet_proxy(rt, shared, &mut source, &mut block, peer)?;
     let mut register = shared.lock.lock(rt);
@@ -97,7 +110,7 @@ pub(crate) fn serve_client<R: Net<Listener = TcpListener, Stream = TcpStream> + 
 }
 
 /// Serves the lines of a connection whose customer is known.
-fn converse<'a, R: Net<Listener = TcpListener, Stream = TcpStream> + Clock + Wait>(
+fn converse<'a, R: Net<Listener = TcpListener, Stream = TcpStream> + Clock + Wait + Eprint>(
     rt: &'a R,
     alloc: Global,
     shared: &'a Shared,
@@ -106,10 +119,23 @@ fn converse<'a, R: Net<Listener = TcpListener, Stream = TcpStream> + Clock + Wai
     number: u64,
 ) {
     let mut client = client;
-    let mut servers = Dialer { rt, alloc, shared };
+    let mut servers = Dialer::new(rt, alloc, shared);
     let (clerk, end) = serve_session(rt, &mut client, clerk, &mut servers, number);
     clerk.tell();
-    let (who, class) = clerk.standing();
+    if let Some(row) = clerk.log_of(alloc, number / 2, words_of(end)) {
+        let _ = eprint!(rt; "{row}");
+    }
     let mut register = shared.lock.lock(rt);
-    register.depart(who);
+    register.depart(clerk.account());
+}
+
+/// What ended a session, in words.
+fn words_of(end: SessionEnd) -> &'static str {
+    match end {
+        SessionEnd::Bye => "BYE",
+        SessionEnd::Input => "the client",
+        SessionEnd::Unread => "silence or a fault of the client",
+        SessionEnd::Unwritten => "a client that took no answer",
+        SessionEnd::Server(_) => "the server",
+    }
 }

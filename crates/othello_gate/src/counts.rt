@@ -30,21 +30,19 @@ impl Tally {
         hello: Buckets::NONE,
         wait: Buckets::NONE,
     };
-}
 
-/// No counts.
-const NO_COUNTS: Counts = Counts {
-    sessions: 0,
-    granted: 0,
-    refused: [0; 8],
-    lines: 0,
-    bytes: 0,
-    done: 0,
-    spent: 0,
-    connections: 0,
-    hello: Buckets::NONE,
-    wait: Buckets::NONE,
-};
+    /// The sums of both.
+    pub(crate) fn with(self, more: &Tally) -> Tally {
+        Tally {
+            lines: self.lines.saturating_add(more.lines),
+            bytes: self.bytes.saturating_add(more.bytes),
+            done: self.done.saturating_add(more.done),
+            spent: self.spent.saturating_add(more.spent),
+            hello: sum_of(self.hello, &more.hello),
+            wait: sum_of(self.wait, &more.wait),
+        }
+    }
+}
 
 /// The histogram with another's counts added.
 fn sum_of(one: Buckets, other: &Buckets) -> Buckets {
@@ -56,8 +54,8 @@ fn sum_of(one: Buckets, other: &Buckets) -> Buckets {
     sum
 }
 
-/// The row of a customer.
-fn row_of(who: Who) -> usize {
+/// The row of a customer: 0 for all guests together.
+pub(crate) fn row_of(who: Who) -> usize {
     match who {
         Who::Named(number) => (number as usize).saturating_add(1),
         Who::V4(_) => 0,
@@ -78,7 +76,7 @@ impl Table {
     /// Rows for so many named customers.
     pub(crate) fn widen(&mut self, customers: usize) -> Result<(), AllocError> {
         for _ in self.rows.len()..customers.saturating_add(1) {
-            self.rows.push([NO_COUNTS; CLASSES])?;
+            self.rows.push([Counts::NONE; CLASSES])?;
         }
         Ok(())
     }
@@ -91,16 +89,6 @@ impl Table {
     /// A customer's counts in a class.
     pub(crate) fn of(&mut self, who: Who, class: u8) -> Option<&mut Counts> {
         self.rows.get_mut(row_of(who))?.get_mut(class as usize)
-    }
-
-    /// Clears the numbers of what is there now.
-    pub(crate) fn clear_now(&mut self) {
-        for row in &mut self.rows {
-            for counts in row {
-                counts.sessions = 0;
-                counts.connections = 0;
-            }
-        }
     }
 
     /// Adds what a session has counted.

@@ -12,9 +12,6 @@ const SILENCE: u64 = 3600;
 /// Seconds in which a connection takes a byte of what waits for it: a minute.
 const STANDSTILL: u64 = 60;
 
-/// Seconds in which a first line is whole.
-const FIRST_LINE: u64 = 10;
-
 /// How often a read that a signal interrupts is made again.
 const READ_TRIES: u32 = 65536;
 
@@ -72,9 +69,13 @@ impl<R: Clock> Incoming<'_, R> {
         }
     }
 
-    /// Says that no more lines come, and waits until the other side has ended, for this long at most.
+    /// Says that no more lines come, and waits until the other side has ended, for this long at most. It waits for none
+    /// that hasn't sent its first line yet.
     pub(crate) fn end(&mut self, most: Duration) {
         let _ = self.stream.shutdown(Shutdown::Write);
+        if self.until.is_some() {
+            return;
+        }
         let Ok(now) = Instant::now(self.rt) else {
             return;
         };
@@ -112,12 +113,12 @@ impl Sink for Outgoing {
     }
 }
 
-/// Both ends of a connection, whose first line must be whole so long from `from` on.
+/// Both ends of a connection, whose first line must be whole by then.
 pub(crate) fn ends_of<'r, R: Clock>(
     rt: &'r R,
     alloc: Global,
     stream: TcpStream,
-    from: Instant,
+    until: Option<Instant>,
 ) -> Result<(Incoming<'r, R>, Outgoing), AllocError> {
     let _ = stream.set_nodelay(true);
     let _ = stream.set_write_timeout(Some(Duration::from_secs(STANDSTILL)));
@@ -126,7 +127,7 @@ pub(crate) fn ends_of<'r, R: Clock>(
     let incoming = Incoming {
         stream,
         rt,
-        until: from.checked_add(Duration::from_secs(FIRST_LINE)),
+        until,
     };
     Ok((incoming, Outgoing { stream: other }))
 }

@@ -10,6 +10,7 @@ mod links;
 mod listening;
 mod register;
 mod running;
+mod servers;
 mod shared;
 mod telling;
 

@@ -1,8 +1,10 @@
 //! What all sessions share, under one lock: the book, the file's directory, the connections and the counts.
-use crate::counts::Table;
-use customer_book::{Book, CLASSES, LAST_MOMENT, Part, Who};
+use crate::counts::{Table, row_of};
+use crate::servers::KnownServers;
+use customer_book::{Amount, Book, CLASSES, LAST_MOMENT, Server, Site, Who};
 use site_file::{Directory, FileFault, SitePlan, read_site_again};
 use std::alloc::{AllocError, Global};
+use thiserror::Error;
 
 /// How many of something a customer has now.
 #[derive(Clone, Copy)]
@@ -12,29 +14,107 @@ struct Tally {
     ending: u32,
 }
 
+/// What a file says of amounts, beside the book, which keeps its own.
+#[derive(Drop)]
+pub(crate) struct Amounts {
+    /// The budgets of the named customers.
+    pub(crate) named: Vec<[Amount; CLASSES]>,
+    /// What all guests together may have.
+    pub(crate) pool: [Amount; CLASSES],
+    /// The servers.
+    pub(crate) servers: Vec<Server>,
+}
+
+impl Amounts {
+    /// Those of a plan.
+    fn of(alloc: Global, site: &Site) -> Result<Amounts, AllocError> {
+        let mut named = Vec::new(alloc);
+        for customer in &site.customers {
+            named.push(customer.budgets)?;
+        }
+        let mut servers = Vec::new(alloc);
+        for server in &site.servers {
+            servers.push(*server)?;
+        }
+        Ok(Amounts {
+            named,
+            pool: site.pool,
+            servers,
+        })
+    }
+}
+
 /// What all sessions share.
 #[derive(Drop)]
 pub(crate) struct Register {
     pub(crate) book: Book,
     pub(crate) directory: Directory,
+    pub(crate) amounts: Amounts,
+    pub(crate) servers: KnownServers,
     pub(crate) counts: Table,
     tallies: Vec<Tally>,
     /// Connections in all.
     pub(crate) connections: u32,
 }
 
+/// Why a file isn't gone by.
+#[derive(Debug, Drop, Error)]
+pub(crate) enum ReloadFault {
+    /// It is wrong, or there was no memory to read it.
+    #[error("{0}")]
+    File(FileFault),
+    /// There was no memory.
+    #[error("no memory for what the file says")]
+    Memory,
+    /// An address at which the gate listens can't change while it serves.
+    #[error("`listen` and `control` can't change while the gate serves")]
+    Listen,
+}
+
 impl Register {
     /// That of a file, where nobody is there.
     pub(crate) fn new(alloc: Global, plan: SitePlan) -> Result<Register, AllocError> {
         let SitePlan { site, directory } = plan;
+        let amounts = Amounts::of(alloc, &site)?;
+        let servers = KnownServers::new(alloc, site.servers.as_slice())?;
         let counts = Table::new(alloc, directory.customers.len())?;
         Ok(Register {
             book: Book::new(alloc, site)?,
             directory,
+            amounts,
+            servers,
             counts,
             tallies: Vec::new(alloc),
             connections: 0,
         })
+    }
+
+    /// Goes on by another file's text. At Err nothing is changed.
+    pub(crate) fn replan(&mut self, alloc: Global, text: &str) -> Result<(), ReloadFault> {
+        let plan = match read_site_again(alloc, text, &self.directory, self.amounts.servers.as_slice()) {
+            Ok(plan) => plan,
+            Err(fault) => return Err(ReloadFault::File(fault)),
+        };
+        if plan.directory.listen != self.directory.listen || plan.directory.control != self.directory.control {
+            return Err(ReloadFault::Listen);
+        }
+        match self.go_by(alloc, plan) {
+            Ok(()) => Ok(()),
+            Err(_) => Err(ReloadFault::Memory),
+        }
+    }
+
+    /// Goes by another plan. At Err nothing is changed.
+    fn go_by(&mut self, alloc: Global, plan: SitePlan) -> Result<(), AllocError> {
+        let SitePlan { site, directory } = plan;
+        let amounts = Amounts::of(alloc, &site)?;
+        let servers = KnownServers::new(alloc, site.servers.as_slice())?;
+        self.counts.widen(directory.customers.len())?;
+        drop(site);
+        self.directory = directory;
+        self.amounts = amounts;
+        self.servers = servers;
+        Ok(())
     }
 
     /// The place of a customer's tally.
@@ -79,14 +159,6 @@ impl Register {
         }
     }
 
-    /// How many connections a customer has.
-    pub(crate) fn connections_of(&self, who: Who) -> u32 {
-        match self.place_of(who) {
-            Some(place) => self.tallies[place].connections,
-            None => 0,
-        }
-    }
-
     /// Forgets a tally of nothing.
     fn forget(&mut self, place: usize) {
         if place < self.tallies.len() {
@@ -122,36 +194,15 @@ impl Register {
             .any(|tally| tally.ending > 0 && (tally.who == who || (is_guest && tally.who.is_guest())))
     }
 
-    /// Goes on by another file's text. At Err nothing is changed.
-    pub(crate) fn replan(&mut self, alloc: Global, text: &str) -> Result<(), FileFault> {
-        let SitePlan { site: _site, directory } = read_site_again(alloc, text, &self.directory)?;
-        self.directory = directory;
-        Ok(())
-    }
-
-    /// Brings the counts of what is there now up to date.
-    pub(crate) fn bring_up(&mut self) {
-        self.counts.clear_now();
+    /// The connections of all guests together, or of the named customer of this number, from 1 on.
+    pub(crate) fn connections_in(&self, row: usize) -> u64 {
+        let mut sum: u64 = 0;
         for tally in &self.tallies {
-            if let Some(counts) = self.counts.of(tally.who, 0) {
-                counts.connections = counts.connections.saturating_add(u64::from(tally.connections));
+            if row_of(tally.who) == row {
+                sum = sum.saturating_add(u64::from(tally.connections));
             }
         }
-        for number in 0..self.directory.customers.len() {
-            for class in 0..CLASSES as u8 {
-                let who = Who::Named(number as u32);
-                let used = self.book.used(Part::Own(who, class));
-                if let Some(counts) = self.counts.of(who, class) {
-                    counts.sessions = u64::from(used.sessions);
-                }
-            }
-        }
-        for class in 0..CLASSES as u8 {
-            let used = self.book.used(Part::Guests(class));
-            if let Some(counts) = self.counts.of(Who::V4(0), class) {
-                counts.sessions = u64::from(used.sessions);
-            }
-        }
+        sum
     }
 
     /// The book at this moment.

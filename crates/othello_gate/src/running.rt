@@ -3,7 +3,7 @@ use crate::control::serve_control;
 use crate::listening::take_all;
 use crate::register::Register;
 use crate::shared::Shared;
-use site_file::{SitePlan, check_text, read_site};
+use site_file::{SitePlan, read_site};
 use std::alloc::{AllocError, Global};
 use std::fs;
 use std::io;
@@ -89,7 +89,7 @@ fn check<R: Files + Print + Eprint + AllocGlobal>(rt: &R, path: &str) -> u8 {
         Ok(plan) => plan,
         Err(status) => return status,
     };
-    match check_text(rt.alloc(), &plan) {
+    match plan.check_text(rt.alloc()) {
         Ok(text) => say(rt, text.as_str()),
         Err(_) => EXIT_FAILED,
     }

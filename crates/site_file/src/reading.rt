@@ -211,7 +211,12 @@ impl Classes {
         };
         let first = self.addresses.len();
         for address in &addresses_in(section)? {
-            if self.addresses[..first].contains(address) {
+            if self
+                .addresses
+                .iter()
+                .take(first)
+                .any(|other| *other == *address)
+            {
                 return Err(section.fault("address", "another class has a server of this address"));
             }
             self.servers.push(server)?;
