@@ -1,11 +1,13 @@
 //! A session until a server has welcomed it.
+ghost use Rattle.std.specs.Prelude.{◌≡◌, []};
+ghost use Rattle.gate_session.specs.Pairing.{Dealt, names_with, names_entered};
+
 use crate::books::{Books, Note};
-use crate::greeting::{admit, write_full};
+use crate::greeting::{admit, write_bye, write_full};
 use crate::porch::{Nobody, Porch};
 use crate::seats::{Seat, ask_of};
 use crate::servers::Servers;
 use crate::serving::{SessionEnd, end_of};
-use arrayvec::ArrayVec;
 use gate_rules::{Opening, read_opening};
 use line_io::{Line, LineCutter, Sink, Source, write_text};
 use line_relay::{Peer, RelayEnd, RelayText, relay_lines};
@@ -26,10 +28,11 @@ fn answer_opening<S: Source, T: Sink, B: Books, V: Servers<S, T>>(
     session: u64,
     line: Line<'_>,
     text: &mut RelayText,
-) -> Option<(Seat, Peer<S, T>)> {
+) -> Option<(Seat, Peer<S, T>)>
+    ensures { Dealt B.deals books.old [] books.new (names_with [] result) }
+{
     let Opening::Greets(reserve, token) = read_opening(line) else {
-        text.clear();
-        text.try_extend_from_slice(b"BYE\n").unwrap();
+        write_bye(text);
         return None;
     };
     let Some(who) = books.who(token) else {
@@ -79,7 +82,9 @@ pub(crate) fn enter<
     session: u64,
     line: &mut LineCutter,
     text: &mut RelayText,
-) -> Result<Entered<S, T>, SessionEnd> {
+) -> Result<Entered<S, T>, SessionEnd>
+    ensures { Dealt B.deals books.old [] books.new (names_entered result) }
+{
     let mut nobody = Peer::new(Nobody, Nobody);
     let mut porch = Porch;
     for _ in rt.forever() {

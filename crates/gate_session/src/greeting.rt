@@ -1,4 +1,7 @@
 //! HELLO to a server, with a grant of the book.
+ghost use Rattle.std.specs.Prelude.{◌≡◌, ◌≤◌, length};
+ghost use Rattle.gate_session.specs.Greetings.{full_text, bye_text, asked_text, outcome_of, Hears, Trial, Greets, Opened};
+
 use crate::books::Books;
 use crate::judging::FULL;
 use crate::seats::Seat;
@@ -13,14 +16,19 @@ use protocol::{push_error, push_number};
 pub(crate) const LF: u8 = 10;
 
 /// Writes ERR 14 with its LF over the text.
-pub(crate) fn write_full(text: &mut RelayText) {
+pub(crate) fn write_full(text: &mut RelayText)
+    ensures { text.new.items ≡ full_text }
+{
     text.clear();
     push_error(text, FULL);
     text.push(LF);
 }
 
-/// Writes this word, a space and what is reserved over the text, with an LF.
-pub(crate) fn write_asked(text: &mut RelayText, word: &[u8], ask: Ask) {
+/// Writes this word, which ends with a space, and what is reserved over the text, with an LF.
+pub(crate) fn write_asked(text: &mut RelayText, word: &[u8], ask: Ask)
+    requires { length word.now ≤ 16 }
+    ensures { text.new.items ≡ asked_text word.now ask }
+{
     text.clear();
     text.try_extend_from_slice(word).unwrap();
     push_number(text, u64::from(ask.segments));
@@ -29,19 +37,67 @@ pub(crate) fn write_asked(text: &mut RelayText, word: &[u8], ask: Ask) {
     text.push(LF);
 }
 
-/// What the text, an answer with its LF, says.
-fn said_in(text: &RelayText) -> Said {
-    match text.as_slice().split_last() {
-        Some((_, answer)) => read_answer(answer),
-        None => Said::Other,
+/// Writes BYE with its LF over the text.
+pub(crate) fn write_bye(text: &mut RelayText)
+    ensures { text.new.items ≡ bye_text }
+{
+    text.clear();
+    text.try_extend_from_slice(b"BYE\n").unwrap();
+}
+
+/// What a server's answer to HELLO comes to.
+#[derive(Clone, Copy, Debug, PartialEq, Eq)]
+pub enum Outcome {
+    /// It is a WELCOME.
+    Welcoming,
+    /// It says that the server is full: ERR 14.
+    Full,
+    /// It says another thing.
+    Another,
+    /// There is none.
+    Silent,
+}
+
+/// What an answer comes to that says this.
+fn outcome_of(said: Said) -> Outcome
+    ensures { result ≡ outcome_of said }
+{
+    match said {
+        Said::Welcome => Outcome::Welcoming,
+        Said::Error(Some(number)) => {
+            if number == u32::from(FULL) {
+                Outcome::Full
+            } else {
+                Outcome::Another
+            }
+        }
+        _ => Outcome::Another,
     }
 }
 
-/// What came of asking a server for a welcome.
-enum Tried<S, T> {
-    /// It welcomed the session. The text is its answer.
+/// Asks a server to welcome a session that reserves so much.
+fn hear_welcome<S: Source, T: Sink>(
+    server: &mut Peer<S, T>,
+    ask: Ask,
+    text: &mut RelayText,
+) -> Outcome
+    ensures { Hears S.gives T.takes server.old ask result text.new.items server.new }
+{
+    write_asked(text, b"HELLO ", ask);
+    match ask_server(server, text) {
+        Ok(()) => {
+            let bytes = text.as_slice();
+            outcome_of(read_answer(&bytes[..bytes.len() - 1]))
+        }
+        Err(_) => Outcome::Silent,
+    }
+}
+
+/// What came of a try.
+pub enum Tried<S, T> {
+    /// A server has welcomed the session. The text is its answer.
     Welcomed(Peer<S, T>),
-    /// It gave no answer, or that it is full: it, or another, may be asked again. The text is ERR 14.
+    /// It gave no answer, or it is full: it, or another, may be asked again. The text is ERR 14.
     Unheard,
     /// It gave another answer, which is the text; or there is no server to be asked any more, and the text is ERR 14.
     Refused,
@@ -54,23 +110,31 @@ fn try_once<S: Source, T: Sink, V: Servers<S, T>>(
     tried: u32,
     ask: Ask,
     text: &mut RelayText,
-) -> Tried<S, T> {
+) -> Tried<S, T>
+    ensures { Trial S.gives T.takes V.dials V.parts place tried ask servers.old text.new.items servers.new result }
+{
     let Some(mut server) = servers.dial(place, tried) else {
         write_full(text);
         return Tried::Refused;
     };
-    write_asked(text, b"HELLO ", ask);
-    let asked = ask_server(&mut server, text);
-    let said = said_in(text);
-    if asked.is_ok() && said == Said::Welcome {
-        return Tried::Welcomed(server);
+    let outcome = hear_welcome(&mut server, ask, text);
+    match outcome {
+        Outcome::Welcoming => Tried::Welcomed(server),
+        Outcome::Another => {
+            servers.part(server);
+            Tried::Refused
+        }
+        Outcome::Full => {
+            servers.part(server);
+            write_full(text);
+            Tried::Unheard
+        }
+        Outcome::Silent => {
+            servers.part(server);
+            write_full(text);
+            Tried::Unheard
+        }
     }
-    servers.part(server);
-    if asked.is_ok() && said != Said::Error(Some(u32::from(FULL))) {
-        return Tried::Refused;
-    }
-    write_full(text);
-    Tried::Unheard
 }
 
 /// How often servers are asked for one welcome at most.
@@ -83,14 +147,19 @@ fn greet<S: Source, T: Sink, V: Servers<S, T>>(
     place: usize,
     ask: Ask,
     text: &mut RelayText,
-) -> Option<Peer<S, T>> {
-    for tried in 0..MOST_TRIES {
+) -> Option<Peer<S, T>>
+    ensures { Greets S.gives T.takes V.dials V.parts place ask servers.old text.new.items servers.new result }
+{
+    let mut tried = 0;
+    while tried < MOST_TRIES {
         match try_once(servers, place, tried, ask, text) {
             Tried::Welcomed(server) => return Some(server),
             Tried::Refused => return None,
             Tried::Unheard => {}
         }
+        tried += 1;
     }
+    write_full(text);
     None
 }
 
@@ -103,7 +172,9 @@ pub(crate) fn admit<S: Source, T: Sink, B: Books, V: Servers<S, T>>(
     session: u64,
     ask: Ask,
     text: &mut RelayText,
-) -> Option<(Seat, Peer<S, T>)> {
+) -> Option<(Seat, Peer<S, T>)>
+    ensures { Opened S.gives T.takes V.dials V.parts B.deals who session ask books.old servers.old text.new.items books.new servers.new result }
+{
     let Some(class) = books.class_for(who, ask) else {
         let _ = books.say(who);
         write_full(text);

@@ -19,3 +19,5 @@ pub use seats::Seat;
 pub use servers::Servers;
 pub use serving::{SessionEnd, serve_session};
 
+#[cfg(test)]
+mod tests;

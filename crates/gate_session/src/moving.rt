@@ -1,4 +1,7 @@
 //! A session that leaves its class moves to a server of another.
+ghost use Rattle.std.specs.Prelude.{◌≡◌, ◌==◌, false};
+ghost use Rattle.gate_session.specs.Pairing.{Dealt, names_at};
+
 use crate::books::Books;
 use crate::greeting::{admit, write_asked};
 use crate::judging::Seated;
@@ -9,7 +12,9 @@ use line_relay::{Peer, RelayText};
 use std::mem;
 
 /// The number of a session that takes the place of this one: of a connection's two the other.
-fn other_of(session: u64) -> u64 {
+fn other_of(session: u64) -> u64
+    ensures { (result == session) ≡ false }
+{
     if session % 2 == 0 {
         session + 1
     } else {
@@ -25,7 +30,9 @@ pub(crate) fn move_seat<S: Source, T: Sink, B: Books, V: Servers<S, T>>(
     servers: &mut V,
     ask: Ask,
     text: &mut RelayText,
-) {
+)
+    ensures { Dealt B.deals seated.old.books (names_at seated.old.seat) seated.new.books (names_at seated.new.seat) }
+{
     let who = seated.seat.grant.who();
     let session = other_of(seated.seat.grant.session());
     if let Some((seat, next)) = admit(&mut seated.books, servers, who, session, ask, text) {

@@ -1,5 +1,7 @@
 //! The lines before a session has its seat.
 ghost use Rattle.std.specs.Prelude.{◌≡◌};
+ghost use Rattle.gate_rules.specs.Openings.{opening};
+ghost use Rattle.gate_session.specs.Pairing.{porch_verdict};
 
 use gate_rules::{Opening, read_opening};
 use line_io::{Line, ReadFailed, Sink, Source, WriteFailed};
@@ -10,22 +12,17 @@ use line_relay::{Judge, Verdict};
 #[derive(Drop)]
 pub struct Porch;
 
-/// What a line comes to where no server is there yet.
-fn verdict_of(opening: Opening<'_>) -> Verdict {
-    match opening {
-        Opening::Refused(fault) => Verdict::Refuse(fault.number()),
-        Opening::Greets(_, _) => Verdict::End,
-        Opening::Leaves => Verdict::End,
-    }
-}
-
 impl Judge for Porch {
-    ghost judges = { λ _ _ _ _. Unit {0} };
+    ghost judges = { λ _ line verdict _. verdict ≡ porch_verdict (opening line) };
 
     ghost hears = { λ _ _ _. Unit {0} };
 
     fn judge(&mut self, line: Line<'_>) -> Verdict {
-        verdict_of(read_opening(line))
+        match read_opening(line) {
+            Opening::Refused(fault) => Verdict::Refuse(fault.number()),
+            Opening::Greets(_, _) => Verdict::End,
+            Opening::Leaves => Verdict::End,
+        }
     }
 
     fn hear(&mut self, _answer: &[u8]) {}

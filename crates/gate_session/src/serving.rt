@@ -1,6 +1,12 @@
 //! A session from its first line to its last.
+ghost use Rattle.std.specs.Prelude.{◌≡◌, [], None};
+ghost use Rattle.customer_book.specs.declared.event.Event.TheVariants.{Closes};
+ghost use Rattle.gate_session.specs.Deals.{Booked};
+ghost use Rattle.gate_session.specs.Pairing.{Dealt, names_at};
+
 use crate::books::Books;
 use crate::entering::{Entered, enter, note_text};
+use crate::greeting::write_bye;
 use crate::judging::Seated;
 use crate::moving::move_seat;
 use crate::seats::ask_of;
@@ -42,7 +48,10 @@ fn leave<S, T, B: Books, V: Servers<S, T>>(
     seated: Seated<B>,
     server: Peer<S, T>,
     servers: &mut V,
-) -> B {
+) -> B
+    ensures deal { B.deals seated.books (Booked (Closes seated.seat.grant.who seated.seat.grant.session) None) result }
+    ensures server { V.parts servers.old server servers.new }
+{
     seated.books.fade(&seated.seat.grant);
     servers.part(server);
     let Seated { mut books, seat } = seated;
@@ -57,10 +66,11 @@ fn leave_by_bye<K: Sink, S: Source, T: Sink, B: Books, V: Servers<S, T>>(
     server: Peer<S, T>,
     servers: &mut V,
     text: &mut RelayText,
-) -> (B, SessionEnd) {
+) -> (B, SessionEnd)
+    ensures { B.deals seated.books (Booked (Closes seated.seat.grant.who seated.seat.grant.session) None) result.0 }
+{
     let mut server = server;
-    text.clear();
-    text.try_extend_from_slice(b"BYE\n").unwrap();
+    write_bye(text);
     let asked = ask_server(&mut server, text);
     let books = leave(seated, server, servers);
     if let Err(fault) = asked {
@@ -85,14 +95,16 @@ fn serve_seated<
 >(
     rt: &R,
     client: &mut Peer<C, K>,
-    seated: Seated<B>,
-    server: Peer<S, T>,
+    entered: Seated<B>,
+    greeted: Peer<S, T>,
     servers: &mut V,
     line: &mut LineCutter,
     text: &mut RelayText,
-) -> (B, SessionEnd) {
-    let mut seated = seated;
-    let mut server = server;
+) -> (B, SessionEnd)
+    ensures { Dealt B.deals entered.books (names_at entered.seat) result.0 [] }
+{
+    let mut seated = entered;
+    let mut server = greeted;
     for _ in rt.forever() {
         let end = relay_lines(rt, client, &mut server, &mut seated, line);
         if end != Ok(RelayEnd::Line) {
@@ -127,7 +139,9 @@ fn serve_entered<
     servers: &mut V,
     line: &mut LineCutter,
     text: &mut RelayText,
-) -> (B, SessionEnd) {
+) -> (B, SessionEnd)
+    ensures { Dealt B.deals seated.books (names_at seated.seat) result.0 [] }
+{
     note_text(&seated.books, text);
     if write_text(&mut client.sink, text.as_slice()).is_err() {
         return (leave(seated, server, servers), SessionEnd::Unwritten);
@@ -151,7 +165,9 @@ pub fn serve_session<
     books: B,
     servers: &mut V,
     session: u64,
-) -> (B, SessionEnd) {
+) -> (B, SessionEnd)
+    ensures { Dealt B.deals books [] result.0 [] }
+{
     let mut books = books;
     let mut line = LineCutter::new();
     let mut text: RelayText = ArrayVec::new();

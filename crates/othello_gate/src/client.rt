@@ -83,7 +83,7 @@ fn greet_proxy<R: Clock + Wait>(
 }
 
 /// Serves one connection.
-pub(crate) fn serve_client<R: Net<Listener = TcpListener, Stream = TcpStream> + Clock + Wait + Eprint>(
+pub(crate) fn serve_client<R: Net<Listener = TcpListener, Stream = TcpStream> + Clock + Wait>(
     rt: &R,
     alloc: Global,
     shared: &Shared,
@@ -93,7 +93,7 @@ pub(crate) fn serve_client<R: Net<Listener = TcpListener, Stream = TcpStream> + 
     let start = Instant::now(rt).ok()?;
     let peer = Address::of_ip(stream.peer_addr().ok()?.ip());
     let until = start.checked_add(Duration::from_secs(FIRST_LINE));
-    let (mut source, mut sink) = ends_of(rt, alloc, stream, until).ok()?;
+    let (mut source, mut sink) = ends_of(rt, alloc, stream, until, true).ok()?;
     let mut block = [0; HEADER_BYTES];
     let (known, size) = greet_proxy(rt, shared, &mut source, &mut block, peer)?;
     let mut register = shared.lock.lock(rt);
@@ -110,7 +110,7 @@ pub(crate) fn serve_client<R: Net<Listener = TcpListener, Stream = TcpStream> + 
 }
 
 /// Serves the lines of a connection whose customer is known.
-fn converse<'a, R: Net<Listener = TcpListener, Stream = TcpStream> + Clock + Wait + Eprint>(
+fn converse<'a, R: Net<Listener = TcpListener, Stream = TcpStream> + Clock + Wait>(
     rt: &'a R,
     alloc: Global,
     shared: &'a Shared,
@@ -122,11 +122,13 @@ fn converse<'a, R: Net<Listener = TcpListener, Stream = TcpStream> + Clock + Wai
     let mut servers = Dialer::new(rt, alloc, shared);
     let (clerk, end) = serve_session(rt, &mut client, clerk, &mut servers, number);
     clerk.tell();
-    if let Some(row) = clerk.log_of(alloc, number / 2, words_of(end)) {
-        let _ = eprint!(rt; "{row}");
-    }
+    let row = clerk.log_of(alloc, number / 2, words_of(end));
     let mut register = shared.lock.lock(rt);
     register.depart(clerk.account());
+    drop(register);
+    if let Some(row) = row {
+        shared.log.say(rt, row.as_str());
+    }
 }
 
 /// What ended a session, in words.

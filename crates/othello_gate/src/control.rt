@@ -8,10 +8,15 @@ use std::io::{Read, Write};
 use std::net::{TcpListener, TcpStream};
 use std::rt::Files;
 use std::sync::Wait;
+use std::sync::atomic::{AtomicU64, Ordering};
+use std::thread::Scope;
 use std::time::Duration;
 
 /// Seconds in which a command is whole, and in which its answer is taken.
 const A_COMMAND: u64 = 5;
+
+/// The most connections that are answered at once.
+const MOST_COMMANDERS: u64 = 64;
 
 /// The most bytes of a request.
 const REQUEST_BYTES: usize = 4096;
@@ -71,11 +76,37 @@ fn converse<R: Files + AllocGlobal + Wait>(rt: &R, shared: &Shared, path: &str, 
     None
 }
 
-/// Answers connections, one after another.
-pub(crate) fn serve_control<R: Files + AllocGlobal + Wait>(rt: &R, shared: &Shared, path: &str, listener: &TcpListener) {
+/// One commander more, if there may be one.
+fn arrive(commanders: &AtomicU64) -> bool {
+    if commanders.load(Ordering::SeqCst) >= MOST_COMMANDERS {
+        return false;
+    }
+    commanders.fetch_add(1, Ordering::SeqCst);
+    true
+}
+
+/// Answers connections, each in a thread of its own, and few at once: more are closed.
+pub(crate) fn serve_control<'s, E, R: Files + AllocGlobal + Wait + Sync>(
+    scope: &'s Scope<'s, E>,
+    rt: &'s R,
+    shared: &'s Shared,
+    path: &'s str,
+    commanders: &'s AtomicU64,
+    listener: TcpListener,
+) {
     for stream in listener.incoming() {
-        if let Ok(stream) = stream {
+        let Ok(stream) = stream else {
+            continue;
+        };
+        if !arrive(commanders) {
+            continue;
+        }
+        let started = scope.spawn(move || {
             let _ = converse(rt, shared, path, &stream);
+            commanders.fetch_sub(1, Ordering::SeqCst);
+        });
+        if started.is_err() {
+            commanders.fetch_sub(1, Ordering::SeqCst);
         }
     }
 }

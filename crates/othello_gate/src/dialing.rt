@@ -21,8 +21,8 @@ const A_SHORT_ANSWER: u64 = 2_000;
 /// Milliseconds for which servers are asked for a welcome.
 const PATIENCE: u64 = 10_000;
 
-/// Milliseconds in which a server ends a session that it was told to end. One that hasn't by then is taken as ended.
-const AN_END: u64 = 10_000;
+/// Milliseconds in which a server ends a session that it was told to end: an hour. One that hasn't by then is taken as ended.
+const AN_END: u64 = 3_600_000;
 
 /// Milliseconds before all servers are asked once more: at first, and at most.
 const LEAST_PAUSE: u64 = 10;
@@ -121,7 +121,7 @@ impl<'a, R: Net<Listener = TcpListener, Stream = TcpStream> + Clock + Wait> Dial
         };
         let now = Instant::now(self.rt).ok()?;
         let until = now.checked_add(Duration::from_millis(most));
-        let (source, sink) = ends_of(self.rt, self.alloc, stream, until).ok()?;
+        let (source, sink) = ends_of(self.rt, self.alloc, stream, until, false).ok()?;
         Some(Peer::new(source, sink))
     }
 }

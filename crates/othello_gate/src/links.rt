@@ -18,6 +18,9 @@ const READ_TRIES: u32 = 65536;
 /// The byte that ends a line.
 const LF: u8 = 10;
 
+/// The byte that is left out before it.
+const CR: u8 = 13;
+
 /// The bytes of a connection. Its first line must be whole in time; from then on it may be silent for an hour.
 #[derive(Drop)]
 pub(crate) struct Incoming<'r, R> {
@@ -25,6 +28,31 @@ pub(crate) struct Incoming<'r, R> {
     rt: &'r R,
     /// Until when the first line must be whole; None once it is.
     until: Option<Instant>,
+    /// Whether a line that the end of its bytes cuts off is a line too, as it is to the server.
+    ends_lines: bool,
+    /// How such a line is ended.
+    last: Last,
+}
+
+/// What is given at the end of a connection's bytes, so that what stands behind the last LF is a line as any other.
+#[derive(Clone, Copy, Debug, PartialEq, Eq)]
+enum Last {
+    /// Nothing.
+    Nothing,
+    /// An LF.
+    Feed,
+    /// A CR and an LF, as the line ends with a CR, which is part of it.
+    ReturnFeed,
+}
+
+/// What ends the line of these bytes, the last ones that came.
+fn last_of(bytes: &[u8]) -> Last {
+    match bytes.last() {
+        None => Last::Nothing,
+        Some(b'\n') => Last::Nothing,
+        Some(b'\r') => Last::ReturnFeed,
+        Some(_) => Last::Feed,
+    }
 }
 
 /// What goes to a connection.
@@ -57,12 +85,38 @@ impl<R: Clock> Incoming<'_, R> {
     /// Reads a block, if there is one before the limit. None at a failure.
     fn read(&mut self, block: &mut [u8]) -> Option<usize> {
         let count = self.read_early(block)?;
+        if count == 0 {
+            return Some(self.finish(block));
+        }
         self.settle(&block[..count]);
         Some(count)
     }
 
+    /// Ends a line that is cut off, if there is one.
+    fn finish(&mut self, block: &mut [u8]) -> usize {
+        let last = self.last;
+        if last != Last::Nothing {
+            self.last = Last::Nothing;
+        }
+        match (last, block) {
+            (Last::Feed, [first, ..]) => {
+                *first = LF;
+                1
+            }
+            (Last::ReturnFeed, [first, second, ..]) => {
+                *first = CR;
+                *second = LF;
+                2
+            }
+            _ => 0,
+        }
+    }
+
     /// Lifts the limit of the first line, if these bytes end it.
     pub(crate) fn settle(&mut self, bytes: &[u8]) {
+        if self.ends_lines && !bytes.is_empty() {
+            self.last = last_of(bytes);
+        }
         if self.until.is_some() && bytes.contains(&LF) {
             self.until = None;
             let _ = self.stream.set_read_timeout(Some(Duration::from_secs(SILENCE)));
@@ -113,12 +167,14 @@ impl Sink for Outgoing {
     }
 }
 
-/// Both ends of a connection, whose first line must be whole by then.
+/// Both ends of a connection, whose first line must be whole by then. Of a client's (`ends_lines`) what stands behind the last
+/// LF is a line too.
 pub(crate) fn ends_of<'r, R: Clock>(
     rt: &'r R,
     alloc: Global,
     stream: TcpStream,
     until: Option<Instant>,
+    ends_lines: bool,
 ) -> Result<(Incoming<'r, R>, Outgoing), AllocError> {
     let _ = stream.set_nodelay(true);
     let _ = stream.set_write_timeout(Some(Duration::from_secs(STANDSTILL)));
@@ -128,6 +184,8 @@ pub(crate) fn ends_of<'r, R: Clock>(
         stream,
         rt,
         until,
+        ends_lines,
+        last: Last::Nothing,
     };
     Ok((incoming, Outgoing { stream: other }))
 }

@@ -7,7 +7,7 @@ use std::net::{Net, TcpListener, TcpStream};
 use std::sync::Wait;
 use std::thread::{Builder, Scope, Threads};
 use std::time::Clock;
-use tcp_server::Door;
+use tcp_door::Door;
 
 /// The stack of a session's thread.
 const STACK: usize = 256 << 10;
@@ -37,7 +37,7 @@ fn start<'s, E, R>(
     stream: TcpStream,
     number: u64,
 ) where
-    R: Net<Listener = TcpListener, Stream = TcpStream> + Threads + Wait + Clock + Eprint + Sync,
+    R: Net<Listener = TcpListener, Stream = TcpStream> + Threads + Wait + Clock + Sync,
 {
     if !arrive(rt, shared) {
         return;
@@ -63,7 +63,7 @@ pub(crate) fn take_all<'s, E, R>(
     listener: TcpListener,
 ) -> io::Error
 where
-    R: Net<Listener = TcpListener, Stream = TcpStream> + Threads + Wait + Clock + Eprint + Sync,
+    R: Net<Listener = TcpListener, Stream = TcpStream> + Threads + Wait + Clock + Sync,
 {
     let mut door = Door::new(listener);
     let mut number: u64 = 0;

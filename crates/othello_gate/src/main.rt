@@ -8,6 +8,7 @@ mod counts;
 mod dialing;
 mod links;
 mod listening;
+mod logging;
 mod register;
 mod running;
 mod servers;

@@ -1,7 +1,7 @@
 //! What all sessions share, under one lock: the book, the file's directory, the connections and the counts.
 use crate::counts::{Table, row_of};
 use crate::servers::KnownServers;
-use customer_book::{Amount, Book, CLASSES, LAST_MOMENT, Server, Site, Who};
+use customer_book::{Amount, Book, CLASSES, LAST_MOMENT, ReplanFault, Server, Site, Who};
 use site_file::{Directory, FileFault, SitePlan, read_site_again};
 use std::alloc::{AllocError, Global};
 use thiserror::Error;
@@ -66,6 +66,9 @@ pub(crate) enum ReloadFault {
     /// There was no memory.
     #[error("no memory for what the file says")]
     Memory,
+    /// The book can't go by it now.
+    #[error("{0}")]
+    Book(ReplanFault),
     /// An address at which the gate listens can't change while it serves.
     #[error("`listen` and `control` can't change while the gate serves")]
     Listen,
@@ -98,23 +101,37 @@ impl Register {
         if plan.directory.listen != self.directory.listen || plan.directory.control != self.directory.control {
             return Err(ReloadFault::Listen);
         }
-        match self.go_by(alloc, plan) {
-            Ok(()) => Ok(()),
-            Err(_) => Err(ReloadFault::Memory),
-        }
+        self.go_by(alloc, plan)
     }
 
     /// Goes by another plan. At Err nothing is changed.
-    fn go_by(&mut self, alloc: Global, plan: SitePlan) -> Result<(), AllocError> {
+    fn go_by(&mut self, alloc: Global, plan: SitePlan) -> Result<(), ReloadFault> {
         let SitePlan { site, directory } = plan;
-        let amounts = Amounts::of(alloc, &site)?;
-        let servers = KnownServers::new(alloc, site.servers.as_slice())?;
-        self.counts.widen(directory.customers.len())?;
-        drop(site);
+        let customers = directory.customers.len();
+        let (amounts, servers) = match self.prepare(alloc, &site, customers) {
+            Ok(both) => both,
+            Err(_) => return Err(ReloadFault::Memory),
+        };
+        if let Err(fault) = self.book.replan(site) {
+            return Err(ReloadFault::Book(fault));
+        }
         self.directory = directory;
         self.amounts = amounts;
         self.servers = servers;
         Ok(())
+    }
+
+    /// What is kept beside the book of a plan, and room for its customers' counts.
+    fn prepare(
+        &mut self,
+        alloc: Global,
+        site: &Site,
+        customers: usize,
+    ) -> Result<(Amounts, KnownServers), AllocError> {
+        self.counts.widen(customers)?;
+        let amounts = Amounts::of(alloc, site)?;
+        let servers = KnownServers::new(alloc, site.servers.as_slice())?;
+        Ok((amounts, servers))
     }
 
     /// The place of a customer's tally.

@@ -1,6 +1,7 @@
 //! What the program does with the words of its command line.
 use crate::control::serve_control;
 use crate::listening::take_all;
+use crate::logging::Log;
 use crate::register::Register;
 use crate::shared::Shared;
 use site_file::{SitePlan, read_site};
@@ -10,6 +11,7 @@ use std::io;
 use std::net::{Net, TcpListener, TcpStream};
 use std::rt::Files;
 use std::sync::{Condvar, Mutex, Wait};
+use std::sync::atomic::AtomicU64;
 use std::thread::{self, Threads};
 use std::time::{Clock, Instant};
 
@@ -127,13 +129,18 @@ where
     let shared = Shared {
         lock: Mutex::new(Register::new(rt.alloc(), plan)?),
         freed: Condvar::new(),
+        log: Log::new(rt.alloc()),
         start: Some(Instant::now(rt)?),
     };
-    println!(rt; "listening {address}")?;
-    let shared = &shared;
+    let commanders = AtomicU64::new(0);
+    let (shared, commanders) = (&shared, &commanders);
     Err(thread::scope(thread::scope_env(), rt, |scope| {
+        let _ = scope.spawn(move || {
+            let _ = println!(rt; "listening {address}");
+        });
+        let _ = scope.spawn(move || shared.log.write_all(rt, rt.alloc()));
         if let Some(control) = control {
-            let _ = scope.spawn(move || serve_control(rt, shared, path, &control));
+            let _ = scope.spawn(move || serve_control(scope, rt, shared, path, commanders, control));
         }
         take_all(scope, rt, rt.alloc(), shared, listener)
     }))

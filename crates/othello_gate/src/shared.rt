@@ -1,6 +1,6 @@
 //! What all threads share.
+use crate::logging::Log;
 use crate::register::Register;
-use std::path::PathBuf;
 use std::sync::{Condvar, Mutex};
 use std::time::{Clock, Instant};
 
@@ -11,6 +11,8 @@ pub(crate) struct Shared {
     pub(crate) lock: Mutex<Register>,
     /// Where a HELLO waits until a session has ended.
     pub(crate) freed: Condvar,
+    /// The log.
+    pub(crate) log: Log,
     /// When the gate began.
     pub(crate) start: Option<Instant>,
 }

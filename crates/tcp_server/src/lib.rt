@@ -41,11 +41,9 @@
 pub use steal_pool;
 pub use steal_pool::desk;
 
-mod door;
 mod faults;
 mod server;
 
-pub use door::Door;
 pub use faults::ServeFault;
 pub use server::{ServerConfig, Sessions, serve, serve_announced};
 

@@ -5,6 +5,17 @@
 //! free by then it is the new spare, and the connection is served; else the connection is closed at once, and the spare
 //! is made anew. So a client that can't be served sees its connection closed, those after it are taken as ever, and
 //! the sessions that are there go on. Meanwhile the door waits in the system, and uses no processor.
+//!
+//! What it is for: each program that takes connections, the server and a site's gate, keeps one. A [`Door`] stands for a listener
+//! and perhaps a spare name of it; it is generic in the listener, so that a test can hand it one whose connections are lost.
+//! Nothing is proved of it but that it is safe: what a listener gives no clause can say. The tests of `tcp_server` play it.
+//!
+//! ```text
+//! let mut door = Door::new(listener);
+//! door.next(rt)?      // Some(stream), or None: one was closed at once, as there was no descriptor for it
+//! ```
+#![tactic(auto)]
+
 use std::io::{self, ErrorKind};
 use std::net::OpenListener;
 use std::sync::Wait;

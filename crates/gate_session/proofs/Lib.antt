@@ -1,0 +1,4 @@
+mod DealLemmas
+mod SeatLemmas
+mod AdmitLemmas
+mod GreetLemmas
