@@ -14,13 +14,14 @@ use Rattle.customer_book.specs.declared.refusal.Cause.{Cause}
 use Rattle.customer_book.specs.declared.refusal.Cause.TheVariants.{Twice, Great, Gone, Lower}
 use Rattle.customer_book.specs.declared.who.Who.{Who}
 use Rattle.customer_book.specs.Plans.{Plan, plan_of, sums_fit, all_places, is_too_great}
-use Rattle.customer_book.specs.Grants.{used, grant_of, has_grant, place_of, first_free, without, with_ask, is_lower}
+use Rattle.customer_book.specs.Grants.{used, grant_of, has_grant, place_of, free_server, without, with_ask, is_lower}
 use Rattle.customer_book.specs.Ledgers.{Ledger, charged, first_of, or_else, why_over, why_no_line, why_no_grant, why_no_raise, why_not_open, why_not_raise, new_grant, after_line, after}
-use Rattle.customer_book.specs.Keeping.{ledger_of, IsSound, IsKept}
+use Rattle.customer_book.specs.Keeping.{ledger_of, HasClaims, IsKept}
 use Rattle.customer_book.proofs.GrantLemmas.{place-is, place-none}
 use Rattle.customer_book.proofs.Seats.{grants-le_places}
-use Rattle.customer_book.proofs.Soundness.{may-open, none-both, few-parts, sound-open}
-use Rattle.customer_book.proofs.RunLemmas.{plan-with, grants-with, raise-sound}
+use Rattle.customer_book.proofs.Soundness.{may-open, none-both, few-parts}
+use Rattle.customer_book.proofs.Claims.{claims-open, claims-raise}
+use Rattle.customer_book.proofs.RunLemmas.{plan-with, grants-with}
 
 pub after-granted : (book : Ledger) (who : Who) (why : Option Cause) (gs : List Held) → why ≡ None → after_line book who why gs ≡ record (charged book who false) { grants = gs }
 after-granted book who None gs is = refl
@@ -34,10 +35,10 @@ after-refused book who (Some other) gs cause is = refl
 pub pushed_is : {E : Type 0} (r : Result (Unit {0}) E) (u : Unit {0}) (l more es : List Held) → r ≡ Ok u → l ≡ (if is_ok r then more else es) → l ≡ more
 pushed_is r u l more es is pushed = pushed ∙ ap (λ x. if is_ok x then more else es) is
 
--- sound grants are few
-pub few-grants : (plan : Plan) (gs : List Held) → sums_fit plan ≡ true → IsSound plan gs → (length gs ≤ all_places plan.servers) × (length gs ≤ 1048576)
-few-grants plan gs fit sound =
-    let places = grants-le_places plan gs sound.seated sound.places in
+-- grants that are claimed are few
+pub few-grants : (plan : Plan) (gs : List Held) → sums_fit plan ≡ true → HasClaims plan gs → (length gs ≤ all_places plan.servers) × (length gs ≤ 1048576)
+few-grants plan gs fit has =
+    let places = grants-le_places plan gs has.own has.guests has.are in
     (places, omega (arith, places, few-parts plan fit))
 
 -- a book in which an account was charged
@@ -49,24 +50,25 @@ charged-grants book b who view = ap (λ (l : Ledger). l.grants) view ∙ grants-
 
 -- the new grant among the fields' grants
 pub record IsOpened (book : Ledger) (b : Inside) (who : Who) (session class : ℕ) (ask : Ask) (held : Held) : Type 0 where
-  pub sound : IsSound (plan_of b.site) (b.grants.items ++ held ∷ [])
+  pub claims : HasClaims (plan_of b.site) (b.grants.items ++ held ∷ [])
   pub room : length b.grants.items < all_places (plan_of b.site).servers
   pub few : length b.grants.items + 1 ≤ 1048576
   pub after : (gs : List Held) → gs ≡ b.grants.items ++ held ∷ [] → record (ledger_of b) { grants = gs } ≡ after book (Opens who session class ask)
 
-pub opened : (book : Ledger) (b : Inside) (who : Who) (session class : ℕ) (ask : Ask) (held : Held) → sums_fit book.plan ≡ true → IsSound book.plan book.grants → why_not_open book who session class ask ≡ None →
+pub opened : (book : Ledger) (b : Inside) (who : Who) (session class : ℕ) (ask : Ask) (held : Held) → sums_fit book.plan ≡ true → HasClaims book.plan book.grants → why_not_open book who session class ask ≡ None →
     held ≡ new_grant book who session class ask → ledger_of b ≡ charged book who false → IsOpened book b who session class ask held
-opened book b who session class ask held fit sound none is view =
+opened book b who session class ask held fit has none is view =
     let plan = charged-plan book b who view in
     let grants = charged-grants book b who view in
     let may = may-open book who session class ask none in
-    let opening = (sound-open book.plan book.grants who session class ask fit sound may.great may.allowed).sound in
+    let opening : HasClaims book.plan (book.grants ++ new_grant book who session class ask ∷ []) =
+    record { own = has.own; guests = has.guests; are = claims-open book.plan book.grants has.own has.guests who session class ask may.great may.allowed has.are } in
     let list : b.grants.items ++ held ∷ [] ≡ book.grants ++ new_grant book who session class ask ∷ [] = λ i. grants i ++ is i ∷ [] in
     let few = few-grants book.plan (book.grants ++ new_grant book who session class ask ∷ []) fit opening in
     let long = length_push book.grants (new_grant book who session class ask) in
     let same : length b.grants.items ≡ length book.grants = ap length grants in
     record {
-      sound = subst (λ p. IsSound p (b.grants.items ++ held ∷ [])) (sym plan) (subst (IsSound book.plan) (sym list) opening);
+      claims = subst (λ p. HasClaims p (b.grants.items ++ held ∷ [])) (sym plan) (subst (HasClaims book.plan) (sym list) opening);
       room = subst (λ (p : Plan). length b.grants.items < all_places p.servers) (sym plan) (omega (arith, few.0, long, same));
       few = omega (arith, few.1, long, same);
       after = λ gs e. (ap (λ (l : Ledger). record l { grants = gs }) view ∙ ap (λ (x : List Held). record (charged book who false) { grants = x }) (e ∙ list)) ∙ sym (after-granted book who (why_not_open book who session class ask) (book.grants ++ new_grant book who session class ask ∷ []) none);
@@ -74,19 +76,17 @@ opened book b who session class ask held fit sound none is view =
 
 -- the raised grant among the fields' grants
 pub record IsRaised (book : Ledger) (b : Inside) (who : Who) (session : ℕ) (ask : Ask) (gs : List Held) : Type 0 where
-  pub sound : IsSound (plan_of b.site) gs
+  pub claims : HasClaims (plan_of b.site) gs
   pub after : record (ledger_of b) { grants = gs } ≡ after book (Raises who session ask)
 
-pub raised : (book : Ledger) (b : Inside) (who : Who) (session : ℕ) (ask : Ask) (gs : List Held) → IsSound book.plan book.grants → why_not_raise book who session ask ≡ None →
+pub raised : (book : Ledger) (b : Inside) (who : Who) (session : ℕ) (ask : Ask) (gs : List Held) → HasClaims book.plan book.grants → why_not_raise book who session ask ≡ None →
     ledger_of b ≡ charged book who false → gs ≡ with_ask who session ask b.grants.items → IsRaised book b who session ask gs
-raised book b who session ask gs sound none view is =
+raised book b who session ask gs has none view is =
     let plan = charged-plan book b who view in
     let grants = charged-grants book b who view in
     let list : gs ≡ with_ask who session ask book.grants = is ∙ ap (with_ask who session ask) grants in
-    let raise = (none-both (why_no_line book who) (why_no_raise book who session ask (grant_of who session book.grants)) none).1 in
-    let fine = raise-sound book who session ask (grant_of who session book.grants) sound refl raise in
     record {
-      sound = subst (λ p. IsSound p gs) (sym plan) (subst (IsSound book.plan) (sym list) fine);
+      claims = subst (λ p. HasClaims p gs) (sym plan) (subst (HasClaims book.plan) (sym list) (claims-raise book.plan book.grants who session ask has));
       after = (ap (λ (l : Ledger). record l { grants = gs }) view ∙ ap (λ (x : List Held). record (charged book who false) { grants = x }) list) ∙ sym (after-granted book who (why_not_raise book who session ask) (with_ask who session ask book.grants) none);
     }
 
@@ -101,13 +101,13 @@ place-there book who session ask none =
 
 -- a new grant, by what was read of the fields before the account was charged
 pub seated : (book : Ledger) (old b : Inside) (who : Who) (session class : ℕ) (ask : Ask) (server : ℕ) (servers : List Server) (grants : List Held) → IsKept old → ledger_of old ≡ book → ledger_of b ≡ charged book who false →
-    why_not_open book who session class ask ≡ None → servers ≡ old.site.servers.items → grants ≡ old.grants.items → server ≡ first_free class servers 0 grants →
+    why_not_open book who session class ask ≡ None → servers ≡ old.site.servers.items → grants ≡ old.grants.items → server ≡ free_server class servers grants →
     IsOpened book b who session class ask (record { who = who; session = session; class = class; ask = ask; server = server })
 seated book old b who session class ask server servers grants kept was view none read seen is =
     let fit : sums_fit book.plan ≡ true = ap (λ (l : Ledger). sums_fit l.plan) (sym was) ∙ kept.fit in
-    let sound : IsSound book.plan book.grants = subst (λ (l : Ledger). IsSound l.plan l.grants) was kept.sound in
-    let number : server ≡ first_free class book.plan.servers 0 book.grants = is ∙ (λ i. first_free class (read i) 0 (seen i)) ∙ ap (λ (l : Ledger). first_free class l.plan.servers 0 l.grants) was in
-    opened book b who session class ask (record { who = who; session = session; class = class; ask = ask; server = server }) fit sound none
+    let has : HasClaims book.plan book.grants = subst (λ (l : Ledger). HasClaims l.plan l.grants) was kept.claims in
+    let number : server ≡ free_server class book.plan.servers book.grants = is ∙ (λ i. free_server class (read i) (seen i)) ∙ ap (λ (l : Ledger). free_server class l.plan.servers l.grants) was in
+    opened book b who session class ask (record { who = who; session = session; class = class; ask = ask; server = server }) fit has none
     (λ i. record { who = who; session = session; class = class; ask = ask; server = number i }) view
 
 -- why a session isn't opened, by the tests in their order

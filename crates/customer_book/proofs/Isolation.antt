@@ -267,14 +267,14 @@ after-other is_one a b (Comes moment) whole alike other = absurd cc
 not_few : (few many : Who → Bool) (who : Who) → ((w : Who) → few w ≡ true → many w ≡ true) → many who ≡ false → few who ≡ false
 not_few few many who among other = elim (cases_Bool (few who)) [ inl own ↦ absurd (false≢true (sym other ∙ among who own)) | inr not ↦ not ]
 
-of-kept : (few many : Who → Bool) (event : Event) → ((w : Who) → few w ≡ true → many w ≡ true) → is_kept many event ≡ false → is_of few event ≡ false
+pub of-kept : (few many : Who → Bool) (event : Event) → ((w : Who) → few w ≡ true → many w ≡ true) → is_kept many event ≡ false → is_of few event ≡ false
 of-kept few many (Opens who session class ask) among other = not_few few many who among other
 of-kept few many (Raises who session ask) among other = not_few few many who among other
 of-kept few many (Says who) among other = not_few few many who among other
 of-kept few many (Closes who session) among other = not_few few many who among other
 of-kept few many (Comes moment) among other = refl
 
-of-many : (few many : Who → Bool) (event : Event) → ((w : Who) → few w ≡ true → many w ≡ true) → is_of few event ≡ true → is_of many event ≡ true
+pub of-many : (few many : Who → Bool) (event : Event) → ((w : Who) → few w ≡ true → many w ≡ true) → is_of few event ≡ true → is_of many event ≡ true
 of-many few many (Opens who session class ask) among own = among who own
 of-many few many (Raises who session ask) among own = among who own
 of-many few many (Says who) among own = among who own

@@ -4,9 +4,11 @@ pub mod NameLemmas
 pub mod GrantLemmas
 pub mod Seats
 pub mod Soundness
+pub mod Claims
 pub mod Views
 pub mod Isolation
 pub mod RunLemmas
 pub mod Refusals
 pub mod GuestLemmas
+pub mod Steps
 pub mod BookLemmas

@@ -178,7 +178,7 @@ raise-line : (book : Ledger) (who : Who) (why : Option Cause) (gs : List Held) �
 raise-line book who None gs same = same
 raise-line book who (Some cause) gs same = ap names_of (grants-with book who _)
 
-names-after : (book : Ledger) (event : Event) → names_of (after book event).grants ≡ open_after (names_of book.grants) event (answer_to book event)
+pub names-after : (book : Ledger) (event : Event) → names_of (after book event).grants ≡ open_after (names_of book.grants) event (answer_to book event)
 names-after book (Opens who session class ask) = open-line book who session class ask (why_not_open book who session class ask) (new_grant book who session class ask) refl refl
 names-after book (Raises who session ask) = raise-line book who (why_not_raise book who session ask) (with_ask who session ask book.grants) (names-with_ask who session ask book.grants)
 names-after book (Says who) = raise-line book who (why_no_line book who) book.grants refl

@@ -1,7 +1,7 @@
 -- Where a customer's budget allows one session more a server of the class has a free place: the grants are counted by server and
 -- by customer.
-use Rattle.std.proofs.Common.{◌≡◌, ℕ, zero, suc, ◌+◌, ◌<◌, ◌≤◌, Bool, true, false, cond, eqb, ltb, List, [], ◌∷◌, ◌++◌, length, get_or, refl, ap, sym, ◌∙◌, subst, inl, inr, zero-add, arith}
-use Rattle.std.proofs.lemmas.Bool.{cases_Bool, cases_lt, eq-eqb, ne_eqb, eqb-true, ltb-true, ltb-false, leb-true, and_parts, and_from, and_left, and_right}
+use Rattle.std.proofs.Common.{◌≡◌, ◌≢◌, ℕ, zero, suc, ◌+◌, ◌<◌, ◌≤◌, Bool, true, false, cond, eqb, ltb, List, [], ◌∷◌, ◌++◌, length, get_or, Option, Some, None, ◌⊎◌, refl, ap, sym, ◌∙◌, subst, inl, inr, zero-add, arith}
+use Rattle.std.proofs.lemmas.Bool.{cases_Bool, cases_lt, lt-ltb, le-ltb, false≢true, eq-eqb, ne_eqb, eqb-true, ltb-true, ltb-false, leb-true, and_parts, and_from, and_left, and_right}
 use Rattle.std.specs.List.{AllByRecursion}
 use Rattle.customer_book.specs.declared.held.Held.{Held}
 use Rattle.customer_book.specs.declared.held.Part.TheVariants.{Own, Guests, At}
@@ -12,8 +12,9 @@ use Rattle.customer_book.specs.declared.who.Who.TheVariants.{Named, V4, V6}
 use Rattle.customer_book.specs.Names.{same_who, is_guest}
 use Rattle.customer_book.specs.Amounts.{of_one, plus}
 use Rattle.customer_book.specs.Plans.{Plan, places_of, all_places, places_in, is_of_class, named_sessions, budget_in, class_fits, nobody}
-use Rattle.customer_book.specs.Grants.{is_in, used, is_free, first_free}
-use Rattle.customer_book.specs.Keeping.{no_server, server_at, IsSeated, IsNamedIn}
+use Rattle.customer_book.specs.Grants.{is_in, used, is_free, lesser, least_free, or_behind, free_server}
+use Rattle.customer_book.specs.Keeping.{no_server, server_at, IsPlaced, IsNamedIn, limits, IsClaimed}
+use Rattle.customer_book.proofs.PlanLemmas.{places_of-le_all}
 
 -- one where the test says true
 abbrev pub one : Bool → ℕ
@@ -68,38 +69,12 @@ hits-at is_one (s ∷ ss) number (suc i) less =
     rw other (elim (is_one s) as (λ b. cond b 0 0 + hits is_one ss (suc number) (number + suc i) ≡ one (is_one (get_or ss i no_server))) [ true ↦ omega (arith, rest) | false ↦ omega (arith, rest) ])
 
 -- each grant is counted at its server
-pub seats-number : (is_one : Server → Bool) (passes : Held → Bool) (plan : Plan) (gs : List Held) → ((g : Held) → IsSeated plan g → is_one (server_at plan g.server) ≡ passes g) → AllByRecursion (IsSeated plan) gs → seats_at is_one plan.servers 0 gs ≡ number_of passes gs
+pub seats-number : (is_one : Server → Bool) (passes : Held → Bool) (plan : Plan) (gs : List Held) → ((g : Held) → IsPlaced plan g → is_one (server_at plan g.server) ≡ passes g) → AllByRecursion (IsPlaced plan) gs → seats_at is_one plan.servers 0 gs ≡ number_of passes gs
 seats-number is_one passes plan [] fits all = seats-none is_one plan.servers 0
 seats-number is_one passes plan (g ∷ gs) fits all =
     let hit : hits is_one plan.servers 0 g.server ≡ one (is_one (server_at plan g.server)) = subst (λ n. hits is_one plan.servers 0 n ≡ one (is_one (server_at plan g.server))) (zero-add g.server) (hits-at is_one plan.servers 0 g.server all.0.server) in
     let same : one (is_one (server_at plan g.server)) ≡ one (passes g) = ap one (fits g all.0) in
     omega (arith, seats-cons is_one plan.servers 0 g gs, hit, same, seats-number is_one passes plan gs fits all.1)
-
--- no more than there are places
-pub seats-le_places : (is_one : Server → Bool) (ss : List Server) (number : ℕ) (gs : List Held) → ((i : ℕ) → (used (At (number + i)) gs).sessions ≤ (get_or ss i no_server).places) → seats_at is_one ss number gs ≤ places_of is_one ss
-seats-le_places is_one [] number gs within = omega arith
-seats-le_places is_one (s ∷ ss) number gs within =
-    let here : (used (At (number + 0)) gs).sessions ≤ s.places = within 0 in
-    let same : number + 0 ≡ number = omega arith in
-    let first : (used (At number) gs).sessions ≤ s.places = rw same at here in
-    let rest = seats-le_places is_one ss (suc number) gs (λ i. let e : number + suc i ≡ suc number + i = omega arith in let w : (used (At (number + suc i)) gs).sessions ≤ (get_or ss i no_server).places = within (suc i) in rw e at w) in
-    elim (is_one s) as (λ b. cond b (used (At number) gs).sessions 0 + seats_at is_one ss (suc number) gs ≤ cond b s.places 0 + places_of is_one ss) [ true ↦ omega (arith, first, rest) | false ↦ omega (arith, rest) ]
-
--- where none is free all places are taken
-pub places-taken : (class : ℕ) (ss : List Server) (number : ℕ) (gs : List Held) → number + length ss ≤ first_free class ss number gs → places_of (is_of_class class) ss ≤ seats_at (is_of_class class) ss number gs
-places-taken class [] number gs none = omega arith
-places-taken class (s ∷ ss) number gs none = elim (cases_Bool (is_free class number s gs)) [
-  | inl free ↦ (let n : number + suc (length ss) ≤ number = rw free at none in absurd (omega arith))
-  | inr taken ↦ (let n : number + suc (length ss) ≤ first_free class ss (number + 1) gs = rw taken at none in
-      let next : number + 1 ≡ suc number = omega arith in
-      let m : number + suc (length ss) ≤ first_free class ss (suc number) gs = rw next at n in
-      let rest = places-taken class ss (suc number) gs (omega arith) in
-      elim (cases_Bool (is_of_class class s)) [
-        | inl of_class ↦ (let t : ltb (used (At number) gs).sessions s.places ≡ false = rw of_class at taken in
-            let full = ltb-false (used (At number) gs).sessions s.places t in rw of_class (omega (arith, full, rest)))
-        | inr other ↦ rw other (omega (arith, rest))
-      ])
-]
 
 -- a free server, found
 pub record IsFreeAt (class : ℕ) (ss : List Server) (number found : ℕ) (gs : List Held) : Type 0 where
@@ -109,29 +84,71 @@ pub record IsFreeAt (class : ℕ) (ss : List Server) (number found : ℕ) (gs : 
   pub own : (get_or ss at no_server).class ≡ class
   pub free : (used (At found) gs).sessions < (get_or ss at no_server).places
 
-pub free-found : (class : ℕ) (ss : List Server) (number : ℕ) (gs : List Held) → first_free class ss number gs < number + length ss → IsFreeAt class ss number (first_free class ss number gs) gs
-free-found class [] number gs less = absurd (omega arith)
-free-found class (s ∷ ss) number gs less = elim (cases_Bool (is_free class number s gs)) [
-  | inl free ↦ (let both = and_parts (is_of_class class s) (ltb (used (At number) gs).sessions s.places) free in
-      let goal : IsFreeAt class (s ∷ ss) number number gs = record {
-        at = 0;
-        within = omega arith;
-        is = omega arith;
-        own = eqb-true s.class class both.0;
-        free = ltb-true (used (At number) gs).sessions s.places both.1;
-      } in rw free goal)
-  | inr taken ↦ (let next : number + 1 ≡ suc number = omega arith in
-      let l : first_free class ss (number + 1) gs < number + suc (length ss) = rw taken at less in
-      let m : first_free class ss (suc number) gs < number + suc (length ss) = rw next at l in
-      let rest = free-found class ss (suc number) gs (omega arith) in
-      let goal : IsFreeAt class (s ∷ ss) number (first_free class ss (suc number) gs) gs = record {
-        at = suc rest.at;
-        within = omega (arith, rest.within);
-        is = omega (arith, rest.is);
-        own = rest.own;
-        free = rest.free;
-      } in rw (taken, next) goal)
+lesser-is : (gs : List Held) (a : ℕ) (next : Option ℕ) (m : ℕ) → lesser gs (Some a) next ≡ Some m → (a ≡ m) ⊎ (next ≡ Some m)
+lesser-is gs a None m is = inl cc
+lesser-is gs a (Some b) m is = elim (cases_Bool (ltb (used (At b) gs).sessions (used (At a) gs).sessions)) [
+  | inl aye ↦ inr (let e : Some b ≡ Some m = rw aye at is in e)
+  | inr nay ↦ inl (let e : Some a ≡ Some m = rw nay at is in cc)
 ]
+
+lesser-some : (gs : List Held) (a : ℕ) (next : Option ℕ) → lesser gs (Some a) next ≡ None → ⊥
+lesser-some gs a None is = cc
+lesser-some gs a (Some b) is = elim (cases_Bool (ltb (used (At b) gs).sessions (used (At a) gs).sessions)) [
+  | inl aye ↦ (let e : Some b ≡ None = rw aye at is in cc)
+  | inr nay ↦ (let e : Some a ≡ None = rw nay at is in cc)
+]
+
+-- one that is found behind the first
+found-behind : (class : ℕ) (s : Server) (ss : List Server) (number m : ℕ) (gs : List Held) → IsFreeAt class ss (number + 1) m gs → IsFreeAt class (s ∷ ss) number m gs
+found-behind class s ss number m gs rest = record { at = suc rest.at; within = omega (arith, rest.within); is = omega (arith, rest.is); own = rest.own; free = rest.free }
+
+least-found : (class : ℕ) (ss : List Server) (number : ℕ) (gs : List Held) (m : ℕ) → least_free class ss number gs ≡ Some m → IsFreeAt class ss number m gs
+least-found class [] number gs m is = absurd cc
+least-found class (s ∷ ss) number gs m is = elim (cases_Bool (is_free class number s gs)) [
+  | inl free ↦ (let both = and_parts (is_of_class class s) (ltb (used (At number) gs).sessions s.places) free in
+      let picked : lesser gs (Some number) (least_free class ss (number + 1) gs) ≡ Some m = rw free at is in
+      elim (lesser-is gs number (least_free class ss (number + 1) gs) m picked) [
+        | inl here ↦ (let goal : IsFreeAt class (s ∷ ss) number number gs = record {
+          at = 0;
+          within = omega arith;
+          is = omega arith;
+          own = eqb-true s.class class both.0;
+          free = ltb-true (used (At number) gs).sessions s.places both.1;
+        } in subst (λ n. IsFreeAt class (s ∷ ss) number n gs) here goal)
+        | inr there ↦ found-behind class s ss number m gs (least-found class ss (number + 1) gs m there)
+      ])
+  | inr taken ↦ (let there : least_free class ss (number + 1) gs ≡ Some m = rw taken at is in found-behind class s ss number m gs (least-found class ss (number + 1) gs m there))
+]
+
+-- where none is free all places are taken
+none-taken : (class : ℕ) (ss : List Server) (number : ℕ) (gs : List Held) → least_free class ss number gs ≡ None → places_of (is_of_class class) ss ≤ seats_at (is_of_class class) ss number gs
+none-taken class [] number gs none = omega arith
+none-taken class (s ∷ ss) number gs none = elim (cases_Bool (is_free class number s gs)) [
+  | inl free ↦ absurd (lesser-some gs number (least_free class ss (number + 1) gs) (let n : lesser gs (Some number) (least_free class ss (number + 1) gs) ≡ None = rw free at none in n))
+  | inr taken ↦ (let n : least_free class ss (number + 1) gs ≡ None = rw taken at none in
+      let next : number + 1 ≡ suc number = omega arith in
+      let m : least_free class ss (suc number) gs ≡ None = rw next at n in
+      let rest = none-taken class ss (suc number) gs m in
+      elim (cases_Bool (is_of_class class s)) [
+        | inl of_class ↦ (let t : ltb (used (At number) gs).sessions s.places ≡ false = rw of_class at taken in
+            let full = ltb-false (used (At number) gs).sessions s.places t in rw of_class (omega (arith, full, rest)))
+        | inr other ↦ rw other (omega (arith, rest))
+      ])
+]
+
+taken-of : (class : ℕ) (ss : List Server) (gs : List Held) (found : Option ℕ) → least_free class ss 0 gs ≡ found → length ss ≤ or_behind (length ss) found → places_of (is_of_class class) ss ≤ seats_at (is_of_class class) ss 0 gs
+taken-of class ss gs None is none = none-taken class ss 0 gs is
+taken-of class ss gs (Some m) is none = let free = least-found class ss 0 gs m is in absurd (omega (arith, free.within, free.is, none))
+
+pub places-taken : (class : ℕ) (ss : List Server) (gs : List Held) → length ss ≤ free_server class ss gs → places_of (is_of_class class) ss ≤ seats_at (is_of_class class) ss 0 gs
+places-taken class ss gs none = taken-of class ss gs (least_free class ss 0 gs) refl none
+
+found-of : (class : ℕ) (ss : List Server) (gs : List Held) (found : Option ℕ) → least_free class ss 0 gs ≡ found → or_behind (length ss) found < length ss → IsFreeAt class ss 0 (or_behind (length ss) found) gs
+found-of class ss gs None is less = absurd (omega arith)
+found-of class ss gs (Some m) is less = least-found class ss 0 gs m is
+
+pub free-found : (class : ℕ) (ss : List Server) (gs : List Held) → free_server class ss gs < length ss → IsFreeAt class ss 0 (free_server class ss gs) gs
+free-found class ss gs less = found-of class ss gs (least_free class ss 0 gs) refl less
 
 -- by customer
 
@@ -222,15 +239,15 @@ number-all [] = refl
 number-all (g ∷ gs) = omega (arith, number-all gs)
 
 -- one session more, which all budgets allow, finds a free server
-pub some-free : (plan : Plan) (g : Held) (gs : List Held) → class_fits plan.servers plan.customers plan.pool g.class ≡ true → AllByRecursion (IsSeated plan) gs →
+pub some-free : (plan : Plan) (g : Held) (gs : List Held) → class_fits plan.servers plan.customers plan.pool g.class ≡ true → AllByRecursion (IsPlaced plan) gs →
     AllByRecursion (λ h. IsNamedIn plan h.who) (gs ++ g ∷ []) →
     ((i : ℕ) → (used (Own (Named i) g.class) (gs ++ g ∷ [])).sessions ≤ (budget_in (get_or plan.customers i nobody).budgets g.class).sessions) →
     (used (Guests g.class) (gs ++ g ∷ [])).sessions ≤ (budget_in plan.pool g.class).sessions →
-    first_free g.class plan.servers 0 gs < length plan.servers
-some-free plan g gs fits seated names own guests = elim (cases_lt (first_free g.class plan.servers 0 gs) (length plan.servers)) [
+    free_server g.class plan.servers gs < length plan.servers
+some-free plan g gs fits seated names own guests = elim (cases_lt (free_server g.class plan.servers gs) (length plan.servers)) [
   | inl less ↦ less
   | inr none ↦ (
-      let taken = places-taken g.class plan.servers 0 gs (omega arith) in
+      let taken = places-taken g.class plan.servers gs (omega arith) in
       let counted = seats-number (is_of_class g.class) (is_one_of g.class) plan gs (λ h is. ap (λ n. eqb n g.class) is.class) seated in
       let whole = customers-number plan g.class (gs ++ g ∷ []) names in
       let more = number-push (is_one_of g.class) g gs in
@@ -240,9 +257,75 @@ some-free plan g gs fits seated names own guests = elim (cases_lt (first_free g.
       absurd (omega (arith, taken, counted, whole, more, own_one, budgets, guests, fit)))
 ]
 
--- there are no more grants than places
-pub grants-le_places : (plan : Plan) (gs : List Held) → AllByRecursion (IsSeated plan) gs → ((n : ℕ) → (used (At n) gs).sessions ≤ (server_at plan n).places) → length gs ≤ all_places plan.servers
-grants-le_places plan gs seated within =
-    let counted = seats-number (λ s. true) (λ g. true) plan gs (λ h is. refl) seated in
-    let places = seats-le_places (λ s. true) plan.servers 0 gs (λ i. subst (λ k. (used (At k) gs).sessions ≤ (get_or plan.servers i no_server).places) (sym (zero-add i)) (within i)) in
-    omega (arith, counted, places, number-all gs)
+-- the same by what the customers may claim
+
+named-le_limits : (own : ℕ → ℕ → ℕ) (cs : List Customer) (number class : ℕ) (gs : List Held) → ((n : ℕ) → (used (Own (Named n) class) gs).sessions ≤ own n class) → named_at cs number class gs ≤ limits own cs number class
+named-le_limits own [] number class gs within = omega arith
+named-le_limits own (c ∷ cs) number class gs within = omega (arith, within number, named-le_limits own cs (suc number) class gs within)
+
+pub some-free_claimed : (plan : Plan) (g : Held) (gs : List Held) (own : ℕ → ℕ → ℕ) (guests : ℕ → ℕ) → limits own plan.customers 0 g.class + guests g.class ≤ places_in g.class plan.servers → AllByRecursion (IsPlaced plan) gs →
+    AllByRecursion (λ h. IsNamedIn plan h.who) (gs ++ g ∷ []) → ((n : ℕ) → (used (Own (Named n) g.class) (gs ++ g ∷ [])).sessions ≤ own n g.class) → (used (Guests g.class) (gs ++ g ∷ [])).sessions ≤ guests g.class →
+    free_server g.class plan.servers gs < length plan.servers
+some-free_claimed plan g gs own guests fit placed names mine theirs = elim (cases_lt (free_server g.class plan.servers gs) (length plan.servers)) [
+  | inl less ↦ less
+  | inr none ↦ (
+      let taken = places-taken g.class plan.servers gs (omega arith) in
+      let counted = seats-number (is_of_class g.class) (is_one_of g.class) plan gs (λ h is. ap (λ n. eqb n g.class) is.class) placed in
+      let whole = customers-number plan g.class (gs ++ g ∷ []) names in
+      let more = number-push (is_one_of g.class) g gs in
+      let own_one : one (is_one_of g.class g) ≡ 1 = ap one (eq-eqb g.class g.class refl) in
+      let claims = named-le_limits own plan.customers 0 g.class (gs ++ g ∷ []) mine in
+      absurd (omega (arith, taken, counted, whole, more, own_one, claims, theirs, fit)))
+]
+
+-- grants that are claimed are no more than there are places
+
+one-split : (n k : ℕ) → one (ltb n (suc k)) ≡ one (ltb n k) + one (eqb n k)
+one-split n k = elim (cases_lt n k) [
+  | inl less ↦ (let a : ltb n k ≡ true = lt-ltb n k less in let b : ltb n (suc k) ≡ true = lt-ltb n (suc k) (omega arith) in let c : eqb n k ≡ false = ne_eqb n k (λ e. omega arith) in rw (a, b, c) refl)
+  | inr past ↦ (let a : ltb n k ≡ false = le-ltb n k past in
+      elim (cases_Bool (eqb n k)) [
+        | inl aye ↦ (let e = eqb-true n k aye in let b : ltb n (suc k) ≡ true = lt-ltb n (suc k) (omega arith) in rw (a, b, aye) refl)
+        | inr nay ↦ (let b : ltb n (suc k) ≡ false = le-ltb n (suc k) (let ne : n ≢ k = λ e. false≢true (sym nay ∙ eq-eqb n k e) in omega arith) in rw (a, b, nay) refl)
+      ])
+]
+
+number-split : (k : ℕ) (gs : List Held) → number_of (λ g. ltb g.class (suc k)) gs ≡ number_of (λ g. ltb g.class k) gs + number_of (is_one_of k) gs
+number-split k [] = refl
+number-split k (g ∷ gs) = omega (arith, one-split g.class k, number-split k gs)
+
+places-split : (k : ℕ) (ss : List Server) → places_of (λ s. ltb s.class (suc k)) ss ≡ places_of (λ s. ltb s.class k) ss + places_of (is_of_class k) ss
+places-split k [] = refl
+places-split k (s ∷ ss) = elim (cases_lt s.class k) [
+  | inl less ↦ (let a : ltb s.class k ≡ true = lt-ltb s.class k less in let b : ltb s.class (suc k) ≡ true = lt-ltb s.class (suc k) (omega arith) in let c : eqb s.class k ≡ false = ne_eqb s.class k (λ e. omega arith) in rw (a, b, c) (omega (arith, places-split k ss)))
+  | inr past ↦ (let a : ltb s.class k ≡ false = le-ltb s.class k past in
+      elim (cases_Bool (eqb s.class k)) [
+        | inl aye ↦ (let e = eqb-true s.class k aye in let b : ltb s.class (suc k) ≡ true = lt-ltb s.class (suc k) (omega arith) in rw (a, b, aye) (omega (arith, places-split k ss)))
+        | inr nay ↦ (let b : ltb s.class (suc k) ≡ false = le-ltb s.class (suc k) (let ne : s.class ≢ k = λ e. false≢true (sym nay ∙ eq-eqb s.class k e) in omega arith) in rw (a, b, nay) (omega (arith, places-split k ss)))
+      ])
+]
+
+none-below : (gs : List Held) → number_of (λ g. ltb g.class 0) gs ≡ 0
+none-below [] = refl
+none-below (g ∷ gs) = let a : ltb g.class 0 ≡ false = le-ltb g.class 0 (omega arith) in rw a (omega (arith, none-below gs))
+
+classes-le_places : (plan : Plan) (gs : List Held) (own : ℕ → ℕ → ℕ) (guests : ℕ → ℕ) (k : ℕ) → k ≤ length plan.classes → AllByRecursion (λ h. IsNamedIn plan h.who) gs → IsClaimed plan gs own guests →
+    number_of (λ g. ltb g.class k) gs ≤ places_of (λ s. ltb s.class k) plan.servers
+classes-le_places plan gs own guests zero less names claims = omega (arith, none-below gs)
+classes-le_places plan gs own guests (suc k) less names claims =
+    let whole = customers-number plan k gs names in
+    let mine = named-le_limits own plan.customers 0 k gs (λ n. claims.own n k) in
+    let rest = classes-le_places plan gs own guests k (omega arith) names claims in
+    omega (arith, number-split k gs, places-split k plan.servers, rest, whole, mine, claims.guests k, claims.fit k (omega arith))
+
+all-below : (plan : Plan) (gs : List Held) → AllByRecursion (IsPlaced plan) gs → number_of (λ g. ltb g.class (length plan.classes)) gs ≡ length gs
+all-below plan [] all = refl
+all-below plan (g ∷ gs) all = let a : ltb g.class (length plan.classes) ≡ true = lt-ltb g.class (length plan.classes) all.0.there in rw a (omega (arith, all-below plan gs all.1))
+
+pub names-placed : (plan : Plan) (gs : List Held) → AllByRecursion (IsPlaced plan) gs → AllByRecursion (λ h. IsNamedIn plan h.who) gs
+names-placed plan [] all = tt
+names-placed plan (g ∷ gs) all = (all.0.name, names-placed plan gs all.1)
+
+pub grants-le_places : (plan : Plan) (gs : List Held) (own : ℕ → ℕ → ℕ) (guests : ℕ → ℕ) → IsClaimed plan gs own guests → length gs ≤ all_places plan.servers
+grants-le_places plan gs own guests claims =
+    omega (arith, classes-le_places plan gs own guests (length plan.classes) (omega arith) (names-placed plan gs claims.placed) claims, all-below plan gs claims.placed, places_of-le_all (λ s. ltb s.class (length plan.classes)) plan.servers)

@@ -15,9 +15,9 @@ use Rattle.customer_book.specs.declared.who.Who.TheVariants.{Named, V4, V6}
 use Rattle.customer_book.specs.Names.{same_who, is_guest}
 use Rattle.customer_book.specs.Amounts.{nothing, of_one, plus, IsWithin, is_within}
 use Rattle.customer_book.specs.Plans.{Plan, sums_fit, are_few, all_places, servers_fit, classes_fit, budget_in, budget_of, is_too_great, nobody}
-use Rattle.customer_book.specs.Grants.{is_in, used, grant_of, has_grant, without, with_ask, first_free, is_lower}
+use Rattle.customer_book.specs.Grants.{is_in, used, grant_of, has_grant, without, with_ask, free_server, is_lower}
 use Rattle.customer_book.specs.Ledgers.{Ledger, first_of, or_else, why_over, why_no_line, why_no_grant, why_not_open, why_no_raise, is_over_budget, is_over_pool}
-use Rattle.customer_book.specs.Keeping.{server_at, IsSeated, IsNamedIn, IsSound}
+use Rattle.customer_book.specs.Keeping.{server_at, IsSeated, IsPlaced, IsNamedIn, IsSound}
 use Rattle.customer_book.specs.Allowed.{HasLeft}
 use Rattle.customer_book.proofs.PlanLemmas.{class_fits-of}
 use Rattle.customer_book.proofs.AmountLemmas.{within-test, within_trans}
@@ -100,7 +100,11 @@ class_there classes class ask nay = elim (cases_Bool (leb (length classes) class
   | inr not ↦ leb-false (length classes) class not
 ]
 
-fits-parts : (plan : Plan) → sums_fit plan ≡ true → (are_few (all_places plan.servers) ≡ true) × (servers_fit plan.classes plan.servers ≡ true) × (classes_fit plan.servers plan.customers plan.pool (length plan.classes) ≡ true)
+all-placed : (plan : Plan) (gs : List Held) → AllByRecursion (IsSeated plan) gs → AllByRecursion (IsPlaced plan) gs
+all-placed plan [] all = tt
+all-placed plan (g ∷ gs) all = (record { name = all.0.name; server = all.0.server; class = all.0.class; there = class_there plan.classes g.class g.ask all.0.great }, all-placed plan gs all.1)
+
+pub fits-parts : (plan : Plan) → sums_fit plan ≡ true → (are_few (all_places plan.servers) ≡ true) × (servers_fit plan.classes plan.servers ≡ true) × (classes_fit plan.servers plan.customers plan.pool (length plan.classes) ≡ true)
 fits-parts plan fit =
     let few = are_few (all_places plan.servers) in
     let servers = servers_fit plan.classes plan.servers in
@@ -133,9 +137,9 @@ pub record IsOpening (plan : Plan) (grants : List Held) (g : Held) : Type 0 wher
 
 pub sound-open : (plan : Plan) (grants : List Held) (who : Who) (session class : ℕ) (ask : Ask) → sums_fit plan ≡ true → IsSound plan grants →
     is_too_great plan.classes class ask ≡ false → HasLeft plan who class ask (used (Own who class) grants) (used (Guests class) grants) →
-    IsOpening plan grants (record { who = who; session = session; class = class; ask = ask; server = first_free class plan.servers 0 grants })
+    IsOpening plan grants (record { who = who; session = session; class = class; ask = ask; server = free_server class plan.servers grants })
 sound-open plan grants who session class ask fit sound great may =
-    let g : Held = record { who = who; session = session; class = class; ask = ask; server = first_free class plan.servers 0 grants } in
+    let g : Held = record { who = who; session = session; class = class; ask = ask; server = free_server class plan.servers grants } in
     let own : (w : Who) (k : ℕ) → IsWithin (used (Own w k) (grants ++ g ∷ [])) (budget_of plan w k) = λ w k. within-push (Own w k) grants g (budget_of plan w k) (sound.own w k)
     (λ aye. let both = and_parts (same_who w who) (eqb class k) aye in
     let first = subst (λ x. IsWithin (plus (of_one ask) (used (Own x class) grants)) (budget_of plan x class)) (sym (same-is w who both.0)) may.own in
@@ -147,11 +151,11 @@ sound-open plan grants who session class ask fit sound great may =
     let names : AllByRecursion (λ h. IsNamedIn plan h.who) (grants ++ g ∷ []) = all-push (λ h. IsNamedIn plan h.who) g grants name (names_of plan grants sound.seated) in
     let there = class_there plan.classes class ask great in
     let fits = class_fits-of plan.servers plan.customers plan.pool class (length plan.classes) there (fits-parts plan fit).2 in
-    let less : first_free class plan.servers 0 grants < length plan.servers = some-free plan g grants fits sound.seated names (λ i. (own (Named i) class).sessions) (guests class).sessions in
-    let free = free-found class plan.servers 0 grants (omega arith) in
-    let at : first_free class plan.servers 0 grants ≡ free.at = omega (arith, free.is) in
-    let place : (used (At (first_free class plan.servers 0 grants)) grants).sessions < (server_at plan (first_free class plan.servers 0 grants)).places =
-    subst (λ n. (used (At (first_free class plan.servers 0 grants)) grants).sessions < (server_at plan n).places) (sym at) free.free in
+    let less : free_server class plan.servers grants < length plan.servers = some-free plan g grants fits (all-placed plan grants sound.seated) names (λ i. (own (Named i) class).sessions) (guests class).sessions in
+    let free = free-found class plan.servers grants (omega arith) in
+    let at : free_server class plan.servers grants ≡ free.at = omega (arith, free.is) in
+    let place : (used (At (free_server class plan.servers grants)) grants).sessions < (server_at plan (free_server class plan.servers grants)).places =
+    subst (λ n. (used (At (free_server class plan.servers grants)) grants).sessions < (server_at plan n).places) (sym at) free.free in
     record {
       sound = record {
         own = own;

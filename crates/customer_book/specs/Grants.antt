@@ -1,5 +1,5 @@
 -- Meaning: the grants that are out, what some of them have together, and where the next one goes.
-use Rattle.std.specs.Prelude.{ℕ, suc, ◌+◌, ◌==◌, Bool, false, ◌&&◌, ◌||◌, nat_lt, List, [], ◌∷◌, Option, Some, None, if◌then◌else◌}
+use Rattle.std.specs.Prelude.{ℕ, suc, ◌+◌, ◌==◌, Bool, false, ◌&&◌, ◌||◌, nat_lt, List, [], ◌∷◌, length, Option, Some, None, if◌then◌else◌}
 use Rattle.customer_book.specs.declared.amount.Amount.{Amount}
 use Rattle.customer_book.specs.declared.amount.Ask.{Ask}
 use Rattle.customer_book.specs.declared.held.Held.{Held}
@@ -55,11 +55,26 @@ with_ask who session ask (held ∷ grants) = if is_held_as who session held then
 abbrev pub is_free : ℕ → ℕ → Server → List Held → Bool
 is_free class number server grants = is_of_class class server && nat_lt (used (At number) grants).sessions server.places
 
--- the number of the first server of the class that has a free place, counted on from `number`; that behind the last one
--- where none has
-abbrev pub first_free : ℕ → List Server → ℕ → List Held → ℕ
-first_free class [] number grants = number
-first_free class (server ∷ servers) number grants = if is_free class number server grants then number else first_free class servers (number + 1) grants
+-- of two servers the one with fewer sessions; the first where both have as many
+abbrev pub lesser : List Held → Option ℕ → Option ℕ → Option ℕ
+lesser grants None next = next
+lesser grants (Some number) None = Some number
+lesser grants (Some number) (Some next) = if nat_lt (used (At next) grants).sessions (used (At number) grants).sessions then Some next else Some number
+
+-- the number of the server with the fewest sessions, of those of the class that have a free place, counted on from `number`
+abbrev pub least_free : ℕ → List Server → ℕ → List Held → Option ℕ
+least_free class [] number grants = None
+least_free class (server ∷ servers) number grants =
+    if is_free class number server grants then lesser grants (Some number) (least_free class servers (number + 1) grants) else least_free class servers (number + 1) grants
+
+-- the number, or else that behind the last one
+abbrev pub or_behind : ℕ → Option ℕ → ℕ
+or_behind behind None = behind
+or_behind behind (Some number) = number
+
+-- the server that a new session of the class gets; the number behind the last one where none has a free place
+abbrev pub free_server : ℕ → List Server → List Held → ℕ
+free_server class servers grants = or_behind (length servers) (least_free class servers 0 grants)
 
 -- whether a second reservation is no raise of the first: less in segments or nodes, or the same in both
 abbrev pub is_lower : Ask → Ask → Bool

@@ -1,16 +1,17 @@
 -- Representation: what a book's fields and a grant's stand for, and what they keep.
-use Rattle.std.specs.Prelude.{◌≡◌, ℕ, ◌<◌, ◌≤◌, ◌^◌, true, false, List, length, slice_index_or, Option, Some, None, Result, Ok, Err}
+use Rattle.std.specs.Prelude.{◌≡◌, ℕ, suc, ◌+◌, ◌<◌, ◌≤◌, ◌^◌, true, false, List, [], ◌∷◌, length, slice_index_or, Option, Some, None, Result, Ok, Err}
 use Rattle.std.specs.List.{AllByRecursion}
 use Rattle.std.specs.Vec.{vec_capacity}
 use Rattle.customer_book.specs.declared.held.Held.{Held}
 use Rattle.customer_book.specs.declared.held.Part.TheVariants.{Own, Guests, At}
 use Rattle.customer_book.specs.declared.refusal.Refusal.{Refusal}
+use Rattle.customer_book.specs.declared.site.Customer.{Customer}
 use Rattle.customer_book.specs.declared.site.Server.{Server}
 use Rattle.customer_book.specs.declared.who.Who.{Who}
 use Rattle.customer_book.specs.declared.who.Who.TheVariants.{Named, V4, V6}
 use Rattle.customer_book.specs.declared.book.Book.TheInside.{Inside}
 use Rattle.customer_book.specs.Amounts.{IsWithin}
-use Rattle.customer_book.specs.Plans.{Plan, plan_of, budget_of, budget_in, is_too_great, sums_fit, all_places}
+use Rattle.customer_book.specs.Plans.{Plan, plan_of, budget_of, budget_in, is_too_great, sums_fit, all_places, places_in}
 use Rattle.customer_book.specs.Grants.{used}
 use Rattle.customer_book.specs.Ledgers.{Ledger}
 
@@ -39,6 +40,34 @@ pub record IsSeated (plan : Plan) (held : Held) : Type 0 where
   pub class : (server_at plan held.server).class ≡ held.class
   pub great : is_too_great plan.classes held.class held.ask ≡ false
 
+-- the same whatever the plan says of a session's size: its customer, its server and its class are there
+pub record IsPlaced (plan : Plan) (held : Held) : Type 0 where
+  pub name : IsNamedIn plan held.who
+  pub server : held.server < length plan.servers
+  pub class : (server_at plan held.server).class ≡ held.class
+  pub there : held.class < length plan.classes
+
+-- what the named customers may claim in a class, the customers counted on from `number`
+abbrev pub limits : (ℕ → ℕ → ℕ) → List Customer → ℕ → ℕ → ℕ
+limits own [] number class = 0
+limits own (customer ∷ customers) number class = own number class + limits own customers (suc number) class
+
+-- each named customer, and all guests together, have no more sessions in a class than they may claim; that is no less than their
+-- budgets, and no more than the servers have places
+pub record IsClaimed (plan : Plan) (grants : List Held) (mine : ℕ → ℕ → ℕ) (theirs : ℕ → ℕ) : Type 0 where
+  pub own : (number class : ℕ) → (used (Own (Named number) class) grants).sessions ≤ mine number class
+  pub guests : (class : ℕ) → (used (Guests class) grants).sessions ≤ theirs class
+  pub own_least : (number class : ℕ) → (budget_of plan (Named number) class).sessions ≤ mine number class
+  pub guests_least : (class : ℕ) → (budget_in plan.pool class).sessions ≤ theirs class
+  pub fit : (class : ℕ) → class < length plan.classes → limits mine plan.customers 0 class + theirs class ≤ places_in class plan.servers
+  pub placed : AllByRecursion (IsPlaced plan) grants
+
+-- so it is for some claims: budgets, or what was out when the plan came, whichever were more
+pub record HasClaims (plan : Plan) (grants : List Held) : Type 0 where
+  pub own : ℕ → ℕ → ℕ
+  pub guests : ℕ → ℕ
+  pub are : IsClaimed plan grants own guests
+
 -- each customer's grants are within its budget, those of all guests within theirs, and each server has a place for each of
 -- its grants
 pub record IsSound (plan : Plan) (grants : List Held) : Type 0 where
@@ -47,10 +76,10 @@ pub record IsSound (plan : Plan) (grants : List Held) : Type 0 where
   pub places : (number : ℕ) → (used (At number) grants).sessions ≤ (server_at plan number).places
   pub seated : AllByRecursion (IsSeated plan) grants
 
--- what a book's fields keep: the sums fit, the grants are sound, and there is memory for all that may come
+-- what a book's fields keep: the sums fit, the grants are claimed, and there is memory for all that may come
 pub record IsKept (book : Inside) : Type 0 where
   pub fit : sums_fit (plan_of book.site) ≡ true
-  pub sound : IsSound (plan_of book.site) book.grants.items
+  pub claims : HasClaims (plan_of book.site) book.grants.items
   pub early : book.moment ≤ 2 ^ 62
   pub few : length book.grants.items ≤ 1048576
   pub known : length book.guests.items ≤ book.site.addresses

@@ -18,7 +18,7 @@ use Rattle.customer_book.specs.Names.{same_who, is_guest}
 use Rattle.customer_book.specs.Amounts.{of_one, plus, is_within}
 use Rattle.customer_book.specs.Rates.{has_one, wait_of, rested, is_busy, line_taken, owing}
 use Rattle.customer_book.specs.Plans.{Plan, terms_of, budget_in, budget_of, is_too_great}
-use Rattle.customer_book.specs.Grants.{used, grant_of, has_grant, without, with_ask, first_free, is_lower}
+use Rattle.customer_book.specs.Grants.{used, grant_of, has_grant, without, with_ask, free_server, is_lower}
 
 -- the plan, the latest moment, the accounts of the named customers in the plan's order, those of the guests that have said
 -- something of late, and the grants that are out in the order in which they were opened
@@ -132,10 +132,10 @@ why_not_raise book who session ask = or_else (why_no_line book who) (why_no_rais
 abbrev pub refusal_for : Ledger → Who → Cause → Refusal
 refusal_for book who cause = record { cause = cause; wait = wait_of (terms_of book.plan who).refusals book.moment (charged_account book who true).refusals }
 
--- the grant of a new session: at the first server of its class that has a free place
+-- the grant of a new session: at the server of its class that has the fewest sessions, of those that have a free place
 abbrev pub new_grant : Ledger → Who → ℕ → ℕ → Ask → Held
 new_grant book who session class ask =
-    record { who = who; session = session; class = class; ask = ask; server = first_free class book.plan.servers 0 book.grants }
+    record { who = who; session = session; class = class; ask = ask; server = free_server class book.plan.servers book.grants }
 
 -- why an event is refused; None where it isn't
 abbrev pub why_not : Ledger → Event → Option Cause

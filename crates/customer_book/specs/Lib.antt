@@ -7,5 +7,6 @@ pub mod Causes
 pub mod Ledgers
 pub mod Keeping
 pub mod Runs
+pub mod Reloads
 pub mod Allowed
 pub mod Rows

@@ -1,17 +1,19 @@
-ghost use Rattle.std.specs.Prelude.{◌≡◌, ◌+◌, ◌<◌, ◌≤◌, ◌^◌, IfOk, IsTrue, length, true, false};
+ghost use Rattle.std.specs.Prelude.{◌≡◌, ◌+◌, ◌<◌, ◌≤◌, ◌^◌, ◌⊎◌, IfOk, IfErr, OnOk, OnErr, IsTrue, Some, None, length, true, false};
 ghost use Rattle.customer_book.specs.Rates.{wait_of};
 ghost use Rattle.customer_book.specs.Plans.{plan_of, terms_of, sums_fit};
 ghost use Rattle.customer_book.specs.Grants.{used, grant_of};
 ghost use Rattle.customer_book.specs.Ledgers.{new_ledger, account_of, with_account, is_crowded, charged_account, charged, why_no_line, why_no_grant, why_not_open, why_no_raise, why_not_raise, refusal_for, new_grant, after, answer_to};
 ghost use Rattle.customer_book.specs.declared.event.Event.TheVariants.{Opens, Raises, Says, Closes, Comes};
 ghost use Rattle.customer_book.specs.Keeping.{granted_by, refusal_in};
+ghost use Rattle.customer_book.specs.Reloads.{replanned, why_not_replan, with_more};
 
 use crate::amount::{Amount, Ask};
 use crate::guests::{Guest, enter, forget, guest_account, is_known};
-use crate::held::{Held, Part, first_free, place_of, used_by_others, used_in};
+use crate::held::{Held, Part, free_server, place_of, used_by_others, used_in};
 use crate::rates::Account;
 use crate::refusal::{Cause, Refusal};
-use crate::site::{Site, is_too_great};
+use crate::reload::{ReplanFault, why_not_replan};
+use crate::site::{Server, Site, is_too_great};
 use crate::who::Who;
 use std::alloc::{AllocError, Global};
 use std::marker::Model;
@@ -187,6 +189,43 @@ impl Book {
         }
     }
 
+    /// Goes on by another plan, as when the file was read again. Grants that are out stay, also those of a customer that may
+    /// have less now, or nothing: it gets no more until it has less than that. Servers, customers and classes must keep their
+    /// numbers; a server that is gone has no place in the new plan, and a customer that is gone no budget. So many guests are
+    /// known at once as before.
+    ///
+    /// Refused exactly where `why_not_replan` says so: a number is lost (Renumbered), or sessions beyond the new budgets take
+    /// places that these need (Beyond); or there is no memory. Then nothing is changed.
+    pub fn replan(&mut self, site: Site) -> Result<(), ReplanFault>
+        requires { IsTrue (sums_fit (plan_of site)) }
+        ensures refused { IfErr result (λ fault. (fault ≡ ReplanFault.OutOfMemory) ⊎ (why_not_replan self.old.plan self.old.grants (plan_of site) ≡ Some fault)) }
+        ensures allowed { OnOk result (why_not_replan self.old.plan self.old.grants (plan_of site) ≡ None) }
+        ensures done { OnOk result (self.new ≡ replanned self.old (plan_of site)) }
+        ensures unchanged { OnErr result (self.new ≡ self.old) }
+    {
+        match why_not_replan(&self.site, &self.grants, &site) {
+            Some(fault) => return Err(fault),
+            None => {}
+        }
+        if self.grants.reserve(site.all_places()).is_err() {
+            return Err(ReplanFault::OutOfMemory);
+        }
+        if make_accounts(&mut self.named, site.customers.len()).is_err() {
+            return Err(ReplanFault::OutOfMemory);
+        }
+        let mut site = site;
+        site.addresses = self.site.addresses;
+        self.site = site;
+        Ok(())
+    }
+
+    /// The servers that it goes by.
+    pub fn servers(&self) -> &[Server]
+        ensures { result.now ≡ self.now.plan.servers }
+    {
+        &self.site.servers
+    }
+
     /// What some of the grants that are out have together.
     pub fn used(&self, part: Part) -> Amount
         ensures { result ≡ used part self.now.grants }
@@ -303,7 +342,7 @@ impl Book {
         ensures grant { result ≡ granted_by (new_grant self.old who session class ask) }
         ensures book { self.new ≡ after self.old (Opens who session class ask) }
     {
-        let server = first_free(&self.site.servers, &self.grants, class);
+        let server = free_server(&self.site.servers, &self.grants, class);
         self.charge(who, false);
         let held = Held {
             who,
@@ -359,4 +398,12 @@ impl Book {
         let place = place_of(&self.grants, who, session);
         self.grants[place].ask = ask;
     }
+}
+
+/// Makes as many accounts as there are customers.
+fn make_accounts(named: &mut Vec<Account>, count: usize) -> Result<(), AllocError>
+    ensures more { OnOk result (named.new.items ≡ with_more named.old.items count) }
+    ensures same { OnErr result (named.new.items ≡ named.old.items) }
+{
+    named.resize(count, Account::RESTED)
 }

@@ -1,5 +1,5 @@
-ghost use Rattle.std.specs.Prelude.{◌≡◌, ◌+◌, ◌*◌, ◌<◌, ◌≤◌, ◌^◌, length, if◌then◌else◌};
-ghost use Rattle.customer_book.specs.Grants.{is_in, used, is_held_as, place_of, is_free, first_free, is_lower};
+ghost use Rattle.std.specs.Prelude.{◌≡◌, ◌+◌, ◌*◌, ◌<◌, ◌≤◌, ◌^◌, length, Some, if◌then◌else◌};
+ghost use Rattle.customer_book.specs.Grants.{is_in, used, is_held_as, place_of, is_free, lesser, least_free, free_server, is_lower};
 ghost use Rattle.customer_book.specs.Amounts.{minus, of_one, plus, IsWithin};
 ghost use Rattle.std.specs.List.{remove};
 
@@ -118,17 +118,45 @@ fn is_free(grants: &[Held], class: u8, number: usize, server: &Server) -> bool
     server.class == class && used_in(grants, Part::At(number)).sessions < u32::from(server.places)
 }
 
-/// The number of the first server of the class that has a free place, or that of servers where none has.
-pub(crate) fn first_free(servers: &[Server], grants: &[Held], class: u8) -> usize
+/// The number of the server of the class that has the fewest sessions, of those that have a free place, and the first of
+/// equals; or the number of servers where none has.
+pub(crate) fn free_server(servers: &[Server], grants: &[Held], class: u8) -> usize
     requires { length grants.now ≤ 1048576 }
-    ensures { result ≡ first_free class servers.now 0 grants.now }
+    ensures { result ≡ free_server class servers.now grants.now }
 {
+    least_free(servers, grants, class).unwrap_or(servers.len())
+}
+
+fn least_free(servers: &[Server], grants: &[Held], class: u8) -> Option<usize>
+    requires { length grants.now ≤ 1048576 }
+    ensures { result ≡ least_free class servers.now 0 grants.now }
+{
+    let mut best = None;
     for (number, server) in servers.iter().enumerate() {
         if is_free(grants, class, number, server) {
-            return number;
+            best = lesser(grants, best, number);
         }
     }
-    servers.len()
+    best
+}
+
+/// Of two servers the one with fewer sessions; the first where both have as many.
+fn lesser(grants: &[Held], best: Option<usize>, next: usize) -> Option<usize>
+    requires { length grants.now ≤ 1048576 }
+    ensures { result ≡ lesser grants.now best (Some next) }
+{
+    match best {
+        Some(number) if sessions_at(grants, number) <= sessions_at(grants, next) => best,
+        _ => Some(next),
+    }
+}
+
+/// The sessions at a server.
+fn sessions_at(grants: &[Held], number: usize) -> u32
+    requires { length grants.now ≤ 1048576 }
+    ensures { result ≡ (used (Part.At number) grants.now).sessions }
+{
+    used_in(grants, Part::At(number)).sessions
 }
 
 /// What some of the grants have together without the one at a place.

@@ -1,5 +1,5 @@
 //! What follows for every list of events on a new book.
-ghost use Rattle.std.specs.Prelude.{◌≡◌, ◌+◌, ◌≤◌, ◌↔◌, ◌⊎◌, ℕ, List, [], Some, None, Bool, true, IsTrue};
+ghost use Rattle.std.specs.Prelude.{◌≡◌, ◌+◌, ◌≤◌, ◌↔◌, ◌⊎◌, ◌<◌, ℕ, length, List, [], Some, None, Bool, true, IsTrue};
 ghost use Rattle.std.specs.List.{AllByRecursion};
 ghost use Rattle.customer_book.specs.declared.amount.Ask.{Ask};
 ghost use Rattle.customer_book.specs.declared.held.Part.{Part};
@@ -14,7 +14,8 @@ ghost use Rattle.customer_book.specs.Ledgers.{Ledger, new_ledger, why_no_line, w
 ghost use Rattle.customer_book.specs.declared.event.Event.{Event};
 ghost use Rattle.customer_book.specs.Allowed.{MaySay, MayBegin, MayGrow};
 ghost use Rattle.customer_book.specs.declared.held.Held.{Held};
-ghost use Rattle.customer_book.specs.Keeping.{server_at, IsSeated};
+ghost use Rattle.customer_book.specs.Keeping.{server_at, IsSeated, IsPlaced};
+ghost use Rattle.customer_book.specs.Reloads.{Step, step, go, go_answers, only_steps, step_answers_of, still_open_after, AreAllowed};
 ghost use Rattle.customer_book.specs.Runs.{run, answers, only, answers_of, grants_of, totals_of, still_open, names_of};
 
 /// Nobody is over budget, and no server is oversold: after every list of events on a new book of a file whose sums fit.
@@ -62,4 +63,40 @@ pub fn a_refusal_is_ones_own()
         ((why_not_open book who session class ask ≡ None) ↔ MayBegin book who session class ask) }
     ensures raises { (book : Ledger) (who : Who) (session : ℕ) (ask : Ask) (held : Held) → grant_of who session book.grants ≡ Some held →
         ((why_not_raise book who session ask ≡ None) ↔ MayGrow book who session ask held) }
+{}
+
+/// While the file changes too nobody gets more than its budget: whatever happens to any book, an event or another plan, a
+/// customer, all guests, and a server have no more then than they may have by the plan that the book has then, or no more than
+/// before. And each grant has a server of its class, as long as the book takes only plans that nothing forbids.
+pub fn nobody_gets_more_over_plans()
+    ensures own { (book : Ledger) (one : Step) (who : Who) (class : ℕ) →
+        IsWithin (used (Own who class) (step book one).grants) (budget_of (step book one).plan who class) ⊎ IsWithin (used (Own who class) (step book one).grants) (used (Own who class) book.grants) }
+    ensures guests { (book : Ledger) (one : Step) (class : ℕ) →
+        IsWithin (used (Guests class) (step book one).grants) (budget_in (step book one).plan.pool class) ⊎ IsWithin (used (Guests class) (step book one).grants) (used (Guests class) book.grants) }
+    ensures servers { (book : Ledger) (one : Step) (number : ℕ) → number < length book.plan.servers →
+        ((used (At number) (step book one).grants).sessions ≤ (server_at (step book one).plan number).places) ⊎ ((used (At number) (step book one).grants).sessions ≤ (used (At number) book.grants).sessions) }
+    ensures placed { (plan : Plan) (steps : List Step) → IsTrue (sums_fit plan) → AreAllowed (new_ledger plan) steps →
+        AllByRecursion (IsPlaced (go (new_ledger plan) steps).plan) (go (new_ledger plan) steps).grants }
+{}
+
+/// While the file changes too no customer is disturbed by another: a named customer got the answers, and has the grants, of
+/// the same events and plans with all others' events removed. The same holds of all guests together, and so of each.
+pub fn no_customer_is_disturbed_over_plans()
+    ensures told { (plan : Plan) (steps : List Step) (number : ℕ) →
+        step_answers_of (same_who (Named number)) (new_ledger plan) steps ≡ step_answers_of (same_who (Named number)) (new_ledger plan) (only_steps (same_who (Named number)) steps) }
+    ensures grants { (plan : Plan) (steps : List Step) (number : ℕ) →
+        grants_of (same_who (Named number)) (go (new_ledger plan) steps).grants ≡ grants_of (same_who (Named number)) (go (new_ledger plan) (only_steps (same_who (Named number)) steps)).grants }
+    ensures guests_told { (plan : Plan) (steps : List Step) (guest : Who) → IsTrue (is_guest guest) →
+        step_answers_of (same_who guest) (new_ledger plan) steps ≡ step_answers_of (same_who guest) (new_ledger plan) (only_steps is_guest steps) }
+    ensures guests_grants { (plan : Plan) (steps : List Step) (guest : Who) → IsTrue (is_guest guest) →
+        grants_of (same_who guest) (go (new_ledger plan) steps).grants ≡ grants_of (same_who guest) (go (new_ledger plan) (only_steps is_guest steps)).grants }
+{}
+
+/// While the file changes too all comes back: the grants that are out are those of the sessions that were opened and have not
+/// ended, and when every session has ended nobody has anything.
+pub fn all_comes_back_over_plans()
+    ensures out { (plan : Plan) (steps : List Step) →
+        names_of (go (new_ledger plan) steps).grants ≡ still_open_after [] steps (go_answers (new_ledger plan) steps) }
+    ensures none { (plan : Plan) (steps : List Step) → still_open_after [] steps (go_answers (new_ledger plan) steps) ≡ [] →
+        (part : Part) → used part (go (new_ledger plan) steps).grants ≡ nothing }
 {}

@@ -1,5 +1,5 @@
 //! The definitions of the book, tried on one small site: each contract is computed from the definitions alone.
-ghost use Rattle.std.specs.Prelude.{◌≡◌, Some, None, [], ◌∷◌, true, false};
+ghost use Rattle.std.specs.Prelude.{◌≡◌, Some, None, [], ◌∷◌, map, true, false};
 ghost use Rattle.customer_book.specs.declared.refusal.Cause.TheVariants.{Fast, Twice, Great, Budget, Pool, Gone, Lower};
 ghost use Rattle.customer_book.specs.declared.held.Part.TheVariants.{Own, Guests, At};
 ghost use Rattle.customer_book.specs.declared.who.Who.TheVariants.{Named, V4, V6};
@@ -10,6 +10,7 @@ ghost use Rattle.customer_book.specs.Grants.{used};
 ghost use Rattle.customer_book.specs.Ledgers.{new_ledger};
 ghost use Rattle.customer_book.specs.declared.event.Event.TheVariants.{Opens, Raises, Says, Closes, Comes};
 ghost use Rattle.customer_book.specs.Runs.{run, only, still_open, answers};
+ghost use Rattle.customer_book.specs.declared.held.Held.{Held};
 ghost use Rattle.customer_book.specs.Names.{is_guest};
 ghost use Rattle.customer_book.specs.Rows.{amount, ask, rate, server, site, small, school, causes, waits};
 
@@ -59,6 +60,7 @@ pub fn a_school()
         ≡ Some 0 ∷ Some 10 ∷ None ∷ Some 10 ∷ [] }
     ensures servers { used (At 0) (run (new_ledger small) (Opens school 1 0 (ask 5 100) ∷ Opens school 2 0 (ask 7 100) ∷ [])).grants ≡ amount 1 5 100 }
     ensures second { used (At 1) (run (new_ledger small) (Opens school 1 0 (ask 5 100) ∷ Opens school 2 0 (ask 7 100) ∷ [])).grants ≡ amount 1 7 100 }
+    ensures fewest { map (λ (held : Held). held.server) (run (new_ledger (site (server 0 2 20 200 ∷ server 1 2 20 200 ∷ server 0 2 20 200 ∷ []) (amount 3 30 300) (amount 1 9 90))) (Opens school 1 0 (ask 5 10) ∷ Opens school 2 0 (ask 5 10) ∷ Opens school 3 0 (ask 5 10) ∷ [])).grants ≡ 0 ∷ 2 ∷ 0 ∷ [] }
     ensures ended { used (Own school 0) (run (new_ledger small) (Opens school 1 0 (ask 5 100) ∷ Opens school 2 0 (ask 7 100) ∷ Closes school 1 ∷ [])).grants ≡ amount 1 7 100 }
 {}
 

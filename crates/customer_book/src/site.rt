@@ -208,7 +208,7 @@ fn servers_fit(classes: &[Class], servers: &[Server]) -> bool
 }
 
 /// The places of the servers of a class.
-fn places_in(servers: &[Server], class: u8) -> u64
+pub(crate) fn places_in(servers: &[Server], class: u8) -> u64
     requires { IsTrue (are_few (all_places servers.now)) }
     ensures value { result ≡ places_in class servers.now }
     ensures few { result ≤ 1048576 }

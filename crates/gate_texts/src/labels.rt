@@ -16,7 +16,12 @@ pub(crate) fn push_value(out: &mut String, text: &str) -> Result<(), AllocError>
 }
 
 /// Appends a label behind the one before it.
-pub(crate) fn push_label(out: &mut String, is_first: bool, name: &str, value: &str) -> Result<(), AllocError> {
+pub(crate) fn push_label(
+    out: &mut String,
+    is_first: bool,
+    name: &str,
+    value: &str,
+) -> Result<(), AllocError> {
     out.push_str(if is_first { "{" } else { "," })?;
     out.push_str(name)?;
     out.push_str("=\"")?;
@@ -36,7 +41,12 @@ pub(crate) fn push_seconds(out: &mut String, micros: u64) -> Result<(), AllocErr
 }
 
 /// Appends what stands in front of a metric's lines.
-pub(crate) fn push_head(out: &mut String, name: &str, help: &str, kind: &str) -> Result<(), AllocError> {
+pub(crate) fn push_head(
+    out: &mut String,
+    name: &str,
+    help: &str,
+    kind: &str,
+) -> Result<(), AllocError> {
     writeln!(out, "# HELP othello_gate_{name} {help}")?;
     writeln!(out, "# TYPE othello_gate_{name} {kind}")
 }

@@ -22,13 +22,38 @@ enum Number {
 /// The numbers of a row: which, the metric's name, what it is, and its type.
 const NUMBERS: [(Number, &str, &str, &str); 8] = [
     (Number::Sessions, "sessions", "Sessions now.", "gauge"),
-    (Number::Segments, "segments", "Segments that the sessions reserve now.", "gauge"),
-    (Number::Nodes, "nodes", "Nodes that the sessions reserve now.", "gauge"),
-    (Number::Granted, "granted_total", "Sessions that were opened.", "counter"),
+    (
+        Number::Segments,
+        "segments",
+        "Segments that the sessions reserve now.",
+        "gauge",
+    ),
+    (
+        Number::Nodes,
+        "nodes",
+        "Nodes that the sessions reserve now.",
+        "gauge",
+    ),
+    (
+        Number::Granted,
+        "granted_total",
+        "Sessions that were opened.",
+        "counter",
+    ),
     (Number::Lines, "lines_total", "Lines of clients.", "counter"),
     (Number::Bytes, "bytes_total", "Bytes of clients.", "counter"),
-    (Number::Done, "jobs_done_total", "Jobs that were done.", "counter"),
-    (Number::Spent, "jobs_spent_total", "Jobs that used up what their session reserves.", "counter"),
+    (
+        Number::Done,
+        "jobs_done_total",
+        "Jobs that were done.",
+        "counter",
+    ),
+    (
+        Number::Spent,
+        "jobs_spent_total",
+        "Jobs that used up what their session reserves.",
+        "counter",
+    ),
 ];
 
 impl Number {
@@ -58,7 +83,12 @@ pub fn push_metrics(
         push_numbers(out, number, name, rows)?;
     }
     push_refusals(out, rows)?;
-    push_head(out, "hello_seconds", "From HELLO to its answer.", "histogram")?;
+    push_head(
+        out,
+        "hello_seconds",
+        "From HELLO to its answer.",
+        "histogram",
+    )?;
     for row in rows {
         push_histogram(out, "hello_seconds", row, &row.counts.hello)?;
     }
@@ -77,7 +107,12 @@ fn push_row(out: &mut String, name: &str, more: &str, row: &Row<'_>) -> Result<(
     push_label(out, false, "class", row.class)
 }
 
-fn push_numbers(out: &mut String, number: Number, name: &str, rows: &[Row<'_>]) -> Result<(), AllocError> {
+fn push_numbers(
+    out: &mut String,
+    number: Number,
+    name: &str,
+    rows: &[Row<'_>],
+) -> Result<(), AllocError> {
     for row in rows {
         push_row(out, name, "", row)?;
         end_line(out, number.of(row))?;
@@ -103,7 +138,12 @@ fn push_refused(out: &mut String, row: &Row<'_>) -> Result<(), AllocError> {
 }
 
 /// Appends a histogram of a row. Each bucket also has those of the buckets before.
-fn push_histogram(out: &mut String, name: &str, row: &Row<'_>, buckets: &Buckets) -> Result<(), AllocError> {
+fn push_histogram(
+    out: &mut String,
+    name: &str,
+    row: &Row<'_>,
+    buckets: &Buckets,
+) -> Result<(), AllocError> {
     let mut sum: u64 = 0;
     for (place, count) in buckets.counts.iter().enumerate() {
         sum = sum.saturating_add(*count);
@@ -144,14 +184,24 @@ fn push_servers(out: &mut String, servers: &[ServerRow<'_>]) -> Result<(), Alloc
     for server in servers {
         push_server(out, "server_sessions", server, server.used)?;
     }
-    push_head(out, "server_places", "Sessions that a server takes at once.", "gauge")?;
+    push_head(
+        out,
+        "server_places",
+        "Sessions that a server takes at once.",
+        "gauge",
+    )?;
     for server in servers {
         push_server(out, "server_places", server, server.whole)?;
     }
     Ok(())
 }
 
-fn push_server(out: &mut String, name: &str, server: &ServerRow<'_>, amount: Amount) -> Result<(), AllocError> {
+fn push_server(
+    out: &mut String,
+    name: &str,
+    server: &ServerRow<'_>,
+    amount: Amount,
+) -> Result<(), AllocError> {
     let address = server.address;
     write!(out, "othello_gate_{name}")?;
     push_label(out, true, "class", server.class)?;

@@ -45,7 +45,10 @@ pub fn push_session(out: &mut String, session: &SessionRow<'_>) -> Result<(), Al
     push_seconds(out, session.micros)?;
     let (lines, bytes) = (session.lines, session.bytes);
     let (done, spent) = (session.done, session.spent);
-    write!(out, " s, {lines} lines, {bytes} bytes, {done} jobs done, {spent} spent; ended by ")?;
+    write!(
+        out,
+        " s, {lines} lines, {bytes} bytes, {done} jobs done, {spent} spent; ended by "
+    )?;
     push_shown(out, session.end)?;
     out.push_str("\n")
 }

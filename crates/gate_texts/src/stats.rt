@@ -31,7 +31,10 @@ pub fn push_stats(
 fn push_amounts(out: &mut String, used: Amount, most: Amount) -> Result<(), AllocError> {
     let (sessions, segments, nodes) = (used.sessions, used.segments, used.nodes);
     let (places, room, budget) = (most.sessions, most.segments, most.nodes);
-    write!(out, " sessions {sessions} of {places} segments {segments} of {room} nodes {nodes} of {budget}")
+    write!(
+        out,
+        " sessions {sessions} of {places} segments {segments} of {room} nodes {nodes} of {budget}"
+    )
 }
 
 fn push_account(out: &mut String, row: &Row<'_>) -> Result<(), AllocError> {
@@ -41,5 +44,8 @@ fn push_account(out: &mut String, row: &Row<'_>) -> Result<(), AllocError> {
     let (granted, refused) = (row.counts.granted, row.counts.all_refused());
     let (lines, bytes) = (row.counts.lines, row.counts.bytes);
     let (done, spent) = (row.counts.done, row.counts.spent);
-    writeln!(out, " granted {granted} refused {refused} lines {lines} bytes {bytes} done {done} spent {spent}")
+    writeln!(
+        out,
+        " granted {granted} refused {refused} lines {lines} bytes {bytes} done {done} spent {spent}"
+    )
 }

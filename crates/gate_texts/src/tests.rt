@@ -41,7 +41,11 @@ fn row<'a>(customer: &'a str, counts: &'a Counts) -> Row<'a> {
 }
 
 fn address() -> Result<SocketAddr, Fail> {
-    Ok(SocketAddr::parse_ascii(b"127.0.0.1:4711").ok().ok_or("no address")?)
+    Ok(
+        SocketAddr::parse_ascii(b"127.0.0.1:4711")
+            .ok()
+            .ok_or("no address")?,
+    )
 }
 
 fn server(address: SocketAddr) -> ServerRow<'static> {
@@ -56,8 +60,16 @@ fn server(address: SocketAddr) -> ServerRow<'static> {
 fn metrics(alloc: Global, customer: &str, address: SocketAddr) -> Result<String, AllocError> {
     let mut out = String::new(alloc);
     let counts = counts();
-    let account = AccountRow { customer, connections: 6 };
-    push_metrics(&mut out, [row(customer, &counts)].as_slice(), [account].as_slice(), [server(address)].as_slice())?;
+    let account = AccountRow {
+        customer,
+        connections: 6,
+    };
+    push_metrics(
+        &mut out,
+        [row(customer, &counts)].as_slice(),
+        [account].as_slice(),
+        [server(address)].as_slice(),
+    )?;
     Ok(out)
 }
 
@@ -150,12 +162,17 @@ const ESCAPED: &str = "{customer=\"C:\\\\DIR\\\\FILE.TXT \\\"é\\\"\\n} 1\",clas
 #[test]
 fn names_are_escaped(rt: HostRuntime) -> Result<(), Fail> {
     let out = metrics(rt.alloc(), "C:\\DIR\\FILE.TXT \"é\"\n} 1", address()?)?;
-    let line = out.as_str().split("othello_gate_sessions").nth(3).ok_or("no line")?;
+    let line = out
+        .as_str()
+        .split("othello_gate_sessions")
+        .nth(3)
+        .ok_or("no line")?;
     assert!(rt; line.starts_with(ESCAPED), "{line}");
     Ok(())
 }
 
-const STATS: &str = "account school quick sessions 3 of 4 segments 192 of 256 nodes 300 of 400 granted 5 refused 8 lines 20 bytes 300 done 9 spent 2
+const STATS: &str =
+    "account school quick sessions 3 of 4 segments 192 of 256 nodes 300 of 400 granted 5 refused 8 lines 20 bytes 300 done 9 spent 2
 connections school 6
 server 127.0.0.1:4711 quick sessions 3 of 64 segments 192 of 4096 nodes 300 of 6400
 END
@@ -165,8 +182,16 @@ END
 fn stats_of_a_school(rt: HostRuntime) -> Result<(), Fail> {
     let mut out = String::new(rt.alloc());
     let counts = counts();
-    let account = AccountRow { customer: "school", connections: 6 };
-    push_stats(&mut out, [row("school", &counts)].as_slice(), [account].as_slice(), [server(address()?)].as_slice())?;
+    let account = AccountRow {
+        customer: "school",
+        connections: 6,
+    };
+    push_stats(
+        &mut out,
+        [row("school", &counts)].as_slice(),
+        [account].as_slice(),
+        [server(address()?)].as_slice(),
+    )?;
     assert_eq!(rt; out.as_str(), STATS);
     Ok(())
 }
@@ -189,6 +214,9 @@ fn a_line_of_the_log(rt: HostRuntime) -> Result<(), Fail> {
         end: "the client",
     };
     push_session(&mut out, &session)?;
-    assert_eq!(rt; out.as_str(), "session 17 of guest?2001:db8::/64: deep at 127.0.0.1:4711, 64 segments, 9999 nodes, 61.020003 s, 5 lines, 80 bytes, 2 jobs done, 1 spent; ended by the client\n");
+    assert_eq!(rt;
+        out.as_str(),
+        "session 17 of guest?2001:db8::/64: deep at 127.0.0.1:4711, 64 segments, 9999 nodes, 61.020003 s, 5 lines, 80 bytes, 2 jobs done, 1 spent; ended by the client\n"
+    );
     Ok(())
 }

@@ -43,15 +43,17 @@ abbrev pub are_fit_customers : List Customer → Bool
 are_fit_customers [] = true
 are_fit_customers (customer ∷ customers) = is_fit_customer customer && are_fit_customers customers
 
--- whether a token, a certificate or a network is of the customer of this number
+-- whether a token is of the customer of this number
 abbrev pub has_token : ℕ → List TokenKey → Bool
 has_token number [] = false
 has_token number (key ∷ keys) = (key.customer == number) || has_token number keys
 
+-- whether a certificate is
 abbrev pub has_certificate : ℕ → List CertificateKey → Bool
 has_certificate number [] = false
 has_certificate number (key ∷ keys) = (key.customer == number) || has_certificate number keys
 
+-- whether a network is
 abbrev pub has_network : ℕ → List NetworkKey → Bool
 has_network number [] = false
 has_network number (key ∷ keys) = (key.customer == number) || has_network number keys
@@ -75,15 +77,17 @@ abbrev pub or_else : Option ℕ → Option ℕ → Option ℕ
 or_else None next = next
 or_else (Some number) next = Some number
 
--- the customer of the second of two tokens, certificates or networks that are the same
+-- the customer of the second of two tokens that are the same
 abbrev pub repeated_token : List TokenKey → Option ℕ
 repeated_token [] = None
 repeated_token (key ∷ keys) = or_else (customer_of_digest key.digest keys) (repeated_token keys)
 
+-- that of two certificates
 abbrev pub repeated_certificate : List CertificateKey → Option ℕ
 repeated_certificate [] = None
 repeated_certificate (key ∷ keys) = or_else (customer_of_name (string_bytes key.name) keys) (repeated_certificate keys)
 
+-- that of two networks
 abbrev pub repeated_network : List NetworkKey → Option ℕ
 repeated_network [] = None
 repeated_network (key ∷ keys) = or_else (same_network key.network keys) (repeated_network keys)
@@ -97,9 +101,11 @@ abbrev pub or_fault : Option PlanFault → Option PlanFault → Option PlanFault
 or_fault None next = next
 or_fault (Some fault) next = Some fault
 
+-- the fault where a test says false
 abbrev pub unless : Bool → PlanFault → Option PlanFault
 unless test fault = if test then None else Some fault
 
+-- the fault of this customer, if there is one
 abbrev pub of_customer : (ℕ → PlanFault) → Option ℕ → Option PlanFault
 of_customer fault None = None
 of_customer fault (Some number) = Some (fault number)

@@ -43,7 +43,7 @@ impl FileFault {
 }
 
 /// The line of a file where this word of a table stands, or the table's head where it doesn't: of the tables of this head the
-/// one of this number, from 0. The file itself has the head "".
+/// one of this number, from 0. The file itself has the head ""; a word of it may also be a table's head.
 pub(crate) fn line_of(text: &str, head: &str, number: usize, key: &str) -> usize {
     let mut found = 1;
     let mut seen = 0usize;
@@ -52,8 +52,12 @@ pub(crate) fn line_of(text: &str, head: &str, number: usize, key: &str) -> usize
         let words = line.trim();
         let here = place.saturating_add(1);
         if words.starts_with('[') {
-            is_there = head_of(words) == head && seen == number;
-            if head_of(words) == head {
+            let name = head_of(words);
+            if head.is_empty() && name == key {
+                return here;
+            }
+            is_there = name == head && seen == number;
+            if name == head {
                 seen = seen.saturating_add(1);
             }
             if is_there {

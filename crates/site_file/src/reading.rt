@@ -28,7 +28,7 @@ const GREATEST: u32 = 1_000_000_000;
 const CONNECTIONS: u32 = 8192;
 
 /// How many guests are known at once.
-const ADDRESSES: u32 = 65_536;
+const ADDRESSES: u32 = 8192;
 
 /// The classes that a file names, with their servers.
 #[derive(Drop)]

@@ -6,9 +6,9 @@ use Rattle.customer_book.specs.declared.book.Book.TheInside.{Inside}
 use Rattle.customer_book.specs.Plans.{plan_of}
 use Rattle.customer_book.specs.Grants.{place_of, without}
 use Rattle.customer_book.specs.Ledgers.{Ledger}
-use Rattle.customer_book.specs.Keeping.{Granted, IsSound, ledger_of}
+use Rattle.customer_book.specs.Keeping.{Granted, HasClaims, ledger_of}
 use Rattle.customer_book.proofs.GrantLemmas.{closed_is, without-none, length-without}
-use Rattle.customer_book.proofs.Soundness.{sound-close}
+use Rattle.customer_book.proofs.Claims.{claims-close}
 use Rattle.customer_book.proofs.book.Book.close.Goals as goal
 
 -- the book without the session of that grant
@@ -28,7 +28,7 @@ invariant_of-self c =
     let fewer = length-without who session gs in
     record {
       fit = c.self.invariant.fit;
-      sound = subst (IsSound (plan_of c.self.inside.site)) (sym list) (sound-close (plan_of c.self.inside.site) gs who session c.self.invariant.sound);
+      claims = subst (HasClaims (plan_of c.self.inside.site)) (sym list) (claims-close (plan_of c.self.inside.site) gs who session c.self.invariant.claims);
       early = c.self.invariant.early;
       few = omega (arith, long, fewer, c.self.invariant.few);
       known = c.self.invariant.known;

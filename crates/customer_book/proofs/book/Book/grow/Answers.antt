@@ -3,7 +3,7 @@ use Rattle.std.proofs.Common.{◌≡◌, ◌<◌, length, set, ap, ◌∙◌, su
 use Rattle.std.proofs.lemmas.List.{length-set}
 use Rattle.customer_book.specs.Plans.{plan_of}
 use Rattle.customer_book.specs.Grants.{place_of}
-use Rattle.customer_book.specs.Keeping.{IsSound}
+use Rattle.customer_book.specs.Keeping.{HasClaims}
 use Rattle.customer_book.proofs.BookLemmas.{raised, raised-list, place-there, charged-plan, charged-grants}
 use Rattle.customer_book.proofs.book.Book.grow.Goals as goal
 
@@ -28,12 +28,12 @@ invariant_of-self c =
     let long = ap length same in
     let less : c.place_of-place.result < length gs = omega (arith, at, there, long) in
     let list = raised-list gs c.deref.result.now c.args.who c.args.session c.place_of-place.result c.index_mut.result.now c.args.ask c.deref.ensures.value c.place_of-place.ensures.place less c.index_mut.ensures.value in
-    let sound = subst (λ p. IsSound p c.args.self.now.grants) plan (subst (IsSound (plan_of c.self.inside.site)) same c.self.invariant.sound) in
+    let has = subst (λ p. HasClaims p c.args.self.now.grants) plan (subst (HasClaims (plan_of c.self.inside.site)) same c.self.invariant.claims) in
     let changed = set gs c.place_of-place.result (record c.index_mut.result.now { ask = c.args.ask }) in
-    let is = raised c.args.self.now c.self.inside c.args.who c.args.session c.args.ask changed sound c.requires view list in
+    let is = raised c.args.self.now c.self.inside c.args.who c.args.session c.args.ask changed has c.requires view list in
     record {
       fit = c.self.invariant.fit;
-      sound = is.sound;
+      claims = is.claims;
       early = c.self.invariant.early;
       few = omega (arith, length-set gs c.place_of-place.result (record c.index_mut.result.now { ask = c.args.ask }), c.self.invariant.few);
       known = c.self.invariant.known;
@@ -52,7 +52,7 @@ returns c =
     let long = ap length same in
     let less : c.place_of-place.result < length gs = omega (arith, at, there, long) in
     let list = raised-list gs c.deref.result.now c.args.who c.args.session c.place_of-place.result c.index_mut.result.now c.args.ask c.deref.ensures.value c.place_of-place.ensures.place less c.index_mut.ensures.value in
-    let sound = subst (λ p. IsSound p c.args.self.now.grants) plan (subst (IsSound (plan_of c.self.inside.site)) same c.self.invariant.sound) in
+    let has = subst (λ p. HasClaims p c.args.self.now.grants) plan (subst (HasClaims (plan_of c.self.inside.site)) same c.self.invariant.claims) in
     let changed = set gs c.place_of-place.result (record c.index_mut.result.now { ask = c.args.ask }) in
-    let is = raised c.args.self.now c.self.inside c.args.who c.args.session c.args.ask changed sound c.requires view list in
+    let is = raised c.args.self.now c.self.inside c.args.who c.args.session c.args.ask changed has c.requires view list in
     is.after
