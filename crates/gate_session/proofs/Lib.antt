@@ -2,3 +2,4 @@ mod DealLemmas
 mod SeatLemmas
 mod AdmitLemmas
 mod GreetLemmas
+mod LawLemmas

@@ -28,3 +28,17 @@ names_after names (Classed who ask class) = names
 abbrev pub names_open : List Name → List Deal → List Name
 names_open names [] = names
 names_open names (deal ∷ deals) = names_open (names_after names deal) deals
+
+-- the events of the book among some deals
+abbrev pub events_in : List Deal → List Event
+events_in [] = []
+events_in (Booked event answer ∷ deals) = event ∷ events_in deals
+events_in (Named token who ∷ deals) = events_in deals
+events_in (Classed who ask class ∷ deals) = events_in deals
+
+-- the answers to them
+abbrev pub answers_in : List Deal → List (Option Refusal)
+answers_in [] = []
+answers_in (Booked event answer ∷ deals) = answer ∷ answers_in deals
+answers_in (Named token who ∷ deals) = answers_in deals
+answers_in (Classed who ask class ∷ deals) = answers_in deals

@@ -148,7 +148,7 @@ impl<'a, R: Clock + Wait> Clerk<'a, R> {
     fn opened(&self, who: Who, session: u64, class: u8, ask: Ask) -> Result<Grant, Refusal> {
         let start = Instant::now(self.rt).ok();
         let mut register = self.shared.lock.lock(self.rt);
-        for _ in 0..u32::MAX {
+        for _ in self.rt.forever() {
             let moment = self.shared.moment(self.rt);
             match register.book_at(moment).open(who, session, class, ask) {
                 Ok(grant) => {

@@ -1,7 +1,9 @@
 //! One connection, from its first byte to its last.
+ghost use Rattle.std.specs.Prelude.{◌≤◌, length};
+
 use crate::clerk::Clerk;
 use crate::dialing::Dialer;
-use crate::links::{Incoming, Outgoing, ends_of};
+use crate::links::{Incoming, MOST_BYTES, Outgoing, Received, ends_of};
 use crate::shared::Shared;
 use customer_book::Who;
 use gate_session::{SessionEnd, serve_session};
@@ -19,9 +21,6 @@ const NAME_FIELD: u8 = 0x05;
 
 /// Seconds in which a client's first line is whole, and the header before it.
 const FIRST_LINE: u64 = 10;
-
-/// The most bytes of a PROXY header.
-const HEADER_BYTES: usize = 4096;
 
 /// What is known of a client before its first line.
 #[derive(Drop)]
@@ -59,27 +58,31 @@ fn identify<R: Wait>(rt: &R, shared: &Shared, bytes: &[u8], peer: Address) -> Op
     Some(Known { who, used })
 }
 
-/// Reads until it is known whose the connection is. The bytes that were read are in the block; None where they ended before.
+/// Reads until it is known whose the connection is; None where its bytes ended before.
 fn greet_proxy<R: Clock + Wait>(
     rt: &R,
     shared: &Shared,
     source: &mut Incoming<'_, R>,
-    block: &mut [u8; HEADER_BYTES],
+    received: &mut Received,
     peer: Address,
-) -> Option<(Known, usize)> {
-    let mut size = 0;
-    for _ in 0..HEADER_BYTES {
-        let count = source.read_early(&mut block[size..])?;
+) -> Option<Known> {
+    for _ in 0..MOST_BYTES {
+        let count = source.read_early(received.room())?;
         if count == 0 {
             return None;
         }
-        size += count;
-        if let Some(known) = identify(rt, shared, &block[..size], peer) {
-            source.settle(&block[known.used..size]);
-            return Some((known, size));
+        received.grow(count);
+        if let Some(known) = identify(rt, shared, received.bytes(), peer) {
+            return Some(known);
         }
     }
     None
+}
+
+/// Makes the connection one of its customer's; false where that has too many.
+fn is_welcome<R: Wait>(rt: &R, shared: &Shared, who: Who) -> bool {
+    let mut register = shared.lock.lock(rt);
+    register.arrive(who)
 }
 
 /// Serves one connection.
@@ -94,19 +97,26 @@ pub(crate) fn serve_client<R: Net<Listener = TcpListener, Stream = TcpStream> + 
     let peer = Address::of_ip(stream.peer_addr().ok()?.ip());
     let until = start.checked_add(Duration::from_secs(FIRST_LINE));
     let (mut source, mut sink) = ends_of(rt, alloc, stream, until, true).ok()?;
-    let mut block = [0; HEADER_BYTES];
-    let (known, size) = greet_proxy(rt, shared, &mut source, &mut block, peer)?;
-    let mut register = shared.lock.lock(rt);
-    let is_welcome = register.arrive(known.who);
-    drop(register);
-    if !is_welcome {
+    let mut received = Received::new();
+    let known = greet_proxy(rt, shared, &mut source, &mut received, peer)?;
+    let rest = rest_of(received.bytes(), known.used);
+    source.settle(rest);
+    if !is_welcome(rt, shared, known.who) {
         let _ = sink.put(FULL);
         return None;
     }
-    let client = Peer::with_bytes(source, sink, &block[known.used..size]);
+    let client = Peer::with_bytes(source, sink, rest);
     let clerk = Clerk::new(rt, shared, known.who);
     converse(rt, alloc, shared, client, clerk, number);
     Some(())
+}
+
+/// What follows so many bytes.
+fn rest_of(bytes: &[u8], used: usize) -> &[u8]
+    requires { length bytes.now ≤ 4096 }
+    ensures { length result.now ≤ 4096 }
+{
+    &bytes[used.min(bytes.len())..]
 }
 
 /// Serves the lines of a connection whose customer is known.

@@ -1,7 +1,7 @@
 //! The control socket: RELOAD, STATS, and metrics by HTTP.
+use crate::links::{MOST_BYTES, Received};
 use crate::shared::Shared;
 use crate::telling::{metrics_of, stats_of};
-use site_file::read_site_again;
 use std::alloc::{AllocError, Global};
 use std::fs;
 use std::io::{Read, Write};
@@ -17,9 +17,6 @@ const A_COMMAND: u64 = 5;
 
 /// The most connections that are answered at once.
 const MOST_COMMANDERS: u64 = 64;
-
-/// The most bytes of a request.
-const REQUEST_BYTES: usize = 4096;
 
 /// Reads the file again. The text says OK, or why all stays as it is.
 fn reload<R: Files + AllocGlobal + Wait>(rt: &R, shared: &Shared, path: &str) -> Result<String, AllocError> {
@@ -39,7 +36,7 @@ fn reload<R: Files + AllocGlobal + Wait>(rt: &R, shared: &Shared, path: &str) ->
 fn answer<R: Files + AllocGlobal + Wait>(rt: &R, shared: &Shared, path: &str, request: &[u8]) -> Option<Result<String, AllocError>> {
     let alloc = rt.alloc();
     let end = request.iter().position(|byte| *byte == b'\n')?;
-    let line = request[..end].trim_ascii();
+    let line = request.get(..end)?.trim_ascii();
     if line == b"RELOAD".as_slice() {
         return Some(reload(rt, shared, path));
     }
@@ -60,15 +57,14 @@ fn converse<R: Files + AllocGlobal + Wait>(rt: &R, shared: &Shared, path: &str, 
     stream.set_read_timeout(Some(Duration::from_secs(A_COMMAND))).ok()?;
     stream.set_write_timeout(Some(Duration::from_secs(A_COMMAND))).ok()?;
     let mut stream = stream;
-    let mut block = [0; REQUEST_BYTES];
-    let mut size = 0;
-    for _ in 0..REQUEST_BYTES {
-        let count = stream.read(&mut block[size..]).ok()?;
+    let mut received = Received::new();
+    for _ in 0..MOST_BYTES {
+        let count = stream.read(received.room()).ok()?;
         if count == 0 {
             return None;
         }
-        size += count;
-        if let Some(text) = answer(rt, shared, path, &block[..size]) {
+        received.grow(count);
+        if let Some(text) = answer(rt, shared, path, received.bytes()) {
             stream.write_all(text.ok()?.as_bytes()).ok()?;
             return Some(());
         }

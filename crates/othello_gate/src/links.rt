@@ -1,4 +1,6 @@
 //! Connections as sources and sinks, with limits in time.
+ghost use Rattle.std.specs.Prelude.{◌≤◌, ◌<◌, length, IfSome};
+
 use line_io::{ReadFailed, Sink, Source, WriteFailed};
 use std::alloc::{AllocError, Global};
 use std::io::{ErrorKind, Read, Write};
@@ -63,7 +65,9 @@ pub(crate) struct Outgoing {
 
 impl<R: Clock> Incoming<'_, R> {
     /// Reads a block, if there is one before the limit, which stays. None at a failure.
-    pub(crate) fn read_early(&mut self, block: &mut [u8]) -> Option<usize> {
+    pub(crate) fn read_early(&mut self, block: &mut [u8]) -> Option<usize>
+        ensures { IfSome result (λ n. n ≤ length block.new) }
+    {
         if let Some(until) = self.until {
             let now = Instant::now(self.rt).ok()?;
             let left = until.duration_since(now);
@@ -83,7 +87,9 @@ impl<R: Clock> Incoming<'_, R> {
     }
 
     /// Reads a block, if there is one before the limit. None at a failure.
-    fn read(&mut self, block: &mut [u8]) -> Option<usize> {
+    fn read(&mut self, block: &mut [u8]) -> Option<usize>
+        ensures { IfSome result (λ n. n ≤ length block.new) }
+    {
         let count = self.read_early(block)?;
         if count == 0 {
             return Some(self.finish(block));
@@ -93,7 +99,9 @@ impl<R: Clock> Incoming<'_, R> {
     }
 
     /// Ends a line that is cut off, if there is one.
-    fn finish(&mut self, block: &mut [u8]) -> usize {
+    fn finish(&mut self, block: &mut [u8]) -> usize
+        ensures { result ≤ length block.new }
+    {
         let last = self.last;
         if last != Last::Nothing {
             self.last = Last::Nothing;
@@ -188,4 +196,42 @@ pub(crate) fn ends_of<'r, R: Clock>(
         last: Last::Nothing,
     };
     Ok((incoming, Outgoing { stream: other }))
+}
+
+/// The most bytes that are kept of a beginning.
+pub(crate) const MOST_BYTES: usize = 4096;
+
+/// The first bytes of a connection.
+#[derive(Drop)]
+pub(crate) struct Received {
+    block: [u8; MOST_BYTES],
+    size: usize,
+    ghost within: { size ≤ 4096 },
+}
+
+impl Received {
+    /// No byte yet.
+    pub(crate) fn new() -> Received {
+        Received {
+            block: [0; MOST_BYTES],
+            size: 0,
+        }
+    }
+
+    /// The bytes that came.
+    pub(crate) fn bytes(&self) -> &[u8]
+        ensures { length result.now ≤ 4096 }
+    {
+        &self.block[..self.size]
+    }
+
+    /// Where further bytes go.
+    pub(crate) fn room(&mut self) -> &mut [u8] {
+        &mut self.block[self.size..]
+    }
+
+    /// So many bytes came.
+    pub(crate) fn grow(&mut self, count: usize) {
+        self.size = self.size.saturating_add(count).min(MOST_BYTES);
+    }
 }

@@ -71,7 +71,7 @@ where
         match door.next(rt) {
             Ok(Some(stream)) => {
                 start(scope, rt, alloc, shared, stream, number);
-                number = (number + 2) % (1 << 62);
+                number = number.wrapping_add(2);
             }
             Ok(None) => {}
             Err(error) => return error,

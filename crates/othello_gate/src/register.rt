@@ -1,4 +1,7 @@
 //! What all sessions share, under one lock: the book, the file's directory, the connections and the counts.
+ghost use Rattle.std.specs.Prelude.{IsTrue};
+ghost use Rattle.customer_book.specs.Plans.{plan_of, sums_fit};
+
 use crate::counts::{Table, row_of};
 use crate::servers::KnownServers;
 use customer_book::{Amount, Book, CLASSES, LAST_MOMENT, ReplanFault, Server, Site, Who};
@@ -76,7 +79,9 @@ pub(crate) enum ReloadFault {
 
 impl Register {
     /// That of a file, where nobody is there.
-    pub(crate) fn new(alloc: Global, plan: SitePlan) -> Result<Register, AllocError> {
+    pub(crate) fn new(alloc: Global, plan: SitePlan) -> Result<Register, AllocError>
+        requires { IsTrue (sums_fit (plan_of plan.site)) }
+    {
         let SitePlan { site, directory } = plan;
         let amounts = Amounts::of(alloc, &site)?;
         let servers = KnownServers::new(alloc, site.servers.as_slice())?;
@@ -105,7 +110,9 @@ impl Register {
     }
 
     /// Goes by another plan. At Err nothing is changed.
-    fn go_by(&mut self, alloc: Global, plan: SitePlan) -> Result<(), ReloadFault> {
+    fn go_by(&mut self, alloc: Global, plan: SitePlan) -> Result<(), ReloadFault>
+        requires { IsTrue (sums_fit (plan_of plan.site)) }
+    {
         let SitePlan { site, directory } = plan;
         let customers = directory.customers.len();
         let (amounts, servers) = match self.prepare(alloc, &site, customers) {
@@ -136,7 +143,12 @@ impl Register {
 
     /// The place of a customer's tally.
     fn place_of(&self, who: Who) -> Option<usize> {
-        self.tallies.iter().position(|tally| tally.who == who)
+        for (place, tally) in self.tallies.iter().enumerate() {
+            if tally.who == who {
+                return Some(place);
+            }
+        }
+        None
     }
 
     /// The place of a customer's tally, which is made where there is none.
@@ -159,46 +171,52 @@ impl Register {
         let Some(place) = self.tally_of(who) else {
             return false;
         };
-        let now = self.tallies[place].connections;
-        if now >= most {
+        let Some(tally) = self.tallies.get_mut(place) else {
+            return false;
+        };
+        if tally.connections >= most {
             return false;
         }
-        self.tallies[place].connections = now + 1;
+        tally.connections = tally.connections.saturating_add(1);
         true
     }
 
     /// A customer has one connection less.
     pub(crate) fn depart(&mut self, who: Who) {
         if let Some(place) = self.place_of(who) {
-            let tally = &mut self.tallies[place];
-            tally.connections = tally.connections.saturating_sub(1);
+            if let Some(tally) = self.tallies.get_mut(place) {
+                tally.connections = tally.connections.saturating_sub(1);
+            }
             self.forget(place);
         }
     }
 
     /// Forgets a tally of nothing.
     fn forget(&mut self, place: usize) {
-        if place < self.tallies.len() {
-            let tally = self.tallies[place];
-            if tally.connections == 0 && tally.ending == 0 {
-                self.tallies.swap_remove(place);
-            }
+        let is_nothing = match self.tallies.get(place) {
+            Some(tally) => tally.connections == 0 && tally.ending == 0,
+            None => false,
+        };
+        if is_nothing && place < self.tallies.len() {
+            self.tallies.swap_remove(place);
         }
     }
 
     /// A session of the customer is ending: its server has to end it yet.
     pub(crate) fn fade(&mut self, who: Who) {
         if let Some(place) = self.tally_of(who) {
-            let tally = &mut self.tallies[place];
-            tally.ending = tally.ending.saturating_add(1);
+            if let Some(tally) = self.tallies.get_mut(place) {
+                tally.ending = tally.ending.saturating_add(1);
+            }
         }
     }
 
     /// A session of the customer that was ending has ended.
     pub(crate) fn faded(&mut self, who: Who) {
         if let Some(place) = self.place_of(who) {
-            let tally = &mut self.tallies[place];
-            tally.ending = tally.ending.saturating_sub(1);
+            if let Some(tally) = self.tallies.get_mut(place) {
+                tally.ending = tally.ending.saturating_sub(1);
+            }
             self.forget(place);
         }
     }
@@ -206,9 +224,12 @@ impl Register {
     /// Whether a session of the customer, or of a guest any guest's, is just ending.
     pub(crate) fn is_fading(&self, who: Who) -> bool {
         let is_guest = who.is_guest();
-        self.tallies
-            .iter()
-            .any(|tally| tally.ending > 0 && (tally.who == who || (is_guest && tally.who.is_guest())))
+        for tally in &self.tallies {
+            if tally.ending > 0 && (tally.who == who || (is_guest && tally.who.is_guest())) {
+                return true;
+            }
+        }
+        false
     }
 
     /// The connections of all guests together, or of the named customer of this number, from 1 on.

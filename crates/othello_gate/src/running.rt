@@ -1,4 +1,7 @@
 //! What the program does with the words of its command line.
+ghost use Rattle.std.specs.Prelude.{IsTrue, IfOk};
+ghost use Rattle.customer_book.specs.Plans.{plan_of as seen_plan, sums_fit};
+
 use crate::control::serve_control;
 use crate::listening::take_all;
 use crate::logging::Log;
@@ -68,7 +71,9 @@ fn say<R: Print>(rt: &R, text: &str) -> u8 {
 }
 
 /// The plan of a file; Err with the status where it can't be read or is wrong.
-fn plan_of<R: Files + Eprint + AllocGlobal>(rt: &R, path: &str) -> Result<SitePlan, u8> {
+fn read_plan<R: Files + Eprint + AllocGlobal>(rt: &R, path: &str) -> Result<SitePlan, u8>
+    ensures { IfOk result (λ plan. IsTrue (sums_fit (seen_plan plan.site))) }
+{
     let text = match fs::read_to_string(rt, path) {
         Ok(text) => text,
         Err(error) => {
@@ -87,7 +92,7 @@ fn plan_of<R: Files + Eprint + AllocGlobal>(rt: &R, path: &str) -> Result<SitePl
 
 /// Says what a file gives away.
 fn check<R: Files + Print + Eprint + AllocGlobal>(rt: &R, path: &str) -> u8 {
-    let plan = match plan_of(rt, path) {
+    let plan = match read_plan(rt, path) {
         Ok(plan) => plan,
         Err(status) => return status,
     };
@@ -102,7 +107,7 @@ fn serve<R>(rt: &R, path: &str) -> u8
 where
     R: Net<Listener = TcpListener, Stream = TcpStream> + Threads + Wait + Clock + Files + Print + Eprint + AllocGlobal + Sync,
 {
-    let plan = match plan_of(rt, path) {
+    let plan = match read_plan(rt, path) {
         Ok(plan) => plan,
         Err(status) => return status,
     };
@@ -119,6 +124,7 @@ where
 fn serve_plan<R>(rt: &R, path: &str, plan: SitePlan) -> io::Result<()>
 where
     R: Net<Listener = TcpListener, Stream = TcpStream> + Threads + Wait + Clock + Files + Print + Eprint + AllocGlobal + Sync,
+    requires { IsTrue (sums_fit (seen_plan plan.site)) }
 {
     let listener = TcpListener::bind(rt, plan.directory.listen)?;
     let control = match plan.directory.control {

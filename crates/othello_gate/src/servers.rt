@@ -48,16 +48,15 @@ impl KnownServers {
         u32::try_from(count).unwrap_or(u32::MAX)
     }
 
-    /// The server to be asked at the `asked`th try, from 0, where the book chose this one: the servers of its class in turn from
-    /// it on, those that have failed of late after the others.
+    /// The server to be asked at the `asked`th try, from 0, where the book chose this one: the servers of its class in turn from it
+    /// on, those that have failed of late after the others.
     pub(crate) fn choose(&self, server: usize, asked: u32, moment: u64) -> Option<usize> {
         let class = self.all.get(server)?.class;
-        let count = self.in_class_of(server);
-        let mut rest = asked.checked_rem(count)?;
+        let mut rest = asked.checked_rem(self.in_class_of(server))?;
         for late in [false, true] {
             for step in 0..self.all.len() {
-                let place = (server + step) % self.all.len();
-                let known = self.all[place];
+                let place = server.saturating_add(step).checked_rem(self.all.len())?;
+                let known = self.all.get(place)?;
                 if known.class == class && (moment < known.shunned) == late {
                     if rest == 0 {
                         return Some(place);

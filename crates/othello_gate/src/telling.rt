@@ -65,7 +65,7 @@ fn class_name(register: &Register, class: u8) -> &str {
 fn part_of(row: usize, class: u8) -> Part {
     match row.checked_sub(1) {
         None => Part::Guests(class),
-        Some(number) => Part::Own(Who::Named(number as u32), class),
+        Some(number) => Part::Own(Who::Named(u32::try_from(number).unwrap_or(0)), class),
     }
 }
 
@@ -85,15 +85,16 @@ fn push_customer<'a>(all: &mut Rows<'a>, register: &'a Register, row: usize, cus
         return Ok(());
     };
     let budgets = budgets_of(register, row);
-    for class in 0..CLASSES as u8 {
-        let place = class as usize;
+    for (place, both) in counts.iter().zip(budgets.iter()).enumerate() {
         if place < register.directory.classes.len() {
+            let class = u8::try_from(place).unwrap_or(0);
+            let (counts, budget) = both;
             all.rows.push(Row {
                 customer,
                 class: class_name(register, class),
                 used: register.book.used(part_of(row, class)),
-                budget: budgets[place],
-                counts: &counts[place],
+                budget: *budget,
+                counts,
             })?;
         }
     }
