@@ -14,7 +14,10 @@ use Rattle.customer_book.specs.declared.who.Who.TheVariants.{Named}
 use Rattle.customer_book.specs.Plans.{Plan}
 use Rattle.customer_book.specs.Ledgers.{new_ledger}
 use Rattle.customer_book.specs.declared.event.Event.{Event}
-use Rattle.customer_book.specs.Runs.{answers}
+use Rattle.customer_book.specs.declared.event.Event.TheVariants.{Opens}
+use Rattle.customer_book.specs.declared.held.Held.{Held}
+use Rattle.customer_book.specs.Runs.{answers, run}
+use Rattle.customer_book.specs.Reloads.{Step, go_answers}
 
 abbrev pub amount : ℕ → ℕ → ℕ → Amount
 amount sessions segments nodes = record { sessions = sessions; segments = segments; nodes = nodes }
@@ -61,3 +64,15 @@ causes events = map (λ answer. option_map (λ (r : Refusal). r.cause) answer) (
 -- how long each refusal waits
 abbrev pub waits : List Event → List (Option ℕ)
 waits events = map (λ answer. option_map (λ (r : Refusal). r.wait) answer) (answers (new_ledger small) events)
+
+-- the servers of that site
+abbrev pub two_servers : List Server
+two_servers = server 0 1 10 100 ∷ server 0 2 20 200 ∷ []
+
+-- the grants when the school has opened two sessions there
+abbrev pub two_grants : List Held
+two_grants = (run (new_ledger small) (Opens school 1 0 (ask 5 90) ∷ Opens school 2 0 (ask 5 90) ∷ [])).grants
+
+-- why each step was refused
+abbrev pub step_causes : List Step → List (Option Cause)
+step_causes steps = map (λ answer. option_map (λ (r : Refusal). r.cause) answer) (go_answers (new_ledger small) steps)

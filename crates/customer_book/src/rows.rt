@@ -12,7 +12,9 @@ ghost use Rattle.customer_book.specs.declared.event.Event.TheVariants.{Opens, Ra
 ghost use Rattle.customer_book.specs.Runs.{run, only, still_open, answers};
 ghost use Rattle.customer_book.specs.declared.held.Held.{Held};
 ghost use Rattle.customer_book.specs.Names.{is_guest};
-ghost use Rattle.customer_book.specs.Rows.{amount, ask, rate, server, site, small, school, causes, waits};
+ghost use Rattle.customer_book.specs.Rows.{amount, ask, rate, server, site, small, school, causes, waits, two_servers, two_grants, step_causes};
+ghost use Rattle.customer_book.specs.Reloads.{happens, replans, replanned, why_not_replan};
+ghost use Rattle.customer_book.specs.declared.reload.ReplanFault.TheVariants.{Renumbered, Beyond};
 
 /// The sums of a site fit, or are beyond its servers in one amount.
 pub fn sums_of_small_sites()
@@ -77,4 +79,18 @@ pub fn two_guests()
     ensures left { still_open [] (Opens (V4 7) 1 0 (ask 5 50) ∷ Opens (V4 8) 2 0 (ask 5 50) ∷ Opens school 3 0 (ask 5 50) ∷ Closes school 3 ∷ [])
         (answers (new_ledger small) (Opens (V4 7) 1 0 (ask 5 50) ∷ Opens (V4 8) 2 0 (ask 5 50) ∷ Opens school 3 0 (ask 5 50) ∷ Closes school 3 ∷ []))
         ≡ (V4 7, 1) ∷ [] }
+{}
+
+/// The school is to have less, or nothing, while it has two sessions: they stay, and it gets no more. Its two sessions and what
+/// the guests may have must fit the places, and each server must keep its number and its class.
+pub fn another_plan()
+    ensures gone { why_not_replan small two_grants (site two_servers (amount 0 0 0) (amount 1 9 90)) ≡ None }
+    ensures beyond { why_not_replan small two_grants (site two_servers (amount 0 0 0) (amount 2 9 90)) ≡ Some Beyond }
+    ensures ended { why_not_replan small [] (site two_servers (amount 0 0 0) (amount 2 9 90)) ≡ None }
+    ensures lost { why_not_replan small two_grants (site (server 0 3 30 300 ∷ []) (amount 2 12 200) (amount 1 9 90)) ≡ Some Renumbered }
+    ensures other_class { why_not_replan small two_grants (site (server 0 1 10 100 ∷ server 1 2 20 200 ∷ []) (amount 0 0 0) (amount 0 0 0)) ≡ Some Renumbered }
+    ensures told { step_causes (
+        happens (Opens school 1 0 (ask 5 90)) ∷ replans (site two_servers (amount 0 0 0) (amount 1 9 90)) ∷ happens (Raises school 1 (ask 6 90)) ∷ happens (Closes school 1) ∷ happens (Opens school 2 0 (ask 5 90)) ∷ [])
+        ≡ None ∷ None ∷ Some Budget ∷ None ∷ Some Budget ∷ [] }
+    ensures known { (replanned (run (new_ledger small) (Says (V4 7) ∷ [])) (site two_servers (amount 1 6 60) (amount 1 9 90))).plan.addresses ≡ 2 }
 {}

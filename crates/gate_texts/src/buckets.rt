@@ -1,5 +1,5 @@
 //! Durations, counted by how long they were.
-ghost use Rattle.std.specs.Prelude.{◌≡◌, ◌+◌, ◌≤◌, ◌<◌, length, min, slice_index, slice_set, ℕ};
+ghost use Rattle.std.specs.Prelude.{◌≡◌, ◌+◌, ◌≤◌, length, min};
 ghost use Rattle.gate_texts.specs.Buckets.{bounds, bucket_of, noted, most};
 
 /// The bounds of the buckets in microseconds; behind the last one there is a bucket without a bound.
@@ -31,21 +31,21 @@ impl Buckets {
         ensures counts { self.new.counts ≡ noted (bucket_of bounds micros) self.old.counts }
         ensures sum { self.new.sum ≡ min (self.old.sum + micros) most }
     {
-        let place = bucket_of(micros);
+        let place = bucket_of(&BOUNDS, micros);
         self.counts[place] = self.counts[place].saturating_add(1);
         self.sum = self.sum.saturating_add(micros);
     }
 }
 
-/// The bucket of a duration: the first whose bound it doesn't exceed.
-fn bucket_of(micros: u64) -> usize
-    ensures place { result ≡ bucket_of bounds micros }
-    ensures within { result < 12 }
+/// The bucket of a duration: the first whose bound it doesn't exceed, or that behind the last bound.
+fn bucket_of(bounds: &[u64], micros: u64) -> usize
+    ensures place { result ≡ bucket_of bounds.now micros }
+    ensures within { result ≤ length bounds.now }
 {
-    for (place, bound) in BOUNDS.iter().enumerate() {
+    for (place, bound) in bounds.iter().enumerate() {
         if micros <= *bound {
             return place;
         }
     }
-    BUCKETS - 1
+    bounds.len()
 }
