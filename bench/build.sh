@@ -19,14 +19,19 @@ below() { # LIST CRATES
         }' "$1"
 }
 
-# Copies a crate's sources without its tests and edits, so that what a gate or a build on this machine has proved of them
-# isn't proved again.
+# Copies a crate: with the library that this checkout's own checks have made of it, so that it isn't proved again as long as its
+# sources are those; else its sources without tests, which a toolchain that keeps what a gate or a build proved doesn't prove again.
 copy() { # CRATE FOLDER
     mkdir -p "$2/crates/$1"
     for part in src specs proofs; do
         [ ! -e "$top/crates/$1/$part" ] || cp -a "$top/crates/$1/$part" "$2/crates/$1/"
     done
-    untested "$2/crates/$1"
+    if [ -e "$top/crates/$1/out/rlib/stamp" ]; then
+        mkdir -p "$2/crates/$1/out"
+        cp -al "$top/crates/$1/out/rlib" "$2/crates/$1/out/" 2> /dev/null || cp -a "$top/crates/$1/out/rlib" "$2/crates/$1/out/"
+    else
+        untested "$2/crates/$1"
+    fi
 }
 
 # Takes the tests out of a crate's sources.
@@ -63,30 +68,22 @@ unpack() { # TEXT FOLDER
         { print > file }' "$1")
 }
 
-# Proves a crate of a folder and all below it, as far as that isn't kept; a program is built too. `rt ci` also runs a
-# program, in its own way: whether that run is well doesn't count here.
+# Proves a program of a folder and all below it, as far as that isn't kept, and builds it. It is also run, without input or words:
+# whether that run is well doesn't count here.
 prove() { # FOLDER CRATE
-    (cd "$1/crates/$2" && rt fmt > /dev/null)
-    (cd "$1" && rt ci > "$1/ci.log" 2>&1 < /dev/null) || grep -q "^rt: $2 \(proved\|is kept\)" "$1/ci.log" || { tail -20 "$1/ci.log"; exit 1; }
+    (
+        cd "$1/crates/$2"
+        rt fmt > /dev/null
+        rm -f "out/$2"
+        rt run > "$1/run.log" 2>&1 < /dev/null || [ -x "out/$2" ]
+    ) || { tail -20 "$1/run.log"; exit 1; }
 }
 
 # Builds a crate of a folder as a static library, or says why not.
 library() { # FOLDER CRATE
-    prove "$1" "$2"
     (
         cd "$1/crates/$2"
-        set -- "$1" "$2" -L "dependency=$kit/rlibs"
-        for rlib in "$1"/crates/*/out/rlib; do
-            set -- "$@" -L "dependency=$rlib"
-        done
-        for name in $(sed -n "s/^$2 staticlib: *//p" "$1/crates.txt") std; do
-            for rlib in "$1/crates/$name/out/rlib/$name.rlib" "$kit/rlibs/$name.rlib"; do
-                [ ! -d "$rlib" ] || { set -- "$@" --extern "$name=$rlib"; break; }
-            done
-        done
-        folder=$1 crate=$2
-        shift 2
-        mkdir -p out
-        rattle build --crate-name "$crate" src/lib.rt "$@" --antt-project "$kit/rattle/logic/antt-project.json" --logic-built "$kit/logic_built" --links "$crate=" --crate-type staticlib --toolchain "$kit/toolchain" -o "out/lib$crate.a" --empty-contracts > "$folder/lib.log" 2>&1
+        rt fmt > /dev/null
+        rt lib > "$1/lib.log" 2>&1 < /dev/null && [ -e "out/lib$2.a" ]
     ) || { tail -20 "$1/lib.log"; exit 1; }
 }

@@ -1,6 +1,7 @@
 """Customers that mean the others no good, each from an address of its own: what deploy/try and deploy/soak set on a site.
 
-usage: deploy/hostile.py PORT CUSTOMERS SECONDS      (in a process of its own, so that it takes no time of those who measure)
+usage: deploy/hostile.py PORT CUSTOMERS SECONDS [KIND]      (KIND: all do this, and else each kind is done by some. In a process of
+                                                        its own, so that it takes no time of those who measure)
 
 It prints how often they were welcomed, refused and cut off.
 """
@@ -20,7 +21,7 @@ lock = threading.Lock()
 
 def count(name):
     with lock:
-        counts[name] += 1
+        counts[name] = counts.get(name, 0) + 1
 
 
 class Line:
@@ -155,11 +156,87 @@ def be_silent(address, port, _, hold_on):
                 lines[0].send(b"H")
 
 
-KINDS = (hold, climb, hog, crowd, churn, leave, flood, babble, be_silent)
+def storm(address, port, _, hold_on):
+    """40,000 lines with long answers, and more by RESERVE behind them; nothing is read, and the end is a reset."""
+    line = Line(address, port)
+    line.ask("HELLO 64 1000")
+    line.ask(f"ASK 2 {GREAT}")
+    line.ask("WAIT 1")
+    line.socket.settimeout(5)
+    with contextlib.suppress(OSError):
+        line.send(b"TABLE 1\n" * 40000 + b"RESERVE 65 1001\n")
+    hold_on(0.5)
+    line.close(by_reset=True)
 
 
-def customer(number, port, end):
-    chance, kind = random.Random(number), KINDS[number % len(KINDS)]
+def drip(address, port, _, hold_on):
+    """First lines that come a byte at a time, and never end."""
+    with contextlib.ExitStack() as open_ones:
+        lines = [open_ones.enter_context(Line(address, port)) for _ in range(25)]
+        for byte in b"HELLO 1 1 " + b"x" * 100:
+            for line in lines:
+                line.send(bytes([byte]))
+            hold_on(1)
+
+
+def sip(address, port, _, hold_on):
+    """Long answers that are taken a byte at a time."""
+    with Line(address, port) as line:
+        line.ask("HELLO 64 1000")
+        line.ask(f"ASK 2 {GREAT}")
+        line.ask("WAIT 1")
+        line.send(b"TABLE 1\n" * 5000)
+        for _ in range(20):
+            line.socket.recv(1)
+            hold_on(0.2)
+
+
+def guess(address, port, chance, _):
+    """Tokens that are guessed, as fast as they are answered."""
+    with contextlib.ExitStack() as open_ones:
+        lines = [open_ones.enter_context(Line(address, port)) for _ in range(25)]
+        for line in lines * 4:
+            line.send(f"HELLO 1 1 {chance.randrange(10**15)}\n".encode())
+        for line in lines * 4:
+            count(line.lines.readline().decode().strip() or "cut off")
+
+
+def pretend(address, port, _, hold_on):
+    """Headers of the PROXY protocol that name another customer's address."""
+    for header in (b"PROXY TCP4 127.6.0.1 127.0.0.1 1000 4700\r\n", b"\r\n\r\n\0\r\nQUIT\n\x21\x11\0\x0c\x7f\x06\0\x01\x7f\0\0\x01\x03\xe8\x12\x5c"):
+        with contextlib.ExitStack() as open_ones:
+            for _ in range(8):
+                line = open_ones.enter_context(Line(address, port))
+                line.send(header + b"\nHELLO 1 1\n")
+            hold_on(0.5)
+
+
+def raise_on(address, port, _, hold_on):
+    """A session that reserves more by each line, as fast as it is answered, then QUOTA likewise."""
+    with Line(address, port) as line:
+        line.ask("HELLO 1 1")
+        for nodes in range(2, 400):
+            line.ask(f"RESERVE 1 {nodes}")
+        for _ in range(2000):
+            line.ask("QUOTA")
+
+
+def cut(address, port, chance, _):
+    """Sessions that end at any byte, by an end or a reset."""
+    data = f"HELLO 64 1000\nASK 2 {GREAT}\nRESERVE 65 1001\nRESERVE 65 20000\nWAIT 1\nTABLE 1\nBYE\n".encode()
+    for _ in range(30):
+        line = Line(address, port)
+        with contextlib.suppress(OSError):
+            line.send(data[: chance.randrange(len(data) + 1)])
+            line.socket.recv(chance.randrange(1, 60))
+        line.close(by_reset=chance.random() < 0.5)
+
+
+KINDS = (hold, climb, hog, crowd, churn, leave, flood, babble, be_silent, storm, drip, sip, guess, pretend, raise_on, cut)
+
+
+def customer(number, port, end, kind):
+    chance, kind = random.Random(number), kind or KINDS[number % len(KINDS)]
 
     def hold_on(seconds):
         time.sleep(max(0.0, min(seconds, end - time.monotonic())))
@@ -172,9 +249,9 @@ def customer(number, port, end):
         hold_on(0.05)
 
 
-def main(port, customers, seconds):
+def main(port, customers, seconds, kind=None):
     end = time.monotonic() + seconds
-    threads = [threading.Thread(target=customer, args=(number, port, end), daemon=True) for number in range(customers)]
+    threads = [threading.Thread(target=customer, args=(number, port, end, kind), daemon=True) for number in range(customers)]
     for thread in threads:
         thread.start()
     for thread in threads:
@@ -184,4 +261,4 @@ def main(port, customers, seconds):
 
 
 if __name__ == "__main__":
-    main(*map(int, sys.argv[1:4]))
+    main(*map(int, sys.argv[1:4]), *(each for each in KINDS if each.__name__ in sys.argv[4:]))

@@ -1,7 +1,8 @@
-"""What the trials of this folder, of clients/ and of bench/ share: servers, supervisors, budgets and HAProxy on loopback.
+"""What the trials of this folder, of clients/ and of bench/ share: servers, supervisors, the gate and HAProxy on loopback.
 
 The program is the one that the variable OTHELLO names, and else the one that `./othello` at the top of the repository
 has built: it is started itself, since the time that `./othello` takes to look at the sources would be added to each start.
+The gate is the program that GATE names; where none is named, deploy/budgets stands in its place, with its own files.
 """
 import contextlib
 import functools
@@ -11,6 +12,8 @@ import random
 import re
 import signal
 import socket
+import statistics
+import struct
 import subprocess
 import sys
 import tempfile
@@ -23,11 +26,12 @@ from othello import Refused, Session  # noqa: E402, F401
 from review import OTHER, SQUARES, START, can_move, flips, played  # noqa: E402
 
 OPENING = START + " X"
-NAMES = ("one", "two", "three")  # of the servers in haproxy.cfg
+NAMES = ("one", "two", "three")  # of the servers
 PORTS = (4711, 4712, 4713)
 ALL = "budgets: that is all\n"
 CLASSES = (4721, 4722)  # HAProxy's ports of the two classes
-BUDGETS = 4720
+BUDGETS = 4720  # where the gate listens for HAProxy
+OPERATOR = 4719  # and for its operator
 PEERS = 4723  # HAProxy's port for its reloads
 kept = []  # a lock for each port that this trial was given
 
@@ -165,9 +169,10 @@ def server(*words):
 
 
 @contextlib.contextmanager
-def supervised(port, *words, most=8, log=subprocess.DEVNULL):
+def supervised(port, *words, most=8, log=subprocess.DEVNULL, ask=None):
     """A supervisor with a server at a port."""
-    command = [str(HERE / "supervise"), "--most", str(most), program(), "serve", "--port", str(port), *words]
+    asks = ["--ask", str(ask)] if ask else []
+    command = [str(HERE / "supervise"), "--most", str(most), *asks, program(), "serve", "--port", str(port), *words]
     with ended_after(subprocess.Popen(command, stdout=log)) as process:
         subprocess.run([str(HERE / "ready"), str(port), "120"], check=True)
         yield process
@@ -188,46 +193,96 @@ def replaced(text, changes):
     return text
 
 
-class Proxy:
-    """HAProxy with deploy/haproxy.cfg and deploy/budgets with deploy/budgets.toml, at the ports of a trial.
+def gate():
+    """The program of the gate; none where deploy/budgets stands in its place."""
+    return os.environ.get("GATE")
 
-    `certificate` is that of TLS, `authority` signs the certificates of customers; `terms` are changes of budgets.toml, and
-    `more` stands behind it; `changes` are those of haproxy.cfg. At `beside` are servers of the quick class besides its two."""
+
+def onward(ports):
+    """The connections to servers at these ports, as the kernel has them: by where they come from, the place of the port."""
+    found = {}
+    for line in pathlib.Path("/proc/net/tcp").read_text().splitlines()[1:]:
+        _, here, there, state, *_ = line.split()
+        if state == "01" and there.startswith("0100007F:") and int(there[9:], 16) in ports:
+            found[int(here.split(":")[1], 16)] = ports.index(int(there[9:], 16))
+    return found
+
+
+class Proxy:
+    """HAProxy and the gate behind it, with deploy/haproxy-gate.cfg and deploy/gate.toml, at the ports of a trial. (Without a gate:
+    deploy/budgets and HAProxy again, with haproxy.cfg and budgets.toml.)
+
+    `certificate` is that of TLS, `authority` signs the certificates of customers; `terms` are changes of the gate's file, and
+    `more` stands behind it; `changes` are those of HAProxy's. At `beside` are servers of the quick class besides its two. A port that is
+    named again stands for the same server: a gate knows a server once, so HAProxy has a port that leads to it."""
 
     def __init__(self, ports, certificate=None, authority=None, terms=(), more="", beside=(), changes=()):
+        self.gate = gate()
         self.port, self.metrics, self.ports, self.beside = free_port(), free_port(), ports, beside
-        self.inner, self.classes = free_port(), [free_port() for _ in CLASSES]
+        self.inner, self.operator, self.classes = free_port(), free_port(), [free_port() for _ in CLASSES]
         self.tls = f" ssl crt {certificate}" if certificate else ""
         self.tls += f" ca-file {authority} verify optional" if authority else ""
-        self.terms, self.more, self.changes = terms, more, changes
+        self.terms, self.more, self.changes, self.places = terms, more, changes, {}
+        self.behind = {}  # ports of HAProxy that lead to a server
+        if self.gate:
+            self.ports = [port if port not in ports[:at] else self.leads_to(port) for at, port in enumerate(ports)]
 
     def moved(self):
         """What ports are changed in both files."""
+        if self.gate:
+            return [(f"127.0.0.1:{BUDGETS}", f"127.0.0.1:{self.inner}")]
         return [(f"127.0.0.1:{old}", f"127.0.0.1:{new}") for old, new in zip(CLASSES, self.classes)] + [(f"127.0.0.1:{BUDGETS}", f"127.0.0.1:{self.inner}")]
+
+    def leads_to(self, port):
+        """A port of HAProxy that leads to a server."""
+        found = free_port()
+        self.behind[found] = port
+        return found
+
+    def proxied(self):
+        """HAProxy's file for this trial."""
+        moved = [("  bind :4700\n", f"  bind 127.0.0.1:{self.port}{self.tls}\n"), ("bind 127.0.0.1:8404", f"bind 127.0.0.1:{self.metrics}")]
+        moved += [("  bind [::]:4700 v6only\n", f"  bind [::1]:{self.port} v6only{self.tls}\n"), *self.changes]
+        moved += [("/run/haproxy/admin.sock", self.control), (f"127.0.0.1:{PEERS}", f"127.0.0.1:{free_port()}"), *self.moved()]
+        if os.geteuid() != 0:  # only root may take another user and another root
+            moved += [(f"  {line}\n", "") for line in ("user haproxy", "group haproxy", "chroot /var/lib/haproxy")]
+        if self.gate:
+            more = "".join(f"\nlisten to-{at}\n  bind 127.0.0.1:{at}\n  timeout client 1h\n  server it 127.0.0.1:{port}\n" for at, port in self.behind.items())
+            return replaced((HERE / "haproxy-gate.cfg").read_text(), moved) + more
+        moved += [(f"127.0.0.1:{old}\n", f"127.0.0.1:{new}\n") for old, new in zip(PORTS, self.ports)]
+        last = f"  server two 127.0.0.1:{self.ports[1]}\n"
+        more = "".join(f"  server beside{number} 127.0.0.1:{port}\n" for number, port in enumerate(self.beside))
+        return replaced(replaced((HERE / "haproxy.cfg").read_text(), moved), [(last, last + more)])
+
+    def filed(self):
+        """The gate's file for this trial."""
+        if not self.gate:
+            return replaced((HERE / "budgets.toml").read_text(), [*self.moved(), *self.terms]) + self.more
+        moved = [(f'"127.0.0.1:{old}"', f'"127.0.0.1:{new}"') for old, new in zip(PORTS, self.ports)]
+        last = f'"127.0.0.1:{self.ports[1]}"]'
+        moved += [(last, "".join([last[:-1], *(f', "127.0.0.1:{port}"' for port in self.beside), "]"])), (f"127.0.0.1:{OPERATOR}", f"127.0.0.1:{self.operator}")]
+        return replaced((HERE / "gate.toml").read_text(), [*self.moved(), *moved, *self.terms]) + self.more
 
     def __enter__(self):
         self.folder = tempfile.TemporaryDirectory()
         self.control, self.log = f"{self.folder.name}/control", pathlib.Path(self.folder.name, "log")
-        moved = [(f"127.0.0.1:{old}\n", f"127.0.0.1:{new}\n") for old, new in zip(PORTS, self.ports)]
-        moved += [("  bind :4700\n", f"  bind 127.0.0.1:{self.port}{self.tls}\n"), ("bind 127.0.0.1:8404", f"bind 127.0.0.1:{self.metrics}")]
-        moved += [("  bind [::]:4700 v6only\n", f"  bind [::1]:{self.port} v6only{self.tls}\n"), *self.changes]
-        moved += [("/run/haproxy/admin.sock", self.control), (f"127.0.0.1:{PEERS}", f"127.0.0.1:{free_port()}")]
-        if os.geteuid() != 0:  # only root may take another user and another root
-            moved += [(f"  {line}\n", "") for line in ("user haproxy", "group haproxy", "chroot /var/lib/haproxy")]
-        path, self.file = (pathlib.Path(self.folder.name, name) for name in ("haproxy.cfg", "budgets.toml"))
-        text = replaced((HERE / "haproxy.cfg").read_text(), moved + self.moved())
-        last = f"  server two 127.0.0.1:{self.ports[1]}\n"
-        more = "".join(f"  server beside{number} 127.0.0.1:{port}\n" for number, port in enumerate(self.beside))
-        path.write_text(replaced(text, [(last, last + more)]))
-        self.file.write_text(replaced((HERE / "budgets.toml").read_text(), [*self.moved(), *self.terms]) + self.more)
-        with self.log.open("w") as log:
-            self.budgets = subprocess.Popen([HERE / "budgets", self.file], stdout=log, stderr=log)
+        path, self.file = (pathlib.Path(self.folder.name, name) for name in ("haproxy.cfg", "gate.toml"))
+        path.write_text(self.proxied())
+        self.file.write_text(self.filed())
+        self.log.touch()
+        self.start_gate()
+        with self.log.open("a") as log:
             self.process = subprocess.Popen(["haproxy", "-db", "-f", str(path)], stdout=log, stderr=log)
         for port in (self.metrics, self.inner):
-            until("HAProxy and the budgets listen", lambda: self.is_over() or is_there(port))
+            until("HAProxy and the gate listen", lambda: self.is_over() or is_there(port))
         if self.is_over():
-            fail(f"HAProxy or the budgets ended:\n{self.log.read_text()}")
+            fail(f"HAProxy or the gate ended:\n{self.log.read_text()}")
         return self
+
+    def start_gate(self):
+        """Starts the gate, at first or after its end."""
+        with self.log.open("a") as log:
+            self.budgets = subprocess.Popen([self.gate or HERE / "budgets", self.file], stdout=log, stderr=log)
 
     def is_over(self):
         return self.process.poll() is not None or self.budgets.poll() is not None
@@ -245,15 +300,80 @@ class Proxy:
             asked.sendall(line.encode() + b"\n")
             return b"".join(iter(lambda: asked.recv(65536), b"")).decode()
 
-    def servers(self):
-        """Which server each session is with, by the address and port that it comes from."""
+    def ask_gate(self, line, ends=(b"\n",)):
+        """What the gate answers at its control socket."""
+        with socket.create_connection(("127.0.0.1", self.operator), 20) as asked:
+            asked.sendall(line.encode() + b"\n")
+            found = b""
+            while not found.endswith(ends) and (piece := asked.recv(65536)):
+                found += piece
+            return found.decode()
+
+    def stats(self):
+        """What the gate says of each customer in each class and of each server: rows of words and numbers."""
+        return [line.split() for line in self.ask_gate("STATS", (b"\n\n", b"END\n")).splitlines() if line not in ("", "END")]
+
+    def told(self):
+        """What deploy/budgets says of its customers, and of their sessions."""
         before = self.log.read_text().count(ALL)
         self.budgets.send_signal(signal.SIGUSR1)
         until("the budgets say who is there", lambda: self.log.read_text().count(ALL) > before)
-        told = self.log.read_text().split(ALL)[before]
-        onward = dict(re.findall(r"^budgets: session (\S+) of .*: \w+ (\S+)$", told, re.M))
+        return self.log.read_text().split(ALL)[before]
+
+    def held(self):
+        """Who has something: a row for each customer (the guests of a gate together) and class, with its sessions, segments and nodes."""
+        if self.gate:
+            return [row for row in map(held_in, self.stats()) if row and row[2:] != (0, 0, 0)]
+        return [(name, *numbers) for name, rest in re.findall(r"^budgets: (?:guest )?(\S+): (.*)$", self.told(), re.M) for numbers in amounts(rest)]
+
+    def read_again(self, is_fit=True):
+        """Lets the gate read its file again. Where the file has a fault it must say so: gives why."""
+        if self.gate:
+            found = self.ask_gate("RELOAD").strip()
+            check((found == "OK") == is_fit and (is_fit or found.startswith("ERR ")), f"RELOAD of what is {'right' if is_fit else 'wrong'}: {found}")
+            return found
+        before = len(self.log.read_text())
+        self.budgets.send_signal(signal.SIGHUP)
+        wish = "the file was read again" if is_fit else "all stays as it is"
+        until("the file is read again", lambda: wish in self.log.read_text()[before:])
+        return self.log.read_text()[before:]
+
+    def opened(self, address, *reserve, **more):
+        """A session, of which is known which server it is with."""
+        before = onward(self.ports)
+        session = From(address, "127.0.0.1", self.port, *reserve, **more)
+        if self.gate:
+            new = {port: place for port, place in onward(self.ports).items() if port not in before}
+            check(len(new) == 1, f"a session is {len(new)} connections to servers")
+            self.places[source_of(session)] = next(iter(new))
+        return session
+
+    def servers(self):
+        """Which server each session is with, by the address and port that it comes from: of a gate's those that were `opened` here."""
+        if self.gate:
+            there = onward(self.ports)
+            return {source: NAMES[there[port]] for source, port in self.places.items() if port in there}
+        onwards = dict(re.findall(r"^budgets: session (\S+) of .*: \w+ (\S+)$", self.told(), re.M))
         rows = dict(re.findall(r"src=(\S+) .*? srv=(\w+)", self.ask("show sess")))
-        return {source: rows[port] for source, port in onward.items() if rows.get(port) in NAMES}
+        return {source: rows[port] for source, port in onwards.items() if rows.get(port) in NAMES}
+
+    def counts(self):
+        """How many sessions each server has."""
+        names = [NAMES[place] for place in onward(self.ports).values()] if self.gate else list(self.servers().values())
+        return {name: names.count(name) for name in NAMES}
+
+
+def amounts(told):
+    """The classes and amounts in what deploy/budgets says of a customer."""
+    return [(kind, *map(int, numbers)) for kind, *numbers in re.findall(r"(\w+) (\d+) sessions, (\d+) segments, (\d+) nodes", told)]
+
+
+def held_in(row):
+    """Of a row of STATS that is a customer's: its name, class, sessions, segments and nodes."""
+    if row[0] != "account":
+        return None
+    told = dict(zip(row[3:], row[4:]))
+    return (row[1], row[2], *(int(told[word]) for word in ("sessions", "segments", "nodes")))
 
 
 def is_there(port):
@@ -290,3 +410,127 @@ def boot(root, unit, *words, seconds=300):
     with kept_groups():
         booted = subprocess.run(command, env=around, capture_output=True, text=True, timeout=seconds, errors="replace", stdin=subprocess.DEVNULL)
     return (root / "told").read_text() if (root / "told").exists() else booted.stdout + booted.stderr
+
+
+DEPTH = 3
+QUICK, GREAT = (64, 2048), (64, 20000)  # what a session reserves: the classes part at 10,000 nodes
+LINES = [f"{DEPTH} {position}" for position in positions(50, 1)]
+ROOM = ("--segments", "65536", "--nodes", "4194304")  # as budgets.toml says of each server
+QUICK_WORDS, DEEP_WORDS = (*ROOM, "--workers", "2", "--grain", "2"), (*ROOM, "--workers", "4", "--grain", "4")
+
+
+def address_of(number):
+    """An address of this host, as another customer's."""
+    return f"127.1.{number // 200}.{number % 200 + 1}"
+
+
+def is_answered(session, number, wanted):
+    """Whether a session gives the right value of a position."""
+    return session.wait(session.ask_line(LINES[number % len(LINES)])) == wanted[number % len(LINES)]
+
+
+@contextlib.contextmanager
+def site(sessions, most=8, deep=DEEP_WORDS, ask=None, **more):
+    """Three supervised servers, and HAProxy with the gate before them."""
+    with contextlib.ExitStack() as open_ones:
+        ports = [free_port() for _ in NAMES]
+        folder = pathlib.Path(open_ones.enter_context(tempfile.TemporaryDirectory()))
+        logs = [folder / name for name in NAMES]
+        supervisors = []
+        for port, log, words in zip(ports, logs, (QUICK_WORDS, QUICK_WORDS, deep)):
+            file = open_ones.enter_context(log.open("w"))
+            kept = supervised(port, "--sessions", str(sessions), *words, most=most, log=file, ask=ask)
+            supervisors.append(open_ones.enter_context(kept))
+        proxy = open_ones.enter_context(Proxy(ports, **more))
+        proxy.supervisors, proxy.logs = supervisors, logs
+        yield proxy
+
+
+def is_refused(port):
+    with socket.socket() as probe:
+        return probe.connect_ex(("127.0.0.1", port)) != 0
+
+
+def told(address, port, *reserve):
+    """A session of an address, or none and the number of the refusal."""
+    try:
+        return From(address, "127.0.0.1", port, *reserve), 0
+    except Refused as refusal:
+        return None, refusal.number
+
+
+def fault(session, *reserve):
+    """The number of the refusal of a RESERVE, or 0."""
+    try:
+        session.reserve(*reserve)
+        return 0
+    except Refused as refusal:
+        return refusal.number
+
+
+def climbed(address, port, *reserve):
+    """A session of HELLO 1 1 that reserves more, and the number of its refusal, or 0."""
+    session, number = told(address, port, 1, 1)
+    return session, fault(session, *reserve) if session else number
+
+
+def handed(port, address, data):
+    """What the gate answers to these bytes by a connection that HAProxy hands on from an address."""
+    with socket.create_connection(("127.0.0.1", port), 20) as stream:
+        stream.sendall(b"\r\n\r\n\0\r\nQUIT\n\x21\x11\0\x0c" + socket.inet_aton(address) + socket.inet_aton("127.0.0.1") + struct.pack("!HH", 1000, 4700) + data)
+        stream.shutdown(socket.SHUT_WR)
+        return b"".join(iter(lambda: stream.recv(65536), b""))
+
+
+NAMED = """
+[[customer]]
+name = "school"
+token_sha256 = ["{token}"]
+address = ["127.6.0.0/16"]
+quick = {{ sessions = 40, segments = 40960, nodes = 399960 }}
+deep = {{ sessions = 4, segments = 4096, nodes = 262144 }}
+
+[[customer]]
+name = "little"
+address = ["127.8.0.0/16"]
+quick = {{ sessions = 3, segments = 100, nodes = 12000 }}
+
+[[customer]]
+name = "site"
+certificate = ["site.example"]
+quick = {{ sessions = 8, segments = 8192, nodes = 79992 }}
+"""
+LEFT = [("quick = { sessions = 128, segments = 131072, nodes = 1279872 }", "quick = { sessions = 77, segments = 78848, nodes = 769923 }"),
+        ("deep = { sessions = 64, segments = 65536, nodes = 4194304 }", "deep = { sessions = 60, segments = 61440, nodes = 3932160 }")]  # fmt: skip
+
+# The front asks each host for a session now and then, from an address of its own.
+FRONT = """
+[[customer]]
+name = "front"
+address = ["127.0.0.1"]
+quick = { sessions = 2, segments = 2, nodes = 2 }
+"""
+LESS = [("sessions = 77, segments = 78848, nodes = 769923", "sessions = 75, segments = 78846, nodes = 769921")]
+
+
+def certificates(folder):
+    """An authority, and certificates of the host and of a customer that it signed: their paths."""
+    made = {name: f"{folder}/{name}" for name in ("authority", "host", "site.example", "stranger")}
+    for name, path in made.items():
+        signed = [] if name == "authority" else ["-CA", made["authority"], "-CAkey", f"{made['authority']}.key"]
+        subprocess.run(["openssl", "req", "-x509", "-newkey", "ec", "-pkeyopt", "ec_paramgen_curve:prime256v1", "-nodes", "-days", "2", "-subj", f"/CN={name}",
+                        "-addext", "subjectAltName=DNS:localhost,IP:127.0.0.1,IP:::1", "-keyout", f"{path}.key", "-out", path, *signed],
+                       check=True, capture_output=True)  # fmt: skip
+        pathlib.Path(f"{path}.pem").write_text(pathlib.Path(path).read_text() + pathlib.Path(f"{path}.key").read_text())
+    return made
+
+
+def paused(processes, number):
+    """Sends a signal to the servers of these supervisors."""
+    for supervisor in processes:
+        for each in children(supervisor):
+            os.kill(each, number)
+
+
+def in_words(found):
+    return f"median {statistics.median(found):.1f} ms, nine in ten below {sorted(found)[len(found) * 9 // 10]:.1f}, most {max(found):.1f}"

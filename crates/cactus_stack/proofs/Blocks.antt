@@ -4,7 +4,7 @@ use Rattle.std.proofs.lemmas.List.{length-take, length-take-le, length-drop, get
 use Rattle.segment_region.specs.Segments.{Segments, words_at, IsTaken}
 use Rattle.cactus_stack.specs.Nodes.{charge}
 use Rattle.cactus_stack.specs.Chains.{chain, content, IsChain}
-use Rattle.cactus_stack.specs.Lists.{words_in, segments_of, IsSoundList}
+use Rattle.cactus_stack.specs.Places.{words_in, segments_of, IsSoundList}
 use Rattle.cactus_stack.proofs.Content.{get_or-content, blocks-get_or}
 use Rattle.cactus_stack.proofs.Sound.{chain-front, chain-front-get_or, length-words_in}
 

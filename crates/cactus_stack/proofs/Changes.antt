@@ -1,62 +1,61 @@
--- One list changes, and all others stay.
+-- One place changes, and all others stay.
 use Rattle.std.proofs.Common.{◌≡◌, ◌≢◌, ℕ, zero, suc, ◌+◌, ◌<◌, List, [], ◌∷◌, length, take, sum_by, Option, None, Some, get_or, refl, sym, ap, ◌∙◌, arith, inl, inr, get_or-set_other, get_or-set_same}
 use Rattle.std.proofs.Math.ListN.{set}
-use Rattle.std.proofs.lemmas.List.{length-set}
+use Rattle.std.proofs.lemmas.List.{length-set, ext_get_or}
 use Rattle.std.proofs.lemmas.List.Sums.{sum_by-set, sum_by-cons}
+use Rattle.std.proofs.lemmas.Bool.{cases_eq}
 use Rattle.segment_region.specs.Segments.{Segments, taken_count}
-use Rattle.cactus_stack.specs.Nodes.{charge}
+use Rattle.cactus_stack.specs.Nodes.{Node, Nodes, charge, node_at, total_charge, charge_of}
 use Rattle.cactus_stack.specs.Chains.{content, AreApart, AgreesOn}
-use Rattle.cactus_stack.specs.Lists.{Lists, list_at, list_in, lists_from, list_charge, segments_of, IsSoundList, AreSoundLists}
-use Rattle.cactus_stack.proofs.Numbers.{eq-or-ne, apart-sym}
+use Rattle.cactus_stack.specs.Places.{node_in, nodes_from, nowhere, place_at, len_at, charge_of_place, segments_of, IsSoundList, AreStored}
+use Rattle.cactus_stack.specs.declared.place.Place.{Place}
+use Rattle.cactus_stack.proofs.Numbers.{apart-sym}
 use Rattle.cactus_stack.proofs.Follow.{chain-agrees, content-agrees, blocks-agrees}
-use Rattle.cactus_stack.proofs.Sound.{list_charge-list_in}
+use Rattle.cactus_stack.proofs.Sound.{charge_of-node_in}
 
-pub length-lists_from : (region : Segments) (n : ℕ) (lens : List ℕ) → length (lists_from region n lens) ≡ length lens
-length-lists_from region n [] = refl
-length-lists_from region n (len ∷ lens) = ap suc (length-lists_from region (suc n) lens)
+-- the node of a number, given its place
+abbrev pub node_of : Segments → ℕ → Place → Option Node
+node_of region n place = node_in region n place.len place.parent
 
-pub get_or-lists_from : (region : Segments) (n i : ℕ) (lens : List ℕ) → get_or (lists_from region n lens) i None ≡ list_in region (n + i) (get_or lens i 0)
-get_or-lists_from region n i [] = refl
-get_or-lists_from region n zero (len ∷ lens) = let same : n + 0 ≡ n = omega arith in rw same refl
-get_or-lists_from region n (suc i) (len ∷ lens) =
+pub length-nodes_from : (region : Segments) (n : ℕ) (places : List Place) → length (nodes_from region n places) ≡ length places
+length-nodes_from region n [] = refl
+length-nodes_from region n (place ∷ places) = ap suc (length-nodes_from region (suc n) places)
+
+get_or-nodes_from : (region : Segments) (n i : ℕ) (places : List Place) → get_or (nodes_from region n places) i None ≡ node_of region (n + i) (place_at places i)
+get_or-nodes_from region n i [] = refl
+get_or-nodes_from region n zero (place ∷ places) = let same : n + 0 ≡ n = omega arith in rw same refl
+get_or-nodes_from region n (suc i) (place ∷ places) =
     let same : suc n + i ≡ n + suc i = omega arith in
-    get_or-lists_from region (suc n) i lens ∙ ap (λ (k : ℕ). list_in region k (get_or lens i 0)) same
+    get_or-nodes_from region (suc n) i places ∙ ap (λ (k : ℕ). node_of region k (place_at places i)) same
 
 -- from the first number on
-pub list_at-lists_from : (region : Segments) (i : ℕ) (lens : List ℕ) → list_at (lists_from region 0 lens) i ≡ list_in region i (get_or lens i 0)
-list_at-lists_from region i lens =
+pub node_at-nodes_from : (region : Segments) (i : ℕ) (places : List Place) → node_at (nodes_from region 0 places) i ≡ node_of region i (place_at places i)
+node_at-nodes_from region i places =
     let same : 0 + i ≡ i = omega arith in
-    get_or-lists_from region 0 i lens ∙ ap (λ (k : ℕ). list_in region k (get_or lens i 0)) same
+    get_or-nodes_from region 0 i places ∙ ap (λ (k : ℕ). node_of region k (place_at places i)) same
 
-charges-from : (region : Segments) (n : ℕ) (lens : List ℕ) → ((i : ℕ) → IsSoundList region (n + i) (get_or lens i 0)) → sum_by list_charge (lists_from region n lens) ≡ sum_by charge lens
+charges-from : (region : Segments) (n : ℕ) (places : List Place) → ((i : ℕ) → IsSoundList region (n + i) (len_at places i)) → total_charge (nodes_from region n places) ≡ sum_by charge_of_place places
 charges-from region n [] sound = refl
-charges-from region n (len ∷ lens) sound =
+charges-from region n (place ∷ places) sound =
     let here : n + 0 ≡ n = omega arith in
-    let first : IsSoundList region n len = rw here at (sound 0) in
-    let next : (i : ℕ) → IsSoundList region (suc n + i) (get_or lens i 0) = λ i. (let same : n + suc i ≡ suc n + i = omega arith in rw same at (sound (suc i))) in
-    rw (sum_by-cons list_charge (list_in region n len) (lists_from region (suc n) lens), sum_by-cons charge len lens)
-    (omega (arith, list_charge-list_in region n len first, charges-from region (suc n) lens next))
+    let first : IsSoundList region n place.len = rw here at (sound 0) in
+    let next : (i : ℕ) → IsSoundList region (suc n + i) (len_at places i) = λ i. (let same : n + suc i ≡ suc n + i = omega arith in rw same at (sound (suc i))) in
+    rw (sum_by-cons charge_of (node_of region n place) (nodes_from region (suc n) places), sum_by-cons charge_of_place place places)
+    (omega (arith, charge_of-node_in region n place.len place.parent first, charges-from region (suc n) places next))
 
-pub charges-lists_from : (region : Segments) (lens : List ℕ) → AreSoundLists region lens → sum_by list_charge (lists_from region 0 lens) ≡ sum_by charge lens
-charges-lists_from region lens sound =
-    charges-from region 0 lens (λ i. (let same : 0 + i ≡ i = omega arith in rw same (sound.sound i)))
+-- all that is charged is taken, and there are as many places as segments
+pub all-taken : (region : Segments) (places : List Place) (nodes : Nodes) → AreStored region places → nodes_from region 0 places ≡ nodes → (total_charge nodes ≡ taken_count region) × (length nodes ≡ length region)
+all-taken region places nodes stored view = rw (← view) (
+  charges-from region 0 places (λ i. (let same : 0 + i ≡ i = omega arith in rw same (stored.sound i))) ∙ sym stored.counted,
+  length-nodes_from region 0 places ∙ stored.same_count,
+)
 
--- lists with the same entries are the same
-pub same_entries : (xs ys : Lists) → length xs ≡ length ys → ((i : ℕ) → get_or xs i None ≡ get_or ys i None) → xs ≡ ys
-same_entries [] [] h same = refl
-same_entries [] (y ∷ ys) h same = absurd (omega arith)
-same_entries (x ∷ xs) [] h same = absurd (omega arith)
-same_entries (x ∷ xs) (y ∷ ys) h same =
-    let first : x ≡ y = same 0 in
-    let rest : xs ≡ ys = same_entries xs ys (omega arith) (λ i. same (suc i)) in
-    rw (first, rest) refl
-
-pub list_in-agrees : (old new : Segments) (n len : ℕ) → AgreesOn old new (segments_of old n len) → list_in new n len ≡ list_in old n len
-list_in-agrees old new n zero agrees = refl
-list_in-agrees old new n (suc len) agrees =
+node_in-agrees : (old new : Segments) (n len : ℕ) (parent : Option ℕ) → AgreesOn old new (segments_of old n len) → node_in new n len parent ≡ node_in old n len parent
+node_in-agrees old new n zero parent agrees = refl
+node_in-agrees old new n (suc len) parent agrees =
     let segments : segments_of new n (suc len) ≡ segments_of old n (suc len) = chain-agrees (charge (suc len)) old new (Some n) agrees in
     let words : content new (segments_of new n (suc len)) ≡ content old (segments_of old n (suc len)) = ap (content new) segments ∙ content-agrees old new (segments_of old n (suc len)) agrees in
-    ap (λ (ws : List ℕ). Some (take (suc len) ws)) words
+    ap (λ (ws : List ℕ). Some (record { parent = parent; words = take (suc len) ws })) words
 
 sound-agrees : (old new : Segments) (n len : ℕ) → AgreesOn old new (segments_of old n len) → IsSoundList old n len → IsSoundList new n len
 sound-agrees old new n len agrees sound =
@@ -68,46 +67,47 @@ sound-agrees old new n len agrees sound =
       zeros = rw (segments, content-agrees old new xs agrees) sound.zeros;
     }
 
--- what a change of one list owes
-pub record IsChange (old new : Segments) (lens : List ℕ) (n len : ℕ) : Type 0 where
-  pub within : n < length lens
+-- what a change of one place owes
+pub record IsChange (old new : Segments) (places : List Place) (n : ℕ) (place : Place) : Type 0 where
+  pub within : n < length places
   pub same_count : length new ≡ length old
-  pub counted : taken_count new + charge (get_or lens n 0) ≡ taken_count old + charge len
-  pub agrees : (m : ℕ) → m ≢ n → AgreesOn old new (segments_of old m (get_or lens m 0))
-  pub is_sound : IsSoundList new n len
-  pub is_apart : (m : ℕ) → m ≢ n → AreApart (segments_of old m (get_or lens m 0)) (segments_of new n len)
+  pub counted : taken_count new + charge (len_at places n) ≡ taken_count old + charge place.len
+  pub agrees : (m : ℕ) → m ≢ n → AgreesOn old new (segments_of old m (len_at places m))
+  pub is_sound : IsSoundList new n place.len
+  pub is_apart : (m : ℕ) → m ≢ n → AreApart (segments_of old m (len_at places m)) (segments_of new n place.len)
 
-pub changed : (old new : Segments) (lens : List ℕ) (n len : ℕ) → IsChange old new lens n len → lists_from new 0 (set lens n len) ≡ set (lists_from old 0 lens) n (list_in new n len)
-changed old new lens n len change =
-    let entry : Option (List ℕ) = list_in new n len in
-    let before : Lists = lists_from old 0 lens in
-    let inside : n < length before = rw length-lists_from change.within in
-    same_entries (lists_from new 0 (set lens n len)) (set before n entry)
-    (length-lists_from new 0 (set lens n len) ∙ length-set lens n len ∙ sym (length-set before n entry ∙ length-lists_from old 0 lens))
-    (λ i. list_at-lists_from new i (set lens n len) ∙ elim (eq-or-ne i n) [
-      | inl same ↦ rw (same, get_or-set_same lens n len 0 change.within, get_or-set_same before n entry None inside) refl
-      | inr other ↦ rw (get_or-set_other lens n i len 0 other, get_or-set_other before n i entry None other)
-          (list_in-agrees old new i (get_or lens i 0) (change.agrees i other) ∙ sym (list_at-lists_from old i lens))
-    ])
+module _ {old new : Segments} {places : List Place} {n : ℕ} {place : Place} (change : IsChange old new places n place) where
+  pub changed : nodes_from new 0 (set places n place) ≡ set (nodes_from old 0 places) n (node_of new n place)
+  changed =
+      let before : Nodes = nodes_from old 0 places in
+      let inside : n < length before = rw length-nodes_from change.within in
+      ext_get_or None (nodes_from new 0 (set places n place)) (set before n (node_of new n place))
+      (length-nodes_from new 0 (set places n place) ∙ length-set places n place ∙ sym (length-set before n (node_of new n place) ∙ length-nodes_from old 0 places))
+      (λ i _. node_at-nodes_from new i (set places n place) ∙ elim (cases_eq i n) [
+        | inl same ↦ rw (same, get_or-set_same places n place nowhere change.within, get_or-set_same before n (node_of new n place) None inside) refl
+        | inr other ↦ rw (get_or-set_other places n i place nowhere other, get_or-set_other before n i (node_of new n place) None other)
+            (node_in-agrees old new i (len_at places i) (place_at places i).parent (change.agrees i other) ∙ sym (node_at-nodes_from old i places))
+      ])
 
-pub still_sound : (old new : Segments) (lens : List ℕ) (n len : ℕ) → AreSoundLists old lens → IsChange old new lens n len → AreSoundLists new (set lens n len)
-still_sound old new lens n len sound change =
-    let same : (m : ℕ) → m ≢ n → segments_of new m (get_or lens m 0) ≡ segments_of old m (get_or lens m 0) = λ m other. chain-agrees (charge (get_or lens m 0)) old new (Some m) (change.agrees m other) in
-    let here : get_or (set lens n len) n 0 ≡ len = get_or-set_same lens n len 0 change.within in
-    let there : (m : ℕ) → m ≢ n → get_or (set lens n len) m 0 ≡ get_or lens m 0 = λ m other. get_or-set_other lens n m len 0 other in
-    let beside : (m : ℕ) → m ≢ n → AreApart (segments_of new m (get_or (set lens n len) m 0)) (segments_of new n len) = λ m other. rw (there m other, same m other) (change.is_apart m other) in
-    record {
-      places = omega (arith, length-set lens n len, sound.places, change.same_count);
-      counted = omega (arith, sum_by-set charge lens n len 0 change.within, sound.counted, change.counted);
-      sound = λ m. elim (eq-or-ne m n) [
-        | inl e ↦ rw (e, here) change.is_sound
-        | inr other ↦ rw (there m other) (sound-agrees old new m (get_or lens m 0) (change.agrees m other) (sound.sound m))
-      ];
-      apart = λ m k different. elim (eq-or-ne m n) [
-        | inl e ↦ (let k_other : k ≢ n = λ f. different (e ∙ sym f) in rw (e, here) (apart-sym (segments_of new k (get_or (set lens n len) k 0)) (segments_of new n len) (beside k k_other)))
-        | inr m_other ↦ elim (eq-or-ne k n) [
-          | inl f ↦ rw (f, here) (beside m m_other)
-          | inr k_other ↦ rw (there m m_other, there k k_other, same m m_other, same k k_other) (sound.apart m k different)
-        ]
-      ];
-    }
+  pub still_stored : AreStored old places → AreStored new (set places n place)
+  still_stored stored =
+      let same : (m : ℕ) → m ≢ n → segments_of new m (len_at places m) ≡ segments_of old m (len_at places m) = λ m other. chain-agrees (charge (len_at places m)) old new (Some m) (change.agrees m other) in
+      let here : len_at (set places n place) n ≡ place.len = ap (λ (p : Place). p.len) (get_or-set_same places n place nowhere change.within) in
+      let there : (m : ℕ) → m ≢ n → len_at (set places n place) m ≡ len_at places m = λ m other. ap (λ (p : Place). p.len) (get_or-set_other places n m place nowhere other) in
+      let beside : (m : ℕ) → m ≢ n → AreApart (segments_of new m (len_at (set places n place) m)) (segments_of new n place.len) = λ m other. rw (there m other, same m other) (change.is_apart m other) in
+      record {
+        in_limits = rw length-set stored.in_limits;
+        same_count = omega (arith, length-set places n place, stored.same_count, change.same_count);
+        counted = omega (arith, sum_by-set charge_of_place places n place nowhere change.within, stored.counted, change.counted);
+        sound = λ m. elim (cases_eq m n) [
+          | inl e ↦ rw (e, here) change.is_sound
+          | inr other ↦ rw (there m other) (sound-agrees old new m (len_at places m) (change.agrees m other) (stored.sound m))
+        ];
+        apart = λ m k different. elim (cases_eq m n) [
+          | inl e ↦ (let k_other : k ≢ n = λ f. different (e ∙ sym f) in rw (e, here) (apart-sym (segments_of new k (len_at (set places n place) k)) (segments_of new n place.len) (beside k k_other)))
+          | inr m_other ↦ elim (cases_eq k n) [
+            | inl f ↦ rw (f, here) (beside m m_other)
+            | inr k_other ↦ rw (there m m_other, there k k_other, same m m_other, same k k_other) (stored.apart m k different)
+          ]
+        ];
+      }

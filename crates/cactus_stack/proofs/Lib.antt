@@ -1,4 +1,5 @@
 pub mod Numbers
+pub mod Options
 pub mod Follow
 pub mod Content
 pub mod Fresh
@@ -7,7 +8,5 @@ pub mod Sound
 pub mod Blocks
 pub mod Changes
 pub mod Steps
-pub mod TreeFacts
-pub mod Depths
-pub mod Going
+pub mod Trees
 pub mod LawFacts

@@ -1,5 +1,5 @@
 -- Lists of numbers that share none, and lists in which none stands twice.
-use Rattle.std.proofs.Common.{◌≡◌, ◌≢◌, ℕ, zero, suc, ◌<◌, ◌≤◌, List, [], ◌∷◌, ◌++◌, length, get_or, refl, sym, ap, arith, ◌⊎◌, inl, inr}
+use Rattle.std.proofs.Common.{◌≢◌, ℕ, zero, suc, ◌<◌, List, [], ◌∷◌, ◌++◌, length, get_or, sym, arith}
 use Rattle.cactus_stack.specs.Chains.{Lacks, AreApart, IsOnce}
 
 pub lacks-get_or : (xs : List ℕ) (n i : ℕ) → Lacks xs n → i < length xs → get_or xs i 0 ≢ n
@@ -40,14 +40,3 @@ once-append (x ∷ xs) ys p q apart = (lacks-append xs ys x p.0 apart.0, once-ap
 pub apart-one : (xs : List ℕ) (n : ℕ) → Lacks xs n → AreApart xs (n ∷ [])
 apart-one [] n lacks = tt
 apart-one (x ∷ xs) n lacks = ((λ e. lacks.0 (sym e), tt), apart-one xs n lacks.1)
-
-pub le-or-lt : (a b : ℕ) → (a ≤ b) ⊎ (b < a)
-le-or-lt zero b = inl (omega arith)
-le-or-lt (suc a) zero = inr (omega arith)
-le-or-lt (suc a) (suc b) = elim (le-or-lt a b) [ inl h ↦ inl (omega (arith, h)) | inr h ↦ inr (omega (arith, h)) ]
-
-pub eq-or-ne : (a b : ℕ) → (a ≡ b) ⊎ (a ≢ b)
-eq-or-ne zero zero = inl refl
-eq-or-ne zero (suc b) = inr (λ e. absurd (omega (arith, e)))
-eq-or-ne (suc a) zero = inr (λ e. absurd (omega (arith, e)))
-eq-or-ne (suc a) (suc b) = elim (eq-or-ne a b) [ inl h ↦ inl (ap suc h) | inr h ↦ inr (λ e. h (omega (arith, e))) ]

@@ -1,11 +1,11 @@
 -- What a sound list gives.
 use Rattle.std.proofs.Common.{◌≡◌, ℕ, zero, suc, ◌+◌, ◌*◌, ◌/◌, ◌%◌, ◌<◌, ◌≤◌, List, [], ◌∷◌, length, take, Option, Some, IsSome, get_or, refl, ap, ◌∙◌, arith, slice_get}
-use Rattle.std.proofs.lemmas.List.{length-take-le}
+use Rattle.std.proofs.lemmas.List.{get_or-take, length-take-le}
 use Rattle.std.proofs.lemmas.Option.{slice_get-get_or}
 use Rattle.segment_region.specs.Segments.{Segments, words_at, IsTaken}
-use Rattle.cactus_stack.specs.Nodes.{charge}
+use Rattle.cactus_stack.specs.Nodes.{charge, charge_of}
 use Rattle.cactus_stack.specs.Chains.{chain, content, Lacks, IsOnce, AllBlocks, IsChain}
-use Rattle.cactus_stack.specs.Lists.{list_in, list_charge, words_in, words_of_list, segments_of, IsSoundList}
+use Rattle.cactus_stack.specs.Places.{node_in, words_in, segments_of, IsSoundList}
 use Rattle.cactus_stack.proofs.Follow.{chain-take}
 use Rattle.cactus_stack.proofs.Content.{length-content, get_or-content, blocks-get_or}
 
@@ -43,15 +43,9 @@ chain-front region head fewer count h is =
       once = once-take fewer xs is.once;
     })
 
-get_or-front : (xs : List ℕ) (n i : ℕ) → i < n → get_or (take n xs) i 0 ≡ get_or xs i 0
-get_or-front xs zero i h = absurd (omega arith)
-get_or-front [] (suc n) i h = refl
-get_or-front (x ∷ xs) (suc n) zero h = refl
-get_or-front (x ∷ xs) (suc n) (suc i) h = let below : i < n = omega arith in get_or-front xs n i below
-
 pub chain-front-get_or : (region : Segments) (head : Option ℕ) (i fewer count : ℕ) → i < fewer → fewer ≤ count → get_or (chain fewer region head) i 0 ≡ get_or (chain count region head) i 0
 chain-front-get_or region head i fewer count h k =
-    rw (chain-take fewer count region head k) (get_or-front (chain count region head) fewer i h)
+    rw (chain-take fewer count region head k) (get_or-take fewer (chain count region head) i 0 h)
 
 pub length-sound : (region : Segments) (n len : ℕ) → IsSoundList region n len → length (content region (segments_of region n len)) ≡ 16 * charge len
 length-sound region n len sound =
@@ -84,21 +78,17 @@ word_of_sound region n len at sound below =
     let block : at / 16 < length (segments_of region n len) = omega (arith, sound.is_chain.whole, charge-below at len below) in
     let split : 16 * (at / 16) + at % 16 ≡ at = omega arith in
     slice_get-get_or (words_in region n len) at 0 (omega (arith, length-words_in region n len sound))
-    ∙ ap (λ (w : ℕ). Some w) (get_or-front c len at below ∙ rw split at (get_or-content region (segments_of region n len) (at / 16) (at % 16) sound.is_chain.blocks block (omega arith)))
+    ∙ ap (λ (w : ℕ). Some w) (get_or-take len c at 0 below ∙ rw split at (get_or-content region (segments_of region n len) (at / 16) (at % 16) sound.is_chain.blocks block (omega arith)))
 
--- a list that is there has words
-pub len-of-list : (region : Segments) (n len : ℕ) → IsSome (list_in region n len) → 0 < len
-len-of-list region n zero is = absurd (cc is)
-len-of-list region n (suc len) is = omega arith
+-- a node that is there has words
+pub len-of-node : (region : Segments) (n len : ℕ) (parent : Option ℕ) → IsSome (node_in region n len parent) → 0 < len
+len-of-node region n zero parent is = absurd (cc is)
+len-of-node region n (suc len) parent is = omega arith
 
-pub list_in-some : (region : Segments) (n len : ℕ) → 0 < len → list_in region n len ≡ Some (words_in region n len)
-list_in-some region n zero some = absurd (omega arith)
-list_in-some region n (suc len) some = refl
+pub node_in-some : (region : Segments) (n len : ℕ) (parent : Option ℕ) → 0 < len → node_in region n len parent ≡ Some (record { parent = parent; words = words_in region n len })
+node_in-some region n zero parent some = absurd (omega arith)
+node_in-some region n (suc len) parent some = refl
 
-pub words_of-list_in : (region : Segments) (n len : ℕ) → words_of_list (list_in region n len) ≡ words_in region n len
-words_of-list_in region n zero = refl
-words_of-list_in region n (suc len) = refl
-
-pub list_charge-list_in : (region : Segments) (n len : ℕ) → IsSoundList region n len → list_charge (list_in region n len) ≡ charge len
-list_charge-list_in region n zero sound = refl
-list_charge-list_in region n (suc len) sound = ap charge (length-words_in region n (suc len) sound)
+pub charge_of-node_in : (region : Segments) (n len : ℕ) (parent : Option ℕ) → IsSoundList region n len → charge_of (node_in region n len parent) ≡ charge len
+charge_of-node_in region n zero parent sound = refl
+charge_of-node_in region n (suc len) parent sound = ap charge (length-words_in region n (suc len) sound)

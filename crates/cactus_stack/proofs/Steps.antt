@@ -1,77 +1,77 @@
--- What each call does to the lists.
-use Rattle.std.proofs.Common.{◌≡◌, ℕ, zero, suc, ◌+◌, ◌-◌, ◌*◌, ◌/◌, ◌%◌, ◌<◌, ◌≤◌, List, [], ◌∷◌, ◌++◌, length, take, drop, replicate, sum_by, Option, None, Some, IsSome, get_or, refl, sym, ap, subst, ◌∙◌, arith}
+-- What each call does to the places.
+use Rattle.std.proofs.Common.{◌≡◌, ℕ, zero, suc, ◌+◌, ◌-◌, ◌*◌, ◌/◌, ◌%◌, ◌<◌, ◌≤◌, List, [], ◌∷◌, ◌++◌, length, take, drop, replicate, Option, None, Some, get_or, refl, sym, ap, ◌∙◌, arith}
 use Rattle.std.proofs.Math.ListN.{set}
 use Rattle.std.proofs.Math.Seq.{take-append-add, drop-append-add, take-set-lt}
-use Rattle.std.proofs.lemmas.List.{append_assoc, length-set, take-append-drop, take-replicate, drop-replicate, replicate-append-replicate, drop-set-lt, length-replicate}
-use Rattle.std.proofs.lemmas.List.Sums.{sum_by-cons}
-use Rattle.std.proofs.lemmas.Grind.{get_or_default_zero}
+use Rattle.std.proofs.lemmas.List.{append_assoc, length-set, take-append-drop, take-replicate, drop-replicate, replicate-append-replicate, drop-set-lt, length-replicate, get_or_default, set-get_or}
+use Rattle.std.proofs.lemmas.List.Folds.{sum_by-replicate}
 use Rattle.segment_region.specs.Segments.{Segment, Segments, segment_at, words_at, link_at, IsTaken, IsFree, with_words, taken_count}
 use Rattle.segment_region.proofs.Counts.{taken_count-write, taken_count-replicate}
-use Rattle.cactus_stack.specs.Nodes.{charge, padded}
+use Rattle.cactus_stack.specs.Nodes.{Node, Nodes, charge, padded, node_at, node_words, words_of, IsOpen, IsUnused, HasAllChildren, free_segments, with_node, with_words as with_node_words, without}
 use Rattle.cactus_stack.specs.Chains.{chain, content, AreApart, AllBlocks, AllFree, IsFreshChain, IsGrownChain, IsGivenBack}
-use Rattle.cactus_stack.specs.Lists.{Lists, list_at, list_in, lists_from, list_charge, words_in, words_of_list, segments_of, IsSoundList, AreSoundLists}
+use Rattle.cactus_stack.specs.Places.{nowhere, place_at, len_at, resized, with_len, charge_of_place, segments_of, words_in, node_in, nodes_from, IsSoundList, AreStored, IsUnder, IsTree, IsStack, IsWholeSight}
+use Rattle.cactus_stack.specs.declared.place.Place.{Place}
 use Rattle.cactus_stack.proofs.Numbers.{apart-sym, apart-append, apart-get_or}
 use Rattle.cactus_stack.proofs.Follow.{agrees-apart, agrees-taken, agrees-set, apart-free}
 use Rattle.cactus_stack.proofs.Content.{content-write, chain-write, blocks-write, blocks-get_or}
-use Rattle.cactus_stack.proofs.Sound.{charge-some, charge-room, charge-below, length-words_in, len-of-list, list_in-some, words_of-list_in}
-use Rattle.cactus_stack.proofs.Changes.{IsChange, changed, list_at-lists_from, length-lists_from, charges-lists_from}
+use Rattle.cactus_stack.proofs.Sound.{charge-some, charge-room, charge-below, length-words_in, len-of-node, node_in-some, place_of_sound}
+use Rattle.cactus_stack.proofs.Changes.{IsChange, changed, still_stored, node_at-nodes_from, all-taken}
+use Rattle.cactus_stack.proofs.Trees.{tree-write, tree-open, tree-without, depth-le-length, sight-open}
 
-lt-of-some : (lens : List ℕ) (n : ℕ) → 0 < get_or lens n 0 → n < length lens
-lt-of-some [] n some = absurd (omega arith)
-lt-of-some (len ∷ lens) zero some = omega arith
-lt-of-some (len ∷ lens) (suc n) some = let rest = lt-of-some lens n some in omega arith
+lt-of-len : (places : List Place) (n : ℕ) → 0 < len_at places n → n < length places
+lt-of-len [] n some = absurd (omega arith)
+lt-of-len (place ∷ places) zero some = omega arith
+lt-of-len (place ∷ places) (suc n) some = let rest = lt-of-len places n some in omega arith
 
--- a read of the lengths
-pub read_len : (lens : List ℕ) (at n len : ℕ) → at ≡ n → len ≡ get_or lens at len → n < length lens → len ≡ get_or lens n 0
-read_len lens at n len is read below = rw is at read ∙ get_or_default_zero lens n len below
+-- what is known of a node that is open
+pub record IsKept (region : Segments) (places : List Place) (nodes : Nodes) (n : ℕ) : Type 0 where
+  pub some : 0 < len_at places n
+  pub within : n < length places
+  pub entry : node_at nodes n ≡ Some (record { parent = (place_at places n).parent; words = words_in region n (len_at places n) })
+  pub words : node_words nodes n ≡ words_in region n (len_at places n)
+  pub len : length (node_words nodes n) ≡ len_at places n
+  pub sound : IsSoundList region n (len_at places n)
 
--- all that is charged is taken
-pub charges-are-taken : (region : Segments) (lens : List ℕ) (lists : Lists) → AreSoundLists region lens → lists_from region 0 lens ≡ lists → sum_by list_charge lists ≡ taken_count region
-charges-are-taken region lens lists sound view = rw (← view) (charges-lists_from region lens sound ∙ sym sound.counted)
-
-pub places-are-segments : (region : Segments) (lens : List ℕ) (lists : Lists) → AreSoundLists region lens → lists_from region 0 lens ≡ lists → length lists ≡ length region
-places-are-segments region lens lists sound view = rw (← view) (length-lists_from region 0 lens ∙ sound.places)
-
-pub all-taken : (region : Segments) (lens : List ℕ) (lists : Lists) → AreSoundLists region lens → lists_from region 0 lens ≡ lists → (sum_by list_charge lists ≡ taken_count region) × (length lists ≡ length region)
-all-taken region lens lists sound view = (charges-are-taken region lens lists sound view, places-are-segments region lens lists sound view)
-
--- what is known of a list that is there
-pub record IsListed (region : Segments) (lens : List ℕ) (lists : Lists) (n : ℕ) : Type 0 where
-  pub some : 0 < get_or lens n 0
-  pub within : n < length lens
-  pub words : words_of_list (list_at lists n) ≡ words_in region n (get_or lens n 0)
-  pub len : length (words_of_list (list_at lists n)) ≡ get_or lens n 0
-  pub sound : IsSoundList region n (get_or lens n 0)
-
-pub listed : (region : Segments) (lens : List ℕ) (lists : Lists) (n : ℕ) → AreSoundLists region lens → lists_from region 0 lens ≡ lists → IsSome (list_at lists n) → IsListed region lens lists n
-listed region lens lists n sound view is_there =
-    let entry : list_at lists n ≡ list_in region n (get_or lens n 0) = rw (← view) (list_at-lists_from region n lens) in
-    let there : IsSome (list_in region n (get_or lens n 0)) = rw entry at is_there in
-    let some : 0 < get_or lens n 0 = len-of-list region n (get_or lens n 0) there in
-    let words : words_of_list (list_at lists n) ≡ words_in region n (get_or lens n 0) = ap words_of_list entry ∙ words_of-list_in region n (get_or lens n 0) in
+pub kept_node : {region : Segments} {places : List Place} {nodes : Nodes} (n : ℕ) → AreStored region places → nodes_from region 0 places ≡ nodes → IsOpen nodes n → IsKept region places nodes n
+kept_node {region = region} {places = places} {nodes = nodes} n stored view is_open =
+    let place : Place = place_at places n in
+    let entry : node_at nodes n ≡ node_in region n place.len place.parent = rw (← view) (node_at-nodes_from region n places) in
+    let some : 0 < place.len = len-of-node region n place.len place.parent (rw entry at is_open) in
+    let is : node_at nodes n ≡ Some (record { parent = place.parent; words = words_in region n place.len }) = entry ∙ node_in-some region n place.len place.parent some in
     record {
       some = some;
-      within = lt-of-some lens n some;
-      words = words;
-      len = ap length words ∙ length-words_in region n (get_or lens n 0) (sound.sound n);
-      sound = sound.sound n;
+      within = lt-of-len places n some;
+      entry = is;
+      words = ap words_of is;
+      len = ap (λ (e : Option Node). length (words_of e)) is ∙ length-words_in region n place.len (stored.sound n);
+      sound = stored.sound n;
     }
 
--- the same where its length was read at the node's first segment
-pub record IsRead (region : Segments) (lens : List ℕ) (lists : Lists) (n at len : ℕ) : Type 0 where
-  pub it : IsListed region lens lists n
+-- the same where its place was read at the node's first segment
+pub record IsRead (region : Segments) (places : List Place) (nodes : Nodes) (n at : ℕ) (place : Place) : Type 0 where
+  pub it : IsKept region places nodes n
   pub at_node : at ≡ n
-  pub kept : len ≡ get_or lens n 0
+  pub is : place ≡ place_at places n
+  pub some : 0 < place.len
+  pub len : place.len ≡ length (node_words nodes n)
 
-pub is_read : (region : Segments) (lens : List ℕ) (lists : Lists) (n first at len : ℕ) → AreSoundLists region lens → lists_from region 0 lens ≡ lists → IsSome (list_at lists n) → at ≡ first → first ≡ n → len ≡ get_or lens at len → IsRead region lens lists n at len
-is_read region lens lists n first at len sound view is_there at_first first_is read =
-    let it = listed region lens lists n sound view is_there in
-    record { it = it; at_node = at_first ∙ first_is; kept = read_len lens at n len (at_first ∙ first_is) read it.within }
+pub is_read : {region : Segments} {places : List Place} {nodes : Nodes} {n first at : ℕ} {place : Place} → AreStored region places → nodes_from region 0 places ≡ nodes → IsOpen nodes n → at ≡ first → first ≡ n → place ≡ get_or places at place → IsRead region places nodes n at place
+is_read {places = places} {n = n} {place = place} stored view is_open at_first first_is read =
+    let it = kept_node n stored view is_open in
+    let is : place ≡ place_at places n = (rw (at_first ∙ first_is) at read) ∙ get_or_default places n place nowhere it.within in
+    record { it = it; at_node = at_first ∙ first_is; is = is; some = rw is it.some; len = ap (λ (p : Place). p.len) is ∙ sym it.len }
 
--- a list that is changed to these words
-pub changed-to : (old new : Segments) (lens : List ℕ) (lists : Lists) (n len : ℕ) (words : List ℕ) → IsChange old new lens n len → 0 < len → words_in new n len ≡ words → lists_from old 0 lens ≡ lists → lists_from new 0 (set lens n len) ≡ set lists n (Some words)
-changed-to old new lens lists n len words change some is view =
-    changed old new lens n len change ∙ rw view (ap (λ (entry : Option (List ℕ)). set lists n entry) (list_in-some new n len some ∙ ap (λ (ws : List ℕ). Some ws) is))
+-- the node of a place that is changed to these words
+changed-to : {old new : Segments} {places : List Place} {n : ℕ} {place : Place} {nodes : Nodes} (words : List ℕ) → IsChange old new places n place → 0 < place.len → words_in new n place.len ≡ words → nodes_from old 0 places ≡ nodes →
+    nodes_from new 0 (set places n place) ≡ with_node nodes n (Some (record { parent = place.parent; words = words }))
+changed-to {new = new} {n = n} {place = place} {nodes = nodes} words change some is view =
+    changed change ∙ rw view (ap (λ (entry : Option Node). set nodes n entry) (node_in-some new n place.len place.parent some ∙ ap (λ (ws : List ℕ). Some (record { parent = place.parent; words = ws })) is))
+
+pub depths-stay : (places : List Place) (n len m : ℕ) → (place_at (with_len places n len) m).depth ≡ (place_at places m).depth
+depths-stay [] n len m = refl
+depths-stay (place ∷ places) zero len zero = refl
+depths-stay (place ∷ places) zero len (suc m) = refl
+depths-stay (place ∷ places) (suc n) len zero = refl
+depths-stay (place ∷ places) (suc n) len (suc m) = depths-stay places n len m
 
 -- a list that ends in zeros, cut within them
 cut-zeros : (content words : List ℕ) (zeros more : ℕ) → content ≡ words ++ replicate zeros 0 → more ≤ zeros →
@@ -83,11 +83,11 @@ cut-zeros content words zeros more is h = (
 
 -- a store
 
-pub store_change : (region : Segments) (lens : List ℕ) (n at word s : ℕ) → AreSoundLists region lens → at < get_or lens n 0 → s ≡ get_or (segments_of region n (get_or lens n 0)) (at / 16) 0 →
-    IsChange region (with_words region s (set (words_at region s) (at % 16) word)) lens n (get_or lens n 0)
-    × (words_in (with_words region s (set (words_at region s) (at % 16) word)) n (get_or lens n 0) ≡ set (words_in region n (get_or lens n 0)) at word)
-store_change region lens n at word s sound below is =
-    let len : ℕ = get_or lens n 0 in
+pub store_change : {region : Segments} {places : List Place} {n at s : ℕ} (word : ℕ) → AreStored region places → at < len_at places n → s ≡ get_or (segments_of region n (len_at places n)) (at / 16) 0 →
+    IsChange region (with_words region s (set (words_at region s) (at % 16) word)) places n (place_at places n)
+    × (words_in (with_words region s (set (words_at region s) (at % 16) word)) n (len_at places n) ≡ set (words_in region n (len_at places n)) at word)
+store_change {region = region} {places = places} {n = n} {at = at} {s = s} word sound below is =
+    let len : ℕ = len_at places n in
     let xs : List ℕ = segments_of region n len in
     let own : IsSoundList region n len = sound.sound n in
     let block : at / 16 < length xs = omega (arith, own.is_chain.whole, charge-below at len below) in
@@ -101,10 +101,10 @@ store_change region lens n at word s sound below is =
     let written : content new xs ≡ set (content region xs) at word = rw is (rw split at (content-write region xs (at / 16) (at % 16) word own.is_chain.blocks own.is_chain.once block (omega arith))) in
     let entry : Option Segment = Some (record { words = words; link = link_at region s }) in (
       record {
-        within = lt-of-some lens n (omega (arith, below));
+        within = lt-of-len places n (omega (arith, below));
         same_count = length-set region s entry;
         counted = omega (arith, taken_count-write region s (record { words = words; link = link_at region s }) taken);
-        agrees = λ m other. agrees-set region s entry (segments_of region m (get_or lens m 0)) (rw is (apart-get_or (segments_of region m (get_or lens m 0)) xs (at / 16) (sound.apart m n other) block));
+        agrees = λ m other. agrees-set region s entry (segments_of region m (len_at places m)) (rw is (apart-get_or (segments_of region m (len_at places m)) xs (at / 16) (sound.apart m n other) block));
         is_sound = record {
           at_most = own.at_most;
           is_chain = rw (same n len) (record { blocks = blocks-write region xs s words sixteen own.is_chain.blocks; whole = own.is_chain.whole; once = own.is_chain.once });
@@ -120,25 +120,25 @@ store_change region lens n at word s sound below is =
 apart-nil : (xs : List ℕ) → AreApart xs []
 apart-nil xs = apart-sym [] xs tt
 
-pub close_change : (region new : Segments) (lens : List ℕ) (n : ℕ) → AreSoundLists region lens → 0 < get_or lens n 0 → IsGivenBack region new (segments_of region n (get_or lens n 0)) → IsChange region new lens n 0
-close_change region new lens n sound some given =
-    let own : IsSoundList region n (get_or lens n 0) = sound.sound n in
+pub close_change : {region new : Segments} {places : List Place} {n : ℕ} → AreStored region places → 0 < len_at places n → IsGivenBack region new (segments_of region n (len_at places n)) → IsChange region new places n (resized (place_at places n) 0)
+close_change {region = region} {new = new} {places = places} {n = n} sound some given =
+    let own : IsSoundList region n (len_at places n) = sound.sound n in
     record {
-      within = lt-of-some lens n some;
+      within = lt-of-len places n some;
       same_count = given.same_count;
       counted = omega (arith, given.counted, own.is_chain.whole);
-      agrees = λ m other. agrees-apart region new (segments_of region n (get_or lens n 0)) (segments_of region m (get_or lens m 0)) (λ s taken lacks. given.kept s lacks) (sound.sound m).is_chain.blocks (sound.apart m n other);
+      agrees = λ m other. agrees-apart region new (segments_of region n (len_at places n)) (segments_of region m (len_at places m)) (λ s taken lacks. given.kept s lacks) (sound.sound m).is_chain.blocks (sound.apart m n other);
       is_sound = record { at_most = omega arith; is_chain = record { blocks = tt; whole = refl; once = tt }; zeros = refl };
-      is_apart = λ m other. apart-nil (segments_of region m (get_or lens m 0));
+      is_apart = λ m other. apart-nil (segments_of region m (len_at places m));
     }
 
 -- a growth
 
-pub grow_change : (region new : Segments) (lens : List ℕ) (n more added : ℕ) → AreSoundLists region lens → 0 < get_or lens n 0 → get_or lens n 0 + more ≤ 128 → charge (get_or lens n 0) + added ≡ charge (get_or lens n 0 + more) →
-    IsGrownChain region new (segments_of region n (get_or lens n 0)) (segments_of new n (get_or lens n 0 + more)) added →
-    IsChange region new lens n (get_or lens n 0 + more) × (words_in new n (get_or lens n 0 + more) ≡ words_in region n (get_or lens n 0) ++ replicate more 0)
-grow_change region new lens n more added sound some limit charges grown =
-    let len : ℕ = get_or lens n 0 in
+pub grow_change : {region new : Segments} {places : List Place} {n : ℕ} (more added : ℕ) → AreStored region places → 0 < len_at places n → len_at places n + more ≤ 128 → charge (len_at places n) + added ≡ charge (len_at places n + more) →
+    IsGrownChain region new (segments_of region n (len_at places n)) (segments_of new n (len_at places n + more)) added →
+    IsChange region new places n (resized (place_at places n) (len_at places n + more)) × (words_in new n (len_at places n + more) ≡ words_in region n (len_at places n) ++ replicate more 0)
+grow_change {region = region} {new = new} {places = places} {n = n} more added sound some limit charges grown =
+    let len : ℕ = len_at places n in
     let own : IsSoundList region n len = sound.sound n in
     let xs : List ℕ = segments_of region n len in
     let ys : List ℕ = segments_of new n (len + more) in
@@ -153,16 +153,16 @@ grow_change region new lens n more added sound some limit charges grown =
     let at_len : length words + more ≡ len + more = ap (λ (k : ℕ). k + more) words_len in
     let left : zeros - more ≡ 16 * charge (len + more) - (len + more) = omega (arith, charges, charge-room (len + more), charge-room len) in (
       record {
-        within = lt-of-some lens n some;
+        within = lt-of-len places n some;
         same_count = grown.same_count;
         counted = omega (arith, grown.counted, charges);
-        agrees = λ m other. agrees-apart region new xs (segments_of region m (get_or lens m 0)) grown.kept (sound.sound m).is_chain.blocks (sound.apart m n other);
+        agrees = λ m other. agrees-apart region new xs (segments_of region m (len_at places m)) grown.kept (sound.sound m).is_chain.blocks (sound.apart m n other);
         is_sound = record {
           at_most = limit;
           is_chain = record { blocks = grown.is_chain.blocks; whole = omega (arith, grown.is_chain.whole, own.is_chain.whole, charges); once = grown.is_chain.once };
           zeros = ap (λ (k : ℕ). drop k (content new ys)) (sym at_len) ∙ cut.1 ∙ ap (λ (k : ℕ). replicate k 0) left;
         };
-        is_apart = λ m other. rw grown.joined (apart-append (segments_of region m (get_or lens m 0)) xs grown.added (sound.apart m n other) (apart-free region (segments_of region m (get_or lens m 0)) grown.added (sound.sound m).is_chain.blocks grown.were_free));
+        is_apart = λ m other. rw grown.joined (apart-append (segments_of region m (len_at places m)) xs grown.added (sound.apart m n other) (apart-free region (segments_of region m (len_at places m)) grown.added (sound.sound m).is_chain.blocks grown.were_free));
       },
       ap (λ (k : ℕ). take k (content new ys)) (sym at_len) ∙ cut.0,
     )
@@ -184,18 +184,18 @@ unused region n (suc len) sound free =
     let is_none : segment_at region n ≡ None = free.1 in
     absurd (cc (taken, is_none))
 
--- the first of the new segments was no list's number
-pub was_unused : (region new : Segments) (lens : List ℕ) (n size : ℕ) (words : List ℕ) → AreSoundLists region lens → 0 < size → IsFreshChain region new (segments_of new n size) words (charge size) → (n < length lens) × (get_or lens n 0 ≡ 0)
-was_unused region new lens n size words sound some fresh =
+-- the first of the new segments was no node's number
+pub was_unused : {region new : Segments} {places : List Place} {n size : ℕ} {words : List ℕ} → AreStored region places → 0 < size → IsFreshChain region new (segments_of new n size) words (charge size) → (n < length places) × (len_at places n ≡ 0)
+was_unused {region = region} {new = new} {places = places} {n = n} {size = size} stored some fresh =
     let free : IsFree region n = head-free region new n (charge size) (charge-some size some) fresh.were_free in
-    (rw sound.places free.0, unused region n (get_or lens n 0) (sound.sound n) free)
+    (rw stored.same_count free.0, unused region n (len_at places n) (stored.sound n) free)
 
-pub open_change : (region new : Segments) (lens : List ℕ) (n size : ℕ) (words : List ℕ) → AreSoundLists region lens → 0 < size → size ≤ 128 → length words ≤ size → IsFreshChain region new (segments_of new n size) words (charge size) →
-    IsChange region new lens n size × (words_in new n size ≡ padded words size)
-open_change region new lens n size words sound some limit room fresh =
+pub open_change : {region new : Segments} {places : List Place} {n size : ℕ} {words : List ℕ} (parent : Option ℕ) (depth : ℕ) → AreStored region places → 0 < size → size ≤ 128 → length words ≤ size → IsFreshChain region new (segments_of new n size) words (charge size) →
+    IsChange region new places n (record { len = size; parent = parent; depth = depth }) × (words_in new n size ≡ padded words size)
+open_change {region = region} {new = new} {places = places} {n = n} {size = size} {words = words} parent depth stored some limit room fresh =
     let xs : List ℕ = segments_of new n size in
-    let before = was_unused region new lens n size words sound some fresh in
-    let none : charge (get_or lens n 0) ≡ 0 = ap charge before.1 in
+    let before = was_unused stored some fresh in
+    let none : charge (len_at places n) ≡ 0 = ap charge before.1 in
     let zeros : ℕ = 16 * charge size - length words in
     let cut = cut-zeros (content new xs) words zeros (size - length words) fresh.holds (omega (arith, charge-room size)) in
     let at_size : length words + (size - length words) ≡ size = omega (arith, room) in
@@ -204,60 +204,121 @@ open_change region new lens n size words sound some limit room fresh =
         within = before.0;
         same_count = fresh.same_count;
         counted = omega (arith, fresh.counted, none);
-        agrees = λ m other. agrees-taken region new (segments_of region m (get_or lens m 0)) fresh.kept (sound.sound m).is_chain.blocks;
+        agrees = λ m other. agrees-taken region new (segments_of region m (len_at places m)) fresh.kept (stored.sound m).is_chain.blocks;
         is_sound = record {
           at_most = limit;
           is_chain = fresh.is_chain;
           zeros = ap (λ (k : ℕ). drop k (content new xs)) (sym at_size) ∙ cut.1 ∙ ap (λ (k : ℕ). replicate k 0) left;
         };
-        is_apart = λ m other. apart-free region (segments_of region m (get_or lens m 0)) xs (sound.sound m).is_chain.blocks fresh.were_free;
+        is_apart = λ m other. apart-free region (segments_of region m (len_at places m)) xs (stored.sound m).is_chain.blocks fresh.were_free;
       },
       ap (λ (k : ℕ). take k (content new xs)) (sym at_size) ∙ cut.0,
     )
 
-pub grow_step : (region new : Segments) (lens : List ℕ) (n first len count wide more : ℕ) → AreSoundLists region lens → first ≡ n → len ≡ get_or lens n 0 → count ≡ charge len → wide ≡ charge (len + more) → 0 < get_or lens n 0 → len + more ≤ 128 →
-    IsGrownChain region new (chain count region (Some first)) (chain (count + (wide - count)) new (Some first)) (wide - count) →
-    IsChange region new lens n (len + more) × (words_in new n (len + more) ≡ words_in region n (get_or lens n 0) ++ replicate more 0)
-grow_step region new lens n first len count wide more sound is_first is_len is_count is_wide some limit grown =
-    let segments : charge (get_or lens n 0) + (wide - count) ≡ charge (get_or lens n 0 + more) = rw (is_count, is_wide, is_len) (omega arith) in
-    let both : count + (wide - count) ≡ charge (get_or lens n 0 + more) = rw (is_count, is_wide, is_len) (omega arith) in
-    let moved : IsGrownChain region new (chain count region (Some n)) (chain (count + (wide - count)) new (Some n)) (wide - count) = rw is_first at grown in
-    let named : IsGrownChain region new (chain count region (Some n)) (segments_of new n (get_or lens n 0 + more)) (wide - count) = rw both at moved in
-    let own : count ≡ charge (get_or lens n 0) = is_count ∙ ap charge is_len in
-    let P : ℕ → Type 0 = λ k. IsGrownChain region new (chain k region (Some n)) (segments_of new n (get_or lens n 0 + more)) (wide - count) in
-    rw is_len (grow_change region new lens n more (wide - count) sound some (rw is_len at limit) segments (subst P own named))
+-- the calls
 
-pub open_step : (region new : Segments) (lens : List ℕ) (n size count : ℕ) (words : List ℕ) → AreSoundLists region lens → 0 < size → size ≤ 128 → length words ≤ size → count ≡ charge size → IsFreshChain region new (chain count new (Some n)) words count →
-    (n < length lens) × (get_or lens n 0 ≡ 0) × IsChange region new lens n size × (words_in new n size ≡ padded words size)
-open_step region new lens n size count words sound some limit room is_count fresh =
-    let named : IsFreshChain region new (segments_of new n size) words (charge size) = rw is_count at fresh in
-    let before = was_unused region new lens n size words sound some named in
-    let change = open_change region new lens n size words sound some limit room named in
-    (before.0, before.1, change.0, change.1)
+-- what is free is what no node is charged
+pub free-is : {region : Segments} {places : List Place} {nodes : Nodes} {free : ℕ} → AreStored region places → nodes_from region 0 places ≡ nodes → free + taken_count region ≡ length region → free ≡ free_segments nodes
+free-is {region = region} {places = places} {nodes = nodes} stored view is =
+    let all = all-taken region places nodes stored view in omega (arith, all.0, all.1, is)
+
+module _ {old : Segments} {places : List Place} {nodes : Nodes} (stack : IsStack old places) (view : nodes_from old 0 places ≡ nodes) where
+  tree : IsTree nodes places
+  tree = rw view at stack.tree
+
+  as_many : length places ≡ length nodes
+  as_many = stack.stored.same_count ∙ sym (all-taken old places nodes stack.stored view).1
+
+  pub depth_in_limits : (n : ℕ) → IsOpen nodes n → (place_at places n).depth ≤ 65536
+  depth_in_limits n is_open = omega (arith, depth-le-length nodes places n as_many tree is_open, stack.stored.in_limits)
+
+  pub sight_of : (n : ℕ) → IsOpen nodes n → IsWholeSight nodes n (place_at places n).depth
+  sight_of n is_open = sight-open nodes places n (place_at places n).depth tree is_open refl
+
+  -- an open node gets other words, in as many segments as they take
+  pub rewritten : {new : Segments} {n len : ℕ} (words : List ℕ) → IsOpen nodes n → IsChange old new places n (resized (place_at places n) len) → 0 < len → words_in new n len ≡ words →
+      (nodes_from new 0 (with_len places n len) ≡ with_node_words nodes n words) × IsStack new (with_len places n len)
+  rewritten {new = new} {n = n} {len = len} words is_open change some is =
+      let it = kept_node n stack.stored view is_open in
+      let after : nodes_from new 0 (with_len places n len) ≡ with_node_words nodes n words = rw it.entry (changed-to words change some is view) in (
+        after,
+        record { stored = still_stored change stack.stored; tree = rw after (tree-write nodes places (with_len places n len) n words (depths-stay places n len) tree is_open) },
+      )
+
+  pub stored_word : {at s : ℕ} (n word : ℕ) → IsOpen nodes n → at < length (node_words nodes n) → s ≡ get_or (chain (suc (at / 16)) old (Some n)) (at / 16) 0 →
+      (nodes_from (with_words old s (set (words_at old s) (at % 16) word)) 0 places ≡ with_node_words nodes n (set (node_words nodes n) at word)) × IsStack (with_words old s (set (words_at old s) (at % 16) word)) places
+  stored_word {at = at} {s = s} n word is_open below is =
+      let it = kept_node n stack.stored view is_open in
+      let inside : at < len_at places n = omega (arith, below, it.len) in
+      let change = store_change word stack.stored inside (is ∙ place_of_sound old n (len_at places n) at inside) in
+      let same : with_len places n (len_at places n) ≡ places = set-get_or places n nowhere in
+      rw it.words (rw same at (rewritten (set (words_in old n (len_at places n)) at word) is_open change.0 it.some change.1))
+
+  -- a node is opened under a number that none had
+  pub opened : {new : Segments} {n size segments : ℕ} {words : List ℕ} (parent : Option ℕ) (depth : ℕ) → IsUnder nodes places parent depth → 0 < size → size ≤ 128 → length words ≤ size → segments ≡ charge size → IsFreshChain old new (chain segments new (Some n)) words segments →
+      IsUnused nodes n × (nodes_from new 0 (set places n (record { len = size; parent = parent; depth = depth })) ≡ with_node nodes n (Some (record { parent = parent; words = padded words size }))) ×
+      IsStack new (set places n (record { len = size; parent = parent; depth = depth }))
+  opened {new = new} {n = n} {size = size} {words = words} parent depth under some limit room is_charge made =
+      let fresh : IsFreshChain old new (segments_of new n size) words (charge size) = rw is_charge at made in
+      let place : Place = record { len = size; parent = parent; depth = depth } in
+      let before = was_unused stack.stored some fresh in
+      let change = open_change parent depth stack.stored some limit room fresh in
+      let after : nodes_from new 0 (set places n place) ≡ with_node nodes n (Some (record { parent = parent; words = padded words size })) = changed-to (padded words size) change.0 some change.1 view in
+      let below : n < length nodes = rw (← as_many) before.0 in
+      let unused : node_at nodes n ≡ None = rw (← view) (node_at-nodes_from old n places ∙ ap (λ (len : ℕ). node_in old n len (place_at places n).parent) before.1) in (
+        (below, unused),
+        after,
+        record { stored = still_stored change.0 stack.stored; tree = rw after (tree-open nodes places n (padded words size) place as_many below unused tree under) },
+      )
+
+  -- nodes are closed with all their children
+  pub closed : {new : Segments} {others : List Place} (numbers : List ℕ) → AreStored new others → nodes_from new 0 others ≡ without nodes numbers → ((m : ℕ) → (place_at others m).depth ≡ (place_at places m).depth) → HasAllChildren nodes numbers → IsStack new others
+  closed {others = others} numbers stored after depths children =
+      record { stored = stored; tree = rw after (tree-without nodes places others numbers depths tree children) }
+
+  -- a node is longer
+  pub grown : {new : Segments} {n at first segments wide : ℕ} {place : Place} (more : ℕ) → IsOpen nodes n → IsRead old places nodes n at place → first ≡ n → segments ≡ charge place.len → wide ≡ charge (place.len + more) → place.len + more ≤ 128 →
+      IsGrownChain old new (chain segments old (Some first)) (chain (segments + (wide - segments)) new (Some first)) (wide - segments) →
+      (nodes_from new 0 (with_len places n (place.len + more)) ≡ with_node_words nodes n (node_words nodes n ++ replicate more 0)) × IsStack new (with_len places n (place.len + more))
+  grown {new = new} {n = n} {segments = segments} {wide = wide} {place = place} more is_open of is_first is_narrow is_wide limit made =
+      let len : ℕ = len_at places n in
+      let same : place.len ≡ len = ap (λ (p : Place). p.len) of.is in
+      let narrow : segments ≡ charge len = is_narrow ∙ ap charge same in
+      let broad : wide ≡ charge (len + more) = is_wide ∙ ap (λ (k : ℕ). charge (k + more)) same in
+      let whole : charge len + (charge (len + more) - charge len) ≡ charge (len + more) = omega arith in
+      let named : IsGrownChain old new (segments_of old n len) (segments_of new n (len + more)) (charge (len + more) - charge len) = rw whole at (rw (is_first, narrow, broad) at made) in
+      let change = grow_change more (charge (len + more) - charge len) stack.stored of.it.some (rw same at limit) whole named in
+      rw (same, of.it.words) (rewritten (words_in old n len ++ replicate more 0) is_open change.0 (omega (arith, of.it.some)) change.1)
 
 -- at first all is free
 
-pub none_at_first : (region : Segments) (count n : ℕ) → lists_from region n (replicate count 0) ≡ replicate count None
+pub none_at_first : (region : Segments) (count n : ℕ) → nodes_from region n (replicate count nowhere) ≡ replicate count None
 none_at_first region zero n = refl
-none_at_first region (suc count) n = ap (λ (rest : Lists). None ∷ rest) (none_at_first region count (suc n))
+none_at_first region (suc count) n = ap (λ (rest : Nodes). None ∷ rest) (none_at_first region count (suc n))
 
-get_or-zeros : (count n : ℕ) → get_or {A = ℕ} (replicate count 0) n 0 ≡ 0
-get_or-zeros zero n = refl
-get_or-zeros (suc count) zero = refl
-get_or-zeros (suc count) (suc n) = get_or-zeros count n
+len_at-nowhere : (count n : ℕ) → len_at (replicate count nowhere) n ≡ 0
+len_at-nowhere zero n = refl
+len_at-nowhere (suc count) zero = refl
+len_at-nowhere (suc count) (suc n) = len_at-nowhere count n
 
-sum_by-zeros : (count : ℕ) → sum_by charge (replicate count 0) ≡ 0
-sum_by-zeros zero = refl
-sum_by-zeros (suc count) = omega (arith, sum_by-cons charge 0 (replicate count 0), sum_by-zeros count)
+none_stored : (region : Segments) (n : ℕ) → IsSoundList region n 0
+none_stored region n = record { at_most = omega arith; is_chain = record { blocks = tt; whole = refl; once = tt }; zeros = refl }
 
-none_listed : (region : Segments) (n : ℕ) → IsSoundList region n 0
-none_listed region n = record { at_most = omega arith; is_chain = record { blocks = tt; whole = refl; once = tt }; zeros = refl }
+none_open : (count n : ℕ) → IsOpen (replicate count None) n → ⊥
+none_open zero n is = cc is
+none_open (suc count) zero is = cc is
+none_open (suc count) (suc n) is = none_open count n is
 
-pub sound_at_first : (count : ℕ) → AreSoundLists (replicate count None) (replicate count 0)
-sound_at_first count =
+pub stack_at_first : (count : ℕ) → count ≤ 65536 → IsStack (replicate count None) (replicate count nowhere)
+stack_at_first count limit =
+    let region : Segments = replicate count None in
     record {
-      places = length-replicate {A = ℕ} count 0 ∙ sym (length-replicate {A = Option Segment} count None);
-      counted = taken_count-replicate count ∙ sym (sum_by-zeros count);
-      sound = λ n. rw get_or-zeros (none_listed (replicate count None) n);
-      apart = λ m n other. rw (get_or-zeros count m) tt;
+      stored = record {
+        in_limits = rw length-replicate limit;
+        same_count = length-replicate {A = Place} count nowhere ∙ sym (length-replicate {A = Option Segment} count None);
+        counted = taken_count-replicate count ∙ sym (sum_by-replicate charge_of_place count nowhere ∙ omega arith);
+        sound = λ n. rw len_at-nowhere (none_stored region n);
+        apart = λ m n other. rw (len_at-nowhere count m) tt;
+      };
+      tree = λ n is. absurd (none_open count n (rw none_at_first at is));
     }

@@ -1,4 +1,3 @@
 pub mod Nodes
 pub mod Chains
-pub mod Lists
-pub mod Trees
+pub mod Places

@@ -33,8 +33,8 @@
 mod chain;
 mod charges;
 pub mod laws;
-mod lists;
 mod node;
+mod place;
 mod sight;
 mod stack;
 mod view;

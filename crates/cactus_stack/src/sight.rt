@@ -1,7 +1,7 @@
 //! What a node sees of the stack.
 ghost use Rattle.std.specs.Prelude.{◌≡◌, length, slice_get, Some};
 ghost use Rattle.cactus_stack.specs.Nodes.{IsSight};
-ghost use Rattle.cactus_stack.specs.Trees.{sight_within, IsWholeSight};
+ghost use Rattle.cactus_stack.specs.Places.{sight_within, IsWholeSight};
 
 use crate::node::NodeNo;
 use crate::view::StackView;
@@ -21,7 +21,7 @@ impl<'a> Model for Sight<'a> {
 
     ghost Value = { List (List ℕ) };
 
-    ghost use Rattle.cactus_stack.specs.Trees.{sight_within, IsWholeSight};
+    ghost use Rattle.cactus_stack.specs.Places.{sight_within, IsWholeSight};
 
     ghost view = { λ sight. sight_within sight.levels sight.stack (Some sight.node) };
 

@@ -1,9 +1,12 @@
 //! The stack: nodes that are opened under one another, grown, written and closed.
 ghost use Rattle.std.specs.Prelude.{◌≡◌, ◌≢◌, ◌↔◌, ◌+◌, ◌<◌, ◌≤◌, ℕ, ◌++◌, length, replicate, Some, None, IfSome, IfOk, OnOk, OnErr, IsErr, slice_set, All, AllPairs};
 ghost use Rattle.cactus_stack.specs.Nodes.{Node, IsOpen, IsUnused, HasNoChild, HasAllChildren, IsSight, with_node, with_words, without, node_words, node_parent, padded, charge, growth_charge, total_charge, free_segments, segment_count};
+ghost use Rattle.cactus_stack.specs.Places.{nodes_from, with_len, AreStored};
 
-use crate::lists::Lists;
+use crate::chain::{fresh_chain, give_chain, grow_chain, segment_after};
+use crate::charges::charge;
 use crate::node::{NoSegment, NodeNo};
+use crate::place::Place;
 use crate::sight::Sight;
 use crate::view::StackView;
 use crate::words::Words;
@@ -11,20 +14,12 @@ use segment_region::Region;
 use std::alloc::{AllocError, Allocator, Global};
 use std::marker::Model;
 
-/// A node's place in its tree: its parent (None for a root), and how many nodes the path from its root to it has,
-/// both counted (1 for a root).
-#[derive(Clone, Copy, Drop)]
-pub struct Above {
-    pub(crate) parent: Option<NodeNo>,
-    depth: usize,
-}
-
-/// A cactus stack: nodes of 1 to 128 words, each a root or under a parent that is open. The words stand in segments
-/// of 16 words. `above` has the place of each open node by its number; its other entries mean nothing.
+/// A cactus stack: nodes of 1 to 128 words, each a root or under a parent that is open. The words of a node stand in a
+/// chain of segments of 16 words, and its number is that of the first. `places` has the place of each number.
 #[derive(Drop)]
 pub struct Stack<A: Allocator = Global> {
-    lists: Lists<A>,
-    above: Vec<Above, A>,
+    region: Region<A>,
+    places: Vec<Place, A>,
 }
 
 impl<A: Allocator> Model for Stack<A> {
@@ -32,11 +27,25 @@ impl<A: Allocator> Model for Stack<A> {
 
     ghost Value = { Nodes };
 
-    ghost use Rattle.cactus_stack.specs.Trees.{nodes_of, IsTree};
+    ghost use Rattle.cactus_stack.specs.Places.{nodes_from, IsStack};
 
-    ghost view = { λ stack. nodes_of stack.lists stack.above.items };
+    ghost view = { λ stack. nodes_from stack.region 0 stack.places.items };
 
-    ghost invariant = { λ stack. IsTree stack.lists stack.above.items };
+    ghost invariant = { λ stack. IsStack stack.region stack.places.items };
+}
+
+/// Gives the segments of a node back, and its number.
+fn free<A: Allocator>(region: &mut Region<A>, places: &mut Vec<Place, A>, node: NodeNo)
+    requires stored { AreStored region.old places.old.items }
+    requires is_open { IsOpen (nodes_from region.old 0 places.old.items) node }
+    ensures stored { AreStored region.new places.new.items }
+    ensures closed { nodes_from region.new 0 places.new.items ≡ with_node (nodes_from region.old 0 places.old.items) node None }
+    ensures length_alone { places.new.items ≡ with_len places.old.items node 0 }
+{
+    let at = node.first().index();
+    let count = charge(places[at].len as usize);
+    give_chain(region, Some(node.first()), count);
+    places[at].len = 0;
 }
 
 impl<A: Allocator> Stack<A> {
@@ -50,13 +59,13 @@ impl<A: Allocator> Stack<A> {
         ensures { IfOk result (λ stack. stack ≡ replicate segments None) }
     {
         let region = Region::new(alloc.clone()?, segments)?;
-        let lists = Lists::of(region, segments, alloc.clone()?)?;
-        let nowhere = Above {
+        let nowhere = Place {
+            len: 0,
             parent: None,
             depth: 0,
         };
-        let above = vec![in alloc; nowhere; segments]?;
-        Ok(Stack { lists, above })
+        let places = vec![in alloc; nowhere; segments]?;
+        Ok(Stack { region, places })
     }
 
     /// Opens a node of `size` words, 1 to 128, under an open parent or as a root: the given words first, then zeros.
@@ -77,12 +86,21 @@ impl<A: Allocator> Stack<A> {
         ensures unchanged { OnErr result (self.new ≡ self.old) }
     {
         let depth = match parent {
-            Some(node) => self.above[node.first().index()].depth + 1,
+            Some(node) => self.places[node.first().index()].depth + 1,
             None => 1,
         };
-        let node = self.lists.open(words, size)?;
-        self.above[node.first().index()] = Above { parent, depth };
-        Ok(node)
+        let count = charge(size);
+        if self.region.free_count() < count {
+            return Err(NoSegment);
+        }
+        match fresh_chain(&mut self.region, words, count) {
+            Some(first) => {
+                let len = size as u8;
+                self.places[first.index()] = Place { len, parent, depth };
+                Ok(NodeNo::of_segment(first))
+            }
+            None => unreachable!(),
+        }
     }
 
     /// Appends so many zero words to a node, up to 128 in all. `NoSegment` where fewer segments are free than that
@@ -94,7 +112,16 @@ impl<A: Allocator> Stack<A> {
         ensures refused { IsErr result ↔ (free_segments self.old < growth_charge (length (node_words self.old node)) more) }
         ensures unchanged { OnErr result (self.new ≡ self.old) }
     {
-        self.lists.grow(node, more)
+        let at = node.first().index();
+        let len = self.places[at].len as usize;
+        let count = charge(len);
+        let added = charge(len + more) - count;
+        if self.region.free_count() < added {
+            return Err(NoSegment);
+        }
+        grow_chain(&mut self.region, node.first(), count, added);
+        self.places[at].len = (len + more) as u8;
+        Ok(())
     }
 
     /// Overwrites the word at place `at` of a node, counted from 0.
@@ -103,7 +130,8 @@ impl<A: Allocator> Stack<A> {
         requires in_bounds { at < length (node_words self.old node) }
         ensures { self.new ≡ with_words self.old node (slice_set (node_words self.old node) at word) }
     {
-        self.lists.store(node, at, word);
+        let segment = segment_after(&self.region.view(), node.first(), at / 16);
+        self.region.words_mut(segment)[at % 16] = word;
     }
 
     /// The words of a node.
@@ -119,7 +147,7 @@ impl<A: Allocator> Stack<A> {
         requires { IsOpen self.now node }
         ensures { IsSight self.now (Some node) result }
     {
-        let depth = self.above[node.first().index()].depth;
+        let depth = self.places[node.first().index()].depth as usize;
         Sight::of(self.view(), node, depth)
     }
 
@@ -127,7 +155,7 @@ impl<A: Allocator> Stack<A> {
     pub(crate) fn view(&self) -> StackView<'_>
         ensures { result ≡ self.now }
     {
-        StackView::of(self.lists.view(), &self.above)
+        StackView::of(self.region.view(), &self.places)
     }
 
     /// Closes a node that has no open child. Its segments are free then, and a new node may get its number.
@@ -137,7 +165,7 @@ impl<A: Allocator> Stack<A> {
         requires no_child { HasNoChild self.old node }
         ensures { self.new ≡ with_node self.old node None }
     {
-        self.lists.close(node);
+        free(&mut self.region, &mut self.places, node);
     }
 
     /// Closes all these nodes, whose segments are free then. They stand in any order, each once, and all open
@@ -149,7 +177,7 @@ impl<A: Allocator> Stack<A> {
         ensures { self.new ≡ without self.old nodes.now }
     {
         for node in nodes {
-            self.lists.close(*node);
+            free(&mut self.region, &mut self.places, *node);
         }
     }
 
@@ -158,13 +186,14 @@ impl<A: Allocator> Stack<A> {
         ensures some { (n : ℕ) → IsOpen self.now n → 1 ≤ length (node_words self.now n) }
         ensures at_most { (n : ℕ) → IsOpen self.now n → length (node_words self.now n) ≤ 128 }
     {
-        self.lists.lens_are_in_limits();
+        // This read makes the invariant known to the prover.
+        let _places = &self.places;
     }
 
     /// How many segments are free: all but what the open nodes take.
     pub fn free_count(&self) -> usize
         ensures { result + total_charge self.now ≡ segment_count self.now }
     {
-        self.lists.free_count()
+        self.region.free_count()
     }
 }

@@ -19,7 +19,7 @@ impl<'a> Model for Words<'a> {
 
     ghost Value = { List ℕ };
 
-    ghost use Rattle.cactus_stack.specs.Lists.{words_in, IsSoundList};
+    ghost use Rattle.cactus_stack.specs.Places.{words_in, IsSoundList};
 
     ghost view = { λ words. words_in words.region words.first words.len };
 
@@ -27,7 +27,7 @@ impl<'a> Model for Words<'a> {
 }
 
 impl<'a> Words<'a> {
-    ghost use Rattle.cactus_stack.specs.Lists.{words_in, IsSoundList};
+    ghost use Rattle.cactus_stack.specs.Places.{words_in, IsSoundList};
 
     /// The words of the list of this number and length.
     pub(crate) fn of(region: RegionView<'a>, first: SegNo, len: usize) -> Words<'a>

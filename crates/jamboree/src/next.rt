@@ -119,7 +119,8 @@ fn tests(frame: &View, words: &Words) -> Plan
     if has_failed(words, open) {
         return search_again(frame, open, rest_at(words, open));
     }
-    if frame.spawned < frame.count {
+    let choices = frame.count;
+    if frame.spawned < choices {
         return test(frame, frame.spawned, rest_at(words, frame.spawned));
     }
     if frame.count <= open {

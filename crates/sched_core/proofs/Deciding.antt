@@ -142,6 +142,13 @@ finish-decided {I = I} functions shared worker name tenant frame seen is rising 
     rw (is.state, is.left, is.owner, is.found)
     (busy-anywhere {I = I} ((not (is_returned frame.state) || not (is_root frame.path), NotReturned) ∷ ((left tenant).steps == 0, NoSteps) ∷ []) shared worker name.tenant tenant (finished tenant frame) rising is.owner)
 
+-- by its tests, whichever way they were made
+pub finish-told : {I A : Type 0} (functions : Functions I A) (shared : Shared) (worker : ℕ) (name : FrameId) (tenant : Tenant) (frame : Frame (List ℕ)) (seen : Seen) (unfinished busy : Bool) (told : Result (Unit {0}) Refusal) →
+    IsSeen shared name tenant frame seen → AreRising shared.tenants → unfinished ≡ (not (is_returned seen.state) || not (is_root frame.path)) → busy ≡ is_busy_among worker shared.tenants →
+    told ≡ unless ((unfinished, NotReturned) ∷ (seen.left.steps == 0, NoSteps) ∷ (busy, Busy) ∷ []) (tt {0}) → refusal_in told ≡ shared_refusal functions shared (Finish worker name)
+finish-told functions shared worker name tenant frame seen unfinished busy told is rising u b same =
+    ap refusal_in same ∙ rw (u, b) (finish-decided functions shared worker name tenant frame seen is rising)
+
 -- Advance
 pub advance-decided : {I A : Type 0} (functions : Functions I A) (shared : Shared) (worker : ℕ) (name : FrameId) (tenant : Tenant) (frame : Frame (List ℕ)) (seen : Seen) (act : Act) →
     IsSeen shared name tenant frame seen → act ≡ functions.next (sight_of shared name) →

@@ -1,8 +1,9 @@
 -- What taking, giving and linking keep.
-use Rattle.std.proofs.Common.{◌≡◌, ◌≢◌, true, false, ℕ, zero, suc, ◌+◌, ◌-◌, ◌<◌, ◌≤◌, List, [], ◌∷◌, length, replicate, Option, None, Some, get_or, refl, ap, sym, subst, ◌∙◌, arith, get_or-set_same, get_or-set_other}
+use Rattle.std.proofs.Common.{◌≡◌, ◌≢◌, Bool, true, false, if◌then◌else◌, ℕ, zero, suc, ◌+◌, ◌-◌, ◌<◌, ◌≤◌, List, [], ◌∷◌, length, replicate, Option, None, Some, get_or, refl, ap, sym, subst, ◌∙◌, arith, get_or-set_same, get_or-set_other}
 use Rattle.std.proofs.Math.ListN.{set}
 use Rattle.std.proofs.lemmas.List.{length-set, length-replicate}
 use Rattle.segment_region.specs.Segments.{Segment, Segments, IsTaken, IsFree, taken_count, with_words, with_link}
+use Rattle.segment_region.specs.Places.{IsFilled}
 use Rattle.segment_region.specs.Blocks.{WordBlock, place_entry, place_link, link_in, entries_of, IsLink, next_of, IsFreeList, IsWhole}
 use Rattle.segment_region.specs.declared.block.Link.{Link}
 use Rattle.segment_region.proofs.Counts.{taken_count-take, taken_count-give, taken_count-write, taken_count-replicate, taken_count-le-length}
@@ -47,6 +48,14 @@ chain-keeps mark new places after n same (Some h) (suc m) out chain =
 -- a write to one place leaves the links of the others
 links-set : (places : List (Option WordBlock)) (mark new n : ℕ) (place : Option WordBlock) → mark ≤ new → (h : ℕ) → h < mark → h ≢ n → (h < new) × (link_in (set places n place) h ≡ link_in places h)
 links-set places mark new n place up h below other = (omega arith, ap place_link (get_or-set_other places n h place None other))
+
+-- a written place is filled, and so is every other that was
+filled-set : (places : List (Option WordBlock)) (n : ℕ) (block : WordBlock) → n < length places → (m : ℕ) → (m ≢ n → IsFilled places m) → IsFilled (set places n (Some block)) m
+filled-set [] n block inside m was = absurd (omega (arith, inside))
+filled-set (place ∷ places) zero block inside zero was = (block, refl)
+filled-set (place ∷ places) zero block inside (suc m) was = was (λ e. absurd (omega (arith, e)))
+filled-set (place ∷ places) (suc n) block inside zero was = was (λ e. absurd (omega (arith, e)))
+filled-set (place ∷ places) (suc n) block inside (suc m) was = filled-set places n block (omega (arith, inside)) m (λ other. was (λ e. other (omega (arith, e))))
 
 -- the block at the head of the free ones
 abbrev pub HeadBlock : ℕ → List (Option WordBlock) → ℕ → Type 0
@@ -117,6 +126,7 @@ whole-take places count mark h free next (suc listed) block whole is link is_nex
       all_places = omega (arith, whole.all_places, length-set places h (Some block));
       in_limits = whole.in_limits;
       below = whole.below;
+      filled = λ m below. filled-set places h block t.below m (λ other. whole.filled m below);
       counted = omega (arith, whole.counted, more);
       is_free = rw is_next chain.1;
       chain = rw is_next (subst (λ (k : ℕ). IsFreeList mark (set places h (Some block)) (next_of (link_in places h)) k) one kept);
@@ -133,6 +143,7 @@ whole-mark places count mark free listed block whole below link =
       all_places = omega (arith, whole.all_places, length-set places mark (Some block));
       in_limits = whole.in_limits;
       below = omega arith;
+      filled = λ m less. filled-set places mark block (omega (arith, below, whole.all_places)) m (λ other. whole.filled m (omega (arith, less, other)));
       counted = omega (arith, whole.counted, more);
       is_free = whole.is_free;
       chain = chain-keeps mark (mark + 1) places (set places mark (Some block)) mark (links-set places mark (mark + 1) mark (Some block) (omega arith)) (next_of free) listed (λ k le c. mark_unlisted mark places k c) whole.chain;
@@ -156,6 +167,7 @@ whole-give places count mark n free next listed block whole taken link is_next =
       all_places = omega (arith, whole.all_places, length-set places n (Some block));
       in_limits = whole.in_limits;
       below = whole.below;
+      filled = λ m below. filled-set places n block t.below m (λ other. whole.filled m below);
       counted = omega (arith, whole.counted, less);
       is_free = is_next.0;
       chain = rw is_next.1 (subst (λ (k : ℕ). IsFreeList mark (set places n (Some block)) (Some n) k) one all);
@@ -172,6 +184,7 @@ whole-less places count mark n free listed whole taken last =
       all_places = whole.all_places;
       in_limits = whole.in_limits;
       below = omega (arith, whole.below, last);
+      filled = λ m less. whole.filled m (omega (arith, less, last));
       counted = omega (arith, whole.counted, less, last);
       is_free = whole.is_free;
       chain = chain-keeps mark n places places n (λ h below other. (omega (arith, below, other, last), refl)) (next_of free) listed (λ k le c. taken_unlisted mark places n t k c) whole.chain;
@@ -188,18 +201,70 @@ whole-write places count mark n free listed block next whole taken link =
       all_places = omega (arith, whole.all_places, length-set places n (Some block));
       in_limits = whole.in_limits;
       below = whole.below;
+      filled = λ m below. filled-set places n block t.below m (λ other. whole.filled m below);
       counted = omega (arith, whole.counted, same);
       is_free = whole.is_free;
       chain = chain-keeps mark mark places (set places n (Some block)) n (links-set places mark mark n (Some block) (omega arith)) (next_of free) listed (λ k le c. taken_unlisted mark places n t k c) whole.chain;
     }
 
--- the entries after a taken block's words, or its link, were written
-pub entries-words : (mark : ℕ) (places : List (Option WordBlock)) (n : ℕ) (block : WordBlock) (words : List ℕ) → IsTaken (entries_of mark places) n → get_or places n None ≡ Some block
-    → entries_of mark (set places n (Some (record { words = words; link = block.link }))) ≡ with_words (entries_of mark places) n words
-entries-words mark places n block words taken is =
+-- the words of a block are written, whether it is taken or free: as many are taken as before, and the links are the same
+words-set : (places : List (Option WordBlock)) (n : ℕ) (block : WordBlock) (words : List ℕ) → get_or places n None ≡ Some block → (mark : ℕ) →
+    taken_count (entries_of mark (set places n (Some (record { words = words; link = block.link })))) ≡ taken_count (entries_of mark places)
+words-set [] n block words is mark = refl
+words-set (place ∷ places) n block words is zero = free_from (set (place ∷ places) n (Some (record { words = words; link = block.link }))) ∙ sym (free_from places)
+  where
+    free_from : (places : List (Option WordBlock)) → taken_count (entries_of 0 places) ≡ 0
+    free_from [] = refl
+    free_from (place ∷ places) = free_from places
+words-set (place ∷ places) zero block words is (suc mark) = rw is (same block.link.taken)
+  where
+    same : (taken : Bool) → taken_count ((if taken then Some (record { words = words; link = next_of block.link }) else None) ∷ entries_of mark places) ≡ taken_count ((if taken then Some (record { words = block.words; link = next_of block.link }) else None) ∷ entries_of mark places)
+    same true = refl
+    same false = refl
+words-set (place ∷ places) (suc n) block words is (suc mark) = behind (place_entry place) (words-set places n block words is mark)
+  where
+    behind : (entry : Option Segment) → taken_count (entries_of mark (set places n (Some (record { words = words; link = block.link })))) ≡ taken_count (entries_of mark places) →
+        taken_count (entry ∷ entries_of mark (set places n (Some (record { words = words; link = block.link })))) ≡ taken_count (entry ∷ entries_of mark places)
+    behind None rest = rest
+    behind (Some segment) rest = ap suc rest
+
+words-link : (places : List (Option WordBlock)) (n : ℕ) (block : WordBlock) (words : List ℕ) → get_or places n None ≡ Some block → (h : ℕ) → link_in (set places n (Some (record { words = words; link = block.link }))) h ≡ link_in places h
+words-link [] n block words is h = refl
+words-link (place ∷ places) zero block words is zero = ap place_link (sym is)
+words-link (place ∷ places) zero block words is (suc h) = refl
+words-link (place ∷ places) (suc n) block words is zero = refl
+words-link (place ∷ places) (suc n) block words is (suc h) = words-link places n block words is h
+
+chain-same : (mark : ℕ) (places after : List (Option WordBlock)) → ((h : ℕ) → link_in after h ≡ link_in places h) → (head : Option ℕ) (m : ℕ) → IsFreeList mark places head m → IsFreeList mark after head m
+chain-same mark places after same head zero chain = chain
+chain-same mark places after same None (suc m) chain = chain
+chain-same mark places after same (Some h) (suc m) chain =
+    let rest : IsFreeList mark after (next_of (link_in places h)) m = chain-same mark places after same (next_of (link_in places h)) m chain.2 in
+    subst (λ (l : Link). (h < mark) × (l.taken ≡ false) × IsFreeList mark after (next_of l) m) (sym (same h)) (chain.0, chain.1, rest)
+
+pub whole-words : (places : List (Option WordBlock)) (count mark n : ℕ) (free : Link) (listed : ℕ) (block : WordBlock) (words : List ℕ) → IsWhole places count mark free listed → n < mark → get_or places n None ≡ Some block →
+    IsWhole (set places n (Some (record { words = words; link = block.link }))) count mark free listed
+whole-words places count mark n free listed block words whole below is =
+    let made : WordBlock = record { words = words; link = block.link } in
+    let same = words-set places n block words is mark in
+    record {
+      all_places = omega (arith, whole.all_places, length-set places n (Some made));
+      in_limits = whole.in_limits;
+      below = whole.below;
+      filled = λ m less. filled-set places n made (omega (arith, below, whole.below, whole.all_places)) m (λ other. whole.filled m less);
+      counted = omega (arith, whole.counted, same);
+      is_free = whole.is_free;
+      chain = chain-same mark places (set places n (Some made)) (words-link places n block words is) (next_of free) listed whole.chain;
+    }
+
+-- the entries after the words of the block at a place were written: with those words under a number that is taken, if that is the place
+pub entries-words : (mark : ℕ) (places : List (Option WordBlock)) (at n : ℕ) (block : WordBlock) (words : List ℕ) → at ≡ n → IsTaken (entries_of mark places) n → get_or places at None ≡ Some block
+    → entries_of mark (set places at (Some (record { words = words; link = block.link }))) ≡ with_words (entries_of mark places) n words
+entries-words mark places at n block words here taken there =
     let t = taken_block mark places n taken in
-    entries-write mark places n (record { words = words; link = block.link }) (next_of block.link) t.marked (taken_is mark places n block taken is, refl)
-    ∙ ap (λ (o : Option ℕ). set (entries_of mark places) n (Some (record { words = words; link = o }))) (sym (link_is mark places n block taken is))
+    let is = rw here at there in
+    rw here (entries-write mark places n (record { words = words; link = block.link }) (next_of block.link) t.marked (taken_is mark places n block taken is, refl)
+    ∙ ap (λ (o : Option ℕ). set (entries_of mark places) n (Some (record { words = words; link = o }))) (sym (link_is mark places n block taken is)))
 
 pub entries-link : (mark : ℕ) (places : List (Option WordBlock)) (n : ℕ) (block : WordBlock) (link : Link) (next : Option ℕ) → IsTaken (entries_of mark places) n → get_or places n None ≡ Some block → IsLink link true next
     → entries_of mark (set places n (Some (record { words = block.words; link = link }))) ≡ with_link (entries_of mark places) n next
@@ -223,6 +288,7 @@ first_whole places count free are in_limits link =
       all_places = rw are (length-replicate count none);
       in_limits = in_limits;
       below = omega arith;
+      filled = λ m less. absurd (omega (arith, less));
       counted = omega (arith, no_taken);
       is_free = link.0;
       chain = link.1;

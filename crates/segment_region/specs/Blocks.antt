@@ -1,6 +1,7 @@
 -- Representation: how a region keeps its entries: a block for each number, whose link words chain the free ones.
 use Rattle.std.specs.Prelude.{◌≡◌, ℕ, zero, suc, ◌+◌, ◌<◌, ◌≤◌, Bool, true, false, if◌then◌else◌, List, [], ◌∷◌, length, Option, Some, None, slice_index_or}
 use Rattle.segment_region.specs.Segments.{Segment, Segments, taken_count}
+use Rattle.segment_region.specs.Places.{IsFilled}
 use Rattle.segment_region.specs.declared.block.Link.{Link}
 use Rattle.segment_region.specs.declared.block.Block.{Block}
 use Rattle.segment_region.specs.declared.cells.Base.{Base}
@@ -50,11 +51,12 @@ IsFreeList mark places None (suc count) = ⊥
 IsFreeList mark places (Some number) (suc count) = (number < mark) × ((link_in places number).taken ≡ false) × IsFreeList mark places (next_of (link_in places number)) count
 
 -- the invariant of a region of `count` blocks: those from `mark` on are free; of those below it just `listed` are
--- free, and the link `free` leads through all of them
+-- free, and the link `free` leads through all of them; each place below the mark holds a block
 pub record IsWhole (places : List (Option WordBlock)) (count mark : ℕ) (free : Link) (listed : ℕ) : Type 0 where
   pub all_places : length places ≡ count
   pub in_limits : count ≤ 65536
   pub below : mark ≤ count
+  pub filled : (n : ℕ) → n < mark → IsFilled places n
   pub counted : listed + taken_count (entries_of mark places) ≡ mark
   pub is_free : free.taken ≡ false
   pub chain : IsFreeList mark places (next_of free) listed
@@ -63,6 +65,6 @@ pub record IsWhole (places : List (Option WordBlock)) (count mark : ℕ) (free :
 abbrev pub IsOneAllocation : {A : Type 0} → Base WordBlock → Cells WordBlock → Title WordBlock A → ℕ → A → Type 0
 IsOneAllocation base cells title count alloc = (cells.at ≡ base.ptr) × (title.at ≡ base.ptr) × (title.len ≡ count) × (title.alloc ≡ alloc)
 
--- the cells begin at the base
-abbrev pub IsReadable : Base WordBlock → Cells WordBlock → Type 0
-IsReadable base cells = cells.at ≡ base.ptr
+-- the cells begin at the base, and each place below the mark holds a block
+abbrev pub IsReadable : Base WordBlock → Cells WordBlock → ℕ → Type 0
+IsReadable base cells mark = (cells.at ≡ base.ptr) × ((n : ℕ) → n < mark → IsFilled cells.slots n)

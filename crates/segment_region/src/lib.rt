@@ -10,8 +10,9 @@
 //! nothing of what the region is made of.
 //!
 //! **Why it holds.** A region is one allocation of as many blocks, each of sixteen words and one link
-//! word. Blocks are taken from the first on, and a mark says how far: from the mark on all are free,
-//! nothing is written in them by [`Region::new`] and nothing is read of them. A block that is given
+//! word. Blocks are taken from the first on, and a mark says how far: below it each place holds a
+//! block; from it on all are free, nothing is written in them by [`Region::new`] and nothing is read
+//! of them. A block that is given
 //! back right below the mark lowers it. Any other keeps its place, and its link word says that it is
 //! free and which free block comes after it; that of a taken block says what follows it in its
 //! owner's chain. The links of the free blocks below the mark lead through as many as are not taken

@@ -25,7 +25,7 @@ impl<'a> Model for RegionView<'a> {
 
     ghost view = { λ region. entries_of region.mark region.cells.now.slots };
 
-    ghost invariant = { λ region. IsReadable region.base region.cells.now };
+    ghost invariant = { λ region. IsReadable region.base region.cells.now region.mark };
 }
 
 impl<'a> RegionView<'a> {
@@ -35,7 +35,7 @@ impl<'a> RegionView<'a> {
         mark: usize,
         cells: &'a Cells<WordBlock>,
     ) -> RegionView<'a>
-        requires { IsReadable base cells.now }
+        requires { IsReadable base cells.now mark }
         ensures { result ≡ entries_of mark cells.now.slots }
     {
         RegionView { base, mark, cells }

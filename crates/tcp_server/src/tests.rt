@@ -2,6 +2,7 @@
 //! the server does.
 ghost use Rattle.std.specs.Prelude.{◌≡◌};
 
+mod all_jobs;
 mod doors;
 mod failing;
 mod reserving;
@@ -9,6 +10,7 @@ mod tables;
 
 use crate::server::serve_beside;
 use crate::{ServeFault, ServerConfig, Sessions, serve, serve_announced};
+use all_jobs::are_all_told;
 use reserving::MORE;
 use sched_rules::{Config, Worker};
 use std::alloc::Global;
@@ -146,6 +148,8 @@ enum Visit {
     Foreign,
     /// A tenant reserves more.
     More,
+    /// One asks as many jobs as a tenant can ask.
+    All,
 }
 
 /// Sends a line, and tells whether this is its answer.
@@ -269,7 +273,7 @@ fn is_given_back(lost: TcpStream, kept: &TcpStream) -> io::Result<bool> {
 }
 
 /// Whether clients at these connections are told what they should be told.
-fn are_served(visit: Visit, mut streams: Vec<TcpStream>) -> io::Result<bool> {
+fn are_served(alloc: Global, visit: Visit, mut streams: Vec<TcpStream>) -> io::Result<bool> {
     match (visit, streams.as_slice()) {
         (Visit::Answered, [stream]) => are_answered(stream, &ANSWERED),
         (Visit::Spent, [stream]) => are_answered(stream, &SPENT),
@@ -277,6 +281,7 @@ fn are_served(visit: Visit, mut streams: Vec<TcpStream>) -> io::Result<bool> {
         (Visit::Bytes, [stream]) => are_bytes_answered(stream),
         (Visit::Foreign, [stream]) => are_faults_told(stream),
         (Visit::More, [stream]) => are_told(stream, &MORE),
+        (Visit::All, [stream]) => are_all_told(alloc, stream),
         (Visit::Many, many) => are_told_of_their_own(many),
         _ => match (streams.pop(), streams.pop()) {
             (Some(lost), Some(kept)) => is_given_back(lost, &kept),
@@ -320,7 +325,7 @@ where
     }
     let (told, served) = thread::join(
         rt,
-        move || are_served(visit, streams),
+        move || are_served(alloc, visit, streams),
         ||
             requires { L.all ≡ L.parts }
         { serve(rt, alloc, &desk, listener, server, &Open) },

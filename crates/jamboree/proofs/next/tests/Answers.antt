@@ -27,16 +27,16 @@ returns-then-has_failed c =
     subst (λ (k : ℕ). act_for c.search_again.result ≡ tests_from f k) c.first_open-open.ensures.value
     (again-by f n (act_for c.search_again.result) (sym c.has_failed.ensures ∙ c.if-has_failed.true) (λ more all. c.search_again.ensures more all (entries_of w) c.rest_at.ensures))
 
-pub returns-then-frame : goal.returns-then-frame
-returns-then-frame c =
+pub returns-then-frame-choices : goal.returns-then-frame-choices
+returns-then-frame-choices c =
     let v = c.args.frame.now in
     let w = c.args.words.now in
     let f = frame_with v (entries_of w) in
     let n = c.first_open-open.result in
     subst (λ (k : ℕ). act_for c.test.result ≡ tests_from f k) c.first_open-open.ensures.value
     (test-by f n (act_for c.test.result) (sym c.has_failed.ensures ∙ c.if-has_failed.false)
-    (lt-ltb v.spawned (length (statuses_in w)) (omega (arith, length-map (drop 12 w) status_of, length-drop 12 w, c.requires.entries, c.if-frame.true)))
-    (λ all. c.test.ensures all (entries_of w) n c.rest_at-then-frame.ensures))
+    (lt-ltb v.spawned (length (statuses_in w)) (omega (arith, length-map (drop 12 w) status_of, length-drop 12 w, c.requires.entries, c.if-frame-choices.true)))
+    (λ all. c.test.ensures all (entries_of w) n c.rest_at-then-frame-choices.ensures))
 
 pub has_failed-requires : goal.has_failed-requires
 has_failed-requires c = let small = c.first_open-open.ensures.small in omega (arith, small)
@@ -57,8 +57,8 @@ search_again-requires-clause-inside c =
     let parts = and_parts (nat_lt n (length (statuses_in w))) (slice_index (statuses_in w) n == 3) (sym c.has_failed.ensures ∙ c.if-has_failed.true) in
     inside w n c.args.frame.now.count c.requires.entries (ltb-true n (length (statuses_in w)) parts.0)
 
-pub rest_at-requires-then-frame : goal.rest_at-requires-then-frame
-rest_at-requires-then-frame c = let few = c.args.frame.now.few in omega (arith, few, c.if-frame.true)
+pub rest_at-requires-then-frame-choices : goal.rest_at-requires-then-frame-choices
+rest_at-requires-then-frame-choices c = let few = c.args.frame.now.few in omega (arith, few, c.if-frame-choices.true)
 
 pub test-requires-clause-deep : goal.test-requires-clause-deep
 test-requires-clause-deep c = c.requires.deep
@@ -70,7 +70,7 @@ pub test-requires-clause-next : goal.test-requires-clause-next
 test-requires-clause-next c = refl
 
 pub test-requires-clause-inside : goal.test-requires-clause-inside
-test-requires-clause-inside c = c.if-frame.true
+test-requires-clause-inside c = omega arith
 
 -- what is next where no test has failed and no choice is left to be tested, by whether all are settled
 untested : (v : View) (w : List ℕ) (n : ℕ) (act : Act) (all : Bool) → length w ≡ 12 + v.count → n ≡ first_open (statuses_in w) →
@@ -87,10 +87,10 @@ pub returns-then-frame-open : goal.returns-then-frame-open
 returns-then-frame-open c =
     let v = c.args.frame.now in
     let n = c.first_open-open.result in
-    untested v c.args.words.now n (act_for Ends) true c.requires.entries c.first_open-open.ensures.value (sym c.has_failed.ensures ∙ c.if-has_failed.false) c.if-frame.false (le-leb v.count n c.if-frame-open.true) refl
+    untested v c.args.words.now n (act_for Ends) true c.requires.entries c.first_open-open.ensures.value (sym c.has_failed.ensures ∙ c.if-has_failed.false) (omega arith) (le-leb v.count n c.if-frame-open.true) refl
 
 pub returns : goal.returns
 returns c =
     let v = c.args.frame.now in
     let n = c.first_open-open.result in
-    untested v c.args.words.now n (act_for Waits) false c.requires.entries c.first_open-open.ensures.value (sym c.has_failed.ensures ∙ c.if-has_failed.false) c.if-frame.false (lt-leb v.count n c.if-frame-open.false) refl
+    untested v c.args.words.now n (act_for Waits) false c.requires.entries c.first_open-open.ensures.value (sym c.has_failed.ensures ∙ c.if-has_failed.false) (omega arith) (lt-leb v.count n c.if-frame-open.false) refl

@@ -1,9 +1,11 @@
-use Rattle.std.proofs.Common.{◌≡◌, take}
-use Rattle.cactus_stack.specs.Trees.{lists_without}
+use Rattle.std.proofs.Common.{◌≡◌, ℕ, take}
+use Rattle.cactus_stack.specs.Nodes.{without}
+use Rattle.cactus_stack.specs.Places.{place_at, nodes_from, AreStored}
 use Rattle.cactus_stack.proofs.stack.Stack.close_all.Given as goal
 
 abbrev pub invariant-loop-node : goal.invariant-loop-node
 invariant-loop-node g l = record {
-  lists : l.self-inside.lists ≡ lists_without l.initial.self-inside.lists (take l.node-index l.nodes);
-  above : l.self-inside.above ≡ l.initial.self-inside.above;
+  stored : AreStored l.self-inside.region l.self-inside.places.items;
+  closed : nodes_from l.self-inside.region 0 l.self-inside.places.items ≡ without (nodes_from l.initial.self-inside.region 0 l.initial.self-inside.places.items) (take l.node-index l.nodes);
+  depths : (m : ℕ) → (place_at l.self-inside.places.items m).depth ≡ (place_at l.initial.self-inside.places.items m).depth;
 }

@@ -1,34 +1,45 @@
-use Rattle.std.proofs.Common.{◌≡◌, length, sum_by, refl, ◌∙◌, arith}
-use Rattle.cactus_stack.specs.Nodes.{total_charge}
-use Rattle.cactus_stack.specs.Lists.{list_charge}
-use Rattle.cactus_stack.proofs.TreeFacts.{open-is_listed, words-are_listed, parent-is_above, tree-write, nodes_of-set_list, either, on-ok, total_charge-nodes_of, length-nodes_of}
+use Rattle.std.proofs.Common.{◌≡◌, ◌+◌, ◌++◌, replicate, refl, arith}
+use Rattle.cactus_stack.specs.Nodes.{node_words, with_words}
+use Rattle.cactus_stack.specs.Places.{with_len, nodes_from, IsStack}
+use Rattle.cactus_stack.proofs.Sound.{charge-some}
+use Rattle.cactus_stack.proofs.Steps.{IsRead, is_read, free-is, grown}
+use Rattle.cactus_stack.proofs.stack.Stack.grow.Given.{Over}
+use Rattle.cactus_stack.proofs.stack.Stack.grow.Goals.{After-index, After-grow_chain}
 use Rattle.cactus_stack.proofs.stack.Stack.grow.Goals as goal
 
-pub grow-requires-clause-is_open : goal.grow-requires-clause-is_open
-grow-requires-clause-is_open g c = open-is_listed c.self.inside.lists c.self.inside.above.items c.args.self.now c.args.node c.self.invariant.places c.self.view_is c.requires.is_open
+-- the node's place, as it was read
+read : (g : Over) (c : After-index g) → IsRead c.self.inside.region c.self.inside.places.items c.args.self.now c.args.node c.index-at.result c.index.result.now
+read g c = is_read c.self.invariant.stored c.self.view_is c.requires.is_open c.index-at.ensures c.first.ensures c.index.ensures
 
-pub grow-requires-clause-in_limits : goal.grow-requires-clause-in_limits
-grow-requires-clause-in_limits g c = rw (words-are_listed c.self.inside.lists c.self.inside.above.items c.args.self.now c.args.node c.self.invariant.places c.self.view_is) at c.requires.in_limits
+-- the step that the region made
+step : (g : Over) (c : After-grow_chain g) → (nodes_from c.grow_chain.new.region 0 (with_len c.self.inside.places.items c.args.node (c.index.result.now.len + c.args.more)) ≡ with_words c.args.self.now c.args.node (node_words c.args.self.now c.args.node ++ replicate c.args.more 0))
+    × IsStack c.grow_chain.new.region (with_len c.self.inside.places.items c.args.node (c.index.result.now.len + c.args.more))
+step g c =
+    let of = is_read c.self.invariant.stored c.self.view_is c.requires.is_open c.index-at.ensures c.first.ensures c.index.ensures in
+    grown c.self.invariant c.self.view_is c.args.more c.requires.is_open of c.first-2.ensures c.charge-count.ensures c.charge.ensures (omega (arith, of.len, c.requires.in_limits)) c.grow_chain.ensures
+
+pub returns-then-free_count-added-clause-refused : goal.returns-then-free_count-added-clause-refused
+returns-then-free_count-added-clause-refused g c =
+    let free = free-is c.self.invariant.stored c.self.view_is c.free_count.ensures in
+    rw (← (read g (goal.at.returns-then-free_count-added-clause-refused g c).After-index).len) ((λ _. omega (arith, free, c.charge.ensures, c.charge-count.ensures, c.if-free_count-added.true)), (λ _. refl))
+
+pub grow_chain-requires-clause-some : goal.grow_chain-requires-clause-some
+grow_chain-requires-clause-some g c = rw c.charge-count.ensures (charge-some c.index.result.now.len (read g (goal.at.grow_chain-requires-clause-some g c).After-index).some)
+
+pub overflow_cast-len-2 : goal.overflow_cast-len-2
+overflow_cast-len-2 g c = omega (arith, (read g (goal.at.overflow_cast-len-2 g c).After-index).len, c.requires.in_limits)
 
 pub invariant_of-self : goal.invariant_of-self
 invariant_of-self g c =
-    let there = open-is_listed c.self.inside.lists c.self.inside.above.items c.args.self.now c.args.node c.self.invariant.places c.self.view_is c.requires.is_open in
-    either c.grow.result _ _ _ c.grow.ensures.grown c.grow.ensures.unchanged
-    (λ e. rw e (tree-write c.self.inside.lists c.self.inside.above.items c.args.node _ c.self.invariant there))
-    (λ e. rw e c.self.invariant)
+    let put = is_read c.self.invariant.stored c.self.view_is c.requires.is_open c.index-at.ensures c.first.ensures c.index_mut.ensures.value in
+    rw (put.at_node, put.is) (step g (goal.at.invariant_of-self g c).After-grow_chain).1
 
 pub returns-clause-grown : goal.returns-clause-grown
 returns-clause-grown g c =
-    let there = open-is_listed c.self.inside.lists c.self.inside.above.items c.args.self.now c.args.node c.self.invariant.places c.self.view_is c.requires.is_open in
-    let words = words-are_listed c.self.inside.lists c.self.inside.above.items c.args.self.now c.args.node c.self.invariant.places c.self.view_is in
-    let parent = parent-is_above c.self.inside.lists c.self.inside.above.items c.args.self.now c.args.node c.self.invariant.places c.self.view_is there in
-    on-ok c.grow.result _ _ c.grow.ensures.grown
-    (λ e. rw (e, words, parent) (nodes_of-set_list c.self.inside.lists c.self.inside.above.items c.args.node _ c.self.invariant.places ∙ rw c.self.view_is refl))
+    let put = is_read c.self.invariant.stored c.self.view_is c.requires.is_open c.index-at.ensures c.first.ensures c.index_mut.ensures.value in
+    rw (put.at_node, put.is) (step g (goal.at.returns-clause-grown g c).After-grow_chain).0
 
 pub returns-clause-refused : goal.returns-clause-refused
 returns-clause-refused g c =
-    let words = words-are_listed c.self.inside.lists c.self.inside.above.items c.args.self.now c.args.node c.self.invariant.places c.self.view_is in
-    let charges : total_charge c.args.self.now ≡ sum_by list_charge c.self.inside.lists = rw (← c.self.view_is) (total_charge-nodes_of c.self.inside.lists c.self.inside.above.items c.self.invariant.places) in
-    let places : length c.args.self.now ≡ length c.self.inside.lists = rw (← c.self.view_is) (length-nodes_of c.self.inside.lists c.self.inside.above.items c.self.invariant.places) in
-    rw (words, charges, places)
-    ((λ h. omega (arith, c.grow.ensures.refused.0 h, c.grow.ensures.within)), (λ h. c.grow.ensures.refused.1 (omega (arith, h, c.grow.ensures.within))))
+    let free = free-is c.self.invariant.stored c.self.view_is c.free_count.ensures in
+    rw (← (read g (goal.at.returns-clause-refused g c).After-index).len) ((λ h. absurd (cc h)), (λ h. absurd (omega (arith, h, free, c.charge.ensures, c.charge-count.ensures, c.if-free_count-added.false))))

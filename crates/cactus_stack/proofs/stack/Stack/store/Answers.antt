@@ -1,19 +1,32 @@
-use Rattle.std.proofs.Common.{refl, ◌∙◌}
-use Rattle.cactus_stack.proofs.TreeFacts.{open-is_listed, words-are_listed, parent-is_above, tree-write, nodes_of-set_list}
+use Rattle.std.proofs.Common.{◌≡◌, suc, ◌<◌, ◌∙◌, ◌/◌, Some, get_or, arith}
+use Rattle.cactus_stack.specs.Chains.{chain}
+use Rattle.cactus_stack.specs.Places.{len_at}
+use Rattle.cactus_stack.proofs.Sound.{front_of_sound, place_of_sound, place_is_taken}
+use Rattle.cactus_stack.proofs.Steps.{kept_node, stored_word}
+use Rattle.cactus_stack.proofs.stack.Stack.store.Given.{Over}
+use Rattle.cactus_stack.proofs.stack.Stack.store.Goals.{After-segment_after-segment}
 use Rattle.cactus_stack.proofs.stack.Stack.store.Goals as goal
 
-pub store-requires-clause-is_open : goal.store-requires-clause-is_open
-store-requires-clause-is_open g c = open-is_listed c.self.inside.lists c.self.inside.above.items c.args.self.now c.args.node c.self.invariant.places c.self.view_is c.requires.is_open
+-- the segment that holds the word
+place : (g : Over) (c : After-segment_after-segment g) → c.segment_after-segment.result ≡ get_or (chain (suc (c.args.at / 16)) c.self.inside.region (Some c.args.node)) (c.args.at / 16) 0
+place g c = rw (c.view.ensures, c.first.ensures) at c.segment_after-segment.ensures
 
-pub store-requires-clause-in_bounds : goal.store-requires-clause-in_bounds
-store-requires-clause-in_bounds g c = rw (words-are_listed c.self.inside.lists c.self.inside.above.items c.args.self.now c.args.node c.self.invariant.places c.self.view_is) at c.requires.in_bounds
+pub segment_after-segment-requires : goal.segment_after-segment-requires
+segment_after-segment-requires g c =
+    let it = kept_node c.args.node c.self.invariant.stored c.self.view_is c.requires.is_open in
+    rw (c.view.ensures, c.first.ensures) (front_of_sound c.self.inside.region c.args.node (len_at c.self.inside.places.items c.args.node) c.args.at it.sound (omega (arith, c.requires.in_bounds, it.len)))
+
+pub words_mut-requires : goal.words_mut-requires
+words_mut-requires g c =
+    let it = kept_node c.args.node c.self.invariant.stored c.self.view_is c.requires.is_open in
+    let below : c.args.at < len_at c.self.inside.places.items c.args.node = omega (arith, c.requires.in_bounds, it.len) in
+    rw (place g (goal.at.words_mut-requires g c).After-segment_after-segment ∙ place_of_sound c.self.inside.region c.args.node (len_at c.self.inside.places.items c.args.node) c.args.at below)
+    (place_is_taken c.self.inside.region c.args.node (len_at c.self.inside.places.items c.args.node) c.args.at it.sound below).0
 
 pub invariant_of-self : goal.invariant_of-self
-invariant_of-self g c = rw c.store.ensures (tree-write c.self.inside.lists c.self.inside.above.items c.args.node _ c.self.invariant (open-is_listed c.self.inside.lists c.self.inside.above.items c.args.self.now c.args.node c.self.invariant.places c.self.view_is c.requires.is_open))
+invariant_of-self g c =
+    rw c.words_mut.ensures.value (stored_word c.self.invariant c.self.view_is c.args.node c.args.word c.requires.is_open c.requires.in_bounds (place g (goal.at.invariant_of-self g c).After-segment_after-segment)).1
 
 pub returns : goal.returns
 returns g c =
-    let there = open-is_listed c.self.inside.lists c.self.inside.above.items c.args.self.now c.args.node c.self.invariant.places c.self.view_is c.requires.is_open in
-    let words = words-are_listed c.self.inside.lists c.self.inside.above.items c.args.self.now c.args.node c.self.invariant.places c.self.view_is in
-    let parent = parent-is_above c.self.inside.lists c.self.inside.above.items c.args.self.now c.args.node c.self.invariant.places c.self.view_is there in
-    rw (c.store.ensures, words, parent) (nodes_of-set_list c.self.inside.lists c.self.inside.above.items c.args.node _ c.self.invariant.places ∙ rw c.self.view_is refl)
+    rw c.words_mut.ensures.value (stored_word c.self.invariant c.self.view_is c.args.node c.args.word c.requires.is_open c.requires.in_bounds (place g (goal.at.returns g c).After-segment_after-segment)).0

@@ -1,12 +1,17 @@
-use Rattle.std.proofs.Common.{◌∙◌, sym, arith}
+use Rattle.std.proofs.Common.{◌≡◌, ◌∙◌, ℕ, List, subst, sym, arith}
 use Rattle.std.proofs.lemmas.Bool.{lt-ltb, ltb-true, false≢true}
+use Rattle.frame_tree.specs.Frames.{Frame, AllBelow}
 use Rattle.frame_table.proofs.table.FrameTable.can_add.Goals as goal
 use Rattle.frame_table.proofs.table.FrameTable.can_add.Goals.{then-may_follow, else-may_follow}
+
+-- No answer names the serial that the tree is asked of, so that the contract decides which one it may be.
+below-as : {T : Type 0} (frames : List (Frame T)) (asked serial : ℕ) → AllBelow asked frames → asked ≡ serial → AllBelow serial frames
+below-as frames asked serial below same = subst (λ (k : ℕ). AllBelow k frames) same below
 
 pub returns-then-len-places-clause-above : goal.returns-then-len-places-clause-above
 returns-then-len-places-clause-above g c =
     let tree = rw c.as_slice.ensures.value at c.in-Some.ensures.found in
-    rw (← c.self.view_is, tree.frames) c.exceeds_all.ensures.above
+    rw (← c.self.view_is, tree.frames) (λ yes. below-as _ _ c.args.f.serial (c.exceeds_all.ensures.above yes) (omega arith))
 
 pub returns-then-len-places-clause-parent : goal.returns-then-len-places-clause-parent
 returns-then-len-places-clause-parent g c =
@@ -29,7 +34,7 @@ returns-then-len-places-clause-room g c =
 pub returns-then-len-places-clause-otherwise : goal.returns-then-len-places-clause-otherwise
 returns-then-len-places-clause-otherwise g c =
     let tree = rw c.as_slice.ensures.value at c.in-Some.ensures.found in
-    rw (← c.self.view_is, tree.frames, tree.places) (λ above parent room. c.exceeds_all.ensures.otherwise above)
+    rw (← c.self.view_is, tree.frames, tree.places) (λ above parent room. c.exceeds_all.ensures.otherwise (below-as _ c.args.f.serial _ above (omega arith)))
 
 pub returns-else-len-places-clause-otherwise : goal.returns-else-len-places-clause-otherwise
 returns-else-len-places-clause-otherwise g c =

@@ -1,6 +1,8 @@
-use Rattle.std.proofs.Common.{refl, sym}
+use Rattle.std.specs.Prelude.{not}
+use Rattle.std.proofs.Common.{◌≡◌, refl, sym, arith}
 use Rattle.std.proofs.lemmas.Result.{err_from_is_err_and}
 use Rattle.sched_rules.specs.declared.step.StepOf.TheVariants.{Answer}
+use Rattle.sched_store.specs.Reads.{words_under}
 use Rattle.sched_core.proofs.Deciding.{passed-on, lost, answer-told}
 use Rattle.sched_core.proofs.Fitting.{own-fits}
 use Rattle.sched_core.proofs.engine.Engine.accepted.Goals as goal
@@ -20,13 +22,17 @@ pub returns-in_err-first_of_four-clause-refusal : goal.returns-in_err-first_of_f
 returns-in_err-first_of_four-clause-refusal g c =
     let s = c.in_ok-seen.ensures.frame in
     let words = c.in_ok-seen.ensures.words in
+    let functions = g.P.Procedure.functions c.args.self.now.procedure in
+    let other : c.ne.result ≡ not (functions.same (functions.asked c.args.answer.now) (functions.input (words_under c.args.self.now.store c.args.name))) = cc (g.met.P.Procedure.compares c.args.self.now.procedure, words) in
     let p = err_from_is_err_and c.from_residual-in_err-first_of_four.result c.from_residual-in_err-first_of_four.ensures.1 in
-    passed-on _ _ _ _ p.1 p.2 (sym (answer-told (g.P.Procedure.functions c.args.self.now.procedure) c.args.self.now.store c.args.worker c.args.name c.args.answer.now s.0 s.1 c.in_ok-seen.field-0.seen c.is_computed_by.result c.ne.result c.is_outside.result _ s.2
-    (rw (← c.number.ensures.value) c.is_computed_by.ensures) (cc (g.met.P.Procedure.compares c.args.self.now.procedure, words)) (cc words) c.in_err-first_of_four.ensures))
+    passed-on _ _ _ _ p.1 p.2 (sym (answer-told (g.P.Procedure.functions c.args.self.now.procedure) c.args.self.now.store c.args.worker c.args.name c.args.answer.now s.0 s.1 c.in_ok-seen.field-0.seen c.is_computed_by.result _ c.is_outside.result _ s.2
+    (rw (← c.number.ensures.value) c.is_computed_by.ensures) (grind (arith, other)) (cc words) c.in_err-first_of_four.ensures))
 
 pub returns-clause-refusal : goal.returns-clause-refusal
 returns-clause-refusal g c =
     let s = c.in_ok-seen.ensures.frame in
     let words = c.in_ok-seen.ensures.words in
-    answer-told (g.P.Procedure.functions c.args.self.now.procedure) c.args.self.now.store c.args.worker c.args.name c.args.answer.now s.0 s.1 c.in_ok-seen.field-0.seen c.is_computed_by.result c.ne.result c.is_outside.result _ s.2
-    (rw (← c.number.ensures.value) c.is_computed_by.ensures) (cc (g.met.P.Procedure.compares c.args.self.now.procedure, words)) (cc words) c.in_ok-first_of_four.ensures
+    let functions = g.P.Procedure.functions c.args.self.now.procedure in
+    let other : c.ne.result ≡ not (functions.same (functions.asked c.args.answer.now) (functions.input (words_under c.args.self.now.store c.args.name))) = cc (g.met.P.Procedure.compares c.args.self.now.procedure, words) in
+    answer-told (g.P.Procedure.functions c.args.self.now.procedure) c.args.self.now.store c.args.worker c.args.name c.args.answer.now s.0 s.1 c.in_ok-seen.field-0.seen c.is_computed_by.result _ c.is_outside.result _ s.2
+    (rw (← c.number.ensures.value) c.is_computed_by.ensures) (grind (arith, other)) (cc words) c.in_ok-first_of_four.ensures

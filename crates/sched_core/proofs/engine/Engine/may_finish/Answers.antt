@@ -1,7 +1,10 @@
-use Rattle.std.proofs.Common.{refl}
+use Rattle.std.proofs.Common.{◌∙◌, refl, ap, arith, Bool}
+use Rattle.std.specs.Prelude.{◌||◌, not}
+use Rattle.std.proofs.lemmas.Bool.Decides.{nat_tests}
 use Rattle.std.proofs.lemmas.Result.{err_from_is_err_and}
+use Rattle.sched_rules.specs.Lone.{is_returned}
 use Rattle.sched_rules.specs.declared.step.StepOf.TheVariants.{Finish}
-use Rattle.sched_core.proofs.Deciding.{passed-on, lost, root-is, finish-decided}
+use Rattle.sched_core.proofs.Deciding.{passed-on, lost, root-is, finish-told}
 use Rattle.sched_core.proofs.engine.Engine.may_finish.Goals as goal
 
 pub returns-in_err-seen : goal.returns-in_err-seen
@@ -15,6 +18,6 @@ returns g c =
     let root = root-is c.is_none.result c.in_ok-seen.seen s.1.path c.is_none.ensures s.2.root in
     record {
       refusal =
-          rw (c.first_of.ensures, c.is_unfinished.ensures, root, c.is_busy.ensures.busy)
-          (finish-decided (g.P.Procedure.functions c.args.self.now.procedure) c.args.self.now.store c.args.worker c.args.name s.0 s.1 c.in_ok-seen.seen s.2 c.is_busy.ensures.rising);
+          finish-told (g.P.Procedure.functions c.args.self.now.procedure) c.args.self.now.store c.args.worker c.args.name s.0 s.1 c.in_ok-seen.seen _ _ _ s.2 c.is_busy.ensures.rising
+          (c.is_unfinished.ensures ∙ ap (λ (top : Bool). not (is_returned c.in_ok-seen.seen.state) || not top) root) (grind (arith, nat_tests, c.is_busy.ensures.busy)) c.first_of.ensures;
     }

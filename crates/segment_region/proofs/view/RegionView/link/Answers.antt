@@ -3,7 +3,7 @@ use Rattle.segment_region.proofs.Entries.{filled_at, link_is}
 use Rattle.segment_region.proofs.view.RegionView.link.Goals as goal
 
 pub get-requires : goal.get-requires
-get-requires c = (sym c.self.invariant, rw c.index-at.ensures (filled_at c.self.inside.mark c.self.inside.cells.now.slots c.args.segment (rw c.self.view_is c.requires)))
+get-requires c = (sym c.self.invariant.0, rw c.index-at.ensures (filled_at c.self.inside.mark c.self.inside.cells.now.slots c.args.segment (rw c.self.view_is c.requires)))
 
 pub returns : goal.returns
 returns c =

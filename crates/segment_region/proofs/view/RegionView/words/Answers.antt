@@ -1,10 +1,16 @@
-use Rattle.std.proofs.Common.{sym}
-use Rattle.segment_region.proofs.Entries.{filled_at, words_is}
+use Rattle.std.proofs.Common.{sym, arith}
+use Rattle.segment_region.proofs.Entries.{taken_block, words_at_place}
 use Rattle.segment_region.proofs.view.RegionView.words.Goals as goal
 
+-- No answer names the place that is read, so that the contract decides which one it may be.
+
 pub get-requires : goal.get-requires
-get-requires c = (sym c.self.invariant, rw c.index-at.ensures (filled_at c.self.inside.mark c.self.inside.cells.now.slots c.args.segment (rw c.self.view_is c.requires)))
+get-requires c =
+    let r = c.self.inside in
+    let t = taken_block r.mark r.cells.now.slots c.args.segment (rw (← c.self.view_is) at c.requires) in
+    (sym c.self.invariant.0, c.self.invariant.1 _ (omega arith))
 
 pub returns-clause-value : goal.returns-clause-value
 returns-clause-value c =
-    rw (← c.self.view_is) (sym (words_is c.self.inside.mark c.self.inside.cells.now.slots c.args.segment c.get.result.now (rw (← c.self.view_is) at c.requires) (rw c.index-at.ensures at c.get.ensures)))
+    let r = c.self.inside in
+    rw (← c.self.view_is) (sym (words_at_place r.mark r.cells.now.slots _ c.args.segment c.get.result.now (omega arith) (rw (← c.self.view_is) at c.requires) c.get.ensures))

@@ -1,0 +1,171 @@
+//! Pools that can't begin.
+ghost use Rattle.std.specs.Prelude.{◌≡◌};
+
+use super::seats::{opening, seat};
+use desk::{Badge, Desk, Hall, Hands, PARTS, Seat};
+use sched_rules::{Config, Worker};
+use std::alloc::Global;
+use std::marker::Brand;
+use std::sync::Wait;
+use std::sync::ledger::Blank;
+use std::thread::Threads;
+use steal_pool::{Announce, BeginFault, NotRun, Open, PoolFault, Sizes, run_pool_of};
+
+/// Counts how often it is said that a pool has begun.
+#[derive(Drop)]
+struct Counted {
+    /// How often it was.
+    count: u32,
+    /// Whether it can be said.
+    works: bool,
+}
+
+impl Announce for Counted {
+    ghost says = { λ _ _ _. Unit {0} };
+
+    fn announce(&mut self) -> bool {
+        self.count = self.count.saturating_add(1);
+        self.works
+    }
+}
+
+/// What is found of a pool that doesn't run.
+#[derive(Clone, Copy, Debug, PartialEq, Eq)]
+struct Found {
+    not_run: NotRun,
+    /// Whether the desk is closed then.
+    is_closed: bool,
+    /// How many segments are free once the seat has left.
+    free: usize,
+    /// How often it was said that the pool has begun.
+    said: u32,
+}
+
+/// The usual sizes of a pool of four.
+fn four() -> Sizes {
+    Sizes::usual(Worker::new(4).unwrap())
+}
+
+/// A hall of 64 segments.
+fn hall_of(alloc: Global) -> Option<Hall> {
+    Hall::new(alloc, Config::new(64, 1_024)?, 0).ok()
+}
+
+/// A seat with a job.
+fn asked<L: Hands, R: Wait>(rt: &R, desk: &Desk<L>) -> Option<Seat<L>> {
+    let mut seat = seat(rt, desk, 64, 1_024)?;
+    let is_asked = desk.ask(rt, &mut seat, &opening(), 3).is_ok();
+    if is_asked { Some(seat) } else { None }
+}
+
+/// Why a pool of these sizes doesn't run, whether the desk is closed then, and how often something was said.
+fn not_run<L: Hands + Send + Sync, R: Threads + Wait + Sync>(
+    rt: &R,
+    alloc: Global,
+    desk: &Desk<L>,
+    sizes: Sizes,
+    works: bool,
+) -> Option<(NotRun, bool, u32)>
+    requires { L.all ≡ L.parts }
+{
+    let seat = asked(rt, desk)?;
+    let call = Counted { count: 0, works };
+    let (call, ended) = run_pool_of(rt, alloc, desk, sizes, &Open, call);
+    let is_closed = desk.next_ready(rt).is_none();
+    desk.leave(rt, seat);
+    Some((ended.err()?, is_closed, call.count))
+}
+
+/// How many segments are free at the end.
+fn free_at<L: Hands>(desk: Desk<L>, badge: Badge<L>) -> usize
+    requires { L.all ≡ L.parts }
+{
+    let (hall, _whole) = desk.into_hall(badge);
+    hall.core().free_segments()
+}
+
+/// Why a pool of these sizes doesn't run at a desk where a job was asked, and what there is then.
+fn found_at<L: Hands + Send + Sync, R: Threads + Wait + Sync>(
+    rt: &R,
+    alloc: Global,
+    blank: Blank,
+    sizes: Sizes,
+    works: bool,
+) -> Option<Found>
+    requires name { blank.name ≡ L.name }
+    requires parts { (blank.parts ≡ L.parts) × (L.all ≡ L.parts) × (L.all ≡ 13835058055282163712) }
+{
+    let desk: Desk<L> = Desk::new(hall_of(alloc)?, blank);
+    let (not_run, is_closed, said) = not_run(rt, alloc, &desk, sizes, works)?;
+    let badge = desk.badge(rt)?;
+    Some(Found {
+        not_run,
+        is_closed,
+        free: free_at(desk, badge),
+        said,
+    })
+}
+
+/// The same with a blank of its own.
+fn tried<R: Threads + Wait + Sync>(
+    rt: &R,
+    alloc: Global,
+    sizes: Sizes,
+    works: bool,
+) -> Option<Found> {
+    found_at::<Brand, R>(rt, alloc, Blank::new(PARTS), sizes, works)
+}
+
+/// That it was for this, after so many threads had ended, and was tried to be said so often: the desk is closed, and all
+/// is back.
+fn because(fault: BeginFault, ended: usize, said: u32) -> Option<Found> {
+    Some(Found {
+        not_run: NotRun { fault, ended },
+        is_closed: true,
+        free: 64,
+        said,
+    })
+}
+
+/// Each growth of a pool's start that can't be had: that of the deques, of the room for ends that come
+/// back, and of the room for threads. The desk is closed, the fault is 1, no thread was started, and nothing is said.
+#[test]
+fn no_memory(rt: HostRuntime) {
+    let mut deques = four();
+    deques.room = usize::MAX;
+    let mut ends = four();
+    ends.more_ends = usize::MAX;
+    let mut threads = four();
+    threads.more_threads = usize::MAX;
+    let wanted = because(BeginFault::Pool(PoolFault::OutOfMemory), 0, 0);
+    for (sizes, growth) in [(deques, "deques"), (ends, "ends"), (threads, "threads")] {
+        assert_eq!(rt; tried(&rt, rt.alloc(), sizes, true), wanted, "{growth}");
+    }
+    assert_eq!(rt; PoolFault::OutOfMemory.number(), 1);
+}
+
+/// The first, the second or the last of four threads has the greatest stack, which can't be had: the
+/// desk is closed, the fault is 2, those that were started have ended, nothing is left, and nothing is said.
+#[test]
+fn no_thread(rt: HostRuntime) {
+    for (from, ended) in [(1u8, 0usize), (2, 1), (4, 3)] {
+        let sizes = Sizes {
+            stack: Some((from, usize::MAX)),
+            ..four()
+        };
+        let wanted = because(BeginFault::Pool(PoolFault::NoThread), ended, 0);
+        assert_eq!(rt;
+            tried(&rt, rt.alloc(), sizes, true),
+            wanted,
+            "worker {from}"
+        );
+    }
+    assert_eq!(rt; PoolFault::NoThread.number(), 2);
+}
+
+/// All four were started and it can't be said that they were: it was tried once, the desk is closed, and the four end.
+#[test]
+fn a_beginning_that_cannot_be_said(rt: HostRuntime) {
+    let wanted = because(BeginFault::Unsaid, 4, 1);
+    assert_eq!(rt; tried(&rt, rt.alloc(), four(), false), wanted);
+}
