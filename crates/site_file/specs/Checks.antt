@@ -1,5 +1,5 @@
 -- Meaning: what no plan that is accepted says.
-use Rattle.std.specs.Prelude.{ℕ, ◌+◌, ◌==◌, Bool, true, false, not, ◌&&◌, ◌||◌, nat_le, List, [], ◌∷◌, Option, Some, None, string_bytes, if◌then◌else◌}
+use Rattle.std.specs.Prelude.{ℕ, ◌+◌, ◌==◌, Bool, true, false, ◌&&◌, ◌||◌, nat_le, List, [], ◌∷◌, Option, Some, None, string_bytes, if◌then◌else◌}
 use Rattle.customer_book.specs.declared.rates.Rate.{Rate}
 use Rattle.customer_book.specs.declared.site.Class.{Class}
 use Rattle.customer_book.specs.declared.site.Customer.{Customer}

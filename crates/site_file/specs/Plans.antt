@@ -1,5 +1,5 @@
 -- Meaning: what a plan says of a customer, and what it never says.
-use Rattle.std.specs.Prelude.{ℕ, ℤ, pos, negsuc, ◌==◌, Bool, true, false, not, ◌&&◌, ◌||◌, nat_le, List, [], ◌∷◌, length, slice_index_or, Option, Some, None, is_some, if◌then◌else◌}
+use Rattle.std.specs.Prelude.{ℕ, ℤ, pos, negsuc, Bool, false, not, ◌&&◌, nat_le, List, [], ◌∷◌, slice_index_or, Option, Some, None, if◌then◌else◌}
 use Rattle.customer_book.specs.declared.amount.Ask.{Ask}
 use Rattle.customer_book.specs.declared.site.Class.{Class}
 use Rattle.customer_book.specs.declared.who.Who.{Who}

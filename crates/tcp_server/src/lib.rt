@@ -41,6 +41,7 @@
 pub use steal_pool;
 pub use steal_pool::desk;
 
+mod door;
 mod faults;
 mod server;
 
