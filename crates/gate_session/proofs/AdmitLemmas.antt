@@ -32,10 +32,10 @@ module _ {S T V B : Type 0} (gives : S → ReadAnswer → S → Type 0) (takes :
       Dealt-then deals books names mid names books' names (Dealt-one deals _ _ _ _ _ a refl) (Dealt-one deals _ _ _ _ _ b refl)
   opened-deals who session ask books servers text books' servers' _ names new (NoWelcome mid opened class place a b _ c) =
       Dealt-then deals books names mid names books' names (Dealt-one deals _ _ _ _ _ a refl)
-        (Dealt-then deals mid names opened (names ++ (who, session) ∷ []) books' names (Dealt-one deals _ _ _ _ _ b refl) (Dealt-one deals _ _ _ _ _ c new))
+      (Dealt-then deals mid names opened (names ++ (who, session) ∷ []) books' names (Dealt-one deals _ _ _ _ _ b refl) (Dealt-one deals _ _ _ _ _ c new))
   opened-deals who session ask books servers text books' servers' _ names new (Admits mid class grant server same a b _) =
       Dealt-then deals books names mid names books' _ (Dealt-one deals _ _ _ _ _ a refl)
-        (Dealt-one deals _ _ _ _ _ b (sym (ap (λ w. names ++ (w, grant.session) ∷ []) same.0 ∙ ap (λ n. names ++ (who, n) ∷ []) same.1)))
+      (Dealt-one deals _ _ _ _ _ b (sym (ap (λ w. names ++ (w, grant.session) ∷ []) same.0 ∙ ap (λ n. names ++ (who, n) ∷ []) same.1)))
 
   -- the same beside one session of the same customer, of another number
   pub beside-deals : (who0 : Who) (session0 : ℕ) (who : Who) (session other : ℕ) (ask : Ask) (books : B) (servers : V) (text : List ℕ) (books' : B) (servers' : V) (r : Option (Seat × Peer S T)) → who ≡ who0 → session ≡ session0 → (other == session) ≡ false → Opened gives takes dials parts deals who other ask books servers text books' servers' r → Dealt deals books ((who0, session0) ∷ []) books' (names_with ((who0, session0) ∷ []) r)
@@ -50,5 +50,5 @@ module _ {S T V B : Type 0} (gives : S → ReadAnswer → S → Type 0) (takes :
       let whose = subst (λ w. deals books' (Booked (Closes w closed.session) None) books'') i d in
       let same = subst (λ n. deals books' (Booked (Closes who0 n) None) books'') j whose in
       Dealt-then deals books ((who0, session0) ∷ []) books' ((who0, session0) ∷ names_at seat) books'' (names_at seat)
-        (beside-deals who0 session0 who session other ask books servers text books' servers' (Some (seat, next)) e f h x)
-        (Dealt-one deals books' _ books'' ((who0, session0) ∷ names_at seat) (names_at seat) same (without-first who0 session0 (names_at seat)))
+      (beside-deals who0 session0 who session other ask books servers text books' servers' (Some (seat, next)) e f h x)
+      (Dealt-one deals books' _ books'' ((who0, session0) ∷ names_at seat) (names_at seat) same (without-first who0 session0 (names_at seat)))

@@ -88,8 +88,8 @@ module _ {B : Type 0} (deals : B → Deal → B → Type 0) where
     turns-keep from (turn ∷ turns) to l =
         let a = l.1.answered in
         Keeps-then from.2 l.0.2 to.2
-          (Keeps-then from.2 a.judging l.0.2 (judged-keeps from.2 turn.line turn.verdict a.judging a.judged) (replied-keeps (deed_for turn.verdict turn.line) from.1 a.judging turn.told l.0.1 l.0.2 a.replied))
-          (turns-keep l.0 turns to l.2)
+        (Keeps-then from.2 a.judging l.0.2 (judged-keeps from.2 turn.line turn.verdict a.judging a.judged) (replied-keeps (deed_for turn.verdict turn.line) from.1 a.judging turn.told l.0.1 l.0.2 a.replied))
+        (turns-keep l.0 turns to l.2)
 
     ending-keeps : (r : Result RelayEnd RelayFault) (line : LineText) (from to : Peer C K × Peer S T × Seated B) → IsRelayEnd reads tells gives takes (λ (s : Seated B) line verdict t. Judged deals s line verdict t) (λ (s : Seated B) answer t. Heard s answer t) r line from to → Keeps from.2 to.2
     ending-keeps (Ok by_line) line from to e = judged-keeps from.2 line e.1.0 to.2 e.1.1

@@ -66,15 +66,7 @@ pub(crate) fn note_text<B: Books>(books: &B, text: &RelayText) {
 }
 
 /// Answers a client's lines until a server has welcomed its session; Err where the session ended before.
-pub(crate) fn enter<
-    C: Source,
-    K: Sink,
-    S: Source,
-    T: Sink,
-    B: Books,
-    V: Servers<S, T>,
-    R: Wait,
->(
+pub(crate) fn enter<C: Source, K: Sink, S: Source, T: Sink, B: Books, V: Servers<S, T>, R: Wait>(
     rt: &R,
     client: &mut Peer<C, K>,
     books: &mut B,

@@ -84,15 +84,7 @@ fn leave_by_bye<K: Sink, S: Source, T: Sink, B: Books, V: Servers<S, T>>(
 }
 
 /// Serves a session that has its seat, to its end.
-fn serve_seated<
-    C: Source,
-    K: Sink,
-    S: Source,
-    T: Sink,
-    B: Books,
-    V: Servers<S, T>,
-    R: Wait,
->(
+fn serve_seated<C: Source, K: Sink, S: Source, T: Sink, B: Books, V: Servers<S, T>, R: Wait>(
     rt: &R,
     client: &mut Peer<C, K>,
     entered: Seated<B>,
@@ -123,15 +115,7 @@ fn serve_seated<
 }
 
 /// Tells the client that its session is welcome, and serves it to its end.
-fn serve_entered<
-    C: Source,
-    K: Sink,
-    S: Source,
-    T: Sink,
-    B: Books,
-    V: Servers<S, T>,
-    R: Wait,
->(
+fn serve_entered<C: Source, K: Sink, S: Source, T: Sink, B: Books, V: Servers<S, T>, R: Wait>(
     rt: &R,
     client: &mut Peer<C, K>,
     seated: Seated<B>,
@@ -151,15 +135,7 @@ fn serve_entered<
 
 /// Serves one session of a client, from its first line to its last. `session` is the number of its grant; the number beside
 /// it (that of the same half) is used while it moves.
-pub fn serve_session<
-    C: Source,
-    K: Sink,
-    S: Source,
-    T: Sink,
-    B: Books,
-    V: Servers<S, T>,
-    R: Wait,
->(
+pub fn serve_session<C: Source, K: Sink, S: Source, T: Sink, B: Books, V: Servers<S, T>, R: Wait>(
     rt: &R,
     client: &mut Peer<C, K>,
     books: B,
@@ -171,7 +147,9 @@ pub fn serve_session<
     let mut books = books;
     let mut line = LineCutter::new();
     let mut text: RelayText = ArrayVec::new();
-    match enter(rt, client, &mut books, servers, session, &mut line, &mut text) {
+    match enter(
+        rt, client, &mut books, servers, session, &mut line, &mut text,
+    ) {
         Err(end) => (books, end),
         Ok(Entered { seat, server }) => {
             let seated = Seated { books, seat };

@@ -170,11 +170,13 @@ fn is_served<R: Wait>(
         sent: Vec::new(alloc),
     };
     let (books, found) = serve_session(rt, &mut client, book(alloc)?, &mut servers, 0);
-    Ok(found == end
-        && client.sink.writer.as_slice() == told
-        && servers.sent.as_slice() == sent
-        && books.book.sessions() == 0
-        && books.book.used(Part::At(0)) == Amount::NOTHING)
+    Ok(
+        found == end
+            && client.sink.writer.as_slice() == told
+            && servers.sent.as_slice() == sent
+            && books.book.sessions() == 0
+            && books.book.used(Part::At(0)) == Amount::NOTHING,
+    )
 }
 
 #[test]

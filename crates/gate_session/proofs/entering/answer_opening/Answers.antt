@@ -10,5 +10,5 @@ returns-in_default-who g c = Dealt-one g.B.Books.deals _ _ _ _ _ c.in_default-wh
 pub returns : goal.returns
 returns g c =
     Dealt-then g.B.Books.deals c.args.books.now [] c.who.new.self [] c.admit.new.books (names_with [] c.admit.result)
-      (Dealt-one g.B.Books.deals _ _ _ _ _ c.in-Some.ensures refl)
-      (opened-deals g.S.Source.gives g.T.Sink.takes g.V.Servers.dials g.V.Servers.parts g.B.Books.deals c.in-Some.who c.args.session _ _ _ _ _ _ c.admit.result [] (without-first c.in-Some.who c.args.session []) c.admit.ensures)
+    (Dealt-one g.B.Books.deals _ _ _ _ _ c.in-Some.ensures refl)
+    (opened-deals g.S.Source.gives g.T.Sink.takes g.V.Servers.dials g.V.Servers.parts g.B.Books.deals c.in-Some.who c.args.session _ _ _ _ _ _ c.admit.result [] (without-first c.in-Some.who c.args.session []) c.admit.ensures)

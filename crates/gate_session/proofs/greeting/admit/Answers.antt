@@ -15,7 +15,7 @@ pub returns-in-Some-greet : goal.returns-in-Some-greet
 returns-in-Some-greet g c =
     let greeted = subst (λ place. Greets g.S.Source.gives g.T.Sink.takes g.V.Servers.dials g.V.Servers.parts place c.args.ask c.args.servers.now c.greet.new.text.items c.greet.new.servers (Some c.in-Some-greet.server)) c.server.ensures c.in-Some-greet.ensures in
     subst (λ s. Opened g.S.Source.gives g.T.Sink.takes g.V.Servers.dials g.V.Servers.parts g.B.Books.deals c.args.who c.args.session c.args.ask c.args.books.now c.args.servers.now c.greet.new.text.items c.open.new.self c.greet.new.servers (Some (s, c.in-Some-greet.server))) (sym c.new.ensures)
-      (Admits c.class_for.new.self c.in-Some.class c.in-Ok.grant c.in-Some-greet.server c.in-Ok.ensures.grant c.in-Some.ensures c.in-Ok.ensures.deal greeted)
+    (Admits c.class_for.new.self c.in-Some.class c.in-Ok.grant c.in-Some-greet.server c.in-Ok.ensures.grant c.in-Some.ensures c.in-Ok.ensures.deal greeted)
 
 pub returns-in-None : goal.returns-in-None
 returns-in-None g c =

@@ -16,11 +16,12 @@ returns-in-Refused g c =
 pub loop-tried-preserved : goal.loop-tried-preserved
 loop-tried-preserved g c =
     let tries = c.loop-tried.invariant.0 in
-    let many : length (tries ++ c.loop-tried.tried ∷ []) ≡ c.loop-tried.tried + 1 = omega (arith, length-append tries (c.loop-tried.tried ∷ []), c.loop-tried.invariant.2) in
-    (tries ++ c.loop-tried.tried ∷ [],
-     Leads-more (Again g.S.Source.gives g.T.Sink.takes g.V.Servers.dials g.V.Servers.parts c.args.place c.args.ask) c.args.servers.now tries c.loop-tried.servers c.loop-tried.tried c.try_once.new.servers c.loop-tried.invariant.1 (trial-again g.S.Source.gives g.T.Sink.takes g.V.Servers.dials g.V.Servers.parts _ _ _ _ _ _ c.in-Unheard.ensures),
-     many,
-     omega (arith, c.loop-tried-test.true))
+    let many : length (tries ++ c.loop-tried.tried ∷ []) ≡ c.loop-tried.tried + 1 = omega (arith, length-append tries (c.loop-tried.tried ∷ []), c.loop-tried.invariant.2) in (
+      tries ++ c.loop-tried.tried ∷ [],
+      Leads-more (Again g.S.Source.gives g.T.Sink.takes g.V.Servers.dials g.V.Servers.parts c.args.place c.args.ask) c.args.servers.now tries c.loop-tried.servers c.loop-tried.tried c.try_once.new.servers c.loop-tried.invariant.1 (trial-again g.S.Source.gives g.T.Sink.takes g.V.Servers.dials g.V.Servers.parts _ _ _ _ _ _ c.in-Unheard.ensures),
+      many,
+      omega (arith, c.loop-tried-test.true),
+    )
 
 pub returns : goal.returns
 returns g c =
