@@ -296,9 +296,12 @@ def try_reread(wanted):
         later = [told("127.6.0.1", proxy.port, *QUICK) for _ in range(3)]
         check([number for _, number in later] == [0, 0, 14] and all_there(), f"{later}")
         proxy.file.write_text(stage.replaced(right, [("sessions = 8, segments = 8192, nodes = 79992", "sessions = 3, segments = 3072, nodes = 29997")]))
-        proxy.read_again()  # less than it has: its sessions go on, and it gets no more until fewer are there
+        if proxy.gate:  # its ten sessions and all that the guests may have would be more than there are places: later again
+            check("place" in proxy.read_again(is_fit=False) and all_there(), "a file for which there are no places yet is taken")
         for session, _ in later[:2]:
             session.close()
+        stage.until("two have ended", lambda: ("school", "quick", 8) in [row[:3] for row in proxy.held()], 10)
+        proxy.read_again()  # less than it has: its sessions go on, and it gets no more until fewer are there
         check(all_there(), "a session was lost")
         for session in school[:5]:
             session.close()
