@@ -274,7 +274,7 @@ class Proxy:
         with self.log.open("a") as log:
             self.process = subprocess.Popen(["haproxy", "-db", "-f", str(path)], stdout=log, stderr=log)
         for port in (self.metrics, self.inner):
-            until("HAProxy and the gate listen", lambda: self.is_over() or is_there(port))
+            until("HAProxy and the gate listen", lambda: self.is_over() or is_there(port) and os.path.exists(self.control))
         if self.is_over():
             fail(f"HAProxy or the gate ended:\n{self.log.read_text()}")
         return self
@@ -343,7 +343,9 @@ class Proxy:
         before = onward(self.ports)
         session = From(address, "127.0.0.1", self.port, *reserve, **more)
         if self.gate:
-            new = {port: place for port, place in onward(self.ports).items() if port not in before}
+            new, end = {}, time.monotonic() + 2
+            while len(new) != 1 and time.monotonic() < end:  # (a supervisor's questions are connections too, for a moment)
+                new = {port: place for port, place in onward(self.ports).items() if port not in before}
             check(len(new) == 1, f"a session is {len(new)} connections to servers")
             self.places[source_of(session)] = next(iter(new))
         return session

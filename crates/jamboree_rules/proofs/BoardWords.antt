@@ -68,8 +68,7 @@ words-hold b len =
 
 not-both : (c : Cell) (x y : ℕ) → x ≡ cond (is_own_cell c) 1 0 → y ≡ cond (is_opp_cell c) 1 0 → min x y ≡ 0
 not-both Empty x y ex ey = omega arith
-not-both Own x y ex ey = omega arith
-not-both Opp x y ex ey = omega arith
+not-both _ x y ex ey = omega arith
 
 none-both : (b : List Cell) (s : ℕ) → min (bit_at (own_word b) s) (bit_at (opp_word b) s) ≡ 0
 none-both b s =

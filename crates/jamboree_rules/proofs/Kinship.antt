@@ -148,64 +148,6 @@ whole-set f c children x role fits root = set_length f.statuses c.number x ∙ f
 abbrev pub taken_in : (f c : Frame) (phase : ℕ) (best : ℤ) (choice status : ℕ) → Frame
 taken_in f c phase best choice status = record f { phase = phase; best = best; choice = choice; statuses = slice_set f.statuses c.number status; rests = slice_set f.rests c.number (found_rest c) }
 
--- it fits where its choices are still searched and the other children keep their roles
-Fits-searched : (f c : Frame) (before behind : List Frame) (phase : ℕ) (best : ℤ) (choice status : ℕ) → Fits f (before ++ c ∷ behind) Neither → IsTrueRest (found_rest c) (value_at f c.number) → phase ≡ 3 →
-    IsSearching (value_at f) (code_at f) (slice_set f.statuses c.number status) (slice_set f.rests c.number (found_rest c)) f.alpha f.beta best choice →
-    ((d : Frame) → d.number ≢ c.number → IsInRole f d → IsInRole (taken_in f c phase best choice status) d) →
-    Fits (taken_in f c phase best choice status) (before ++ behind) Neither
-Fits-searched f c before behind phase best choice status fits holds late search roles =
-    let kin : IsChildOf f c = child-of f c before behind fits.kin in
-    let s : IsSearchingFrame f = fits.searching (in-search f c kin.in_role) in
-    Fits-taken f (taken_in f c phase best choice status) c before behind fits (record {
-      own = refl;
-      phase = late;
-      window = fits.window;
-      searching = record {
-        places = set_length f.statuses c.number status ∙ s.places;
-        some = rw (set_length f.statuses c.number status) s.some;
-        deep = s.deep;
-        spawned_in = rw (set_length f.statuses c.number status) s.spawned_in;
-        unspawned = unspawned-set f.statuses c.number status f.spawned (begun f c kin.in_role) s.unspawned;
-        search = search;
-      };
-      table = tabled-set (value_at f) f.statuses f.rests c.number status (found_rest c) kin.inside holds (λ _. found-said c) fits.table;
-      whole = whole-set f c (before ++ c ∷ behind) status kin.in_role fits;
-      step = λ d other dkin. record {
-        inside = rw (set_length f.statuses c.number status) dkin.inside;
-        shallower = dkin.shallower;
-        known = dkin.known;
-        in_role = roles d other dkin.in_role;
-      };
-    })
-
--- inlet case 4: a test above its window's lower end, below beta
-pub inlet-failed : (f c : Frame) (before behind : List Frame) → Fits f (before ++ c ∷ behind) Neither → IsTrueRest (found_rest c) (value_at f c.number) → IsTest f c →
-    Fits (taken_in f c f.phase f.best f.choice 3) (before ++ behind) Neither
-inlet-failed f c before behind fits holds test =
-    let kin : IsChildOf f c = child-of f c before behind fits.kin in
-    let s : IsSearchingFrame f = fits.searching (inr test.phase) in
-    let open_ : slice_index f.statuses c.number ≢ 2 = unsettled f c kin.in_role in
-    Fits-searched f c before behind f.phase f.best f.choice 3 fits holds test.phase
-    (IsSearching-mark (value_at f) (code_at f) f.statuses f.rests f.alpha f.beta f.best f.choice c.number 3 (found_rest c) kin.inside open_ (λ e. absurd (omega (arith, e))) s.search)
-    (λ d other. role-kept-mark f d c.number 3 (found_rest c) kin.inside other open_)
-
--- what a returned child's score says, of any role
-pub scored : (f c : Frame) (before behind : List Frame) → Fits f (before ++ c ∷ behind) Neither → Fits c [] HasReturned → IsChildOf f c → (value_at f c.number ≡ neg_ℤ (value c)) × IsBound c.alpha c.beta c.best (value c)
-scored f c before behind fits returned kin =
-    let phase : c.phase ≡ 4 = returned.marked in
-    (worth_of f c kin (λ (e : c.phase ≡ 0). absurd (omega arith)), (returned.done phase).bound)
-
--- inlet cases 2 and 3 with a score that is at most the greater of alpha and best, and an upper bound of the choice's value
-pub inlet-low : (f c : Frame) (before behind : List Frame) → Fits f (before ++ c ∷ behind) Neither →
-    neg_ℤ c.best ≤ℤ floor f → value_at f c.number ≤ℤ neg_ℤ c.best → IsTrueRest (found_rest c) (value_at f c.number) → f.phase ≡ 3 →
-    Fits (taken_in f c 3 (int_max f.best (neg_ℤ c.best)) f.choice 2) (before ++ behind) Neither
-inlet-low f c before behind fits low worth holds phase =
-    let kin : IsChildOf f c = child-of f c before behind fits.kin in
-    let s : IsSearchingFrame f = fits.searching (inr phase) in
-    Fits-searched f c before behind 3 (int_max f.best (neg_ℤ c.best)) f.choice 2 fits holds refl
-    (IsSearching-low (value_at f) (code_at f) f.statuses f.rests f.alpha f.beta f.best (neg_ℤ c.best) f.choice c.number (found_rest c) fits.window kin.inside (unsettled f c kin.in_role) low worth s.search)
-    (λ d other. role-kept-settle f d c.number f.choice (found_rest c) (int_max f.best (neg_ℤ c.best)) kin.inside other phase (omega (arith, ints, clamps)) (λ _. omega (arith, ints, clamps)))
-
 -- two searches again are of one choice
 pub one-again : (f c d : Frame) → IsAgain f c → IsAgain f d → d.number ≢ c.number → ⊥
 one-again f c d r q other =
@@ -216,52 +158,109 @@ one-again f c d r q other =
     let apart : (d.number ≡ c.number) → ⊥ = other in
     grind (arith, ints, above, under, apart)
 
--- inlet case 2 of a search again, with a better score
-pub inlet-higher : (f c : Frame) (before behind : List Frame) → Fits f (before ++ c ∷ behind) Neither → IsAgain f c →
-    floor f <ℤ neg_ℤ c.best → neg_ℤ c.best <ℤ f.beta → value_at f c.number ≡ neg_ℤ c.best → IsTrueRest (found_rest c) (value_at f c.number) → IsOfKind (found_rest c) Exact →
-    Fits (taken_in f c 3 (int_max f.best (neg_ℤ c.best)) (code_at f c.number) 2) (before ++ behind) Neither
-inlet-higher f c before behind fits again high under worth holds exact =
-    let kin : IsChildOf f c = child-of f c before behind fits.kin in
-    let s : IsSearchingFrame f = fits.searching (inr again.phase) in
-    Fits-searched f c before behind 3 (int_max f.best (neg_ℤ c.best)) (code_at f c.number) 2 fits holds refl
-    (IsSearching-higher (value_at f) (code_at f) f.statuses f.rests f.alpha f.beta f.best (neg_ℤ c.best) f.choice c.number (found_rest c) kin.inside fits.table.places exact high under worth again.earlier s.search)
-    (λ d other. role-kept-settle f d c.number (code_at f c.number) (found_rest c) (int_max f.best (neg_ℤ c.best)) kin.inside other again.phase (omega (arith, ints, clamps)) (λ r. absurd (one-again f c d again r other)))
-
--- inlet case 1: the frame is done, and has no child
-pub inlet-cut : (f c : Frame) (before behind : List Frame) (m : ℤ) (g : IsGreatest (value_at f) (length f.statuses) (value f)) → Fits f (before ++ c ∷ behind) Neither →
-    f.beta ≤ℤ neg_ℤ c.best → neg_ℤ c.best ≤ℤ value_at f c.number → IsTrueRest (found_rest c) (value_at f c.number) →
-    Fits (taken_in f c 4 (neg_ℤ c.best) (code_at f c.number) 2) [] Neither
-inlet-cut f c before behind m g fits high under holds =
-    let kin : IsChildOf f c = child-of f c before behind fits.kin in
-    record {
-      window = fits.window;
-      marked = λ (e : 4 ≡ 1). absurd (omega arith);
-      idle = λ _ _. refl;
-      searching = ⊎_elim (λ (e : 4 ≡ 2). absurd (omega arith)) (λ (e : 4 ≡ 3). absurd (omega arith));
-      done = λ _. record {
-        bound = cut (value_at f) (length f.statuses) f.alpha f.beta (neg_ℤ c.best) (value f) c.number kin.inside fits.window high under g;
-        named = λ _ (low : neg_ℤ c.best <ℤ f.beta). absurd (omega (arith, ints));
-        all = λ (low : neg_ℤ c.best <ℤ f.beta). absurd (omega (arith, ints));
-        found = λ _ (low : neg_ℤ c.best <ℤ f.beta). absurd (omega (arith, ints));
-      };
-      table = tabled-set (value_at f) f.statuses f.rests c.number 2 (found_rest c) kin.inside holds (λ _. found-said c) fits.table;
-      whole = λ root _. whole-set f c (before ++ c ∷ behind) 2 kin.in_role fits root;
-      kin = tt;
-      once = λ i. omega arith;
-    }
-
 -- in phase 2 the first child is the only one
 pub first-alone : {P : Type 0} (f c d : Frame) → IsFirst f c → IsInRole f d → d.number ≢ c.number → P
 first-alone f c d first (First r) other = absurd (other (r.number ∙ sym first.number))
 first-alone f c d first (Test r) other = absurd (omega (arith, first.phase, r.phase))
 first-alone f c d first (Again r) other = absurd (omega (arith, first.phase, r.phase))
 
--- inlet case 2 of the first child: below beta
-pub inlet-first : (f c : Frame) (before behind : List Frame) (choice : ℕ) → Fits f (before ++ c ∷ behind) Neither → IsFirst f c → IsTrueRest (found_rest c) (value_at f c.number) →
-    IsSearching (value_at f) (code_at f) (slice_set f.statuses c.number 2) (slice_set f.rests c.number (found_rest c)) f.alpha f.beta (int_max f.best (neg_ℤ c.best)) choice →
-    Fits (taken_in f c 3 (int_max f.best (neg_ℤ c.best)) choice 2) (before ++ behind) Neither
-inlet-first f c before behind choice fits first holds search =
-    Fits-searched f c before behind 3 (int_max f.best (neg_ℤ c.best)) choice 2 fits holds refl search (λ d other role. first-alone f c d first role other)
+-- what the inlet of a child leaves
+module _ (f c : Frame) (before behind : List Frame) (fits : Fits f (before ++ c ∷ behind) Neither) where
+  kin : IsChildOf f c
+  kin = child-of f c before behind fits.kin
+
+  -- it fits where its choices are still searched and the other children keep their roles
+  Fits-searched : (phase : ℕ) (best : ℤ) (choice status : ℕ) → IsTrueRest (found_rest c) (value_at f c.number) → phase ≡ 3 →
+      IsSearching (value_at f) (code_at f) (slice_set f.statuses c.number status) (slice_set f.rests c.number (found_rest c)) f.alpha f.beta best choice →
+      ((d : Frame) → d.number ≢ c.number → IsInRole f d → IsInRole (taken_in f c phase best choice status) d) →
+      Fits (taken_in f c phase best choice status) (before ++ behind) Neither
+  Fits-searched phase best choice status holds late search roles =
+      let s : IsSearchingFrame f = fits.searching (in-search f c kin.in_role) in
+      Fits-taken f (taken_in f c phase best choice status) c before behind fits (record {
+        own = refl;
+        phase = late;
+        window = fits.window;
+        searching = record {
+          places = set_length f.statuses c.number status ∙ s.places;
+          some = rw (set_length f.statuses c.number status) s.some;
+          deep = s.deep;
+          spawned_in = rw (set_length f.statuses c.number status) s.spawned_in;
+          unspawned = unspawned-set f.statuses c.number status f.spawned (begun f c kin.in_role) s.unspawned;
+          search = search;
+        };
+        table = tabled-set (value_at f) f.statuses f.rests c.number status (found_rest c) kin.inside holds (λ _. found-said c) fits.table;
+        whole = whole-set f c (before ++ c ∷ behind) status kin.in_role fits;
+        step = λ d other dkin. record {
+          inside = rw (set_length f.statuses c.number status) dkin.inside;
+          shallower = dkin.shallower;
+          known = dkin.known;
+          in_role = roles d other dkin.in_role;
+        };
+      })
+
+  -- inlet case 4: a test above its window's lower end, below beta
+  pub inlet-failed : IsTrueRest (found_rest c) (value_at f c.number) → IsTest f c → Fits (taken_in f c f.phase f.best f.choice 3) (before ++ behind) Neither
+  inlet-failed holds test =
+      let s : IsSearchingFrame f = fits.searching (inr test.phase) in
+      let open_ : slice_index f.statuses c.number ≢ 2 = unsettled f c kin.in_role in
+      Fits-searched f.phase f.best f.choice 3 holds test.phase
+      (IsSearching-mark (value_at f) (code_at f) f.statuses f.rests f.alpha f.beta f.best f.choice c.number 3 (found_rest c) kin.inside open_ (λ e. absurd (omega (arith, e))) s.search)
+      (λ d other. role-kept-mark f d c.number 3 (found_rest c) kin.inside other open_)
+
+  -- what a returned child's score says, of any role
+  pub scored : Fits c [] HasReturned → (value_at f c.number ≡ neg_ℤ (value c)) × IsBound c.alpha c.beta c.best (value c)
+  scored returned =
+      let phase : c.phase ≡ 4 = returned.marked in
+      (worth_of f c kin (λ (e : c.phase ≡ 0). absurd (omega arith)), (returned.done phase).bound)
+
+  -- inlet cases 2 and 3 with a score that is at most the greater of alpha and best, and an upper bound of the choice's value
+  pub inlet-low :
+      neg_ℤ c.best ≤ℤ floor f → value_at f c.number ≤ℤ neg_ℤ c.best → IsTrueRest (found_rest c) (value_at f c.number) → f.phase ≡ 3 →
+      Fits (taken_in f c 3 (int_max f.best (neg_ℤ c.best)) f.choice 2) (before ++ behind) Neither
+  inlet-low low worth holds phase =
+      let s : IsSearchingFrame f = fits.searching (inr phase) in
+      Fits-searched 3 (int_max f.best (neg_ℤ c.best)) f.choice 2 holds refl
+      (IsSearching-low (value_at f) (code_at f) f.statuses f.rests f.alpha f.beta f.best (neg_ℤ c.best) f.choice c.number (found_rest c) fits.window kin.inside (unsettled f c kin.in_role) low worth s.search)
+      (λ d other. role-kept-settle f d c.number f.choice (found_rest c) (int_max f.best (neg_ℤ c.best)) kin.inside other phase (omega (arith, ints, clamps)) (λ _. omega (arith, ints, clamps)))
+
+  -- inlet case 2 of a search again, with a better score
+  pub inlet-higher : IsAgain f c →
+      floor f <ℤ neg_ℤ c.best → neg_ℤ c.best <ℤ f.beta → value_at f c.number ≡ neg_ℤ c.best → IsTrueRest (found_rest c) (value_at f c.number) → IsOfKind (found_rest c) Exact →
+      Fits (taken_in f c 3 (int_max f.best (neg_ℤ c.best)) (code_at f c.number) 2) (before ++ behind) Neither
+  inlet-higher again high under worth holds exact =
+      let s : IsSearchingFrame f = fits.searching (inr again.phase) in
+      Fits-searched 3 (int_max f.best (neg_ℤ c.best)) (code_at f c.number) 2 holds refl
+      (IsSearching-higher (value_at f) (code_at f) f.statuses f.rests f.alpha f.beta f.best (neg_ℤ c.best) f.choice c.number (found_rest c) kin.inside fits.table.places exact high under worth again.earlier s.search)
+      (λ d other. role-kept-settle f d c.number (code_at f c.number) (found_rest c) (int_max f.best (neg_ℤ c.best)) kin.inside other again.phase (omega (arith, ints, clamps)) (λ r. absurd (one-again f c d again r other)))
+
+  -- inlet case 1: the frame is done, and has no child
+  pub inlet-cut : (g : IsGreatest (value_at f) (length f.statuses) (value f)) →
+      f.beta ≤ℤ neg_ℤ c.best → neg_ℤ c.best ≤ℤ value_at f c.number → IsTrueRest (found_rest c) (value_at f c.number) →
+      Fits (taken_in f c 4 (neg_ℤ c.best) (code_at f c.number) 2) [] Neither
+  inlet-cut g high under holds =
+      record {
+        window = fits.window;
+        marked = λ (e : 4 ≡ 1). absurd (omega arith);
+        idle = λ _ _. refl;
+        searching = ⊎_elim (λ (e : 4 ≡ 2). absurd (omega arith)) (λ (e : 4 ≡ 3). absurd (omega arith));
+        done = λ _. record {
+          bound = cut (value_at f) (length f.statuses) f.alpha f.beta (neg_ℤ c.best) (value f) c.number kin.inside fits.window high under g;
+          named = λ _ (low : neg_ℤ c.best <ℤ f.beta). absurd (omega (arith, ints));
+          all = λ (low : neg_ℤ c.best <ℤ f.beta). absurd (omega (arith, ints));
+          found = λ _ (low : neg_ℤ c.best <ℤ f.beta). absurd (omega (arith, ints));
+        };
+        table = tabled-set (value_at f) f.statuses f.rests c.number 2 (found_rest c) kin.inside holds (λ _. found-said c) fits.table;
+        whole = λ root _. whole-set f c (before ++ c ∷ behind) 2 kin.in_role fits root;
+        kin = tt;
+        once = λ i. omega arith;
+      }
+
+  -- inlet case 2 of the first child: below beta
+  pub inlet-first : (choice : ℕ) → IsFirst f c → IsTrueRest (found_rest c) (value_at f c.number) →
+      IsSearching (value_at f) (code_at f) (slice_set f.statuses c.number 2) (slice_set f.rests c.number (found_rest c)) f.alpha f.beta (int_max f.best (neg_ℤ c.best)) choice →
+      Fits (taken_in f c 3 (int_max f.best (neg_ℤ c.best)) choice 2) (before ++ behind) Neither
+  inlet-first choice first holds search =
+      Fits-searched 3 (int_max f.best (neg_ℤ c.best)) choice 2 holds refl search (λ d other role. first-alone f c d first role other)
 
 -- what the windows say of a returned child's score
 pub first-low : (f c : Frame) → IsFirst f c → value_at f c.number ≡ neg_ℤ (value c) → IsBound c.alpha c.beta c.best (value c) → neg_ℤ c.best <ℤ f.beta → value_at f c.number ≤ℤ neg_ℤ c.best

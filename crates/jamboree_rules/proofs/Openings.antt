@@ -12,7 +12,7 @@ use Rattle.jamboree_rules.proofs.Searching.{set_there, set_beside, set_length}
 use Rattle.jamboree_rules.specs.Frames.{Frame, choice_at, rest_at, value_at, unscored, floor}
 use Rattle.jamboree_rules.specs.Fits.{First, Test, Again, IsSearchingFrame, IsDoneFrame, Fits}
 use Rattle.jamboree_rules.proofs.Kinship.{spawned-child}
-use Rattle.jamboree_rules.proofs.Tabling.{tabled-zeros, tabled-none, entered-deep}
+use Rattle.jamboree_rules.proofs.Tabling.{zero-at, tabled-zeros, tabled-none, entered-deep}
 
 -- a child as it is opened: role, number and window
 abbrev pub new_child : Frame → ℕ → ℕ → ℤ → ℤ → Frame
@@ -122,9 +122,6 @@ next-test f children fits phase inside =
           }),
       new-child-fits f 2 f.spawned (neg_ℤ (floor f +ℤ pos 1)) (neg_ℤ (floor f)) (omega (arith, ints, clamps)),
     )
-
-zero-at : (n k : ℕ) → slice_index (replicate n 0) k ≡ 0
-zero-at n k = grind (arith, common_steps)
 
 -- phase 0: the board is known, and there are choices
 pub next-opened : (f : Frame) (children : List Frame) (own opp : ℕ) → Fits f children Neither → f.phase ≡ 0 → negsuc 199999 ≤ℤ f.alpha → 0 < f.depth → 0 < length (choices (cells_of own opp)) →

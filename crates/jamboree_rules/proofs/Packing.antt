@@ -25,13 +25,11 @@ rest-read status rest small = ap (λ (n : ℕ). n / 8) (turned status rest 8) �
 
 kind-small : (kind : BoundKind) → kind_number kind < 4
 kind-small Low = omega arith
-kind-small High = omega arith
-kind-small Exact = omega arith
+kind-small _ = omega arith
 
 pub kind-some : (kind : BoundKind) → kind_number kind ≢ 0
 kind-some Low e = absurd (omega (arith, e))
-kind-some High e = absurd (omega (arith, e))
-kind-some Exact e = absurd (omega (arith, e))
+kind-some _ e = absurd (omega (arith, e))
 
 pub kind-read : (kind : BoundKind) (score : ℤ) → kind_in (rest_with kind score) ≡ kind_number kind
 kind-read kind score = ap (λ (n : ℕ). n % 4) (turned (kind_number kind) (word_of score) 4) ∙ mod-mul-add (word_of score) 4 (kind_number kind) (kind-small kind)

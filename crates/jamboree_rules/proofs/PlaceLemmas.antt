@@ -1,10 +1,11 @@
 -- Stores by what they set: the frame in the words after them, and the form of these words.
 use Rattle.std.specs.Prelude.{◌≡◌, ◌≢◌, ℕ, ◌+◌, ◌<◌, ◌≤◌, ◌==◌, true, ℤ, ◌≤ℤ◌, if◌then◌else◌, List, [], ◌∷◌, ◌++◌, map, drop, replicate, length, refl, slice_index, slice_set}
-use Rattle.std.proofs.Common.{zero, suc, zero-add, suc-add, sym, ◌∙◌, ap, arith}
+use Rattle.std.proofs.Common.{zero, suc, sym, ◌∙◌, ap, arith}
 use Rattle.std.proofs.lemmas.Grind.{common_steps}
-use Rattle.std.proofs.lemmas.List.{get_or-set_other, get_or-set_same, map-set}
+use Rattle.std.proofs.lemmas.List.{get_or-set_other, get_or-set_same, map-set, drop-set-lt, drop-set-add}
 use Rattle.std.proofs.lemmas.List.Recursion.{and_set}
 use Rattle.std.proofs.Math.ListN.{length-set}
+use Rattle.std.proofs.Math.Seq.{drop-append_seam}
 use Rattle.std.proofs.Math.Path.{fun_ext}
 use Rattle.sched_rules.specs.Trees.{stored}
 use Rattle.jamboree_rules.proofs.Packing.{held, status-read, rest-read, entry-passes}
@@ -34,28 +35,13 @@ frame_with g entries = record {
   rests = map entry_rest entries;
 }
 
-pub there : (w : List ℕ) (place x : ℕ) → place < length w → slice_index (slice_set w place x) place ≡ x
-there w place x inside = get_or-set_same w place x 0 inside
-
-pub beside : (w : List ℕ) (k place x : ℕ) → k ≢ place → slice_index (slice_set w place x) k ≡ slice_index w k
-beside w k place x apart = get_or-set_other w place k x 0 apart
-
 put-is : (w : List ℕ) (k x j : ℕ) → k < length w → slice_index (slice_set w k x) j ≡ put (slice_index w) k x j
-put-is w k x j inside = grind (arith, common_steps, there w k x, beside w j k x)
-
--- a store among the first places leaves what lies behind them, and one behind them is one there
-drop-front : (w : List ℕ) (n place x : ℕ) → place < n → drop n (slice_set w place x) ≡ drop n w
-drop-front w n place x h = grind (arith, common_steps)
-
-drop-behind : (w : List ℕ) (n i x : ℕ) → drop n (slice_set w (n + i) x) ≡ slice_set (drop n w) i x
-drop-behind w zero i x = ap (λ j. slice_set w j x) (zero-add i)
-drop-behind [] (suc n) i x = refl
-drop-behind (y ∷ w) (suc n) i x = rw suc-add (drop-behind w n i x)
+put-is w k x j inside = grind (arith, common_steps, get_or-set_same w k x 0, get_or-set_other w k j x 0)
 
 set-first : (w : List ℕ) (k x : ℕ) → k < 12 → 12 ≤ length w → frame_of (slice_set w k x) ≡ frame_with (put (slice_index w) k x) (drop 12 w)
 set-first w k x early long =
     let words : slice_index (slice_set w k x) ≡ put (slice_index w) k x = fun_ext (λ j. put-is w k x j (omega arith)) in
-    let entries : drop 12 (slice_set w k x) ≡ drop 12 w = drop-front w 12 k x early in
+    let entries : drop 12 (slice_set w k x) ≡ drop 12 w = drop-set-lt 12 w k x early in
     ap (λ (g : ℕ → ℕ). frame_with g (drop 12 (slice_set w k x))) words ∙ ap (λ (es : List ℕ). frame_with (put (slice_index w) k x) es) entries
 
 -- words with the same first places have the same frame but for its entries
@@ -78,8 +64,8 @@ frame-alike w v same =
 
 set-entry : (w : List ℕ) (i x : ℕ) → frame_of (slice_set w (12 + i) x) ≡ record (frame_of w) { statuses = slice_set (map status_of (drop 12 w)) i (status_of x); rests = slice_set (map entry_rest (drop 12 w)) i (entry_rest x) }
 set-entry w i x =
-    frame-alike w (slice_set w (12 + i) x) (λ j below. beside w j (12 + i) x (λ e. absurd (omega (arith, e))))
-    ∙ ap (λ (es : List ℕ). record (frame_of w) { statuses = map status_of es; rests = map entry_rest es }) (drop-behind w 12 i x)
+    frame-alike w (slice_set w (12 + i) x) (λ j below. get_or-set_other w (12 + i) j x 0 (λ e. absurd (omega (arith, e))))
+    ∙ ap (λ (es : List ℕ). record (frame_of w) { statuses = map status_of es; rests = map entry_rest es }) (drop-set-add 12 w i x)
     ∙ ap (λ (st : List ℕ). record (frame_of w) { statuses = st; rests = map entry_rest (slice_set (drop 12 w) i x) }) (map-set status_of (drop 12 w) i x)
     ∙ ap (λ (rs : List ℕ). record (frame_of w) { statuses = slice_set (map status_of (drop 12 w)) i (status_of x); rests = rs }) (map-set entry_rest (drop 12 w) i x)
 
@@ -92,14 +78,9 @@ set-both w i status rest small =
 
 -- what is stored can be read again: a score is one, and a status and a rest are
 abbrev pub IsSafe : Change → Type 0
-IsSafe (OwnBits word) = Unit {0}
-IsSafe (OppBits word) = Unit {0}
-IsSafe (Phase phase) = Unit {0}
 IsSafe (Best score) = least ≤ℤ score
-IsSafe (Chosen code) = Unit {0}
-IsSafe (Count count) = Unit {0}
-IsSafe (Spawned count) = Unit {0}
 IsSafe (Status i status rest) = (status ≤ 4) × (is_rest rest ≡ true)
+IsSafe _ = Unit {0}
 
 abbrev pub AreSafe : List Change → Type 0
 AreSafe [] = Unit {0}
@@ -134,7 +115,7 @@ frame-stored (change ∷ changes) w safe long =
 
 -- entries stay entries
 entries-front : (w : List ℕ) (k x : ℕ) → k < 12 → are_entries (drop 12 w) ≡ true → are_entries (drop 12 (slice_set w k x)) ≡ true
-entries-front w k x early h = ap are_entries (drop-front w 12 k x early) ∙ h
+entries-front w k x early h = ap are_entries (drop-set-lt 12 w k x early) ∙ h
 
 entries-one : (change : Change) (w : List ℕ) → IsSafe change → are_entries (drop 12 w) ≡ true → are_entries (drop 12 (slice_set w (pair_of change).0 (pair_of change).1)) ≡ true
 entries-one (OwnBits word) w safe h = entries-front w 0 word (omega arith) h
@@ -145,7 +126,7 @@ entries-one (Chosen code) w safe h = entries-front w 9 code (omega arith) h
 entries-one (Count count) w safe h = entries-front w 10 count (omega arith) h
 entries-one (Spawned count) w safe h = entries-front w 11 count (omega arith) h
 entries-one (Status i status rest) w safe h =
-    ap are_entries (drop-behind w 12 i (entry_of status rest))
+    ap are_entries (drop-set-add 12 w i (entry_of status rest))
     ∙ and_set are_entries is_entry refl (λ entry entries. refl) (drop 12 w) i (entry_of status rest) (entry-passes status rest safe.0 safe.1) h
 
 pub entries-stored : (changes : List Change) (w : List ℕ) → AreSafe changes → are_entries (drop 12 w) ≡ true → are_entries (drop 12 (stored (pairs_of changes) w)) ≡ true
@@ -157,12 +138,8 @@ entries-stored (change ∷ changes) w safe h =
 first-grown : (w zeros : List ℕ) (j : ℕ) → 12 ≤ length w → j < 12 → slice_index (w ++ zeros) j ≡ slice_index w j
 first-grown w zeros j long below = let inside : j < length w = omega arith in grind (arith, common_steps)
 
-drop-own : (w zeros : List ℕ) → drop (length w) (w ++ zeros) ≡ zeros
-drop-own [] zeros = refl
-drop-own (x ∷ w) zeros = drop-own w zeros
-
 pub drop-grown : (w zeros : List ℕ) → length w ≡ 12 → drop 12 (w ++ zeros) ≡ zeros
-drop-grown w zeros len = ap (λ (n : ℕ). drop n (w ++ zeros)) (sym len) ∙ drop-own w zeros
+drop-grown w zeros len = ap (λ (n : ℕ). drop n (w ++ zeros)) (sym len) ∙ drop-append_seam w zeros
 
 statuses-zeros : (n : ℕ) → map status_of (replicate n 0) ≡ replicate n 0
 statuses-zeros zero = refl

@@ -28,10 +28,8 @@ use Rattle.jamboree_rules.proofs.Steps.{status-count}
 -- a kind is that of its number
 numbered : (n : ℕ) → n ≢ 0 → n < 4 → n ≡ kind_number (kind_numbered n)
 numbered zero some few = absurd (some refl)
-numbered (suc zero) some few = refl
-numbered (suc (suc zero)) some few = refl
-numbered (suc (suc (suc zero))) some few = refl
 numbered (suc (suc (suc (suc n)))) some few = absurd (omega arith)
+numbered _ some few = refl
 
 few-kinds : (rest : ℕ) → kind_in rest < 4
 few-kinds rest = omega arith

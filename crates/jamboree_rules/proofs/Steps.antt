@@ -67,14 +67,8 @@ good-by own children o p act g is good formed fits child goal own_is opp_is know
 
 -- stores at places that are there
 abbrev pub IsInside : ℕ → Change → Type 0
-IsInside n (OwnBits word) = Unit {0}
-IsInside n (OppBits word) = Unit {0}
-IsInside n (Phase phase) = Unit {0}
-IsInside n (Best score) = Unit {0}
-IsInside n (Chosen code) = Unit {0}
-IsInside n (Count count) = Unit {0}
-IsInside n (Spawned count) = Unit {0}
 IsInside n (Status i status rest) = i < n
+IsInside n _ = Unit {0}
 
 abbrev pub AreInside : ℕ → List Change → Type 0
 AreInside n [] = Unit {0}
@@ -82,13 +76,7 @@ AreInside n (change ∷ changes) = IsInside n change × AreInside n changes
 
 inside-place : (n : ℕ) (change : Change) → IsInside n change → (pair_of change).0 < 12 + n
 inside-place n (OwnBits word) h = omega arith
-inside-place n (OppBits word) h = omega arith
-inside-place n (Phase phase) h = omega arith
-inside-place n (Best score) h = omega arith
-inside-place n (Chosen code) h = omega arith
-inside-place n (Count count) h = omega arith
-inside-place n (Spawned count) h = omega arith
-inside-place n (Status i status rest) h = omega arith
+inside-place n _ h = omega arith
 
 neither : (a b : Bool) → a ≡ false → b ≡ false → (a || b) ≡ false
 neither a b ea eb = rw (ea, eb) refl

@@ -19,10 +19,10 @@ use Rattle.jamboree_rules.specs.Fits.{IsTabled}
 use Rattle.jamboree_rules.proofs.Packing.{kind-some, kind-read, score-read, same-kind, rest-passes}
 use Rattle.jamboree_rules.proofs.Searching.{set_there, set_beside, set_length}
 
-le-told : (x y : ℤ) → true ≡ int_le x y → x ≤ℤ y
+pub le-told : (x y : ℤ) → true ≡ int_le x y → x ≤ℤ y
 le-told x y e = grind (arith, ints)
 
-not-le-told : (x y : ℤ) → false ≡ int_le x y → y <ℤ x
+pub not-le-told : (x y : ℤ) → false ≡ int_le x y → y <ℤ x
 not-le-told x y e = grind (arith, ints)
 
 -- the kind of a child's score is right, seen from the parent
@@ -95,7 +95,7 @@ tabled-set v st rests i x rest inside holds said t = record {
 pub tabled-kept : (v : ℕ → ℤ) (st rests : List ℕ) (i x : ℕ) → i < length st → x ≢ 2 → IsTabled v st rests → IsTabled v (slice_set st i x) (slice_set rests i (slice_index rests i))
 tabled-kept v st rests i x inside other t = tabled-set v st rests i x (slice_index rests i) inside (t.holds i) (λ two. absurd (other two)) t
 
-zero-at : (n k : ℕ) → slice_index (replicate n 0) k ≡ 0
+pub zero-at : (n k : ℕ) → slice_index (replicate n 0) k ≡ 0
 zero-at n k = grind (arith, common_steps)
 
 -- before anything is found

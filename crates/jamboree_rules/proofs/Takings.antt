@@ -9,10 +9,11 @@ use Rattle.jamboree_rules.specs.Frames.{Frame, code_at, value_at, value, floor, 
 use Rattle.jamboree_rules.specs.Places.{frame_of, Change, pairs_of}
 use Rattle.jamboree_rules.specs.Acts.{seen, found_rest, changes_by, changes_of}
 use Rattle.leaf_search.specs.othello_eval.declared.bound.BoundKind.TheVariants.{Exact}
+use Rattle.leaf_search.specs.Bounds.{IsBound}
 use Rattle.jamboree_rules.specs.Entries.{IsOfKind, IsTrueRest}
 use Rattle.jamboree_rules.specs.Fits.{IsFirst, IsTest, IsAgain, IsInRole, First, Test, Again, IsChildOf, IsSearchingFrame, Fits}
 use Rattle.jamboree_rules.proofs.Searching.{IsSearching-low, IsSearching-higher}
-use Rattle.jamboree_rules.proofs.Tabling.{found-true, found-exact, found-passes}
+use Rattle.jamboree_rules.proofs.Tabling.{le-told, not-le-told, found-true, found-exact, found-passes}
 use Rattle.jamboree_rules.proofs.Kinship.{taken_in, child-of, in-search, unsettled, scored, inlet-failed, inlet-low, inlet-higher, inlet-first, inlet-cut, first-low, first-exact, again-low, again-exact, test-low, over-beta}
 use Rattle.jamboree_rules.proofs.Codes.{code-small}
 use Rattle.jamboree_rules.proofs.PlaceLemmas.{AreSafe, changed_by, frame-stored}
@@ -36,12 +37,6 @@ frames_left true fs = []
 frames_left false fs = fs
 
 -- what the tests tell
-le-told : (x y : ℤ) → true ≡ int_le x y → x ≤ℤ y
-le-told x y e = grind (arith, ints)
-
-not-le-told : (x y : ℤ) → false ≡ int_le x y → y <ℤ x
-not-le-told x y e = grind (arith, ints)
-
 lt-told : (x y : ℤ) → true ≡ int_lt x y → x <ℤ y
 lt-told x y e = grind (arith, ints)
 
@@ -71,50 +66,6 @@ again-kind f c r under over =
     let low : c.alpha ≡ neg_ℤ f.beta = r.low in
     let high : c.beta ≡ neg_ℤ (floor f) = r.high in
     found-exact c (omega (arith, ints)) (omega (arith, ints))
-
--- each case keeps that the frame fits
-fits-by : (cuts test low higher : Bool) (f c : Frame) (before behind : List Frame) → cuts ≡ int_le f.beta (seen c) → test ≡ (c.role == 2) → low ≡ int_le (seen c) (neg_ℤ c.beta) → higher ≡ int_lt (floor f) (seen c) →
-    Fits f (before ++ c ∷ behind) Neither → Fits c [] HasReturned → IsTrueRest (found_rest c) (value_at f c.number) → Fits (frame_by cuts test low higher f c) (frames_left cuts (before ++ behind)) Neither
-fits-by true test low higher f c before behind ec et el eh fits returned holds =
-    let kin : IsChildOf f c = child-of f c before behind fits.kin in
-    let s : IsSearchingFrame f = fits.searching (in-search f c kin.in_role) in
-    let worth = scored f c before behind fits returned kin in
-    let over : f.beta ≤ℤ seen c = le-told f.beta (seen c) ec in
-    inlet-cut f c before behind (value f) (greatest-of f s) fits over (over-beta f c fits.window s.search.below kin.in_role worth.0 worth.1 over) holds
-fits-by false true true higher f c before behind ec et el eh fits returned holds =
-    let kin : IsChildOf f c = child-of f c before behind fits.kin in
-    let r : IsTest f c = test-told f c et kin.in_role in
-    let worth = scored f c before behind fits returned kin in
-    let under : seen c ≤ℤ neg_ℤ c.beta = le-told (seen c) (neg_ℤ c.beta) el in
-    let most : neg_ℤ c.beta ≤ℤ floor f = r.most in
-    subst (λ (p : ℕ). Fits (taken_in f c p (int_max f.best (seen c)) f.choice 2) (before ++ behind) Neither) (sym r.phase)
-    (inlet-low f c before behind fits (omega (arith, ints)) (test-low f c worth.0 worth.1 under) holds r.phase)
-fits-by false true false higher f c before behind ec et el eh fits returned holds =
-    let kin : IsChildOf f c = child-of f c before behind fits.kin in
-    inlet-failed f c before behind fits holds (test-told f c et kin.in_role)
-fits-by false false low true f c before behind ec et el eh fits returned holds =
-    let kin : IsChildOf f c = child-of f c before behind fits.kin in
-    let s : IsSearchingFrame f = fits.searching (in-search f c kin.in_role) in
-    let worth = scored f c before behind fits returned kin in
-    let under : seen c <ℤ f.beta = not-le-told f.beta (seen c) ec in
-    let over : floor f <ℤ seen c = lt-told (floor f) (seen c) eh in
-    ⊎_elim
-    (λ (r : IsFirst f c). inlet-first f c before behind (code_at f c.number) fits r holds
-    (IsSearching-higher (value_at f) (code_at f) f.statuses f.rests f.alpha f.beta f.best (seen c) f.choice c.number (found_rest c) kin.inside fits.table.places (first-kind f c r under over) over under
-    (first-exact f c r worth.0 worth.1 under over) (λ k below. absurd (omega (arith, r.number, below))) s.search))
-    (λ (r : IsAgain f c). inlet-higher f c before behind fits r over under (again-exact f c r worth.0 worth.1 under over) holds (again-kind f c r under over))
-    (other-told f c et kin.in_role)
-fits-by false false low false f c before behind ec et el eh fits returned holds =
-    let kin : IsChildOf f c = child-of f c before behind fits.kin in
-    let s : IsSearchingFrame f = fits.searching (in-search f c kin.in_role) in
-    let worth = scored f c before behind fits returned kin in
-    let under : seen c <ℤ f.beta = not-le-told f.beta (seen c) ec in
-    let small : seen c ≤ℤ floor f = not-lt-told (floor f) (seen c) eh in
-    ⊎_elim
-    (λ (r : IsFirst f c). inlet-first f c before behind f.choice fits r holds
-    (IsSearching-low (value_at f) (code_at f) f.statuses f.rests f.alpha f.beta f.best (seen c) f.choice c.number (found_rest c) fits.window kin.inside (unsettled f c kin.in_role) small (first-low f c r worth.0 worth.1 under) s.search))
-    (λ (r : IsAgain f c). inlet-low f c before behind fits small (again-low f c r worth.0 worth.1 small) holds r.phase)
-    (other-told f c et kin.in_role)
 
 -- a score from -INF to INF
 pub record IsRanged (f : Frame) : Type 0 where
@@ -228,16 +179,57 @@ inlet-good own c form child kin done =
     taken-good own c (changes_of f c) (frame_after f c) form
     (taken-by (int_le f.beta (seen c)) (c.role == 2) (int_le (seen c) (neg_ℤ c.beta)) (int_lt (floor f) (seen c)) f c form.frame phase inside (ranged f form.frame (searching-late f phase)) (ranged c child (omega arith)))
 
--- what it says of the child's choice is true
-inlet-true : (f c : Frame) (before behind : List Frame) → Fits f (before ++ c ∷ behind) Neither → Fits c [] HasReturned → IsFrame c → IsTrueRest (found_rest c) (value_at f c.number)
-inlet-true f c before behind fits returned form =
-    let late : 1 < c.phase = omega (arith, returned.marked) in
-    let r : IsRanged c = ranged c form late in
-    let high : c.best ≤ℤ greatest = r.high in
-    let worth = scored f c before behind fits returned (child-of f c before behind fits.kin) in
-    found-true c (value_at f c.number) (omega (arith, ints)) worth.1 worth.0
+-- a child that has returned is taken in
+module _ (f c : Frame) (before behind : List Frame) (fits : Fits f (before ++ c ∷ behind) Neither) (returned : Fits c [] HasReturned) where
+  own_child : IsChildOf f c
+  own_child = child-of f c before behind fits.kin
 
--- and it leaves the frame fitting
-pub inlet-fits : (f c : Frame) (before behind : List Frame) → Fits f (before ++ c ∷ behind) Neither → Fits c [] HasReturned → IsFrame c → Fits (frame_after f c) (frames_left (int_le f.beta (seen c)) (before ++ behind)) Neither
-inlet-fits f c before behind fits returned form =
-    fits-by (int_le f.beta (seen c)) (c.role == 2) (int_le (seen c) (neg_ℤ c.beta)) (int_lt (floor f) (seen c)) f c before behind refl refl refl refl fits returned (inlet-true f c before behind fits returned form)
+  searching : IsSearchingFrame f
+  searching = fits.searching (in-search f c own_child.in_role)
+
+  worth : (value_at f c.number ≡ neg_ℤ (value c)) × IsBound c.alpha c.beta c.best (value c)
+  worth = scored f c before behind fits returned
+
+  -- each case keeps that the frame fits
+  fits-by : (cuts test low higher : Bool) → cuts ≡ int_le f.beta (seen c) → test ≡ (c.role == 2) → low ≡ int_le (seen c) (neg_ℤ c.beta) → higher ≡ int_lt (floor f) (seen c) →
+      IsTrueRest (found_rest c) (value_at f c.number) → Fits (frame_by cuts test low higher f c) (frames_left cuts (before ++ behind)) Neither
+  fits-by true test low higher ec et el eh holds =
+      let over : f.beta ≤ℤ seen c = le-told f.beta (seen c) ec in
+      inlet-cut f c before behind fits (greatest-of f searching) over (over-beta f c fits.window searching.search.below own_child.in_role worth.0 worth.1 over) holds
+  fits-by false true true higher ec et el eh holds =
+      let r : IsTest f c = test-told f c et own_child.in_role in
+      let under : seen c ≤ℤ neg_ℤ c.beta = le-told (seen c) (neg_ℤ c.beta) el in
+      let most : neg_ℤ c.beta ≤ℤ floor f = r.most in
+      subst (λ (p : ℕ). Fits (taken_in f c p (int_max f.best (seen c)) f.choice 2) (before ++ behind) Neither) (sym r.phase)
+      (inlet-low f c before behind fits (omega (arith, ints)) (test-low f c worth.0 worth.1 under) holds r.phase)
+  fits-by false true false higher ec et el eh holds = inlet-failed f c before behind fits holds (test-told f c et own_child.in_role)
+  fits-by false false low true ec et el eh holds =
+      let under : seen c <ℤ f.beta = not-le-told f.beta (seen c) ec in
+      let over : floor f <ℤ seen c = lt-told (floor f) (seen c) eh in
+      ⊎_elim
+      (λ (r : IsFirst f c). inlet-first f c before behind fits (code_at f c.number) r holds
+      (IsSearching-higher (value_at f) (code_at f) f.statuses f.rests f.alpha f.beta f.best (seen c) f.choice c.number (found_rest c) own_child.inside fits.table.places (first-kind f c r under over) over under
+      (first-exact f c r worth.0 worth.1 under over) (λ k below. absurd (omega (arith, r.number, below))) searching.search))
+      (λ (r : IsAgain f c). inlet-higher f c before behind fits r over under (again-exact f c r worth.0 worth.1 under over) holds (again-kind f c r under over))
+      (other-told f c et own_child.in_role)
+  fits-by false false low false ec et el eh holds =
+      let under : seen c <ℤ f.beta = not-le-told f.beta (seen c) ec in
+      let small : seen c ≤ℤ floor f = not-lt-told (floor f) (seen c) eh in
+      ⊎_elim
+      (λ (r : IsFirst f c). inlet-first f c before behind fits f.choice r holds
+      (IsSearching-low (value_at f) (code_at f) f.statuses f.rests f.alpha f.beta f.best (seen c) f.choice c.number (found_rest c) fits.window own_child.inside (unsettled f c own_child.in_role) small (first-low f c r worth.0 worth.1 under) searching.search))
+      (λ (r : IsAgain f c). inlet-low f c before behind fits small (again-low f c r worth.0 worth.1 small) holds r.phase)
+      (other-told f c et own_child.in_role)
+
+  -- what it says of the child's choice is true
+  inlet-true : IsFrame c → IsTrueRest (found_rest c) (value_at f c.number)
+  inlet-true form =
+      let late : 1 < c.phase = omega (arith, returned.marked) in
+      let r : IsRanged c = ranged c form late in
+      let high : c.best ≤ℤ greatest = r.high in
+      found-true c (value_at f c.number) (omega (arith, ints)) worth.1 worth.0
+
+  -- and it leaves the frame fitting
+  pub inlet-fits : IsFrame c → Fits (frame_after f c) (frames_left (int_le f.beta (seen c)) (before ++ behind)) Neither
+  inlet-fits form =
+      fits-by (int_le f.beta (seen c)) (c.role == 2) (int_le (seen c) (neg_ℤ c.beta)) (int_lt (floor f) (seen c)) refl refl refl refl (inlet-true form)

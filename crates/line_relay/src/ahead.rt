@@ -1,5 +1,5 @@
 //! Bytes that were read and not used yet.
-ghost use Rattle.std.specs.Prelude.{◌≡◌, []};
+ghost use Rattle.std.specs.Prelude.{◌≡◌, ◌≤◌, [], length};
 ghost use Rattle.line_relay.specs.Takes.{ByteRead, Popped, Filled};
 
 use line_io::{ReadFailed, Source};
@@ -35,6 +35,20 @@ impl ReadAhead {
             block: [0; BLOCK_BYTES],
             from: 0,
             to: 0,
+        }
+    }
+
+    /// These bytes, of which there are 4,096 at most: those of a first block that were not used by its reader.
+    pub fn of(bytes: &[u8]) -> ReadAhead
+        requires { length bytes.now ≤ 4096 }
+        ensures { result ≡ bytes.now }
+    {
+        let mut block = [0; BLOCK_BYTES];
+        block[..bytes.len()].copy_from_slice(bytes);
+        ReadAhead {
+            block,
+            from: 0,
+            to: bytes.len(),
         }
     }
 
@@ -96,6 +110,20 @@ impl<S, K> Peer<S, K> {
             source,
             sink,
             ahead: ReadAhead::new(),
+        }
+    }
+
+    /// A side of which these bytes were read, 4,096 at most, and not used yet.
+    pub fn with_bytes(source: S, sink: K, bytes: &[u8]) -> Peer<S, K>
+        requires { length bytes.now ≤ 4096 }
+        ensures source { result.source ≡ source }
+        ensures sink { result.sink ≡ sink }
+        ensures ahead { result.ahead ≡ bytes.now }
+    {
+        Peer {
+            source,
+            sink,
+            ahead: ReadAhead::of(bytes),
         }
     }
 }

@@ -5,7 +5,7 @@ use Rattle.tenant_quota.specs.Quota.{Quota}
 use Rattle.sched_rules.specs.declared.refusal.Refusal.{Refusal}
 use Rattle.sched_rules.specs.declared.refusal.Refusal.TheVariants.{Busy, Full, NoTenant}
 use Rattle.sched_rules.specs.declared.step.StepOf.{StepOf}
-use Rattle.sched_rules.specs.declared.step.StepOf.TheVariants.{Admit, AdmitMore, Submit, Take, Steal, Advance, Answer, Inlet, Finish, Spend, Cancel, Leave}
+use Rattle.sched_rules.specs.declared.step.StepOf.TheVariants.{Admit, AdmitMore}
 use Rattle.sched_rules.specs.declared.step.DidOf.{DidOf}
 use Rattle.sched_rules.specs.declared.step.DidOf.TheVariants.{Admitted}
 use Rattle.sched_rules.specs.Functions.{Functions}
@@ -49,17 +49,7 @@ lone-shaped {I} functions None (Admit number quota) outcome is s =
     let both : ◌≡◌ {A = Result (Outcome I) Refusal} (Ok (Some (admitted_with quota), Admitted)) (Ok outcome) = is in
     let e : ◌≡◌ {A = Outcome I} (Some (admitted_with quota), Admitted) outcome = cc in
     came LeftShaped (Some (admitted_with quota), Admitted) outcome e (admitted-shaped quota)
-lone-shaped functions None (AdmitMore number quota) outcome is s = refused NoTenant outcome is
-lone-shaped functions None (Submit number words size) outcome is s = refused NoTenant outcome is
-lone-shaped functions None (Take worker name) outcome is s = refused NoTenant outcome is
-lone-shaped functions None (Steal worker from name) outcome is s = refused NoTenant outcome is
-lone-shaped functions None (Advance worker name) outcome is s = refused NoTenant outcome is
-lone-shaped functions None (Answer worker name answer) outcome is s = refused NoTenant outcome is
-lone-shaped functions None (Inlet worker name) outcome is s = refused NoTenant outcome is
-lone-shaped functions None (Finish worker name) outcome is s = refused NoTenant outcome is
-lone-shaped functions None (Spend name) outcome is s = refused NoTenant outcome is
-lone-shaped functions None (Cancel number job) outcome is s = refused NoTenant outcome is
-lone-shaped functions None (Leave number) outcome is s = refused NoTenant outcome is
+lone-shaped functions None _ outcome is s = refused NoTenant outcome is
 
 -- a step among several tenants
 pub not-busy : {I : Type 0} (busy : Bool) (alone : Result (Outcome I) Refusal) (outcome : Outcome I) → unless_busy busy alone ≡ Ok outcome → alone ≡ Ok outcome
@@ -98,16 +88,7 @@ judged-shaped {I} functions before (Admit number quota) outcome is all =
     let p = unless-passed (admit_tests before number quota) effect outcome is in came LeftShaped effect outcome p.1 (admitted-shaped quota)
 judged-shaped {A = A} functions before (AdmitMore number quota) outcome is all =
     lone-shaped {A = A} functions (tenant_in before.tenants number) (AdmitMore number quota) outcome (more-taken {A = A} functions before number quota outcome is).1 (own-shaped number before.tenants all)
-judged-shaped functions before (Submit number words size) outcome is all = among-shaped functions before (Submit number words size) outcome is all
-judged-shaped functions before (Take worker name) outcome is all = among-shaped functions before (Take worker name) outcome is all
-judged-shaped functions before (Steal worker from name) outcome is all = among-shaped functions before (Steal worker from name) outcome is all
-judged-shaped functions before (Advance worker name) outcome is all = among-shaped functions before (Advance worker name) outcome is all
-judged-shaped functions before (Answer worker name answer) outcome is all = among-shaped functions before (Answer worker name answer) outcome is all
-judged-shaped functions before (Inlet worker name) outcome is all = among-shaped functions before (Inlet worker name) outcome is all
-judged-shaped functions before (Finish worker name) outcome is all = among-shaped functions before (Finish worker name) outcome is all
-judged-shaped functions before (Spend name) outcome is all = among-shaped functions before (Spend name) outcome is all
-judged-shaped functions before (Cancel number job) outcome is all = among-shaped functions before (Cancel number job) outcome is all
-judged-shaped functions before (Leave number) outcome is all = among-shaped functions before (Leave number) outcome is all
+judged-shaped functions before step outcome is all = among-shaped functions before step outcome is all
 
 after-shaped : {I A : Type 0} (functions : Functions I A) (before : Shared) (step : StepOf A) (came_to : Result (Outcome I) Refusal) → judged functions before step ≡ came_to → AreShaped before.tenants → AreShaped (shared_after before step came_to).tenants
 after-shaped functions before step (Err refusal) is all = all

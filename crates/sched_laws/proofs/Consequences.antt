@@ -9,7 +9,7 @@ use Rattle.frame_tree.specs.declared.names.State.TheVariants.{Computing, Returne
 use Rattle.frame_tree.specs.Frames.{Frame, frame_at, path_in, root_of, children_of}
 use Rattle.frame_tree.proofs.TreeValues.{root-there}
 use Rattle.sched_rules.specs.declared.job.Job.{Job}
-use Rattle.sched_rules.specs.declared.job.Job.TheVariants.{Live, Done, Spent, Cancelled}
+use Rattle.sched_rules.specs.declared.job.Job.TheVariants.{Live}
 use Rattle.sched_rules.specs.Trees.{Tree, Tenant, account_in, charged_for, is_root, job_at, is_live_at, number_from, job_under}
 use Rattle.sched_rules.specs.Laws.{mark_of}
 use Rattle.sched_laws.specs.Shapes.{IsShaped, live_count, AreRootsLive, IsRootThere, AreLiveRootsThere, HaveWords}
@@ -36,9 +36,7 @@ live-root tenant number root shape is = job-there tenant.frames tenant.jobs numb
 -- the job that lives under a root is found
 is-live : (root : ℕ) (job : Job) → is_live_at root job ≡ true → job ≡ Live root
 is-live root (Live s) is = ap Live (eqb-true s root is)
-is-live root (Done words) is = absurd (false≢true is)
-is-live root Spent is = absurd (false≢true is)
-is-live root Cancelled is = absurd (false≢true is)
+is-live root _ is = absurd (false≢true is)
 
 number-above : (first root : ℕ) (jobs : List Job) → 1 ≤ live_count root jobs → first ≤ number_from first root jobs
 number-above first root [] some = absurd (omega (arith, some))

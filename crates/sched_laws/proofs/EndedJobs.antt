@@ -5,9 +5,9 @@ use Rattle.frame_tree.specs.declared.names.FrameId.{FrameId}
 use Rattle.frame_tree.specs.Frames.{frame_at, root_of}
 use Rattle.sched_rules.specs.declared.act.InletAct.{InletAct}
 use Rattle.sched_rules.specs.declared.act.Then.{Then}
-use Rattle.sched_rules.specs.declared.act.Then.TheVariants.{Grow, Spawn, Go, Wait, Compute, Return}
+use Rattle.sched_rules.specs.declared.act.Then.TheVariants.{Wait, Return}
 use Rattle.sched_rules.specs.declared.job.Job.{Job}
-use Rattle.sched_rules.specs.declared.job.Job.TheVariants.{Live, Done, Spent as SpentJob, Cancelled as CancelledJob}
+use Rattle.sched_rules.specs.declared.job.Job.TheVariants.{Live, Cancelled as CancelledJob}
 use Rattle.sched_rules.specs.declared.step.StepOf.{StepOf}
 use Rattle.sched_rules.specs.Functions.{Functions}
 use Rattle.sched_rules.specs.Trees.{Tenant, words_in, has_child, job_at, is_live_at, with_ended}
@@ -26,9 +26,7 @@ at-append (x ∷ xs) more number job at = elim (cases_Bool (eqb number 1)) [
 -- nor does one that ends
 not-live : (root : ℕ) (job : Job) → HasEnded job → is_live_at root job ≡ false
 not-live root (Live s) has = absurd has
-not-live root (Done words) has = refl
-not-live root SpentJob has = refl
-not-live root CancelledJob has = refl
+not-live root _ has = refl
 
 at-ended : (root : ℕ) (end : Job) (jobs : List Job) (number : ℕ) (job : Job) → HasEnded job → job_at jobs number ≡ Some job → job_at (with_ended root end jobs) number ≡ Some job
 at-ended root end [] number job has at = absurd cc
@@ -39,12 +37,9 @@ at-ended root end (x ∷ xs) number job has at = elim (cases_Bool (eqb number 1)
 ]
 
 then-ended : {I A : Type 0} (functions : Functions I A) (t : Tenant) (worker : ℕ) (name : FrameId) (path words : List ℕ) (after : Then) → KeepsEnded t.jobs (then_done functions t worker name path words after).0
-then-ended functions t worker name path words (Grow more) = λ number job has at. at
-then-ended functions t worker name path words (Spawn given size) = λ number job has at. at
-then-ended functions t worker name path words Go = λ number job has at. at
 then-ended functions t worker name path words Wait = elim (cases_Bool (has_child t.frames name.serial)) [ inl some ↦ rw some (λ number job has at. at) | inr none ↦ rw none (λ number job has at. at) ]
-then-ended functions t worker name path words Compute = λ number job has at. at
 then-ended functions t worker name path words Return = elim (cases_Bool (has_child t.frames name.serial)) [ inl some ↦ rw some (λ number job has at. at) | inr none ↦ rw none (λ number job has at. at) ]
+then-ended functions t worker name path words _ = λ number job has at. at
 
 inlet-ended : (I : Type 0) (tenant : Tenant) (worker : ℕ) (name : FrameId) (parent : ℕ) (act : InletAct) → KeepsEnded tenant.jobs (taken_in {I = I} tenant worker name parent act).0
 inlet-ended I tenant worker name parent act =

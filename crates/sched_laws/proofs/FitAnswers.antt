@@ -1,5 +1,5 @@
 -- Every answer leaves a core fitting, and so does every list of them.
-use Rattle.std.proofs.Common.{◌≡◌, ◌≢◌, ℕ, ◌<◌, ◌≤◌, ◌⊎◌, inl, inr, true, false, ◌||◌, eqb, List, [], ◌∷◌, ◌++◌, Option, Some, None, Result, Ok, Err, refl, ap, sym, ◌∙◌, subst, arith, append_assoc, append-nil}
+use Rattle.std.proofs.Common.{◌≡◌, ◌≢◌, ℕ, ◌<◌, ◌≤◌, ◌⊎◌, inl, inr, true, false, eqb, List, [], ◌∷◌, ◌++◌, Option, Some, None, Result, Ok, Err, refl, ap, sym, ◌∙◌, subst, arith, append_assoc, append-nil}
 use Rattle.std.specs.Prelude.{is_ok}
 use Rattle.std.proofs.lemmas.Bool.{cases_Bool, cases_eq, false≢true, eq-eqb, ne_eqb}
 use Rattle.tenant_quota.specs.Quota.{Quota}
@@ -7,7 +7,7 @@ use Rattle.frame_tree.specs.Frames.{root_of}
 use Rattle.sched_rules.specs.declared.job.Job.TheVariants.{Spent as SpentJob, Cancelled as CancelledJob}
 use Rattle.sched_rules.specs.declared.refusal.Refusal.{Refusal}
 use Rattle.sched_rules.specs.declared.step.StepOf.{StepOf}
-use Rattle.sched_rules.specs.declared.step.StepOf.TheVariants.{Admit, AdmitMore, Submit, Take, Steal, Advance, Answer, Inlet, Finish, Spend, Cancel, Leave}
+use Rattle.sched_rules.specs.declared.step.StepOf.TheVariants.{Admit, AdmitMore, Submit}
 use Rattle.sched_rules.specs.declared.step.DidOf.{DidOf}
 use Rattle.sched_rules.specs.declared.step.DidOf.TheVariants.{Admitted}
 use Rattle.sched_rules.specs.Functions.{Functions}
@@ -33,57 +33,6 @@ use Rattle.sched_laws.proofs.FitRuns.{taken-fits, advanced-fits, answered-fits, 
 -- a step that submits nothing adds no origin
 same-origins : (fits : Fitting) (rooted : Rooting) (origins : Lists) (o : Option Tenant) → LeftFits fits rooted origins o → LeftFits fits rooted (origins ++ []) o
 same-origins fits rooted origins o left = let P : Lists → Type 0 = λ os. LeftFits fits rooted os o in subst P (sym (append-nil origins)) left
-
--- every step but Submit
-own-fits : {I A : Type 0} (functions : Functions I A) (fits : Fitting) (rooted : Rooting) (origins : Lists) (tenant : Tenant) (step : StepOf A) (outcome : Outcome I) → IsLawful functions fits rooted → IsShaped tenant → TenantFits fits rooted origins tenant →
-    submits step ≡ [] → lone_step functions tenant step ≡ Ok outcome → LeftFits fits rooted origins outcome.0
-own-fits {I} functions fits rooted origins tenant step outcome lawful shape fitting none is = by-effects functions tenant step outcome (LeftFits fits rooted origins) is (record {
-  at_raise = λ number quota _ enough. record { frames = fitting.frames; jobs = fitting.jobs };
-  at_submit = λ number words size submit passed. (let no : words ∷ [] ≡ [] = sym (ap submits submit) ∙ none in absurd cc);
-  at_take = λ worker serial f at ready some. taken-fits I fits rooted origins tenant worker serial f shape fitting at ready;
-  at_advance = λ worker name f at passed. advanced-fits functions fits rooted origins tenant worker name f lawful shape fitting at passed;
-  at_answer = λ worker serial f answer at passed. answered-fits functions fits rooted origins tenant worker serial f answer lawful shape fitting at passed;
-  at_inlet = λ worker name f parent at named passed. inlet-fits functions fits rooted origins tenant worker name f parent lawful shape fitting at named passed;
-  at_finish = λ worker serial f at passed. finished-fits I fits rooted origins tenant worker serial f shape fitting at passed;
-  at_spend = λ serial f at. ended-fits fits rooted origins tenant (root_of f.path) SpentJob shape fitting (root-above tenant serial f shape at) (λ origin was. tt);
-  at_cancel = λ number root at. ended-fits fits rooted origins tenant root CancelledJob shape fitting (live-root tenant number root shape at) (λ origin was. tt);
-  at_leave = tt;
-})
-
--- every step
-others-fit : {I A : Type 0} (functions : Functions I A) (fits : Fitting) (rooted : Rooting) (origins : Lists) (tenant : Tenant) (step : StepOf A) (outcome : Outcome I) → IsLawful functions fits rooted → IsShaped tenant → TenantFits fits rooted origins tenant →
-    submits step ≡ [] → lone_step functions tenant step ≡ Ok outcome → LeftFits fits rooted (origins ++ submits step) outcome.0
-others-fit functions fits rooted origins tenant step outcome lawful shape fitting none is =
-    let P : Lists → Type 0 = λ os. LeftFits fits rooted (origins ++ os) outcome.0 in
-    subst P (sym none) (same-origins fits rooted origins outcome.0 (own-fits functions fits rooted origins tenant step outcome lawful shape fitting none is))
-
-pub step-fits : {I A : Type 0} (functions : Functions I A) (fits : Fitting) (rooted : Rooting) (origins : Lists) (tenant : Tenant) (step : StepOf A) (outcome : Outcome I) → IsLawful functions fits rooted → IsShaped tenant → TenantFits fits rooted origins tenant →
-    RootFits fits rooted step → lone_step functions tenant step ≡ Ok outcome → LeftFits fits rooted (origins ++ submits step) outcome.0
-step-fits {I} functions fits rooted origins tenant (Submit number words size) outcome lawful shape fitting root is =
-    let p = unless-passed (submit_tests tenant words size) (submitted {I = I} tenant number words size) outcome is in
-    came (LeftFits fits rooted (origins ++ words ∷ [])) (submitted tenant number words size) outcome p.1 (submit-fits fits rooted origins tenant words size shape fitting root.0 root.1)
-step-fits functions fits rooted origins tenant (Admit number quota) outcome lawful shape fitting root is = others-fit functions fits rooted origins tenant (Admit number quota) outcome lawful shape fitting refl is
-step-fits functions fits rooted origins tenant (AdmitMore number quota) outcome lawful shape fitting root is = others-fit functions fits rooted origins tenant (AdmitMore number quota) outcome lawful shape fitting refl is
-step-fits functions fits rooted origins tenant (Take worker name) outcome lawful shape fitting root is = others-fit functions fits rooted origins tenant (Take worker name) outcome lawful shape fitting refl is
-step-fits functions fits rooted origins tenant (Steal worker from name) outcome lawful shape fitting root is = others-fit functions fits rooted origins tenant (Steal worker from name) outcome lawful shape fitting refl is
-step-fits functions fits rooted origins tenant (Advance worker name) outcome lawful shape fitting root is = others-fit functions fits rooted origins tenant (Advance worker name) outcome lawful shape fitting refl is
-step-fits functions fits rooted origins tenant (Answer worker name answer) outcome lawful shape fitting root is = others-fit functions fits rooted origins tenant (Answer worker name answer) outcome lawful shape fitting refl is
-step-fits functions fits rooted origins tenant (Inlet worker name) outcome lawful shape fitting root is = others-fit functions fits rooted origins tenant (Inlet worker name) outcome lawful shape fitting refl is
-step-fits functions fits rooted origins tenant (Finish worker name) outcome lawful shape fitting root is = others-fit functions fits rooted origins tenant (Finish worker name) outcome lawful shape fitting refl is
-step-fits functions fits rooted origins tenant (Spend name) outcome lawful shape fitting root is = others-fit functions fits rooted origins tenant (Spend name) outcome lawful shape fitting refl is
-step-fits functions fits rooted origins tenant (Cancel number job) outcome lawful shape fitting root is = others-fit functions fits rooted origins tenant (Cancel number job) outcome lawful shape fitting refl is
-step-fits functions fits rooted origins tenant (Leave number) outcome lawful shape fitting root is = others-fit functions fits rooted origins tenant (Leave number) outcome lawful shape fitting refl is
-
--- among several tenants: a step of a tenant that is there
-among-fits : {I A : Type 0} (functions : Functions I A) (fits : Fitting) (rooted : Rooting) (origins : ℕ → Lists) (before : Shared) (step : StepOf A) (outcome : Outcome I) → IsLawful functions fits rooted → AreShaped before.tenants → CoreFits fits rooted origins before →
-    RootFits fits rooted step → tenant_in before.tenants (tenant_of step) ≢ None → lone functions (tenant_in before.tenants (tenant_of step)) step ≡ Ok outcome → LeftFits fits rooted (origins (tenant_of step) ++ submits step) outcome.0
-among-fits functions fits rooted origins before step outcome lawful shaped core root there is = by (tenant_in before.tenants (tenant_of step)) refl
-  where
-    by : (own : Option Tenant) → tenant_in before.tenants (tenant_of step) ≡ own → LeftFits fits rooted (origins (tenant_of step) ++ submits step) outcome.0
-    by None e = absurd (there e)
-    by (Some tenant) e =
-        step-fits functions fits rooted (origins (tenant_of step)) tenant step outcome lawful (shaped-in (tenant_of step) before.tenants tenant shaped e) (core.tenants (tenant_of step) tenant e) root
-        (ap (λ o. lone functions o step) (sym e) ∙ is)
 
 -- the number of an admission that was taken is above all
 admitted-above : {I A : Type 0} (functions : Functions I A) (before : Shared) (number : ℕ) (quota : Quota) (outcome : Outcome I) → judged {A = A} functions before (Admit number quota) ≡ Ok outcome → (before.newest < number) × ((Some (admitted_with quota), Admitted) ≡ outcome)
@@ -111,43 +60,7 @@ IsAdmitMore step = (number : ℕ) × (quota : Quota) × (step ≡ AdmitMore numb
 pub admission : {A : Type 0} (step : StepOf A) → is_admission step ≡ true → IsAdmit step ⊎ IsAdmitMore step
 admission (Admit number quota) is = inl (number, quota, refl)
 admission (AdmitMore number quota) is = inr (number, quota, refl)
-admission (Submit number words size) is = absurd (false≢true is)
-admission (Take worker name) is = absurd (false≢true is)
-admission (Steal worker from name) is = absurd (false≢true is)
-admission (Advance worker name) is = absurd (false≢true is)
-admission (Answer worker name answer) is = absurd (false≢true is)
-admission (Inlet worker name) is = absurd (false≢true is)
-admission (Finish worker name) is = absurd (false≢true is)
-admission (Spend name) is = absurd (false≢true is)
-admission (Cancel number job) is = absurd (false≢true is)
-admission (Leave number) is = absurd (false≢true is)
-
--- a taken step: what its tenant comes to
-admit-left : {I A : Type 0} (functions : Functions I A) (fits : Fitting) (rooted : Rooting) (origins : ℕ → Lists) (before : Shared) (number : ℕ) (quota : Quota) (outcome : Outcome I) → CoreFits fits rooted origins before →
-    judged {A = A} functions before (Admit number quota) ≡ Ok outcome → LeftFits fits rooted (origins number ++ []) outcome.0
-admit-left functions fits rooted origins before number quota outcome core is =
-    let p = admitted-above functions before number quota outcome is in
-    let none : origins number ++ [] ≡ [] = append-nil (origins number) ∙ core.unused number p.0 in
-    let P : Lists → Type 0 = λ os. LeftFits fits rooted os (Some (admitted_with quota)) in
-    came (LeftFits fits rooted (origins number ++ [])) (Some (admitted_with quota), Admitted) outcome p.1 (subst P (sym none) (record { frames = tt; jobs = tt }))
-
-more-left : {I A : Type 0} (functions : Functions I A) (fits : Fitting) (rooted : Rooting) (origins : ℕ → Lists) (before : Shared) (number : ℕ) (quota : Quota) (outcome : Outcome I) → IsLawful functions fits rooted → AreShaped before.tenants → CoreFits fits rooted origins before →
-    judged {A = A} functions before (AdmitMore number quota) ≡ Ok outcome → LeftFits fits rooted (origins number ++ []) outcome.0
-more-left {A = A} functions fits rooted origins before number quota outcome lawful shaped core is =
-    among-fits {A = A} functions fits rooted origins before (AdmitMore number quota) outcome lawful shaped core tt (taken-more-there {A = A} functions before number quota outcome is) (more-taken {A = A} functions before number quota outcome is).1
-
-taken-left : {I A : Type 0} (functions : Functions I A) (fits : Fitting) (rooted : Rooting) (origins : ℕ → Lists) (before : Shared) (step : StepOf A) (outcome : Outcome I) → IsLawful functions fits rooted → AreShaped before.tenants → CoreFits fits rooted origins before →
-    RootFits fits rooted step → judged functions before step ≡ Ok outcome → LeftFits fits rooted (origins (tenant_of step) ++ submits step) outcome.0
-taken-left {A = A} functions fits rooted origins before step outcome lawful shaped core root is = elim (cases_Bool (is_admission step)) [
-  | inr no_admission ↦ (let alone = taken-alone functions before step outcome no_admission is in
-      among-fits functions fits rooted origins before step outcome lawful shaped core root (there functions _ step outcome no_admission alone) alone)
-  | inl admits ↦ elim (admission step admits) [
-    | inl a ↦ (let P : StepOf A → Type 0 = λ st. LeftFits fits rooted (origins (tenant_of st) ++ submits st) outcome.0 in
-        subst P (sym a.2) (admit-left functions fits rooted origins before a.0 a.1 outcome core (ap (judged functions before) (sym a.2) ∙ is)))
-    | inr m ↦ (let P : StepOf A → Type 0 = λ st. LeftFits fits rooted (origins (tenant_of st) ++ submits st) outcome.0 in
-        subst P (sym m.2) (more-left functions fits rooted origins before m.0 m.1 outcome lawful shaped core (ap (judged functions before) (sym m.2) ∙ is)))
-  ]
-]
+admission _ is = absurd (false≢true is)
 
 -- the greatest number after a taken step: the step's tenant has one that is no greater, and it is no less than before
 numbers-after : {I A : Type 0} (functions : Functions I A) (before : Shared) (step : StepOf A) (outcome : Outcome I) → IsKnown before → judged functions before step ≡ Ok outcome → (tenant_of step ≤ newest_after before.newest step) × (before.newest ≤ newest_after before.newest step)
@@ -164,59 +77,12 @@ numbers-after {A = A} functions before step outcome known is = elim (cases_Bool 
   ]
 ]
 
--- a core after a taken step
-core-after : {I A : Type 0} (functions : Functions I A) (fits : Fitting) (rooted : Rooting) (origins : ℕ → Lists) (before : Shared) (step : StepOf A) (did : DidOf I) (outcome : Outcome I) → IsLawful functions fits rooted → IsKnown before → AreShaped before.tenants → CoreFits fits rooted origins before →
-    RootFits fits rooted step → judged functions before step ≡ Ok outcome → CoreFits fits rooted (origins_after origins step (Ok did)) (shared_with before step outcome.0)
-core-after functions fits rooted origins before step did outcome lawful known shaped core root is = record {
-  tenants = λ number tenant at. tenants number tenant at;
-  unused = λ number low. unused number low;
-}
-  where
-    other : (number : ℕ) → tenant_of step ≢ number → origins_after origins step (Ok did) number ≡ origins number
-    other number ne = rw (ne_eqb (tenant_of step) number ne) refl
-
-    tenants : (number : ℕ) (tenant : Tenant) → tenant_in (with_outcome (tenant_of step) outcome.0 before.tenants) number ≡ Some tenant → TenantFits fits rooted (origins_after origins step (Ok did) number) tenant
-    tenants number tenant at = elim (cases_eq (tenant_of step) number) [
-      | inl same ↦ (let own : outcome.0 ≡ Some tenant = sym (tenant_in-with_outcome (tenant_of step) outcome.0 before.tenants) ∙ ap (tenant_in (with_outcome (tenant_of step) outcome.0 before.tenants)) same ∙ at in
-          let left = taken-left functions fits rooted origins before step outcome lawful shaped core root is in
-          let P : Option Tenant → Type 0 = λ o. LeftFits fits rooted (origins (tenant_of step) ++ submits step) o in
-          let Q : ℕ → Type 0 = λ n. TenantFits fits rooted (origins n ++ submits step) tenant in
-          rw (eq-eqb (tenant_of step) number same) (subst Q same (subst P own left)))
-      | inr ne ↦ (let P : Lists → Type 0 = λ os. TenantFits fits rooted os tenant in
-          subst P (sym (other number ne)) (core.tenants number tenant (sym (tenant_in_other-with_outcome number (tenant_of step) outcome.0 before.tenants ne) ∙ at)))
-    ]
-
-    unused : (number : ℕ) → newest_after before.newest step < number → origins_after origins step (Ok did) number ≡ []
-    unused number low =
-        let numbers = numbers-after functions before step outcome known is in
-        other number (λ e. omega (arith, e, low, numbers.0)) ∙ core.unused number (omega (arith, low, numbers.1))
-
 -- whatever a step is answered
 pub known-answer : {I A : Type 0} (functions : Functions I A) (before : Shared) (step : StepOf A) (answer : Result (DidOf I) Refusal) → IsKnown before → IsAnswerTo functions before step answer → IsKnown (after_answer functions before step answer)
 known-answer functions before step (Err refusal) known right = known
 known-answer functions before step (Ok did) known right =
     let t = step-taken functions before step did known right in
     let K : Shared → Type 0 = λ after. IsKnown after in subst K (sym (shared-after-taken functions before step did t)) t.known
-
-pub answer-keeps : {I A : Type 0} (functions : Functions I A) (fits : Fitting) (rooted : Rooting) (origins : ℕ → Lists) (before : Shared) (step : StepOf A) (answer : Result (DidOf I) Refusal) → IsLawful functions fits rooted → IsKnown before → AreShaped before.tenants → CoreFits fits rooted origins before →
-    (is_ok answer ≡ true → RootFits fits rooted step) → IsAnswerTo functions before step answer → IsKnown (after_answer functions before step answer) × CoreFits fits rooted (origins_after origins step answer) (after_answer functions before step answer)
-answer-keeps functions fits rooted origins before step (Err refusal) lawful known shaped core root right = (known, core)
-answer-keeps functions fits rooted origins before step (Ok did) lawful known shaped core root right =
-    let t = step-taken functions before step did known right in
-    let is = shared-after-taken functions before step did t in
-    let P : Shared → Type 0 = λ after. CoreFits fits rooted (origins_after origins step (Ok did)) after in
-    let K : Shared → Type 0 = λ after. IsKnown after in
-    (subst K (sym is) t.known, subst P (sym is) (core-after functions fits rooted origins before step did t.outcome lawful known shaped core (root refl) t.among))
-
-pub stays-fitting : {I A : Type 0} (functions : Functions I A) (fits : Fitting) (rooted : Rooting) (origins : ℕ → Lists) (before : Shared) (steps : List (StepOf A)) (answers : List (Result (DidOf I) Refusal)) → IsLawful functions fits rooted → IsKnown before → AreShaped before.tenants → CoreFits fits rooted origins before →
-    AreAnswersTo functions before steps answers → StaysFitting functions fits rooted origins before steps answers
-stays-fitting functions fits rooted origins before [] answers lawful known shaped core right = core
-stays-fitting functions fits rooted origins before (step ∷ steps) [] lawful known shaped core right = core
-stays-fitting functions fits rooted origins before (step ∷ steps) (answer ∷ answers) lawful known shaped core right = (
-  core,
-  λ root. let next = answer-keeps functions fits rooted origins before step answer lawful known shaped core root right.0 in
-      stays-fitting functions fits rooted (origins_after origins step answer) (after_answer functions before step answer) steps answers lawful next.0 (shaped-answer functions before step answer shaped) next.1 right.1,
-)
 
 -- the origins after a list of steps
 same-core : (fits : Fitting) (rooted : Rooting) (a b : ℕ → Lists) (shared : Shared) → ((number : ℕ) → a number ≡ b number) → CoreFits fits rooted a shared → CoreFits fits rooted b shared
@@ -232,18 +98,135 @@ origins-on origins step did rest number = elim (cases_Bool (eqb (tenant_of step)
   | inr other ↦ rw other refl
 ]
 
-pub run-fits : {I A : Type 0} (functions : Functions I A) (fits : Fitting) (rooted : Rooting) (origins : ℕ → Lists) (before : Shared) (steps : List (StepOf A)) (answers : List (Result (DidOf I) Refusal)) → IsLawful functions fits rooted → IsKnown before → AreShaped before.tenants → CoreFits fits rooted origins before →
-    AreAnswersTo functions before steps answers → RootsFit fits rooted (taken steps answers) → CoreFits fits rooted (λ number. origins number ++ origins_of (only number (taken steps answers))) (after_answers functions before steps answers)
-run-fits functions fits rooted origins before [] answers lawful known shaped core right roots = same-core fits rooted origins _ before (λ number. sym (append-nil (origins number))) core
-run-fits functions fits rooted origins before (step ∷ steps) [] lawful known shaped core right roots = absurd right
-run-fits functions fits rooted origins before (step ∷ steps) (Err refusal ∷ answers) lawful known shaped core right roots =
-    run-fits functions fits rooted origins before steps answers lawful known shaped core right.1 roots
-run-fits {I} {A} functions fits rooted origins before (step ∷ steps) (Ok did ∷ answers) lawful known shaped core right roots =
-    let answer : Result (DidOf I) Refusal = Ok did in
-    let next = answer-keeps functions fits rooted origins before step answer lawful known shaped core (λ is. roots.0) right.0 in
-    same-core fits rooted _ _ (after_answers functions (after_answer functions before step answer) steps answers) (λ number. origins-on origins step did (taken steps answers) number)
-    (run-fits functions fits rooted (origins_after origins step answer) (after_answer functions before step answer) steps answers lawful next.0 (shaped-answer functions before step answer shaped) next.1 right.1 roots.1)
-
 -- from nobody
 pub nobody-fits : (fits : Fitting) (rooted : Rooting) (totals : Quota) → CoreFits fits rooted (λ number. []) (shared_by_nobody totals)
 nobody-fits fits rooted totals = record { tenants = λ number tenant at. absurd cc; unused = λ number low. refl }
+
+-- a procedure, and what it keeps of its frames and roots
+module _ {I A : Type 0} (functions : Functions I A) (fits : Fitting) (rooted : Rooting) where
+  -- every step but Submit
+  own-fits : (origins : Lists) (tenant : Tenant) (step : StepOf A) (outcome : Outcome I) → IsLawful functions fits rooted → IsShaped tenant → TenantFits fits rooted origins tenant →
+      submits step ≡ [] → lone_step functions tenant step ≡ Ok outcome → LeftFits fits rooted origins outcome.0
+  own-fits origins tenant step outcome lawful shape fitting none is = by-effects functions tenant step outcome (LeftFits fits rooted origins) is (record {
+    at_raise = λ number quota _ enough. record { frames = fitting.frames; jobs = fitting.jobs };
+    at_submit = λ number words size submit passed. (let no : words ∷ [] ≡ [] = sym (ap submits submit) ∙ none in absurd cc);
+    at_take = λ worker serial f at ready some. taken-fits I fits rooted origins tenant worker serial f shape fitting at ready;
+    at_advance = λ worker name f at passed. advanced-fits functions fits rooted origins tenant worker name f lawful shape fitting at passed;
+    at_answer = λ worker serial f answer at passed. answered-fits functions fits rooted origins tenant worker serial f answer lawful shape fitting at passed;
+    at_inlet = λ worker name f parent at named passed. inlet-fits functions fits rooted origins tenant worker name f parent lawful shape fitting at named passed;
+    at_finish = λ worker serial f at passed. finished-fits I fits rooted origins tenant worker serial f shape fitting at passed;
+    at_spend = λ serial f at. ended-fits fits rooted origins tenant (root_of f.path) SpentJob shape fitting (root-above tenant serial f shape at) (λ origin was. tt);
+    at_cancel = λ number root at. ended-fits fits rooted origins tenant root CancelledJob shape fitting (live-root tenant number root shape at) (λ origin was. tt);
+    at_leave = tt;
+  })
+
+  -- every step
+  others-fit : (origins : Lists) (tenant : Tenant) (step : StepOf A) (outcome : Outcome I) → IsLawful functions fits rooted → IsShaped tenant → TenantFits fits rooted origins tenant →
+      submits step ≡ [] → lone_step functions tenant step ≡ Ok outcome → LeftFits fits rooted (origins ++ submits step) outcome.0
+  others-fit origins tenant step outcome lawful shape fitting none is =
+      let P : Lists → Type 0 = λ os. LeftFits fits rooted (origins ++ os) outcome.0 in
+      subst P (sym none) (same-origins fits rooted origins outcome.0 (own-fits origins tenant step outcome lawful shape fitting none is))
+
+  pub step-fits : (origins : Lists) (tenant : Tenant) (step : StepOf A) (outcome : Outcome I) → IsLawful functions fits rooted → IsShaped tenant → TenantFits fits rooted origins tenant →
+      RootFits fits rooted step → lone_step functions tenant step ≡ Ok outcome → LeftFits fits rooted (origins ++ submits step) outcome.0
+  step-fits origins tenant (Submit number words size) outcome lawful shape fitting root is =
+      let p = unless-passed (submit_tests tenant words size) (submitted {I = I} tenant number words size) outcome is in
+      came (LeftFits fits rooted (origins ++ words ∷ [])) (submitted tenant number words size) outcome p.1 (submit-fits fits rooted origins tenant words size shape fitting root.0 root.1)
+  step-fits origins tenant step outcome lawful shape fitting root is = others-fit origins tenant step outcome lawful shape fitting refl is
+
+  -- among several tenants: a step of a tenant that is there
+  among-fits : (origins : ℕ → Lists) (before : Shared) (step : StepOf A) (outcome : Outcome I) → IsLawful functions fits rooted → AreShaped before.tenants → CoreFits fits rooted origins before →
+      RootFits fits rooted step → tenant_in before.tenants (tenant_of step) ≢ None → lone functions (tenant_in before.tenants (tenant_of step)) step ≡ Ok outcome → LeftFits fits rooted (origins (tenant_of step) ++ submits step) outcome.0
+  among-fits origins before step outcome lawful shaped core root there is = by (tenant_in before.tenants (tenant_of step)) refl
+    where
+      by : (own : Option Tenant) → tenant_in before.tenants (tenant_of step) ≡ own → LeftFits fits rooted (origins (tenant_of step) ++ submits step) outcome.0
+      by None e = absurd (there e)
+      by (Some tenant) e =
+          step-fits (origins (tenant_of step)) tenant step outcome lawful (shaped-in (tenant_of step) before.tenants tenant shaped e) (core.tenants (tenant_of step) tenant e) root
+          (ap (λ o. lone functions o step) (sym e) ∙ is)
+
+  -- a taken step: what its tenant comes to
+  admit-left : (origins : ℕ → Lists) (before : Shared) (number : ℕ) (quota : Quota) (outcome : Outcome I) → CoreFits fits rooted origins before →
+      judged {A = A} functions before (Admit number quota) ≡ Ok outcome → LeftFits fits rooted (origins number ++ []) outcome.0
+  admit-left origins before number quota outcome core is =
+      let p = admitted-above functions before number quota outcome is in
+      let none : origins number ++ [] ≡ [] = append-nil (origins number) ∙ core.unused number p.0 in
+      let P : Lists → Type 0 = λ os. LeftFits fits rooted os (Some (admitted_with quota)) in
+      came (LeftFits fits rooted (origins number ++ [])) (Some (admitted_with quota), Admitted) outcome p.1 (subst P (sym none) (record { frames = tt; jobs = tt }))
+
+  more-left : (origins : ℕ → Lists) (before : Shared) (number : ℕ) (quota : Quota) (outcome : Outcome I) → IsLawful functions fits rooted → AreShaped before.tenants → CoreFits fits rooted origins before →
+      judged {A = A} functions before (AdmitMore number quota) ≡ Ok outcome → LeftFits fits rooted (origins number ++ []) outcome.0
+  more-left origins before number quota outcome lawful shaped core is =
+      among-fits origins before (AdmitMore number quota) outcome lawful shaped core tt (taken-more-there {A = A} functions before number quota outcome is) (more-taken {A = A} functions before number quota outcome is).1
+
+  taken-left : (origins : ℕ → Lists) (before : Shared) (step : StepOf A) (outcome : Outcome I) → IsLawful functions fits rooted → AreShaped before.tenants → CoreFits fits rooted origins before →
+      RootFits fits rooted step → judged functions before step ≡ Ok outcome → LeftFits fits rooted (origins (tenant_of step) ++ submits step) outcome.0
+  taken-left origins before step outcome lawful shaped core root is = elim (cases_Bool (is_admission step)) [
+    | inr no_admission ↦ (let alone = taken-alone functions before step outcome no_admission is in
+        among-fits origins before step outcome lawful shaped core root (there functions _ step outcome no_admission alone) alone)
+    | inl admits ↦ elim (admission step admits) [
+      | inl a ↦ (let P : StepOf A → Type 0 = λ st. LeftFits fits rooted (origins (tenant_of st) ++ submits st) outcome.0 in
+          subst P (sym a.2) (admit-left origins before a.0 a.1 outcome core (ap (judged functions before) (sym a.2) ∙ is)))
+      | inr m ↦ (let P : StepOf A → Type 0 = λ st. LeftFits fits rooted (origins (tenant_of st) ++ submits st) outcome.0 in
+          subst P (sym m.2) (more-left origins before m.0 m.1 outcome lawful shaped core (ap (judged functions before) (sym m.2) ∙ is)))
+    ]
+  ]
+
+  -- a core after a taken step
+  core-after : (origins : ℕ → Lists) (before : Shared) (step : StepOf A) (did : DidOf I) (outcome : Outcome I) → IsLawful functions fits rooted → IsKnown before → AreShaped before.tenants → CoreFits fits rooted origins before →
+      RootFits fits rooted step → judged functions before step ≡ Ok outcome → CoreFits fits rooted (origins_after origins step (Ok did)) (shared_with before step outcome.0)
+  core-after origins before step did outcome lawful known shaped core root is = record {
+    tenants = λ number tenant at. tenants number tenant at;
+    unused = λ number low. unused number low;
+  }
+    where
+      other : (number : ℕ) → tenant_of step ≢ number → origins_after origins step (Ok did) number ≡ origins number
+      other number ne = rw (ne_eqb (tenant_of step) number ne) refl
+
+      tenants : (number : ℕ) (tenant : Tenant) → tenant_in (with_outcome (tenant_of step) outcome.0 before.tenants) number ≡ Some tenant → TenantFits fits rooted (origins_after origins step (Ok did) number) tenant
+      tenants number tenant at = elim (cases_eq (tenant_of step) number) [
+        | inl same ↦ (let own : outcome.0 ≡ Some tenant = sym (tenant_in-with_outcome (tenant_of step) outcome.0 before.tenants) ∙ ap (tenant_in (with_outcome (tenant_of step) outcome.0 before.tenants)) same ∙ at in
+            let left = taken-left origins before step outcome lawful shaped core root is in
+            let P : Option Tenant → Type 0 = λ o. LeftFits fits rooted (origins (tenant_of step) ++ submits step) o in
+            let Q : ℕ → Type 0 = λ n. TenantFits fits rooted (origins n ++ submits step) tenant in
+            rw (eq-eqb (tenant_of step) number same) (subst Q same (subst P own left)))
+        | inr ne ↦ (let P : Lists → Type 0 = λ os. TenantFits fits rooted os tenant in
+            subst P (sym (other number ne)) (core.tenants number tenant (sym (tenant_in_other-with_outcome number (tenant_of step) outcome.0 before.tenants ne) ∙ at)))
+      ]
+
+      unused : (number : ℕ) → newest_after before.newest step < number → origins_after origins step (Ok did) number ≡ []
+      unused number low =
+          let numbers = numbers-after functions before step outcome known is in
+          other number (λ e. omega (arith, e, low, numbers.0)) ∙ core.unused number (omega (arith, low, numbers.1))
+
+  pub answer-keeps : (origins : ℕ → Lists) (before : Shared) (step : StepOf A) (answer : Result (DidOf I) Refusal) → IsLawful functions fits rooted → IsKnown before → AreShaped before.tenants → CoreFits fits rooted origins before →
+      (is_ok answer ≡ true → RootFits fits rooted step) → IsAnswerTo functions before step answer → IsKnown (after_answer functions before step answer) × CoreFits fits rooted (origins_after origins step answer) (after_answer functions before step answer)
+  answer-keeps origins before step (Err refusal) lawful known shaped core root right = (known, core)
+  answer-keeps origins before step (Ok did) lawful known shaped core root right =
+      let t = step-taken functions before step did known right in
+      let is = shared-after-taken functions before step did t in
+      let P : Shared → Type 0 = λ after. CoreFits fits rooted (origins_after origins step (Ok did)) after in
+      let K : Shared → Type 0 = λ after. IsKnown after in
+      (subst K (sym is) t.known, subst P (sym is) (core-after origins before step did t.outcome lawful known shaped core (root refl) t.among))
+
+  pub stays-fitting : (origins : ℕ → Lists) (before : Shared) (steps : List (StepOf A)) (answers : List (Result (DidOf I) Refusal)) → IsLawful functions fits rooted → IsKnown before → AreShaped before.tenants → CoreFits fits rooted origins before →
+      AreAnswersTo functions before steps answers → StaysFitting functions fits rooted origins before steps answers
+  stays-fitting origins before [] answers lawful known shaped core right = core
+  stays-fitting origins before (step ∷ steps) [] lawful known shaped core right = core
+  stays-fitting origins before (step ∷ steps) (answer ∷ answers) lawful known shaped core right = (
+    core,
+    λ root. let next = answer-keeps origins before step answer lawful known shaped core root right.0 in
+        stays-fitting (origins_after origins step answer) (after_answer functions before step answer) steps answers lawful next.0 (shaped-answer functions before step answer shaped) next.1 right.1,
+  )
+
+  pub run-fits : (origins : ℕ → Lists) (before : Shared) (steps : List (StepOf A)) (answers : List (Result (DidOf I) Refusal)) → IsLawful functions fits rooted → IsKnown before → AreShaped before.tenants → CoreFits fits rooted origins before →
+      AreAnswersTo functions before steps answers → RootsFit fits rooted (taken steps answers) → CoreFits fits rooted (λ number. origins number ++ origins_of (only number (taken steps answers))) (after_answers functions before steps answers)
+  run-fits origins before [] answers lawful known shaped core right roots = same-core fits rooted origins _ before (λ number. sym (append-nil (origins number))) core
+  run-fits origins before (step ∷ steps) [] lawful known shaped core right roots = absurd right
+  run-fits origins before (step ∷ steps) (Err refusal ∷ answers) lawful known shaped core right roots =
+      run-fits origins before steps answers lawful known shaped core right.1 roots
+  run-fits origins before (step ∷ steps) (Ok did ∷ answers) lawful known shaped core right roots =
+      let answer : Result (DidOf I) Refusal = Ok did in
+      let next = answer-keeps origins before step answer lawful known shaped core (λ is. roots.0) right.0 in
+      same-core fits rooted _ _ (after_answers functions (after_answer functions before step answer) steps answers) (λ number. origins-on origins step did (taken steps answers) number)
+      (run-fits (origins_after origins step answer) (after_answer functions before step answer) steps answers lawful next.0 (shaped-answer functions before step answer shaped) next.1 right.1 roots.1)

@@ -2,7 +2,7 @@
 use Rattle.std.proofs.Common.{◌≡◌, ℕ, inl, inr, Bool, true, false, not, ◌||◌, ◌&&◌, eqb, List, [], ◌∷◌, Some, refl, ap, sym, ◌∙◌, subst}
 use Rattle.std.proofs.lemmas.Bool.{cases_Bool, false≢true, not-false, or_parts}
 use Rattle.frame_tree.specs.declared.names.State.{State}
-use Rattle.frame_tree.specs.declared.names.State.TheVariants.{Ready, Running, Computing, Waiting, Returned}
+use Rattle.frame_tree.specs.declared.names.State.TheVariants.{Ready, Running, Computing, Returned}
 use Rattle.frame_tree.specs.declared.names.FrameId.{FrameId}
 use Rattle.frame_tree.specs.Frames.{frame_at, parent_of, is_ready}
 use Rattle.frame_tree.proofs.TreeLaws.{there-found, found-serial, under-there, named-under}
@@ -26,24 +26,15 @@ use Rattle.sched_laws.proofs.FitEnds.{finish-fits, taken-in-fits, inlet-law}
 -- the marks of states that were tested
 ready-free : (state : State) → is_ready state ≡ true → mark_of state ≡ Neither
 ready-free (Ready home) is = refl
-ready-free (Running worker) is = absurd (false≢true is)
-ready-free (Computing worker) is = absurd (false≢true is)
-ready-free Waiting is = absurd (false≢true is)
-ready-free Returned is = absurd (false≢true is)
+ready-free _ is = absurd (false≢true is)
 
 pub computes-marked : (worker : ℕ) (state : State) → is_computed_by worker state ≡ true → mark_of state ≡ Computes
-computes-marked worker (Ready home) is = absurd (false≢true is)
-computes-marked worker (Running holder) is = absurd (false≢true is)
 computes-marked worker (Computing holder) is = refl
-computes-marked worker Waiting is = absurd (false≢true is)
-computes-marked worker Returned is = absurd (false≢true is)
+computes-marked worker _ is = absurd (false≢true is)
 
 pub has-returned : (state : State) → is_returned state ≡ true → mark_of state ≡ HasReturned
-has-returned (Ready home) is = absurd (false≢true is)
-has-returned (Running worker) is = absurd (false≢true is)
-has-returned (Computing worker) is = absurd (false≢true is)
-has-returned Waiting is = absurd (false≢true is)
 has-returned Returned is = refl
+has-returned _ is = absurd (false≢true is)
 
 -- Take and Steal
 pub taken-fits : (I : Type 0) (fits : Fitting) (rooted : Rooting) (origins : Lists) (tenant : Tenant) (worker s : ℕ) (f : F) → IsShaped tenant → TenantFits fits rooted origins tenant → frame_at tenant.frames s ≡ Some f → not (is_ready f.state) ≡ false →

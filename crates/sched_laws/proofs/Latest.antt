@@ -2,7 +2,7 @@
 use Rattle.std.proofs.Common.{◌≡◌, ◌≢◌, ℕ, ◌<◌, inl, inr, true, false, eqb, List, [], ◌∷◌, Option, Some, None, refl, ap, sym, ◌∙◌, subst, arith}
 use Rattle.std.proofs.lemmas.Bool.{cases_Bool, cases_eq, false≢true, true≢false, eq-eqb, ne_eqb, eqb-true}
 use Rattle.frame_tree.specs.declared.names.State.{State}
-use Rattle.frame_tree.specs.declared.names.State.TheVariants.{Ready, Running, Computing, Waiting, Returned}
+use Rattle.frame_tree.specs.declared.names.State.TheVariants.{Ready}
 use Rattle.frame_tree.specs.declared.names.FrameId.{FrameId}
 use Rattle.frame_tree.specs.Frames.{Frame, frame_at, has_frame, is_ready, ready_name, first_of_two, newest_ready_of, IsReadyAt}
 use Rattle.frame_tree.specs.TreeLaws.{AllAboveSerial, AreRising}
@@ -62,10 +62,7 @@ by-first tenant x xs rest (Ready home) is =
         | inr other ↦ absurd (true≢false (sym ready ∙ rest s f (sym (behind x xs s other) ∙ at)))
       ];
     })
-by-first tenant x xs rest (Running worker) is = not-first tenant x xs (ap is_ready is) (ap (ready_name tenant x.serial) is) rest
-by-first tenant x xs rest (Computing worker) is = not-first tenant x xs (ap is_ready is) (ap (ready_name tenant x.serial) is) rest
-by-first tenant x xs rest Waiting is = not-first tenant x xs (ap is_ready is) (ap (ready_name tenant x.serial) is) rest
-by-first tenant x xs rest Returned is = not-first tenant x xs (ap is_ready is) (ap (ready_name tenant x.serial) is) rest
+by-first tenant x xs rest _ is = not-first tenant x xs (ap is_ready is) (ap (ready_name tenant x.serial) is) rest
 
 pub newest-answers : (tenant : ℕ) (frames : Tree) → AreRising frames → Answers tenant frames (newest_ready_of tenant frames)
 newest-answers tenant [] rising = λ s f at. absurd cc

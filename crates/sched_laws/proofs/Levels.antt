@@ -144,9 +144,7 @@ jobs-append fits rooted tree (other ∷ origins) origin (next ∷ jobs) job all 
 -- the origin of a live job's root
 job-origin : (fits : Fitting) (rooted : Rooting) (tree : Tree) (origin : List ℕ) (job : Job) (root : ℕ) → is_live_at root job ≡ true → JobFits fits rooted tree origin job → rooted origin (words_in tree root)
 job-origin fits rooted tree origin (Live s) root is fitting = let P : ℕ → Type 0 = λ n. rooted origin (words_in tree n) in subst P (eqb-true s root is) fitting
-job-origin fits rooted tree origin (Done words) root is fitting = absurd (false≢true is)
-job-origin fits rooted tree origin Spent root is fitting = absurd (false≢true is)
-job-origin fits rooted tree origin Cancelled root is fitting = absurd (false≢true is)
+job-origin fits rooted tree origin _ root is fitting = absurd (false≢true is)
 
 origin-of : (fits : Fitting) (rooted : Rooting) (tree : Tree) (origins : List (List ℕ)) (jobs : List Job) (root : ℕ) → 1 ≤ live_count root jobs → JobsFit fits rooted tree origins jobs → (origin : List ℕ) × rooted origin (words_in tree root)
 origin-of fits rooted tree [] [] root some all = absurd (omega (arith, some))

@@ -6,9 +6,9 @@ use Rattle.tenant_quota.specs.Quota.{Quota}
 use Rattle.sched_rules.specs.declared.job.Job.{Job}
 use Rattle.sched_rules.specs.declared.refusal.Refusal.{Refusal}
 use Rattle.sched_rules.specs.declared.act.Then.{Then}
-use Rattle.sched_rules.specs.declared.act.Then.TheVariants.{Grow, Spawn, Go, Wait, Compute, Return}
+use Rattle.sched_rules.specs.declared.act.Then.TheVariants.{Grow}
 use Rattle.sched_rules.specs.declared.step.StepOf.{StepOf}
-use Rattle.sched_rules.specs.declared.step.StepOf.TheVariants.{Admit, AdmitMore, Submit, Take, Steal, Advance, Answer, Inlet, Finish, Spend, Cancel, Leave}
+use Rattle.sched_rules.specs.declared.step.StepOf.TheVariants.{Submit}
 use Rattle.sched_rules.specs.declared.step.DidOf.{DidOf}
 use Rattle.sched_rules.specs.declared.step.DidOf.TheVariants.{Submitted}
 use Rattle.sched_rules.specs.Functions.{Functions}
@@ -52,11 +52,7 @@ parent-always origin (parent ∷ above) older own younger = tt
 child-always : (after : Then) → NewChildFits AlwaysFits after
 unfolding AlwaysFits
 child-always (Grow more) = tt
-child-always (Spawn given size) = tt
-child-always Go = tt
-child-always Wait = tt
-child-always Compute = tt
-child-always Return = tt
+child-always _ = tt
 
 always-lawful : {I A : Type 0} (functions : Functions I A) → IsLawful functions AlwaysFits AlwaysRooted
 unfolding AlwaysFits
@@ -68,18 +64,8 @@ always-lawful functions = record {
 
 root-always : {A : Type 0} (step : StepOf A) → RootFits AlwaysFits AlwaysRooted step
 unfolding AlwaysFits AlwaysRooted
-root-always (Admit number quota) = tt
-root-always (AdmitMore number quota) = tt
 root-always (Submit number words size) = (tt, tt)
-root-always (Take worker name) = tt
-root-always (Steal worker from name) = tt
-root-always (Advance worker name) = tt
-root-always (Answer worker name answer) = tt
-root-always (Inlet worker name) = tt
-root-always (Finish worker name) = tt
-root-always (Spend name) = tt
-root-always (Cancel number job) = tt
-root-always (Leave number) = tt
+root-always _ = tt
 
 roots-always : {A : Type 0} (steps : List (StepOf A)) → RootsFit AlwaysFits AlwaysRooted steps
 roots-always [] = tt

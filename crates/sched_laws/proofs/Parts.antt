@@ -10,7 +10,7 @@ use Rattle.frame_tree.proofs.TreeLaws.{there-found, found-serial, found-path, mi
 use Rattle.frame_tree.proofs.TreeChanges.{filter-found, frame_at-stays}
 use Rattle.frame_tree.proofs.TreeValues.{tree-push, children_of-push, tree-with_state, frame_at-with_state, frame_at_other-with_state, children_of-with_state}
 use Rattle.sched_rules.specs.declared.job.Job.{Job}
-use Rattle.sched_rules.specs.declared.job.Job.TheVariants.{Live, Done, Spent, Cancelled}
+use Rattle.sched_rules.specs.declared.job.Job.TheVariants.{Live}
 use Rattle.sched_rules.specs.Trees.{Tree, has_child, is_root, is_live_at, with_words, with_ended}
 use Rattle.sched_rules.specs.Laws.{Neither, mark_of}
 use Rattle.sched_laws.specs.Shapes.{AreMarkedChildless, live_count, AreRootsLive, IsRootThere, AreLiveRootsThere, HaveWords}
@@ -207,9 +207,7 @@ no-live tree root (Live s ∷ jobs) lacks live = elim (cases_Bool (eqb s root)) 
   | inl same ↦ absurd (true≢false (sym (path-there tree s live.0) ∙ ap (has_frame tree) (eqb-true s root same) ∙ lacks))
   | inr other ↦ rw other (no-live tree root jobs lacks live.1)
 ]
-no-live tree root (Done words ∷ jobs) lacks live = no-live tree root jobs lacks live.1
-no-live tree root (Spent ∷ jobs) lacks live = no-live tree root jobs lacks live.1
-no-live tree root (Cancelled ∷ jobs) lacks live = no-live tree root jobs lacks live.1
+no-live tree root (_ ∷ jobs) lacks live = no-live tree root jobs lacks live.1
 
 -- the job that lives under a root ended
 abbrev pub IsEnd : Job → Type 0
@@ -222,9 +220,7 @@ length-with_ended root job (x ∷ xs) = ap (λ (n : ℕ). suc n) (length-with_en
 -- two roots have no live job in common
 live-one : (job : Job) (a b : ℕ) → is_live_at a job ≡ true → is_live_at b job ≡ true → a ≡ b
 live-one (Live s) a b p q = sym (eqb-true s a p) ∙ eqb-true s b q
-live-one (Done words) a b p q = absurd (false≢true p)
-live-one Spent a b p q = absurd (false≢true p)
-live-one Cancelled a b p q = absurd (false≢true p)
+live-one _ a b p q = absurd (false≢true p)
 
 pub live_count-with_ended : (s root : ℕ) (job : Job) (jobs : List Job) → IsEnd job → s ≢ root → live_count s (with_ended root job jobs) ≡ live_count s jobs
 live_count-with_ended s root job [] end other = refl
@@ -256,9 +252,7 @@ KeepsRoots old new = (root : ℕ) → path_in old root ≡ root ∷ [] → path_
 pub live-kept : (old new : Tree) (jobs : List Job) → KeepsRoots old new → AreLiveRootsThere old jobs → AreLiveRootsThere new jobs
 live-kept old new [] kept live = tt
 live-kept old new (Live root ∷ jobs) kept live = (kept root live.0, live-kept old new jobs kept live.1)
-live-kept old new (Done words ∷ jobs) kept live = (tt, live-kept old new jobs kept live.1)
-live-kept old new (Spent ∷ jobs) kept live = (tt, live-kept old new jobs kept live.1)
-live-kept old new (Cancelled ∷ jobs) kept live = (tt, live-kept old new jobs kept live.1)
+live-kept old new (_ ∷ jobs) kept live = (tt, live-kept old new jobs kept live.1)
 
 pub live-append : (tree : Tree) (jobs more : List Job) → AreLiveRootsThere tree jobs → AreLiveRootsThere tree more → AreLiveRootsThere tree (jobs ++ more)
 live-append tree [] more p q = q
@@ -267,15 +261,11 @@ live-append tree (job ∷ jobs) more p q = (p.0, live-append tree jobs more p.1 
 -- an ended job has no root to be there
 end-there : (tree : Tree) (job : Job) → IsEnd job → IsRootThere tree job
 end-there tree (Live root) end = absurd (false≢true (sym (end root) ∙ eq-eqb root root refl))
-end-there tree (Done words) end = tt
-end-there tree Spent end = tt
-end-there tree Cancelled end = tt
+end-there tree _ end = tt
 
 other-there : (old new : Tree) (root : ℕ) (job : Job) → ((s : ℕ) → s ≢ root → path_in old s ≡ s ∷ [] → path_in new s ≡ s ∷ []) → is_live_at root job ≡ false → IsRootThere old job → IsRootThere new job
 other-there old new root (Live s) kept other there = kept s (eqb-false s root other) there
-other-there old new root (Done words) kept other there = tt
-other-there old new root Spent kept other there = tt
-other-there old new root Cancelled kept other there = tt
+other-there old new root _ kept other there = tt
 
 pub live-with_ended : (old new : Tree) (root : ℕ) (job : Job) (jobs : List Job) → IsEnd job → ((s : ℕ) → s ≢ root → path_in old s ≡ s ∷ [] → path_in new s ≡ s ∷ []) →
     AreLiveRootsThere old jobs → AreLiveRootsThere new (with_ended root job jobs)

@@ -176,18 +176,13 @@ taken-shaped I tenant worker f some s =
 
 -- a frame that a worker runs or computes, and one that has returned
 pub run-free : (worker : ℕ) (state : State) → is_run_by worker state ≡ true → mark_of state ≡ Neither
-run-free worker (Ready home) is = refl
-run-free worker (Running holder) is = refl
 run-free worker (Computing holder) is = absurd (false≢true is)
-run-free worker Waiting is = refl
 run-free worker Returned is = absurd (false≢true is)
+run-free worker _ is = refl
 
 pub returned-marked : (state : State) → is_returned state ≡ true → mark_of state ≢ Neither
-returned-marked (Ready home) is = absurd (false≢true is)
-returned-marked (Running holder) is = absurd (false≢true is)
-returned-marked (Computing holder) is = absurd (false≢true is)
-returned-marked Waiting is = absurd (false≢true is)
 returned-marked Returned is = λ e. cc
+returned-marked _ is = absurd (false≢true is)
 
 pub returned-childless : (tenant : Tenant) (s : ℕ) (f : Frame (List ℕ)) → IsShaped tenant → frame_at tenant.frames s ≡ Some f → mark_of f.state ≢ Neither → children_of tenant.frames s ≡ []
 returned-childless tenant s f shape at marked =
@@ -281,11 +276,7 @@ advance-shaped functions tenant worker name f act at passed s =
       where
         sum : {a b c d r : ℕ} → a + b ≤ r → c ≡ a → d ≡ b → c + d ≤ r
         sum le e f = omega arith
-    room (Spawn given size) le e g long = rw e le
-    room Go le e g long = rw e le
-    room Wait le e g long = rw e le
-    room Compute le e g long = rw e le
-    room Return le e g long = rw e le
+    room _ le e g long = rw e le
 
 -- Answer
 answer-shaped : {I A : Type 0} (functions : Functions I A) (tenant : Tenant) (worker : ℕ) (s : ℕ) (f : Frame (List ℕ)) (answer : A) → frame_at tenant.frames s ≡ Some f →

@@ -3,7 +3,7 @@ use Rattle.std.proofs.Common.{◌≡◌, ℕ, ◌⊎◌, inl, inr, Bool, true, f
 use Rattle.std.specs.Prelude.{◌↔◌}
 use Rattle.std.proofs.lemmas.Bool.{cases_Bool, false≢true, eq-eqb, eqb-true, not-false, or_cases, or_left, or_right, and_parts, and_from}
 use Rattle.frame_tree.specs.declared.names.State.{State}
-use Rattle.frame_tree.specs.declared.names.State.TheVariants.{Ready, Running, Computing, Waiting, Returned}
+use Rattle.frame_tree.specs.declared.names.State.TheVariants.{Running}
 use Rattle.frame_tree.specs.declared.names.FrameId.{FrameId}
 use Rattle.frame_tree.specs.Frames.{Frame, frame_at, parent_of}
 use Rattle.sched_rules.specs.declared.refusal.Refusal.{Refusal}
@@ -43,18 +43,12 @@ unstuck false false false false false effect refusal act is = absurd cc
 
 -- who runs a frame
 runner : (state : State) → is_run state ≡ true → (worker : ℕ) × (is_run_by worker state ≡ true)
-runner (Ready home) is = absurd (false≢true is)
 runner (Running holder) is = (holder, eq-eqb holder holder refl)
-runner (Computing holder) is = absurd (false≢true is)
-runner Waiting is = absurd (false≢true is)
-runner Returned is = absurd (false≢true is)
+runner _ is = absurd (false≢true is)
 
 run-by : (worker : ℕ) (state : State) → is_run_by worker state ≡ true → is_run state ≡ true
-run-by worker (Ready home) is = absurd (false≢true is)
 run-by worker (Running holder) is = refl
-run-by worker (Computing holder) is = absurd (false≢true is)
-run-by worker Waiting is = absurd (false≢true is)
-run-by worker Returned is = absurd (false≢true is)
+run-by worker _ is = absurd (false≢true is)
 
 -- what an Advance of a frame that is there would be refused by
 advance-refusal : {I A : Type 0} (functions : Functions I A) (tenant : Tenant) (worker : ℕ) (name : FrameId) (frame : Frame (List ℕ)) → frame_at tenant.frames name.serial ≡ Some frame →

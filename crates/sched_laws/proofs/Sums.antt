@@ -9,7 +9,7 @@ use Rattle.frame_tree.specs.declared.names.FrameId.{FrameId}
 use Rattle.frame_tree.specs.Frames.{frame_at}
 use Rattle.sched_rules.specs.declared.act.InletAct.{InletAct}
 use Rattle.sched_rules.specs.declared.act.Then.{Then}
-use Rattle.sched_rules.specs.declared.act.Then.TheVariants.{Grow, Spawn, Go, Wait, Compute, Return}
+use Rattle.sched_rules.specs.declared.act.Then.TheVariants.{Wait, Return}
 use Rattle.sched_rules.specs.declared.refusal.Refusal.{Refusal}
 use Rattle.sched_rules.specs.declared.refusal.Refusal.TheVariants.{NoTenant, Lower}
 use Rattle.sched_rules.specs.declared.step.StepOf.{StepOf}
@@ -36,6 +36,12 @@ Entries = List (ℕ × Tenant)
 abbrev total : (Tenant → ℕ) → Entries → ℕ
 total m [] = 0
 total m (e ∷ es) = m e.1 + total m es
+
+-- what all reserve is within the totals, where a tenant came to this
+abbrev WithinAfter : Shared → ℕ → Option Tenant → Type 0
+WithinAfter before number o =
+    (total (λ t. t.reserve.segments) (with_outcome number o before.tenants) ≤ before.totals.segments)
+    × (total (λ t. t.reserve.nodes) (with_outcome number o before.tenants) ≤ before.totals.nodes)
 
 segments-total : (es : Entries) → reserved_segments (accounts_in es) ≡ total (λ t. t.reserve.segments) es
 segments-total [] = refl
@@ -72,12 +78,9 @@ KeepsReserve quota None = Unit {0}
 KeepsReserve quota (Some tenant) = tenant.reserve ≡ quota
 
 then-reserve : {I A : Type 0} (functions : Functions I A) (t : Tenant) (worker : ℕ) (name : FrameId) (path words : List ℕ) (after : Then) → KeepsReserve t.reserve (then_done functions t worker name path words after).0
-then-reserve functions t worker name path words (Grow more) = refl
-then-reserve functions t worker name path words (Spawn given size) = refl
-then-reserve functions t worker name path words Go = refl
 then-reserve functions t worker name path words Wait = elim (cases_Bool (has_child t.frames name.serial)) [ inl some ↦ rw some refl | inr none ↦ rw none refl ]
-then-reserve functions t worker name path words Compute = refl
 then-reserve functions t worker name path words Return = elim (cases_Bool (has_child t.frames name.serial)) [ inl some ↦ rw some refl | inr none ↦ rw none refl ]
+then-reserve functions t worker name path words _ = refl
 
 inlet-reserve : (I : Type 0) (tenant : Tenant) (worker : ℕ) (name : FrameId) (parent : ℕ) (act : InletAct) → KeepsReserve tenant.reserve (taken_in {I = I} tenant worker name parent act).0
 inlet-reserve I tenant worker name parent act =
@@ -108,8 +111,7 @@ outcome-total m n old (Some t) es at keeps = let changed = total-changed (λ u. 
 room : (m : Quota → ℕ) (number : ℕ) (quota : Quota) (es : Entries) (most : ℕ) → total (λ t. m t.reserve) es + m quota ≤ most → total (λ t. m t.reserve) (with_tenant number (admitted_with quota) es) ≤ most
 room m number quota es most le = let more = total-more (λ t. m t.reserve) number (admitted_with quota) es in omega (arith, more, le)
 
-admit-within : {I A : Type 0} (functions : Functions I A) (before : Shared) (number : ℕ) (quota : Quota) (outcome : Outcome I) → judged {A = A} functions before (Admit number quota) ≡ Ok outcome → IsReservedWithin before →
-    (total (λ t. t.reserve.segments) (with_outcome number outcome.0 before.tenants) ≤ before.totals.segments) × (total (λ t. t.reserve.nodes) (with_outcome number outcome.0 before.tenants) ≤ before.totals.nodes)
+admit-within : {I A : Type 0} (functions : Functions I A) (before : Shared) (number : ℕ) (quota : Quota) (outcome : Outcome I) → judged {A = A} functions before (Admit number quota) ≡ Ok outcome → IsReservedWithin before → WithinAfter before number outcome.0
 admit-within {I} functions before number quota outcome is within =
     let effect : Outcome I = (Some (admitted_with quota), Admitted) in
     let book = reservations_in before in
@@ -122,7 +124,7 @@ admit-within {I} functions before number quota outcome is within =
     let nodes = ltb-false book.nodes (reserved_nodes book.accounts + quota.nodes) first.1 in
     let all_segments = segments-total before.tenants in
     let all_nodes = nodes-total before.tenants in
-    let P : Outcome I → Type 0 = λ o. (total (λ t. t.reserve.segments) (with_outcome number o.0 before.tenants) ≤ before.totals.segments) × (total (λ t. t.reserve.nodes) (with_outcome number o.0 before.tenants) ≤ before.totals.nodes) in
+    let P : Outcome I → Type 0 = λ o. WithinAfter before number o.0 in
     subst P p.1 (room (λ q. q.segments) number quota before.tenants before.totals.segments (omega (arith, segments, all_segments)), room (λ q. q.nodes) number quota before.tenants before.totals.nodes (omega (arith, nodes, all_nodes)))
   where
     second : (a b : Bool) → (a || (b || false)) ≡ false → b ≡ false
@@ -185,8 +187,7 @@ beyond-exactly before number old quota at = (forth, back)
           no-further book.nodes old.reserve.nodes (reserved_nodes book.accounts) quota.nodes (total (λ t. t.reserve.nodes) after) (omega (arith, b, all_nodes)) (omega (arith, n, f)),
         ) refl
 
-more-within : {I A : Type 0} (functions : Functions I A) (before : Shared) (number : ℕ) (quota : Quota) (outcome : Outcome I) → judged {A = A} functions before (AdmitMore number quota) ≡ Ok outcome → IsReservedWithin before →
-    (total (λ t. t.reserve.segments) (with_outcome number outcome.0 before.tenants) ≤ before.totals.segments) × (total (λ t. t.reserve.nodes) (with_outcome number outcome.0 before.tenants) ≤ before.totals.nodes)
+more-within : {I A : Type 0} (functions : Functions I A) (before : Shared) (number : ℕ) (quota : Quota) (outcome : Outcome I) → judged {A = A} functions before (AdmitMore number quota) ≡ Ok outcome → IsReservedWithin before → WithinAfter before number outcome.0
 more-within {I} {A} functions before number quota outcome is within = by (tenant_in before.tenants number) refl
   where
     found : (is_beyond (reservations_in before) (reserved_by (tenant_in before.tenants number)) quota ≡ false) × (lone {A = A} functions (tenant_in before.tenants number) (AdmitMore number quota) ≡ Ok outcome)
@@ -195,22 +196,21 @@ more-within {I} {A} functions before number quota outcome is within = by (tenant
     alone : (own : Option Tenant) → tenant_in before.tenants number ≡ own → lone {A = A} functions own (AdmitMore number quota) ≡ Ok outcome
     alone own at = ap (λ o. lone {A = A} functions o (AdmitMore number quota)) (sym at) ∙ found.1
 
-    by : (own : Option Tenant) → tenant_in before.tenants number ≡ own → (total (λ t. t.reserve.segments) (with_outcome number outcome.0 before.tenants) ≤ before.totals.segments) × (total (λ t. t.reserve.nodes) (with_outcome number outcome.0 before.tenants) ≤ before.totals.nodes)
+    by : (own : Option Tenant) → tenant_in before.tenants number ≡ own → WithinAfter before number outcome.0
     by None at = (let e : ◌≡◌ {A = Result (Outcome I) Refusal} (Err NoTenant) (Ok outcome) = alone None at in absurd cc)
     by (Some old) at =
         let p = unless-passed ((is_lower old.reserve quota, Lower) ∷ []) (raised {I = I} old quota) outcome (alone (Some old) at) in
-        let P : Outcome I → Type 0 = λ o. (total (λ t. t.reserve.segments) (with_outcome number o.0 before.tenants) ≤ before.totals.segments) × (total (λ t. t.reserve.nodes) (with_outcome number o.0 before.tenants) ≤ before.totals.nodes) in
+        let P : Outcome I → Type 0 = λ o. WithinAfter before number o.0 in
         let enough = ap (λ o. is_beyond (reservations_in before) (reserved_by o) quota) (sym at) ∙ found.0 in
         subst P p.1 (further-within before number quota old at enough)
 
-step-within : {I A : Type 0} (functions : Functions I A) (before : Shared) (step : StepOf A) (outcome : Outcome I) → is_admission step ≡ false → judged functions before step ≡ Ok outcome → IsReservedWithin before →
-    (total (λ t. t.reserve.segments) (with_outcome (tenant_of step) outcome.0 before.tenants) ≤ before.totals.segments) × (total (λ t. t.reserve.nodes) (with_outcome (tenant_of step) outcome.0 before.tenants) ≤ before.totals.nodes)
+step-within : {I A : Type 0} (functions : Functions I A) (before : Shared) (step : StepOf A) (outcome : Outcome I) → is_admission step ≡ false → judged functions before step ≡ Ok outcome → IsReservedWithin before → WithinAfter before (tenant_of step) outcome.0
 step-within functions before step outcome no_admission is within = by (tenant_in before.tenants (tenant_of step)) refl
   where
     alone : lone functions (tenant_in before.tenants (tenant_of step)) step ≡ Ok outcome
     alone = taken-alone functions before step outcome no_admission is
 
-    by : (own : Option Tenant) → tenant_in before.tenants (tenant_of step) ≡ own → (total (λ t. t.reserve.segments) (with_outcome (tenant_of step) outcome.0 before.tenants) ≤ before.totals.segments) × (total (λ t. t.reserve.nodes) (with_outcome (tenant_of step) outcome.0 before.tenants) ≤ before.totals.nodes)
+    by : (own : Option Tenant) → tenant_in before.tenants (tenant_of step) ≡ own → WithinAfter before (tenant_of step) outcome.0
     by None at = absurd (there functions None step outcome no_admission (ap (λ o. lone functions o step) (sym at) ∙ alone) refl)
     by (Some tenant) at =
         let keeps = step-reserve functions tenant step outcome no_admission (ap (λ o. lone functions o step) (sym at) ∙ alone) in
@@ -223,9 +223,9 @@ step-within functions before step outcome no_admission is within = by (tenant_in
 after-within : {I A : Type 0} (functions : Functions I A) (before : Shared) (step : StepOf A) (came_to : Result (Outcome I) Refusal) → judged functions before step ≡ came_to → IsReservedWithin before → IsReservedWithin (shared_after before step came_to)
 after-within functions before step (Err refusal) is within = within
 after-within {I} {A} functions before step (Ok outcome) is within =
-    let both = elim (cases_Bool (is_admission step)) as (λ _. (total (λ t. t.reserve.segments) (with_outcome (tenant_of step) outcome.0 before.tenants) ≤ before.totals.segments) × (total (λ t. t.reserve.nodes) (with_outcome (tenant_of step) outcome.0 before.tenants) ≤ before.totals.nodes)) [
+    let both = elim (cases_Bool (is_admission step)) as (λ _. WithinAfter before (tenant_of step) outcome.0) [
       | inr no_admission ↦ step-within functions before step outcome no_admission is within
-      | inl admits ↦ (let P : StepOf A → Type 0 = λ st. (total (λ t. t.reserve.segments) (with_outcome (tenant_of st) outcome.0 before.tenants) ≤ before.totals.segments) × (total (λ t. t.reserve.nodes) (with_outcome (tenant_of st) outcome.0 before.tenants) ≤ before.totals.nodes) in
+      | inl admits ↦ (let P : StepOf A → Type 0 = λ st. WithinAfter before (tenant_of st) outcome.0 in
           elim (admission step admits) as (λ _. P step) [
             | inl a ↦ subst P (sym a.2) (admit-within functions before a.0 a.1 outcome (ap (judged functions before) (sym a.2) ∙ is) within)
             | inr m ↦ subst P (sym m.2) (more-within functions before m.0 m.1 outcome (ap (judged functions before) (sym m.2) ∙ is) within)

@@ -5,7 +5,7 @@ use Rattle.std.proofs.lemmas.Bool.Decides.{nat_tests}
 use Rattle.sched_rules.specs.declared.refusal.Refusal.{Refusal}
 use Rattle.sched_rules.specs.declared.refusal.Refusal.TheVariants.{Busy, Full, OldTenant, OutOfMemory}
 use Rattle.sched_rules.specs.declared.step.StepOf.{StepOf}
-use Rattle.sched_rules.specs.declared.step.StepOf.TheVariants.{Admit, AdmitMore, Submit, Take, Steal, Advance, Answer, Inlet, Finish, Spend, Cancel, Leave}
+use Rattle.sched_rules.specs.declared.step.StepOf.TheVariants.{Admit, AdmitMore, Spend}
 use Rattle.sched_rules.specs.declared.step.DidOf.{DidOf}
 use Rattle.sched_rules.specs.declared.step.DidOf.TheVariants.{Admitted}
 use Rattle.sched_rules.specs.declared.refusal.Refusal.TheVariants.{NotSpent}
@@ -53,47 +53,19 @@ found false (Ok outcome) did own_state busy_worker else_taken = (outcome, refl, 
 pub there : {I A : Type 0} (functions : Functions I A) (own : Option Tenant) (step : StepOf A) (outcome : Outcome I) → is_admission step ≡ false → lone functions own step ≡ Ok outcome → own ≢ None
 there functions (Some tenant) step outcome no_admission taken = λ e. cc
 there functions None (Admit number quota) outcome no_admission taken = absurd cc
-there functions None (AdmitMore number quota) outcome no_admission taken = absurd cc
-there functions None (Submit number words size) outcome no_admission taken = absurd cc
-there functions None (Take worker name) outcome no_admission taken = absurd cc
-there functions None (Steal worker from name) outcome no_admission taken = absurd cc
-there functions None (Advance worker name) outcome no_admission taken = absurd cc
-there functions None (Answer worker name answer) outcome no_admission taken = absurd cc
-there functions None (Inlet worker name) outcome no_admission taken = absurd cc
-there functions None (Finish worker name) outcome no_admission taken = absurd cc
-there functions None (Spend name) outcome no_admission taken = absurd cc
-there functions None (Cancel number job) outcome no_admission taken = absurd cc
-there functions None (Leave number) outcome no_admission taken = absurd cc
+there functions None _ outcome no_admission taken = absurd cc
 
 -- a step that is no admission leaves the greatest number as it was
 pub newest-stays : {A : Type 0} (newest : ℕ) (step : StepOf A) → is_admission step ≡ false → newest_after newest step ≡ newest
 newest-stays newest (Admit number quota) no_admission = absurd cc
 newest-stays newest (AdmitMore number quota) no_admission = absurd cc
-newest-stays newest (Submit number words size) no_admission = refl
-newest-stays newest (Take worker name) no_admission = refl
-newest-stays newest (Steal worker from name) no_admission = refl
-newest-stays newest (Advance worker name) no_admission = refl
-newest-stays newest (Answer worker name answer) no_admission = refl
-newest-stays newest (Inlet worker name) no_admission = refl
-newest-stays newest (Finish worker name) no_admission = refl
-newest-stays newest (Spend name) no_admission = refl
-newest-stays newest (Cancel number job) no_admission = refl
-newest-stays newest (Leave number) no_admission = refl
+newest-stays newest _ no_admission = refl
 
 -- and is judged by its own tenant's state and the busy workers
 pub judged-step : {I A : Type 0} (functions : Functions I A) (before : Shared) (step : StepOf A) → is_admission step ≡ false → judged functions before step ≡ step_among functions before step
 judged-step functions before (Admit number quota) no_admission = absurd cc
 judged-step functions before (AdmitMore number quota) no_admission = absurd cc
-judged-step functions before (Submit number words size) no_admission = refl
-judged-step functions before (Take worker name) no_admission = refl
-judged-step functions before (Steal worker from name) no_admission = refl
-judged-step functions before (Advance worker name) no_admission = refl
-judged-step functions before (Answer worker name answer) no_admission = refl
-judged-step functions before (Inlet worker name) no_admission = refl
-judged-step functions before (Finish worker name) no_admission = refl
-judged-step functions before (Spend name) no_admission = refl
-judged-step functions before (Cancel number job) no_admission = refl
-judged-step functions before (Leave number) no_admission = refl
+judged-step functions before _ no_admission = refl
 
 -- after it no tenant is there under a number that wasn't taken
 known-after : {I A : Type 0} (functions : Functions I A) (before : Shared) (step : StepOf A) (outcome : Outcome I) → is_admission step ≡ false → IsKnown before →
@@ -184,16 +156,7 @@ pub step-taken : {I A : Type 0} (functions : Functions I A) (before : Shared) (s
     IsAnswerTo functions before step (Ok did) → IsTaken functions before step did
 step-taken functions before (Admit number quota) did known right = admitted functions before number quota did known (right.0 refl)
 step-taken functions before (AdmitMore number quota) did known right = admitted-more functions before number quota did known (right.0 refl)
-step-taken functions before (Submit number words size) did known right = step-found functions before (Submit number words size) did refl known (right.1 refl)
-step-taken functions before (Take worker name) did known right = step-found functions before (Take worker name) did refl known (right.1 refl)
-step-taken functions before (Steal worker from name) did known right = step-found functions before (Steal worker from name) did refl known (right.1 refl)
-step-taken functions before (Advance worker name) did known right = step-found functions before (Advance worker name) did refl known (right.1 refl)
-step-taken functions before (Answer worker name answer) did known right = step-found functions before (Answer worker name answer) did refl known (right.1 refl)
-step-taken functions before (Inlet worker name) did known right = step-found functions before (Inlet worker name) did refl known (right.1 refl)
-step-taken functions before (Finish worker name) did known right = step-found functions before (Finish worker name) did refl known (right.1 refl)
-step-taken functions before (Spend name) did known right = step-found functions before (Spend name) did refl known (right.1 refl)
-step-taken functions before (Cancel number job) did known right = step-found functions before (Cancel number job) did refl known (right.1 refl)
-step-taken functions before (Leave number) did known right = step-found functions before (Leave number) did refl known (right.1 refl)
+step-taken functions before step did known right = step-found functions before step did refl known (right.1 refl)
 
 -- the core after a taken step
 pub shared-after-taken : {I A : Type 0} (functions : Functions I A) (before : Shared) (step : StepOf A) (did : DidOf I) (t : IsTaken functions before step did) →
@@ -288,16 +251,7 @@ right-answer functions before (Admit number quota) =
     (λ is. record { refused = λ refusal e. admission-refused _ refusal e; else_taken = λ none. inl refl }, λ is_not. absurd cc)
 right-answer functions before (AdmitMore number quota) =
     (λ is. record { refused = λ refusal e. admission-refused _ refusal e; else_taken = λ none. inl refl }, λ is_not. absurd cc)
-right-answer functions before (Submit number words size) = (λ is. absurd cc, λ is_not. answer-step functions before (Submit number words size) refl)
-right-answer functions before (Take worker name) = (λ is. absurd cc, λ is_not. answer-step functions before (Take worker name) refl)
-right-answer functions before (Steal worker from name) = (λ is. absurd cc, λ is_not. answer-step functions before (Steal worker from name) refl)
-right-answer functions before (Advance worker name) = (λ is. absurd cc, λ is_not. answer-step functions before (Advance worker name) refl)
-right-answer functions before (Answer worker name answer) = (λ is. absurd cc, λ is_not. answer-step functions before (Answer worker name answer) refl)
-right-answer functions before (Inlet worker name) = (λ is. absurd cc, λ is_not. answer-step functions before (Inlet worker name) refl)
-right-answer functions before (Finish worker name) = (λ is. absurd cc, λ is_not. answer-step functions before (Finish worker name) refl)
-right-answer functions before (Spend name) = (λ is. absurd cc, λ is_not. answer-step functions before (Spend name) refl)
-right-answer functions before (Cancel number job) = (λ is. absurd cc, λ is_not. answer-step functions before (Cancel number job) refl)
-right-answer functions before (Leave number) = (λ is. absurd cc, λ is_not. answer-step functions before (Leave number) refl)
+right-answer functions before step = (λ is. absurd cc, λ is_not. answer-step functions before step refl)
 
 -- a test that says whether a book is full says so
 full-forth : (tenants segments wanted nodes asked : ℕ) → IsTrue (nat_le 64 tenants || nat_lt segments wanted || nat_lt nodes asked) →

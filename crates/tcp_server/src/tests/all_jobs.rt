@@ -1,5 +1,7 @@
 //! A session with as many jobs as a tenant can ask.
 
+ghost use Rattle.std.specs.Prelude.{◌<◌};
+
 use super::{Row, Visit, is_answered, is_told, try_visit};
 use std::alloc::Global;
 use std::io::{self, Write};

@@ -1,6 +1,6 @@
 -- A tenant that has a tree has a place.
 use Rattle.std.proofs.Common.{vec_capacity, refl, sym, ◌∙◌}
-use Rattle.frame_table.proofs.Raises.{unreserved}
+use Rattle.frame_table.proofs.Tenants.{unreserved}
 use Rattle.frame_table.proofs.table.FrameTable.places.Goals as goal
 
 pub returns-in-Some-clause-none : goal.returns-in-Some-clause-none

@@ -1,0 +1,5 @@
+mod DealLemmas
+mod SeatLemmas
+mod AdmitLemmas
+mod GreetLemmas
+mod LawLemmas

@@ -1,0 +1,6 @@
+use Rattle.std.proofs.Common.{◌≡◌, [], ℕ, ◌+◌, ◌-◌, ◌*◌, ◌<◌, ◌≤◌, length}
+use Rattle.gate_session.specs.Pairing.{Dealt, names_with, names_entered}
+use Rattle.gate_session.proofs.entering.enter.Given as goal
+
+abbrev pub invariant-loop : goal.invariant-loop
+invariant-loop g l = Dealt g.B.Books.deals l.initial.books [] l.books []

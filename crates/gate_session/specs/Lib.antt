@@ -1,0 +1,5 @@
+pub mod Deals
+pub mod Seats
+pub mod Judging
+pub mod Greetings
+pub mod Pairing
