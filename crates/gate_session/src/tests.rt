@@ -79,7 +79,9 @@ impl<'a> Servers<FromReader<&'a [u8]>, FromWriter<Vec<u8>>> for Script<'a> {
         Some(Peer::new(source, FromWriter::new(Vec::new(self.alloc))))
     }
 
-    fn part(&mut self, server: Peer<FromReader<&'a [u8]>, FromWriter<Vec<u8>>>) {
+    fn part(&mut self, server: Peer<FromReader<&'a [u8]>, FromWriter<Vec<u8>>>)
+        ensures { Unit {0} }
+    {
         let _ = self.sent.extend_from_slice(server.sink.writer.as_slice());
         let _ = self.sent.extend_from_slice(b"|");
     }
