@@ -1,3 +1,2 @@
 mod deques;
 mod desks;
-mod pools;

@@ -21,8 +21,8 @@
 //!
 //! Why it is so:
 //!
-//! - `run_pool` returns OutOfMemory before any thread starts. By `Sizes` the tests (`pool_tests`) make each growth fail,
-//!   and each thread by a stack that can't be had (`spawn_scoped_with`). `worker::computed` gets no lock, tasks or
+//! - `run_pool` returns OutOfMemory before any thread starts. `Sizes` lets tests make each growth fail, and
+//!   each thread by a stack that can't be had (`spawn_scoped_with`). `worker::computed` gets no lock, tasks or
 //!   means to wait: a body that locks around the search alone fails `a_short_search_is_over_before_a_long_one`.
 //!   `PoolEnd` says `pushed = taken + left` alone, as a caller has no deque left to name; `pool::end_of` says
 //!   it of each.
@@ -45,10 +45,10 @@ mod worker;
 
 pub use announce::{Announce, Quiet};
 pub use gate::{Gate, Open};
-pub use pool::{
-    BeginFault, NotRun, PoolConfig, PoolEnd, PoolFault, Sizes, run_pool, run_pool_announced,
-    run_pool_of,
-};
+pub use pool::{BeginFault, PoolConfig, PoolEnd, PoolFault, run_pool, run_pool_announced};
 pub use task_deques::pool_rules::Task;
 pub use tasks::{Shared, Tasks};
 pub use worker::run_worker;
+
+#[cfg(test)]
+mod tests;

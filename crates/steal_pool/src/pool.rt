@@ -66,11 +66,11 @@ pub struct PoolEnd<L: Hands> {
 
 /// A pool that didn't run.
 #[derive(Clone, Copy, Debug, PartialEq, Eq)]
-pub struct NotRun {
+pub(crate) struct NotRun {
     /// Why.
-    pub fault: BeginFault,
+    pub(crate) fault: BeginFault,
     /// How many workers' threads were started and have ended.
-    pub ended: usize,
+    pub(crate) ended: usize,
 }
 
 /// How many workers a pool has, and the size of their stacks.
@@ -158,27 +158,27 @@ pub fn run_pool_announced<
     }
 }
 
-/// How much a pool takes at its start. `pool_tests` asks for more than can be had, one field at a time.
+/// How much a pool takes at its start. Tests ask for more than can be had, one field at a time.
 #[derive(Clone, Copy, Debug)]
-pub struct Sizes {
+pub(crate) struct Sizes {
     /// The number of the last worker, which is how many there are.
-    pub workers: Worker,
+    pub(crate) workers: Worker,
     /// How many tasks there is room for in each deque.
-    pub room: usize,
+    pub(crate) room: usize,
     /// Room for the deque ends that come back from the threads is taken for so many more workers than there are: 0 but
     /// in tests.
-    pub more_ends: usize,
+    pub(crate) more_ends: usize,
     /// Room for thread handles is taken for so many more threads than there are workers: 0 but in tests.
-    pub more_threads: usize,
+    pub(crate) more_threads: usize,
     /// `Some((from, size))`: the workers from number `from` on have stacks of `size` bytes. All others, and all at
     /// `None`, have the usual size.
-    pub stack: Option<(u8, usize)>,
+    pub(crate) stack: Option<(u8, usize)>,
 }
 
 impl Sizes {
     /// The workers 1 to `workers`, each with room for 1,024 tasks and a stack of the usual size; no more room than
     /// needed for all else.
-    pub fn usual(workers: Worker) -> Sizes
+    pub(crate) fn usual(workers: Worker) -> Sizes
         ensures { result.workers ≡ workers }
     {
         Sizes {
@@ -193,7 +193,7 @@ impl Sizes {
 
 /// Runs a pool with these sizes: what `run_pool` and `run_pool_announced` do, which say when it returns. At an error it
 /// also tells how many workers' threads were started and have ended.
-pub fn run_pool_of<
+pub(crate) fn run_pool_of<
     L: Hands + Send + Sync,
     G: Gate + Sync,
     R: Threads + Wait + Sync,

@@ -12,6 +12,8 @@ mod rows;
 mod searches;
 mod seats;
 
+use crate::pool::{Sizes, run_pool_of};
+use crate::{Gate, PoolEnd, PoolFault, Quiet, run_pool};
 use desk::{Desk, Hall, Hands, PARTS};
 use sched_rules::{Config, Worker};
 use std::alloc::Global;
@@ -20,7 +22,6 @@ use std::sync::Wait;
 use std::sync::ledger::Blank;
 use std::thread;
 use std::thread::Threads;
-use steal_pool::{Gate, PoolEnd, PoolFault, Quiet, Sizes, run_pool, run_pool_of};
 
 /// The most turns of a loop that waits for another thread.
 pub(crate) const MOST_TURNS: u32 = 10_000_000;

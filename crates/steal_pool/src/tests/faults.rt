@@ -2,6 +2,8 @@
 ghost use Rattle.std.specs.Prelude.{◌≡◌};
 
 use super::seats::{opening, seat};
+use crate::pool::{BeginFault, NotRun, Sizes, run_pool_of};
+use crate::{Announce, Open, PoolFault};
 use desk::{Badge, Desk, Hall, Hands, PARTS, Seat};
 use sched_rules::{Config, Worker};
 use std::alloc::Global;
@@ -9,7 +11,6 @@ use std::marker::Brand;
 use std::sync::Wait;
 use std::sync::ledger::Blank;
 use std::thread::Threads;
-use steal_pool::{Announce, BeginFault, NotRun, Open, PoolFault, Sizes, run_pool_of};
 
 /// Counts how often it is said that a pool has begun.
 #[derive(Drop)]

@@ -4,12 +4,12 @@ ghost use Rattle.std.specs.Prelude.{◌≡◌};
 use super::overlaps::is_set;
 use super::seats::{is_found, opening, seat};
 use super::{Scenario, Table, well};
+use crate::{Gate, Task};
 use desk::{Desk, Hands, Outcome};
 use sched_rules::Worker;
 use std::sync::Wait;
 use std::sync::atomic::{AtomicBool, AtomicU64, Ordering};
 use std::test::Fail;
-use steal_pool::{Gate, Task};
 use tenant_quota::Left;
 
 /// Each task waits within a limit, before it is done, until the scenario has seen that none was; how many

@@ -3,13 +3,13 @@ ghost use Rattle.std.specs.Prelude.{◌≡◌};
 
 use super::seats::{is_found, opening, seat};
 use super::{MOST_TURNS, Scenario, Table, well};
+use crate::{Gate, Task};
 use desk::{Desk, Hands, Seat};
 use sched_rules::Worker;
 use std::alloc::Global;
 use std::sync::Wait;
 use std::sync::atomic::{AtomicBool, Ordering};
 use std::thread::{self, Threads};
-use steal_pool::{Gate, Task};
 
 /// The computation of this number waits within a limit until it is let go on.
 #[derive(Drop)]
