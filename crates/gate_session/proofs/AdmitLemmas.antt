@@ -6,13 +6,13 @@ use Rattle.customer_book.specs.Runs.{Name, names_without}
 use Rattle.line_io.specs.Streams.{ReadAnswer, WriteAnswer}
 use Rattle.line_relay.specs.declared.ahead.Peer.{Peer}
 use Rattle.gate_session.specs.declared.seats.Seat.{Seat}
-use Rattle.gate_session.specs.Deals.{Deal, Booked, Named, Classed}
+use Rattle.gate_session.specs.Deals.{Deal, Booked}
 use Rattle.gate_session.specs.Greetings.{Opened, NoClass, NoGrant, NoWelcome, Admits}
 use Rattle.gate_session.specs.Pairing.{Dealt, names_at, names_with}
 use Rattle.gate_session.specs.declared.judging.Seated.{Seated}
 use Rattle.customer_book.specs.declared.event.Event.TheVariants.{Closes}
 use Rattle.customer_book.specs.Keeping.{Granted}
-use Rattle.gate_session.proofs.DealLemmas.{Dealt-none, Dealt-one, Dealt-then, without-first, without-other}
+use Rattle.gate_session.proofs.DealLemmas.{Dealt-one, Dealt-then, without-first, without-other}
 
 -- a session is closed, and with it the last that is open
 pub closed-deals : {B : Type 0} (deals : B → Deal → B → Type 0) (a : B) (names : List Name) (s : Seated B) (b : B) → Dealt deals a names s.books (names_at s.seat) → deals s.books (Booked (Closes s.seat.grant.who s.seat.grant.session) None) b → Dealt deals a names b []

@@ -1,16 +1,11 @@
 -- Deals, one after another, and which sessions they leave open.
-use Rattle.std.proofs.Common.{◌≡◌, ℕ, List, [], ◌∷◌, ◌++◌, true, false, ◌==◌, ◌&&◌, Option, Some, None, cond, refl, sym, ap, ◌∙◌, subst}
+use Rattle.std.proofs.Common.{◌≡◌, ℕ, List, [], ◌∷◌, ◌++◌, false, ◌==◌, ◌&&◌, cond, refl, ap, ◌∙◌, subst}
 use Rattle.std.proofs.lemmas.Bool.{eq-eqb}
-use Rattle.std.proofs.lemmas.List.{append-nil}
-use Rattle.customer_book.specs.declared.amount.Ask.{Ask}
-use Rattle.customer_book.specs.declared.event.Event.TheVariants.{Opens, Says, Closes}
 use Rattle.customer_book.specs.declared.who.Who.{Who}
-use Rattle.customer_book.specs.Names.{same_who}
 use Rattle.customer_book.specs.Runs.{Name, names_without}
 use Rattle.customer_book.proofs.NameLemmas.{is-same}
-use Rattle.line_io.specs.Leads.{Leads}
 use Rattle.line_io.proofs.Chains.{Leads-append}
-use Rattle.gate_session.specs.Deals.{Deal, Booked, Named, Classed, names_after, names_open}
+use Rattle.gate_session.specs.Deals.{Deal, names_after, names_open}
 use Rattle.gate_session.specs.Pairing.{Dealt}
 
 names_open-append : (names : List Name) (xs ys : List Deal) → names_open names (xs ++ ys) ≡ names_open (names_open names xs) ys

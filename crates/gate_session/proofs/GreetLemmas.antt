@@ -1,5 +1,5 @@
 -- Tries that may be made again.
-use Rattle.std.proofs.Common.{◌≡◌, ℕ, List, Option, refl}
+use Rattle.std.proofs.Common.{ℕ, List, Option, refl}
 use Rattle.customer_book.specs.declared.amount.Ask.{Ask}
 use Rattle.line_io.specs.Streams.{ReadAnswer, WriteAnswer}
 use Rattle.line_relay.specs.declared.ahead.Peer.{Peer}

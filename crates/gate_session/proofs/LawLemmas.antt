@@ -1,5 +1,5 @@
 -- What follows of deals and of judged lines.
-use Rattle.std.proofs.Common.{◌≡◌, ◌≢◌, ℕ, List, [], ◌∷◌, Bool, true, false, Option, Some, None, refl, sym, ◌∙◌}
+use Rattle.std.proofs.Common.{◌≡◌, ◌≢◌, ℕ, List, [], ◌∷◌, Bool, true, false, refl, sym, ◌∙◌}
 use Rattle.customer_book.specs.declared.amount.Ask.{Ask}
 use Rattle.customer_book.specs.Runs.{Name, still_open, open_after}
 use Rattle.gate_rules.specs.Seated.{SeatedOf, Raising, Parting, Passing, seated_line}

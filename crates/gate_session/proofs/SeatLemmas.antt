@@ -1,7 +1,6 @@
 -- What a session with its seat deals with the book: its own session stays open, and no other is opened.
-use Rattle.std.proofs.Common.{◌≡◌, ℕ, ◌==◌, List, [], ◌∷◌, ◌++◌, Bool, true, false, Option, Some, None, Result, Ok, Err, refl, sym, ap, ◌∙◌, subst}
+use Rattle.std.proofs.Common.{◌≡◌, ℕ, List, [], ◌∷◌, Bool, true, false, Result, Ok, Err, refl, sym, ap, subst}
 use Rattle.customer_book.specs.declared.amount.Ask.{Ask}
-use Rattle.customer_book.specs.declared.event.Event.TheVariants.{Raises, Says}
 use Rattle.gate_rules.specs.Answers.{said_in}
 use Rattle.gate_rules.specs.declared.answers.Said.{Said}
 use Rattle.gate_rules.specs.declared.answers.Said.TheVariants.{Welcome, Reserved, Job, Done, Spent, Error, Other}
@@ -19,10 +18,10 @@ use Rattle.line_relay.specs.Relays.{Turn, Replied, TurnDone, IsRelayEnd, Relayed
 use Rattle.line_relay.specs.Verdicts.{Deed, Sends, Answers, Ends, deed_for}
 use Rattle.gate_session.specs.declared.judging.Seated.{Seated}
 use Rattle.gate_session.specs.declared.seats.Seat.{Seat}
-use Rattle.gate_session.specs.Deals.{Deal, Booked, Named, Classed}
-use Rattle.gate_session.specs.Judging.{Way, Stays, Moves, Stuck, way_of, HoldsIf, Holds, RaisedIf, Raised, Goes, AsksIf, Asks, JudgedAs, Judged, Heard}
+use Rattle.gate_session.specs.Deals.{Deal}
+use Rattle.gate_session.specs.Judging.{Way, Stays, Moves, Stuck, HoldsIf, RaisedIf, Goes, AsksIf, JudgedAs, Judged, Heard}
 use Rattle.gate_session.specs.Pairing.{Dealt, names_at}
-use Rattle.gate_session.specs.Seats.{same_ask, is_raise, greater_of, ask_of, heard}
+use Rattle.gate_session.specs.Seats.{ask_of, heard}
 use Rattle.gate_session.proofs.DealLemmas.{Dealt-none, Dealt-one, Dealt-then, Dealt-as}
 
 -- no answer changes whose a seat is

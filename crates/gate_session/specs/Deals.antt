@@ -1,5 +1,5 @@
 -- Meaning: what a session deals with the book of customers.
-use Rattle.std.specs.Prelude.{◌≡◌, ℕ, List, [], ◌∷◌, Option, Some, None, Result, Ok, Err}
+use Rattle.std.specs.Prelude.{◌≡◌, ℕ, List, [], ◌∷◌, Option, Result, Ok, Err}
 use Rattle.customer_book.specs.declared.amount.Ask.{Ask}
 use Rattle.customer_book.specs.declared.event.Event.{Event}
 use Rattle.customer_book.specs.declared.refusal.Refusal.{Refusal}

@@ -1,5 +1,5 @@
 -- Meaning: how a session gets a grant of the book and the welcome of a server.
-use Rattle.std.specs.Prelude.{◌≡◌, ℕ, ◌==◌, ◌&&◌, Bool, true, false, not, List, [], ◌∷◌, ◌++◌, Option, Some, None, Result, Ok, Err, codes, decimal, length, if◌then◌else◌}
+use Rattle.std.specs.Prelude.{◌≡◌, ℕ, ◌==◌, List, ◌++◌, Option, Some, None, Result, Ok, Err, codes, decimal, length, if◌then◌else◌}
 use Rattle.customer_book.specs.declared.amount.Ask.{Ask}
 use Rattle.customer_book.specs.declared.event.Event.TheVariants.{Opens, Says, Closes}
 use Rattle.customer_book.specs.declared.refusal.Refusal.{Refusal}
@@ -20,7 +20,7 @@ use Rattle.gate_session.specs.declared.greeting.Outcome.TheVariants.{Welcoming, 
 use Rattle.gate_session.specs.declared.greeting.Tried.{Tried}
 use Rattle.gate_session.specs.declared.greeting.Tried.TheVariants.{Welcomed, Unheard, Refused}
 use Rattle.gate_session.specs.declared.seats.Seat.{Seat}
-use Rattle.gate_session.specs.Deals.{Deal, Booked, Named, Classed}
+use Rattle.gate_session.specs.Deals.{Deal, Booked, Classed}
 use Rattle.gate_session.specs.Seats.{new_seat}
 
 -- ERR 14 with its LF

@@ -1,5 +1,5 @@
 -- Meaning: how a gate judges the lines of a session that has its seat.
-use Rattle.std.specs.Prelude.{◌≡◌, ℕ, ◌==◌, Bool, true, false, not, List, Option, Some, None, if◌then◌else◌}
+use Rattle.std.specs.Prelude.{◌≡◌, ℕ, ◌==◌, Bool, true, false, List, Option, Some, None, if◌then◌else◌}
 use Rattle.customer_book.specs.declared.amount.Ask.{Ask}
 use Rattle.customer_book.specs.declared.event.Event.TheVariants.{Raises, Says}
 use Rattle.customer_book.specs.declared.refusal.Refusal.{Refusal}
@@ -7,10 +7,10 @@ use Rattle.gate_rules.specs.Answers.{said_in}
 use Rattle.gate_rules.specs.Seated.{SeatedOf, Raising, Parting, Passing, seated_line}
 use Rattle.line_io.specs.Lines.{LineText}
 use Rattle.line_relay.specs.declared.judging.Verdict.{Verdict}
-use Rattle.line_relay.specs.declared.judging.Verdict.TheVariants.{Pass, Cut, Refuse, End}
+use Rattle.line_relay.specs.declared.judging.Verdict.TheVariants.{Cut, Refuse, End}
 use Rattle.gate_session.specs.declared.judging.Seated.{Seated}
 use Rattle.gate_session.specs.declared.seats.Seat.{Seat}
-use Rattle.gate_session.specs.Deals.{Deal, Booked, Named, Classed}
+use Rattle.gate_session.specs.Deals.{Deal, Booked, Classed}
 use Rattle.gate_session.specs.Seats.{ask_of, same_ask, is_raise, greater_of, heard}
 
 -- what is done about a raise: it stays at its server, it leaves its class and moves to another, or it is refused

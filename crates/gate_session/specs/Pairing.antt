@@ -1,9 +1,8 @@
 -- Meaning: that each session which is opened is closed again.
-use Rattle.std.specs.Prelude.{◌≡◌, ℕ, List, [], ◌∷◌, ◌++◌, Option, Some, None, Result, Ok, Err}
+use Rattle.std.specs.Prelude.{◌≡◌, List, [], ◌∷◌, ◌++◌, Option, Some, None, Result, Ok, Err}
 use Rattle.customer_book.specs.Runs.{Name}
 use Rattle.gate_rules.specs.Openings.{OpeningOf, Greeting, Faulty, Parting}
 use Rattle.line_io.specs.Leads.{Leads}
-use Rattle.line_relay.specs.declared.ahead.Peer.{Peer}
 use Rattle.line_relay.specs.declared.judging.Verdict.{Verdict}
 use Rattle.line_relay.specs.declared.judging.Verdict.TheVariants.{Refuse, End}
 use Rattle.protocol.specs.Faults.{fault_number}

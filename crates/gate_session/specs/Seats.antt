@@ -1,5 +1,5 @@
 -- Meaning: the seat of a session that a server has welcomed.
-use Rattle.std.specs.Prelude.{ℕ, Bool, true, false, not, ◌==◌, ◌&&◌, max, Option, Some, None, unwrap_or}
+use Rattle.std.specs.Prelude.{Bool, true, false, not, ◌==◌, ◌&&◌, max, None, unwrap_or}
 use Rattle.customer_book.specs.declared.amount.Ask.{Ask}
 use Rattle.customer_book.specs.Grants.{is_lower}
 use Rattle.customer_book.specs.Keeping.{Granted}

@@ -1,5 +1,5 @@
-use Rattle.std.proofs.Common.{◌≡◌, [], ℕ, ◌+◌, ◌-◌, ◌*◌, ◌<◌, ◌≤◌, length}
-use Rattle.gate_session.specs.Pairing.{Dealt, names_with, names_entered}
+use Rattle.std.proofs.Common.{[]}
+use Rattle.gate_session.specs.Pairing.{Dealt}
 use Rattle.gate_session.proofs.entering.enter.Given as goal
 
 abbrev pub invariant-loop : goal.invariant-loop

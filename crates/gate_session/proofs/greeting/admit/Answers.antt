@@ -1,4 +1,4 @@
-use Rattle.std.proofs.Common.{◌≡◌, Option, Some, None, refl, sym, subst}
+use Rattle.std.proofs.Common.{Some, None, refl, sym, subst}
 use Rattle.customer_book.specs.declared.event.Event.TheVariants.{Closes}
 use Rattle.gate_session.specs.Deals.{Booked}
 use Rattle.gate_session.specs.Greetings.{Greets, Opened, NoClass, NoGrant, NoWelcome, Admits}

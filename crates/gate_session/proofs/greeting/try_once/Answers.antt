@@ -1,4 +1,3 @@
-use Rattle.std.proofs.Common.{refl}
 use Rattle.gate_session.specs.declared.greeting.Outcome.TheVariants.{Full, Silent}
 use Rattle.gate_session.specs.Greetings.{Enters, Waits, Learns, Fails}
 use Rattle.gate_session.proofs.greeting.try_once.Goals as goal
