@@ -41,7 +41,6 @@
 pub use steal_pool;
 pub use steal_pool::desk;
 
-mod door;
 mod faults;
 mod server;
 

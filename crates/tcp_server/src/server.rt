@@ -1,7 +1,6 @@
 //! The threads of a server: the pool in one, and one for each connection.
 ghost use Rattle.std.specs.Prelude.{◌≡◌, true, IfOk, None, Ok};
 
-use crate::door::Door;
 use crate::faults::ServeFault;
 use desk_office::serve_desk;
 use line_io::{FromReader, FromWriter};
@@ -14,6 +13,7 @@ use std::sync::atomic::{AtomicBool, Ordering};
 use std::thread::{self, Builder, Scope, Threads};
 use steal_pool::desk::{Desk, Hands};
 use steal_pool::{Announce, BeginFault, Gate, PoolConfig, PoolEnd, Quiet, run_pool_announced};
+use tcp_door::Door;
 
 /// What a server is given.
 #[derive(Clone, Copy, Debug, PartialEq, Eq)]

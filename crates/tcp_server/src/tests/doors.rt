@@ -2,7 +2,6 @@
 ghost use Rattle.std.specs.Prelude.{◌≡◌};
 
 use super::{ANSWERED, Row, are_answered, are_told, is_answered, is_closed, serve_through};
-use crate::door::Door;
 use crate::server::serve_beside;
 use crate::{ServeFault, ServerConfig, Sessions};
 use sched_rules::{Config, Worker};
@@ -18,6 +17,7 @@ use std::thread::{self, Threads};
 use std::time::{Clock, CpuClock, Duration};
 use steal_pool::desk::{Desk, Hall, Hands, PARTS};
 use steal_pool::{Gate, Task};
+use tcp_door::Door;
 
 /// A job with a long table: one of Black's fourteen moves takes all of White's discs.
 const TABLED: [Row; 3] = [

@@ -5,6 +5,17 @@
 //! free by then it is the new spare, and the connection is served; else the connection is closed at once, and the spare
 //! is made anew. So a client that can't be served sees its connection closed, those after it are taken as ever, and
 //! the sessions that are there go on. Meanwhile the door waits in the system, and uses no processor.
+//!
+//! What it is for: each program that takes connections, the server and a site's gate, keeps one. A [`Door`] stands for a listener
+//! and perhaps a spare name of it; it is generic in the listener, so that a test can hand it one whose connections are lost.
+//! Nothing is proved of it but that it is safe: what a listener gives no clause can say. The tests of `tcp_server` play it.
+//!
+//! ```text
+//! let mut door = Door::new(listener);
+//! door.next(rt)?      // Some(stream), or None: one was closed at once, as there was no descriptor for it
+//! ```
+#![tactic(auto)]
+
 use std::io::{self, ErrorKind};
 use std::net::OpenListener;
 use std::sync::Wait;
@@ -17,7 +28,7 @@ const SYSTEM_IS_FULL: i32 = 23;
 
 /// A listener and a spare descriptor, with which a connection can be taken where no other descriptor is left.
 #[derive(Drop)]
-pub(crate) struct Door<N> {
+pub struct Door<N> {
     listener: N,
     /// A second name of the listener; `None` where no descriptor was left for one.
     spare: Option<N>,
@@ -25,7 +36,7 @@ pub(crate) struct Door<N> {
 
 impl<N: OpenListener + Drop> Door<N> {
     /// A door for this listener, with a spare descriptor if the system gives one.
-    pub(crate) fn new(listener: N) -> Door<N> {
+    pub fn new(listener: N) -> Door<N> {
         let spare = listener.try_clone().ok();
         Door { listener, spare }
     }
@@ -33,7 +44,7 @@ impl<N: OpenListener + Drop> Door<N> {
     /// Waits for the next connection. `None`: one was taken and closed at once, as no descriptor was left to serve it.
     /// A connection that was lost before it could be taken is passed over. `Err`: `accept` failed otherwise, or no
     /// descriptor was left and there was no spare one.
-    pub(crate) fn next<R: Wait>(&mut self, rt: &R) -> io::Result<Option<N::Stream>> {
+    pub fn next<R: Wait>(&mut self, rt: &R) -> io::Result<Option<N::Stream>> {
         for _ in rt.forever() {
             match self.listener.accept() {
                 Ok((stream, _)) => return Ok(Some(stream)),

@@ -1,0 +1,327 @@
+//! A session's way to the book that all sessions share.
+use crate::counts::Tally;
+use crate::register::Register;
+use crate::shared::Shared;
+use customer_book::{Ask, Cause, Grant, Refusal, Who};
+use gate_rules::{Said, read_answer};
+use gate_session::{Books, Note};
+use gate_texts::{SessionRow, push_session};
+use protocol::split_at_space;
+use std::alloc::Global;
+use std::cell::Cell;
+use std::sync::{MutexGuard, Wait};
+use std::thread;
+use std::time::{Clock, Duration, Instant};
+
+/// Seconds that a refusal waits at most.
+const MOST_WAIT: u64 = 10;
+
+/// Seconds that a HELLO waits for a session of its customer that is just ending.
+const A_MOMENT: u64 = 5;
+
+/// Lines after which a session tells what it has counted.
+const OFTEN: u64 = 256;
+
+/// A line whose answer is timed.
+#[derive(Clone, Copy)]
+enum Timed {
+    Hello(Instant),
+    Wait(Instant),
+}
+
+/// A session's way to the book.
+#[derive(Drop)]
+pub(crate) struct Clerk<'a, R> {
+    rt: &'a R,
+    shared: &'a Shared,
+    /// Whose the connection is by its certificate or address.
+    own: Who,
+    /// As whose the connection counts.
+    account: Cell<Who>,
+    /// The class of its session; 0 where it has none.
+    class: Cell<u8>,
+    /// Whether its session is ending.
+    is_fading: Cell<bool>,
+    timed: Cell<Option<Timed>>,
+    tally: Cell<Tally>,
+    /// What was told in all.
+    whole: Cell<Tally>,
+    /// The server that its last grant names, and what it reserves.
+    server: Cell<Option<usize>>,
+    ask: Cell<Ask>,
+    start: u64,
+}
+
+impl<'a, R: Clock + Wait> Clerk<'a, R> {
+    /// That of a connection which counts as this customer's.
+    pub(crate) fn new(rt: &'a R, shared: &'a Shared, own: Who) -> Clerk<'a, R> {
+        Clerk {
+            rt,
+            shared,
+            own,
+            account: Cell::new(own),
+            class: Cell::new(0),
+            is_fading: Cell::new(false),
+            timed: Cell::new(None),
+            tally: Cell::new(Tally::NONE),
+            whole: Cell::new(Tally::NONE),
+            server: Cell::new(None),
+            ask: Cell::new(Ask {
+                segments: 0,
+                nodes: 0,
+            }),
+            start: shared.moment(rt),
+        }
+    }
+
+    /// As whose the connection counts.
+    pub(crate) fn account(&self) -> Who {
+        self.account.get()
+    }
+
+    /// The session's line of the log; None where it never had a grant.
+    pub(crate) fn log_of(&self, alloc: Global, number: u64, end: &str) -> Option<String> {
+        let register = self.shared.lock.lock(self.rt);
+        let server = register.directory.servers.get(self.server.get()?).copied()?;
+        let customer = register.directory.name_of(alloc, self.account.get()).ok()?;
+        let class = register.directory.classes.get(self.class.get() as usize)?;
+        let whole = self.whole.get();
+        let row = SessionRow {
+            number,
+            customer: customer.as_str(),
+            class: class.as_str(),
+            server,
+            segments: self.ask.get().segments,
+            nodes: self.ask.get().nodes,
+            micros: self.shared.moment(self.rt).saturating_sub(self.start),
+            lines: whole.lines,
+            bytes: whole.bytes,
+            done: whole.done,
+            spent: whole.spent,
+            end,
+        };
+        let mut out = String::new(alloc);
+        push_session(&mut out, &row).ok()?;
+        Some(out)
+    }
+
+    /// Waits before a refusal, as it says.
+    fn pause(&self, refusal: Refusal) {
+        if refusal.wait > 0 {
+            thread::sleep(self.rt, Duration::from_micros(refusal.wait).min(Duration::from_secs(MOST_WAIT)));
+        }
+    }
+
+    /// Counts a refusal.
+    fn count_refusal(&self, register: &mut Register, who: Who, class: u8, cause: u8) {
+        if let Some(counts) = register.counts.of(who, class) {
+            if let Some(count) = counts.refused.get_mut(cause as usize) {
+                *count = count.saturating_add(1);
+            }
+        }
+    }
+
+    /// Makes the connection one of this customer's, if that may have one more.
+    fn belong(&self, register: &mut Register, who: Who) -> bool {
+        let now = self.account.get();
+        if now == who {
+            return true;
+        }
+        if !register.arrive(who) {
+            return false;
+        }
+        register.depart(now);
+        self.account.set(who);
+        true
+    }
+
+    /// Tells what was counted.
+    pub(crate) fn tell(&self) {
+        let tally = self.tally.replace(Tally::NONE);
+        self.whole.set(self.whole.get().with(&tally));
+        let (who, class) = (self.account.get(), self.class.get());
+        let mut register = self.shared.lock.lock(self.rt);
+        register.counts.add(who, class, &tally);
+    }
+
+    /// Opens a session, for which it waits while another of the customer's is just ending.
+    fn opened(&self, who: Who, session: u64, class: u8, ask: Ask) -> Result<Grant, Refusal> {
+        let start = Instant::now(self.rt).ok();
+        let mut register = self.shared.lock.lock(self.rt);
+        for _ in self.rt.forever() {
+            let moment = self.shared.moment(self.rt);
+            match register.book_at(moment).open(who, session, class, ask) {
+                Ok(grant) => {
+                    if let Some(counts) = register.counts.of(who, class) {
+                        counts.granted = counts.granted.saturating_add(1);
+                    }
+                    self.class.set(class);
+                    self.server.set(Some(grant.server()));
+                    self.ask.set(ask);
+                    return Ok(grant);
+                }
+                Err(refusal) => {
+                    let left = self.left_of(start);
+                    if !is_of_budget(refusal.cause) || !register.is_fading(who) || left == Duration::from_secs(0) {
+                        self.count_refusal(&mut *register, who, class, refusal.cause.number());
+                        return Err(refusal);
+                    }
+                    register = self.wait(register, left);
+                }
+            }
+        }
+        unreachable!()
+    }
+
+    /// What is left of a moment that began then.
+    fn left_of(&self, start: Option<Instant>) -> Duration {
+        match (start, Instant::now(self.rt)) {
+            (Some(start), Ok(now)) => Duration::from_secs(A_MOMENT).saturating_sub(now.duration_since(start)),
+            _ => Duration::from_secs(0),
+        }
+    }
+
+    /// Waits until a session has ended, or so long.
+    fn wait<'g>(&self, register: MutexGuard<'g, Register>, most: Duration) -> MutexGuard<'g, Register> {
+        self.shared.freed.wait_timeout(self.rt, register, most).0
+    }
+
+    /// Notes how long an answer took.
+    fn time(&self, tally: &mut Tally) {
+        let timed = self.timed.replace(None);
+        let Ok(now) = Instant::now(self.rt) else {
+            return;
+        };
+        match timed {
+            Some(Timed::Hello(start)) => tally.hello.note(micros(now.duration_since(start))),
+            Some(Timed::Wait(start)) => tally.wait.note(micros(now.duration_since(start))),
+            None => {}
+        }
+    }
+
+    /// Notes when a HELLO or a WAIT came.
+    fn note_line(&self, line: &[u8]) {
+        let word = match split_at_space(line) {
+            Some((word, _)) => word,
+            None => line,
+        };
+        if word == b"HELLO".as_slice() {
+            self.timed.set(Instant::now(self.rt).ok().map(Timed::Hello));
+        } else if word == b"WAIT".as_slice() {
+            self.timed.set(Instant::now(self.rt).ok().map(Timed::Wait));
+        }
+    }
+}
+
+/// Microseconds, as many as a number can say.
+fn micros(time: Duration) -> u64 {
+    u64::try_from(time.as_micros()).unwrap_or(u64::MAX)
+}
+
+/// Whether a refusal comes from what others of the customer, or other guests, have.
+fn is_of_budget(cause: Cause) -> bool {
+    cause == Cause::Budget || cause == Cause::Pool
+}
+
+impl<R: Clock + Wait> Books for Clerk<'_, R> {
+    ghost deals = { λ _ _ _. Unit {0} };
+
+    fn who(&mut self, token: Option<&[u8]>) -> Option<Who> {
+        let mut register = self.shared.lock.lock(self.rt);
+        let who = match token {
+            None => Some(self.own),
+            Some(token) => register.directory.keys.by_token(token),
+        };
+        let found = match who {
+            Some(who) if self.belong(&mut *register, who) => return Some(who),
+            Some(who) => who,
+            None => self.own,
+        };
+        self.count_refusal(&mut *register, found, 0, 0);
+        drop(register);
+        let _ = self.say(found);
+        None
+    }
+
+    fn class_for(&mut self, who: Who, ask: Ask) -> Option<u8> {
+        let register = self.shared.lock.lock(self.rt);
+        register.directory.class_for(who, ask)
+    }
+
+    fn open(&mut self, who: Who, session: u64, class: u8, ask: Ask) -> Result<Grant, Refusal> {
+        let answer = self.opened(who, session, class, ask);
+        if let Err(refusal) = &answer {
+            self.pause(*refusal);
+        }
+        answer
+    }
+
+    fn raise(&mut self, grant: &Grant, ask: Ask) -> Result<(), Refusal> {
+        let moment = self.shared.moment(self.rt);
+        let mut register = self.shared.lock.lock(self.rt);
+        let answer = register.book_at(moment).raise(grant, ask);
+        if let Err(refusal) = &answer {
+            self.count_refusal(&mut *register, grant.who(), grant.class(), refusal.cause.number());
+        }
+        drop(register);
+        match &answer {
+            Ok(()) => self.ask.set(ask),
+            Err(refusal) => self.pause(*refusal),
+        }
+        answer
+    }
+
+    fn say(&mut self, who: Who) -> Result<(), Refusal> {
+        let moment = self.shared.moment(self.rt);
+        let mut register = self.shared.lock.lock(self.rt);
+        let answer = register.book_at(moment).line(who);
+        drop(register);
+        if let Err(refusal) = &answer {
+            self.pause(*refusal);
+        }
+        answer
+    }
+
+    fn close(&mut self, grant: Grant) {
+        let who = grant.who();
+        self.tell();
+        let mut register = self.shared.lock.lock(self.rt);
+        register.book.close(grant);
+        if self.is_fading.replace(false) {
+            register.faded(who);
+        }
+        drop(register);
+        self.shared.freed.notify_all();
+    }
+
+    fn fade(&self, grant: &Grant) {
+        let mut register = self.shared.lock.lock(self.rt);
+        if !self.is_fading.replace(true) {
+            register.fade(grant.who());
+        }
+    }
+
+    fn note(&self, note: Note<'_>) {
+        let mut tally = self.tally.get();
+        match note {
+            Note::Line(line) => {
+                self.note_line(line);
+                tally.lines = tally.lines.saturating_add(1);
+                tally.bytes = tally.bytes.saturating_add(line.len() as u64).saturating_add(1);
+            }
+            Note::Answer(answer) => {
+                self.time(&mut tally);
+                match read_answer(answer) {
+                    Said::Done => tally.done = tally.done.saturating_add(1),
+                    Said::Spent => tally.spent = tally.spent.saturating_add(1),
+                    _ => {}
+                }
+            }
+        }
+        let many = tally.lines >= OFTEN;
+        self.tally.set(tally);
+        if many {
+            self.tell();
+        }
+    }
+}

@@ -1,0 +1,28 @@
+//! What all threads share.
+use crate::logging::Log;
+use crate::register::Register;
+use std::sync::{Condvar, Mutex};
+use std::time::{Clock, Instant};
+
+/// What all threads share.
+#[derive(Drop)]
+pub(crate) struct Shared {
+    /// The book and all that belongs to it.
+    pub(crate) lock: Mutex<Register>,
+    /// Where a HELLO waits until a session has ended.
+    pub(crate) freed: Condvar,
+    /// The log.
+    pub(crate) log: Log,
+    /// When the gate began.
+    pub(crate) start: Option<Instant>,
+}
+
+impl Shared {
+    /// Microseconds since the gate began.
+    pub(crate) fn moment(&self, clock: &impl Clock) -> u64 {
+        match (self.start, Instant::now(clock)) {
+            (Some(start), Ok(now)) => u64::try_from(now.duration_since(start).as_micros()).unwrap_or(u64::MAX),
+            _ => 0,
+        }
+    }
+}
