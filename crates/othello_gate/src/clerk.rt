@@ -108,7 +108,10 @@ impl<'a, R: Clock + Wait> Clerk<'a, R> {
     /// Waits before a refusal, as it says.
     fn pause(&self, refusal: Refusal) {
         if refusal.wait > 0 {
-            thread::sleep(self.rt, Duration::from_micros(refusal.wait).min(Duration::from_secs(MOST_WAIT)));
+            thread::sleep(
+                self.rt,
+                Duration::from_micros(refusal.wait).min(Duration::from_secs(MOST_WAIT)),
+            );
         }
     }
 
@@ -162,7 +165,10 @@ impl<'a, R: Clock + Wait> Clerk<'a, R> {
                 }
                 Err(refusal) => {
                     let left = self.left_of(start);
-                    if !is_of_budget(refusal.cause) || !register.is_fading(who) || left == Duration::from_secs(0) {
+                    if !is_of_budget(refusal.cause)
+                        || !register.is_fading(who)
+                        || left == Duration::from_secs(0)
+                    {
                         self.count_refusal(&mut *register, who, class, refusal.cause.number());
                         return Err(refusal);
                     }
@@ -176,13 +182,19 @@ impl<'a, R: Clock + Wait> Clerk<'a, R> {
     /// What is left of a moment that began then.
     fn left_of(&self, start: Option<Instant>) -> Duration {
         match (start, Instant::now(self.rt)) {
-            (Some(start), Ok(now)) => Duration::from_secs(A_MOMENT).saturating_sub(now.duration_since(start)),
+            (Some(start), Ok(now)) => Duration::from_secs(A_MOMENT).saturating_sub(
+                now.duration_since(start),
+            ),
             _ => Duration::from_secs(0),
         }
     }
 
     /// Waits until a session has ended, or so long.
-    fn wait<'g>(&self, register: MutexGuard<'g, Register>, most: Duration) -> MutexGuard<'g, Register> {
+    fn wait<'g>(
+        &self,
+        register: MutexGuard<'g, Register>,
+        most: Duration,
+    ) -> MutexGuard<'g, Register> {
         self.shared.freed.wait_timeout(self.rt, register, most).0
     }
 
@@ -261,7 +273,12 @@ impl<R: Clock + Wait> Books for Clerk<'_, R> {
         let mut register = self.shared.lock.lock(self.rt);
         let answer = register.book_at(moment).raise(grant, ask);
         if let Err(refusal) = &answer {
-            self.count_refusal(&mut *register, grant.who(), grant.class(), refusal.cause.number());
+            self.count_refusal(
+                &mut *register,
+                grant.who(),
+                grant.class(),
+                refusal.cause.number(),
+            );
         }
         drop(register);
         match &answer {
@@ -307,7 +324,10 @@ impl<R: Clock + Wait> Books for Clerk<'_, R> {
             Note::Line(line) => {
                 self.note_line(line);
                 tally.lines = tally.lines.saturating_add(1);
-                tally.bytes = tally.bytes.saturating_add(line.len() as u64).saturating_add(1);
+                tally.bytes = tally
+                    .bytes
+                    .saturating_add(line.len() as u64)
+                    .saturating_add(1);
             }
             Note::Answer(answer) => {
                 self.time(&mut tally);

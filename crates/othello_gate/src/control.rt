@@ -19,7 +19,11 @@ const A_COMMAND: u64 = 5;
 const MOST_COMMANDERS: u64 = 64;
 
 /// Reads the file again. The text says OK, or why all stays as it is.
-fn reload<R: Files + AllocGlobal + Wait>(rt: &R, shared: &Shared, path: &str) -> Result<String, AllocError> {
+fn reload<R: Files + AllocGlobal + Wait>(
+    rt: &R,
+    shared: &Shared,
+    path: &str,
+) -> Result<String, AllocError> {
     let alloc = rt.alloc();
     let text = match fs::read_to_string(rt, path) {
         Ok(text) => text,
@@ -33,7 +37,12 @@ fn reload<R: Files + AllocGlobal + Wait>(rt: &R, shared: &Shared, path: &str) ->
 }
 
 /// The answer to a request; None where it isn't whole yet.
-fn answer<R: Files + AllocGlobal + Wait>(rt: &R, shared: &Shared, path: &str, request: &[u8]) -> Option<Result<String, AllocError>> {
+fn answer<R: Files + AllocGlobal + Wait>(
+    rt: &R,
+    shared: &Shared,
+    path: &str,
+    request: &[u8],
+) -> Option<Result<String, AllocError>> {
     let alloc = rt.alloc();
     let end = request.iter().position(|byte| *byte == b'\n')?;
     let line = request.get(..end)?.trim_ascii();
@@ -53,9 +62,18 @@ fn answer<R: Files + AllocGlobal + Wait>(rt: &R, shared: &Shared, path: &str, re
 }
 
 /// Answers one connection.
-fn converse<R: Files + AllocGlobal + Wait>(rt: &R, shared: &Shared, path: &str, stream: &TcpStream) -> Option<()> {
-    stream.set_read_timeout(Some(Duration::from_secs(A_COMMAND))).ok()?;
-    stream.set_write_timeout(Some(Duration::from_secs(A_COMMAND))).ok()?;
+fn converse<R: Files + AllocGlobal + Wait>(
+    rt: &R,
+    shared: &Shared,
+    path: &str,
+    stream: &TcpStream,
+) -> Option<()> {
+    stream
+        .set_read_timeout(Some(Duration::from_secs(A_COMMAND)))
+        .ok()?;
+    stream
+        .set_write_timeout(Some(Duration::from_secs(A_COMMAND)))
+        .ok()?;
     let mut stream = stream;
     let mut received = Received::new();
     for _ in 0..MOST_BYTES {

@@ -26,6 +26,7 @@ const AN_END: u64 = 3_600_000;
 
 /// Milliseconds before all servers are asked once more: at first, and at most.
 const LEAST_PAUSE: u64 = 10;
+
 const GREATEST_PAUSE: u64 = 500;
 
 /// The most tries of one welcome.
@@ -126,9 +127,10 @@ impl<'a, R: Net<Listener = TcpListener, Stream = TcpStream> + Clock + Wait> Dial
     }
 }
 
-impl<'a, R: Net<Listener = TcpListener, Stream = TcpStream> + Clock + Wait>
-    Servers<Incoming<'a, R>, Outgoing> for Dialer<'a, R>
-{
+impl<'a, R: Net<Listener = TcpListener, Stream = TcpStream> + Clock + Wait> Servers<
+    Incoming<'a, R>,
+    Outgoing,
+> for Dialer<'a, R> {
     ghost dials = { λ _ _ _ _ _. Unit {0} };
 
     ghost parts = { λ _ _ _. Unit {0} };

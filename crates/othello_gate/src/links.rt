@@ -127,7 +127,9 @@ impl<R: Clock> Incoming<'_, R> {
         }
         if self.until.is_some() && bytes.contains(&LF) {
             self.until = None;
-            let _ = self.stream.set_read_timeout(Some(Duration::from_secs(SILENCE)));
+            let _ = self
+                .stream
+                .set_read_timeout(Some(Duration::from_secs(SILENCE)));
         }
     }
 

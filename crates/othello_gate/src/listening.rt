@@ -36,19 +36,19 @@ fn start<'s, E, R>(
     shared: &'s Shared,
     stream: TcpStream,
     number: u64,
-) where
+)
+where
     R: Net<Listener = TcpListener, Stream = TcpStream> + Threads + Wait + Clock + Sync,
 {
     if !arrive(rt, shared) {
         return;
     }
-    let started = Builder::new().stack_size(STACK).spawn_scoped(
-        scope,
-        move || {
+    let started = Builder::new()
+        .stack_size(STACK)
+        .spawn_scoped(scope, move || {
             let _ = serve_client(rt, alloc, shared, stream, number);
             depart(rt, shared);
-        },
-    );
+        });
     if started.is_err() {
         depart(rt, shared);
     }

@@ -33,7 +33,9 @@ impl Log {
 
     /// Waits for lines, and takes them.
     fn take<R: Wait>(&self, rt: &R, alloc: Global) -> String {
-        let mut waiting = self.filled.wait_while(rt, self.waiting.lock(rt), |waiting| waiting.is_empty());
+        let mut waiting = self
+            .filled
+            .wait_while(rt, self.waiting.lock(rt), |waiting| waiting.is_empty());
         std::mem::replace(&mut *waiting, String::new(alloc))
     }
 

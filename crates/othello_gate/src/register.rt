@@ -99,11 +99,18 @@ impl Register {
 
     /// Goes on by another file's text. At Err nothing is changed.
     pub(crate) fn replan(&mut self, alloc: Global, text: &str) -> Result<(), ReloadFault> {
-        let plan = match read_site_again(alloc, text, &self.directory, self.amounts.servers.as_slice()) {
+        let plan = match read_site_again(
+            alloc,
+            text,
+            &self.directory,
+            self.amounts.servers.as_slice(),
+        ) {
             Ok(plan) => plan,
             Err(fault) => return Err(ReloadFault::File(fault)),
         };
-        if plan.directory.listen != self.directory.listen || plan.directory.control != self.directory.control {
+        if plan.directory.listen != self.directory.listen
+            || plan.directory.control != self.directory.control
+        {
             return Err(ReloadFault::Listen);
         }
         self.go_by(alloc, plan)

@@ -9,21 +9,23 @@ use crate::register::Register;
 use crate::shared::Shared;
 use site_file::{SitePlan, read_site};
 use std::alloc::{AllocError, Global};
-use std::fs;
-use std::io;
 use std::net::{Net, TcpListener, TcpStream};
 use std::rt::Files;
-use std::sync::{Condvar, Mutex, Wait};
 use std::sync::atomic::AtomicU64;
+use std::sync::{Condvar, Mutex, Wait};
 use std::thread::{self, Threads};
 use std::time::{Clock, Instant};
+use std::{fs, io};
 
 const EXIT_OK: u8 = 0;
+
 const EXIT_FAILED: u8 = 1;
+
 const EXIT_REFUSED: u8 = 2;
 
 /// What `--help` says.
-const HELP: &str = "Stands between HAProxy and `othello serve`, and gives each customer its share of the servers.
+const HELP: &str =
+    "Stands between HAProxy and `othello serve`, and gives each customer its share of the servers.
 
 Usage: othello_gate FILE            serves, by a file as deploy/gate.toml
        othello_gate --check FILE    says what the file gives away, and whether it fits the servers
@@ -51,11 +53,22 @@ pub(crate) fn refuse_words(rt: &impl Eprint) -> u8 {
 /// Does what the words ask for, and returns the exit status.
 pub(crate) fn run<R>(rt: &R, words: &[String]) -> u8
 where
-    R: Net<Listener = TcpListener, Stream = TcpStream> + Threads + Wait + Clock + Files + Print + Eprint + AllocGlobal + Sync,
+    R: Net<Listener = TcpListener, Stream = TcpStream>
+        + Threads
+        + Wait
+        + Clock
+        + Files
+        + Print
+        + Eprint
+        + AllocGlobal
+        + Sync,
 {
     match words {
         [word] if word.as_str() == "--help" || word.as_str() == "-h" => say(rt, HELP),
-        [word] if word.as_str() == "--version" || word.as_str() == "-V" => say(rt, "othello_gate 1.0.0\n"),
+        [word] if word.as_str() == "--version" || word.as_str() == "-V" => say(
+            rt,
+            "othello_gate 1.0.0\n",
+        ),
         [word, path] if word.as_str() == "--check" => check(rt, path.as_str()),
         [path] if !path.as_str().starts_with("-") => serve(rt, path.as_str()),
         _ => refuse_words(rt),
@@ -105,7 +118,15 @@ fn check<R: Files + Print + Eprint + AllocGlobal>(rt: &R, path: &str) -> u8 {
 /// Serves by a file.
 fn serve<R>(rt: &R, path: &str) -> u8
 where
-    R: Net<Listener = TcpListener, Stream = TcpStream> + Threads + Wait + Clock + Files + Print + Eprint + AllocGlobal + Sync,
+    R: Net<Listener = TcpListener, Stream = TcpStream>
+        + Threads
+        + Wait
+        + Clock
+        + Files
+        + Print
+        + Eprint
+        + AllocGlobal
+        + Sync,
 {
     let plan = match read_plan(rt, path) {
         Ok(plan) => plan,
@@ -123,7 +144,15 @@ where
 /// Listens as a plan says, and serves until the listener fails.
 fn serve_plan<R>(rt: &R, path: &str, plan: SitePlan) -> io::Result<()>
 where
-    R: Net<Listener = TcpListener, Stream = TcpStream> + Threads + Wait + Clock + Files + Print + Eprint + AllocGlobal + Sync,
+    R: Net<Listener = TcpListener, Stream = TcpStream>
+        + Threads
+        + Wait
+        + Clock
+        + Files
+        + Print
+        + Eprint
+        + AllocGlobal
+        + Sync,
     requires { IsTrue (sums_fit (seen_plan plan.site)) }
 {
     let listener = TcpListener::bind(rt, plan.directory.listen)?;
@@ -146,7 +175,9 @@ where
         });
         let _ = scope.spawn(move || shared.log.write_all(rt, rt.alloc()));
         if let Some(control) = control {
-            let _ = scope.spawn(move || serve_control(scope, rt, shared, path, commanders, control));
+            let _ = scope.spawn(move || serve_control(
+                scope, rt, shared, path, commanders, control,
+            ));
         }
         take_all(scope, rt, rt.alloc(), shared, listener)
     }))

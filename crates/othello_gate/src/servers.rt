@@ -44,7 +44,11 @@ impl KnownServers {
         let Some(chosen) = self.all.get(server) else {
             return 0;
         };
-        let count = self.all.iter().filter(|known| known.class == chosen.class).count();
+        let count = self
+            .all
+            .iter()
+            .filter(|known| known.class == chosen.class)
+            .count();
         u32::try_from(count).unwrap_or(u32::MAX)
     }
 

@@ -21,7 +21,9 @@ impl Shared {
     /// Microseconds since the gate began.
     pub(crate) fn moment(&self, clock: &impl Clock) -> u64 {
         match (self.start, Instant::now(clock)) {
-            (Some(start), Ok(now)) => u64::try_from(now.duration_since(start).as_micros()).unwrap_or(u64::MAX),
+            (Some(start), Ok(now)) => u64::try_from(
+                now.duration_since(start).as_micros(),
+            ).unwrap_or(u64::MAX),
             _ => 0,
         }
     }

@@ -15,25 +15,45 @@ struct Rows<'a> {
 }
 
 /// STATS: a line for each number, and an empty one at the end.
-pub(crate) fn stats_of<R: Wait>(rt: &R, alloc: Global, shared: &Shared) -> Result<String, AllocError> {
+pub(crate) fn stats_of<R: Wait>(
+    rt: &R,
+    alloc: Global,
+    shared: &Shared,
+) -> Result<String, AllocError> {
     let mut out = String::new(alloc);
     let register = shared.lock.lock(rt);
     let all = rows_of(alloc, &*register)?;
-    push_stats(&mut out, all.rows.as_slice(), all.accounts.as_slice(), all.servers.as_slice())?;
+    push_stats(
+        &mut out,
+        all.rows.as_slice(),
+        all.accounts.as_slice(),
+        all.servers.as_slice(),
+    )?;
     out.push_str("\n")?;
     Ok(out)
 }
 
 /// The answer to GET /metrics.
-pub(crate) fn metrics_of<R: Wait>(rt: &R, alloc: Global, shared: &Shared) -> Result<String, AllocError> {
+pub(crate) fn metrics_of<R: Wait>(
+    rt: &R,
+    alloc: Global,
+    shared: &Shared,
+) -> Result<String, AllocError> {
     let mut body = String::new(alloc);
     let register = shared.lock.lock(rt);
     let all = rows_of(alloc, &*register)?;
-    push_metrics(&mut body, all.rows.as_slice(), all.accounts.as_slice(), all.servers.as_slice())?;
+    push_metrics(
+        &mut body,
+        all.rows.as_slice(),
+        all.accounts.as_slice(),
+        all.servers.as_slice(),
+    )?;
     drop(all);
     drop(register);
     let size = body.len();
-    format!(in alloc; "HTTP/1.0 200 OK\r\nContent-Type: text/plain; version=0.0.4\r\nContent-Length: {size}\r\n\r\n{body}")
+    format!(in alloc;
+        "HTTP/1.0 200 OK\r\nContent-Type: text/plain; version=0.0.4\r\nContent-Length: {size}\r\n\r\n{body}"
+    )
 }
 
 /// All that the register knows.
@@ -45,7 +65,12 @@ fn rows_of<'a>(alloc: Global, register: &'a Register) -> Result<Rows<'a>, AllocE
     };
     push_customer(&mut all, register, 0, "guests")?;
     for (number, terms) in register.directory.customers.iter().enumerate() {
-        push_customer(&mut all, register, number.saturating_add(1), terms.name.as_str())?;
+        push_customer(
+            &mut all,
+            register,
+            number.saturating_add(1),
+            terms.name.as_str(),
+        )?;
     }
     for number in 0..register.directory.servers.len() {
         push_server(&mut all, register, number)?;
@@ -73,14 +98,27 @@ fn part_of(row: usize, class: u8) -> Part {
 fn budgets_of(register: &Register, row: usize) -> [Amount; CLASSES] {
     match row.checked_sub(1) {
         None => register.amounts.pool,
-        Some(number) => register.amounts.named.get(number).copied().unwrap_or([Amount::NOTHING; CLASSES]),
+        Some(number) => register
+            .amounts
+            .named
+            .get(number)
+            .copied()
+            .unwrap_or([Amount::NOTHING; CLASSES]),
     }
 }
 
 /// The numbers of one customer, or of all guests together.
-fn push_customer<'a>(all: &mut Rows<'a>, register: &'a Register, row: usize, customer: &'a str) -> Result<(), AllocError> {
+fn push_customer<'a>(
+    all: &mut Rows<'a>,
+    register: &'a Register,
+    row: usize,
+    customer: &'a str,
+) -> Result<(), AllocError> {
     let connections = register.connections_in(row);
-    all.accounts.push(AccountRow { customer, connections })?;
+    all.accounts.push(AccountRow {
+        customer,
+        connections,
+    })?;
     let Some(counts) = register.counts.row(row) else {
         return Ok(());
     };
@@ -102,8 +140,15 @@ fn push_customer<'a>(all: &mut Rows<'a>, register: &'a Register, row: usize, cus
 }
 
 /// The numbers of one server.
-fn push_server<'a>(all: &mut Rows<'a>, register: &'a Register, number: usize) -> Result<(), AllocError> {
-    let (Some(address), Some(server)) = (register.directory.servers.get(number), register.amounts.servers.get(number)) else {
+fn push_server<'a>(
+    all: &mut Rows<'a>,
+    register: &'a Register,
+    number: usize,
+) -> Result<(), AllocError> {
+    let (Some(address), Some(server)) = (
+        register.directory.servers.get(number),
+        register.amounts.servers.get(number),
+    ) else {
         return Ok(());
     };
     all.servers.push(ServerRow {
