@@ -9,11 +9,14 @@ use std::net::{TcpListener, TcpStream};
 use std::rt::Files;
 use std::sync::Wait;
 use std::sync::atomic::{AtomicU64, Ordering};
-use std::thread::Scope;
-use std::time::Duration;
+use std::thread::{self, Scope};
+use std::time::{Clock, Duration};
 
 /// Seconds in which a command is whole, and in which its answer is taken.
 const A_COMMAND: u64 = 5;
+
+/// Milliseconds before a connection is taken again, where none could be.
+const A_PAUSE: u64 = 100;
 
 /// The most connections that are answered at once.
 const MOST_COMMANDERS: u64 = 64;
@@ -100,7 +103,7 @@ fn arrive(commanders: &AtomicU64) -> bool {
 }
 
 /// Answers connections, each in a thread of its own, and few at once: more are closed.
-pub(crate) fn serve_control<'s, E, R: Files + AllocGlobal + Wait + Sync>(
+pub(crate) fn serve_control<'s, E, R: Clock + Files + AllocGlobal + Wait + Sync>(
     scope: &'s Scope<'s, E>,
     rt: &'s R,
     shared: &'s Shared,
@@ -110,6 +113,7 @@ pub(crate) fn serve_control<'s, E, R: Files + AllocGlobal + Wait + Sync>(
 ) {
     for stream in listener.incoming() {
         let Ok(stream) = stream else {
+            thread::sleep(rt, Duration::from_millis(A_PAUSE));
             continue;
         };
         if !arrive(commanders) {

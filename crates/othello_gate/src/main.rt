@@ -21,12 +21,14 @@ mod client;
 mod control;
 mod counts;
 mod dialing;
+mod ending;
 mod links;
 mod listening;
 mod logging;
 mod register;
 mod running;
 mod servers;
+mod serving;
 mod shared;
 mod telling;
 

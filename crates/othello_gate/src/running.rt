@@ -2,19 +2,14 @@
 ghost use Rattle.std.specs.Prelude.{IsTrue, IfOk};
 ghost use Rattle.customer_book.specs.Plans.{plan_of as seen_plan, sums_fit};
 
-use crate::control::serve_control;
-use crate::listening::take_all;
-use crate::logging::Log;
-use crate::register::Register;
-use crate::shared::Shared;
+use crate::serving::serve_plan;
 use site_file::{SitePlan, read_site};
-use std::alloc::{AllocError, Global};
+use std::alloc::Global;
 use std::net::{Net, TcpListener, TcpStream};
 use std::rt::Files;
-use std::sync::atomic::AtomicU64;
-use std::sync::{Condvar, Mutex, Wait};
-use std::thread::{self, Threads};
-use std::time::{Clock, Instant};
+use std::sync::Wait;
+use std::thread::Threads;
+use std::time::Clock;
 use std::{fs, io};
 
 const EXIT_OK: u8 = 0;
@@ -32,7 +27,7 @@ Usage: othello_gate FILE            serves, by a file as deploy/gate.toml
        othello_gate --version
        othello_gate --help
 
-Status: 1 where it can't listen; 2 where the words, the file or its sums are wrong.
+Status: 1 where it can't listen, or no more connections can be taken; 2 where the words, the file or its sums are wrong.
 ";
 
 /// The words after the program's name.
@@ -61,7 +56,10 @@ where
         + Print
         + Eprint
         + AllocGlobal
-        + Sync,
+        + Copy
+        + Send
+        + Sync
+        + 'static,
 {
     match words {
         [word] if word.as_str() == "--help" || word.as_str() == "-h" => say(rt, HELP),
@@ -115,7 +113,7 @@ fn check<R: Files + Print + Eprint + AllocGlobal>(rt: &R, path: &str) -> u8 {
     }
 }
 
-/// Serves by a file.
+/// Serves by a file until no more connections can be taken, and says why.
 fn serve<R>(rt: &R, path: &str) -> u8
 where
     R: Net<Listener = TcpListener, Stream = TcpStream>
@@ -126,59 +124,22 @@ where
         + Print
         + Eprint
         + AllocGlobal
-        + Sync,
+        + Copy
+        + Send
+        + Sync
+        + 'static,
 {
     let plan = match read_plan(rt, path) {
         Ok(plan) => plan,
         Err(status) => return status,
     };
     match serve_plan(rt, path, plan) {
-        Ok(()) => EXIT_OK,
+        Ok(error) => {
+            let _ = eprintln!(rt; "othello_gate: no more connections can be taken: {error}");
+        }
         Err(error) => {
             let _ = eprintln!(rt; "othello_gate: {error}");
-            EXIT_FAILED
         }
     }
-}
-
-/// Listens as a plan says, and serves until the listener fails.
-fn serve_plan<R>(rt: &R, path: &str, plan: SitePlan) -> io::Result<()>
-where
-    R: Net<Listener = TcpListener, Stream = TcpStream>
-        + Threads
-        + Wait
-        + Clock
-        + Files
-        + Print
-        + Eprint
-        + AllocGlobal
-        + Sync,
-    requires { IsTrue (sums_fit (seen_plan plan.site)) }
-{
-    let listener = TcpListener::bind(rt, plan.directory.listen)?;
-    let control = match plan.directory.control {
-        Some(address) => Some(TcpListener::bind(rt, address)?),
-        None => None,
-    };
-    let address = listener.local_addr()?;
-    let shared = Shared {
-        lock: Mutex::new(Register::new(rt.alloc(), plan)?),
-        freed: Condvar::new(),
-        log: Log::new(rt.alloc()),
-        start: Some(Instant::now(rt)?),
-    };
-    let commanders = AtomicU64::new(0);
-    let (shared, commanders) = (&shared, &commanders);
-    Err(thread::scope(thread::scope_env(), rt, |scope| {
-        let _ = scope.spawn(move || {
-            let _ = println!(rt; "listening {address}");
-        });
-        let _ = scope.spawn(move || shared.log.write_all(rt, rt.alloc()));
-        if let Some(control) = control {
-            let _ = scope.spawn(move || serve_control(
-                scope, rt, shared, path, commanders, control,
-            ));
-        }
-        take_all(scope, rt, rt.alloc(), shared, listener)
-    }))
+    EXIT_FAILED
 }

@@ -1,0 +1,124 @@
+//! The threads of a gate that serves.
+//!
+//! They run in a scope of a thread of their own, which ends with the last session. The thread that began it waits for one thing
+//! alone: that no more connections can be taken ([`Ending`]). Then the program ends at once, and its sessions with it, so that
+//! whoever supervises it can start it again.
+ghost use Rattle.std.specs.Prelude.{IsTrue};
+ghost use Rattle.customer_book.specs.Plans.{plan_of, sums_fit};
+
+use crate::control::serve_control;
+use crate::ending::Ending;
+use crate::listening::take_all;
+use crate::logging::Log;
+use crate::register::Register;
+use crate::shared::Shared;
+use site_file::SitePlan;
+use std::io;
+use std::net::{Net, SocketAddr, TcpListener, TcpStream};
+use std::rt::Files;
+use std::sync::atomic::AtomicU64;
+use std::sync::{Arc, Condvar, Mutex, Wait};
+use std::thread::{self, Builder, Threads};
+use std::time::{Clock, Instant};
+
+/// What a gate serves with.
+#[derive(Drop)]
+struct Gate {
+    shared: Shared,
+    /// The file.
+    path: String,
+    listener: TcpListener,
+    /// At which address it listens.
+    address: SocketAddr,
+    control: Option<TcpListener>,
+}
+
+/// Listens as a plan says.
+fn gate_of<R>(rt: &R, path: &str, plan: SitePlan) -> io::Result<Gate>
+where
+    R: Net<Listener = TcpListener, Stream = TcpStream> + Clock + AllocGlobal,
+    requires { IsTrue (sums_fit (plan_of plan.site)) }
+{
+    let alloc = rt.alloc();
+    let listener = TcpListener::bind(rt, plan.directory.listen)?;
+    let control = match plan.directory.control {
+        Some(address) => Some(TcpListener::bind(rt, address)?),
+        None => None,
+    };
+    let address = listener.local_addr()?;
+    let start = Some(Instant::now(rt)?);
+    let shared = Shared {
+        lock: Mutex::new(Register::new(alloc, plan)?),
+        freed: Condvar::new(),
+        log: Log::new(alloc),
+        start,
+    };
+    Ok(Gate {
+        shared,
+        path: String::from_str(alloc, path)?,
+        listener,
+        address,
+        control,
+    })
+}
+
+/// Listens as a plan says, and serves until no more connections can be taken. Returns why that is so.
+pub(crate) fn serve_plan<R>(rt: &R, path: &str, plan: SitePlan) -> io::Result<io::Error>
+where
+    R: Net<Listener = TcpListener, Stream = TcpStream>
+        + Threads
+        + Wait
+        + Clock
+        + Files
+        + Print
+        + Eprint
+        + AllocGlobal
+        + Copy
+        + Send
+        + Sync
+        + 'static,
+    requires { IsTrue (sums_fit (plan_of plan.site)) }
+{
+    let gate = gate_of(rt, path, plan)?;
+    let ending = Arc::new(rt.alloc(), Ending::new())?;
+    let theirs = Arc::try_clone(&ending)?;
+    let host = *rt;
+    let _ = Builder::new().spawn(rt, move || serve_gate(&host, gate, &theirs))?;
+    Ok(ending.wait(rt))
+}
+
+/// Serves, and tells when no more connections can be taken.
+fn serve_gate<R>(rt: &R, gate: Gate, ending: &Ending)
+where
+    R: Net<Listener = TcpListener, Stream = TcpStream>
+        + Threads
+        + Wait
+        + Clock
+        + Files
+        + Print
+        + Eprint
+        + AllocGlobal
+        + Sync,
+{
+    let Gate {
+        shared,
+        path,
+        listener,
+        address,
+        control,
+    } = gate;
+    let commanders = AtomicU64::new(0);
+    let (shared, path, commanders) = (&shared, path.as_str(), &commanders);
+    thread::scope(thread::scope_env(), rt, |scope| {
+        let _ = scope.spawn(move || {
+            let _ = println!(rt; "listening {address}");
+        });
+        let _ = scope.spawn(move || shared.log.write_all(rt, rt.alloc()));
+        if let Some(control) = control {
+            let _ = scope.spawn(move || serve_control(
+                scope, rt, shared, path, commanders, control,
+            ));
+        }
+        ending.tell(rt, take_all(scope, rt, rt.alloc(), shared, listener));
+    });
+}
