@@ -1,7 +1,5 @@
 """What is tried of the gate: each attack, by 64 addresses at once, beside customers that must be answered within a second; then each of
 its rules. (deploy/try runs this, and deploy/wrong sees each trial fail for a gate that is wrong in one point.)
-
-Without a gate (GATE) deploy/budgets is tried where it has the behaviour.
 """
 import concurrent.futures
 import contextlib
@@ -20,7 +18,7 @@ import time
 import urllib.request
 
 import stage
-from stage import GREAT, HERE, LINES, QUICK, QUICK_WORDS, From, Refused, address_of, certificates, check, fail, fault, handed, is_answered, paused, site, told
+from stage import GREAT, HERE, LINES, QUICK, QUICK_WORDS, From, Refused, address_of, certificates, check, fault, handed, is_answered, paused, site, told
 
 HOSTILE = 64
 A_SECOND = 1.0  # in which every other customer is answered
@@ -42,9 +40,8 @@ POOL = [("quick = { sessions = 128, segments = 131072, nodes = 1279872 }", "quic
 @contextlib.contextmanager
 def broad_site(**more):
     """A site with three quick servers, for 64 hostile customers and others."""
-    servers = [] if stage.gate() else [("servers = 2\n", "servers = 3\n")]
     with stage.server("--sessions", "1000", *QUICK_WORDS) as (_, beside), \
-         site(1000, terms=WIDE + servers, more=SCHOOL.format(token=DIGEST), beside=[beside], **more) as proxy:  # fmt: skip
+         site(1000, terms=WIDE, more=SCHOOL.format(token=DIGEST), beside=[beside], **more) as proxy:  # fmt: skip
         yield proxy
 
 
@@ -144,8 +141,6 @@ def header_of(address):
 
 def try_slow(wanted):
     """A first line, or a header, that comes slowly is waited for 10 seconds in all; a session that is there may be slow."""
-    if not stage.gate():
-        return print("  (deploy/budgets: the first line alone)")
     with site(1000) as proxy, Beside(proxy, wanted, "127.3.1.2"), contextlib.ExitStack() as open_ones:
         seated = open_ones.enter_context(socket.create_connection(("127.0.0.1", proxy.port), 30, (address_of(1), 0)))
         answers = open_ones.enter_context(seated.makefile("r", encoding="ascii", newline="\n"))
@@ -190,14 +185,13 @@ def try_headers(wanted):
                 while not re.search(rb"WELCOME 1 1\n|ERR 14\n", found) and (piece := stream.recv(200)):
                     found += piece
             answers.append(found)
-        check(sum(b"WELCOME" in found for found in answers) == 2 and (not proxy.gate or all(b"ERR 21\n" in found for found in answers)), f"{answers}")
+        check(sum(b"WELCOME" in found for found in answers) == 2 and all(b"ERR 21\n" in found for found in answers), f"{answers}")
         check({row[0] for row in proxy.held()} - {"127.7.0.1"} == {"guests"}, f"{proxy.held()}")
-        if proxy.gate:
-            straight = [From("127.6.0.7", "127.0.0.1", proxy.inner, *QUICK) for _ in range(8)]
-            for session in straight:
-                open_ones.callback(session.close)
-            check(("school", "quick", 8) in [row[:3] for row in proxy.held()], f"{proxy.held()}")
-            check(is_answered(straight[7], 3, wanted), "a wrong value")
+        straight = [From("127.6.0.7", "127.0.0.1", proxy.inner, *QUICK) for _ in range(8)]
+        for session in straight:
+            open_ones.callback(session.close)
+        check(("school", "quick", 8) in [row[:3] for row in proxy.held()], f"{proxy.held()}")
+        check(is_answered(straight[7], 3, wanted), "a wrong value")
     print("  8 connections of a guest with headers of their own, of both versions: two sessions, as a guest's, and ERR 21 for the headers")
 
 
@@ -250,11 +244,10 @@ def try_rates(wanted):
             check(times[-1] > 3 and times[1] < 2, f"20 refusals come after {times}")
             begun = time.monotonic()
             check(is_answered(other, 1, wanted) and time.monotonic() - begun < 1, f"another waits {time.monotonic() - begun:.2f} s")
-            if proxy.gate:
-                found = [fault(other, QUICK[0], QUICK[1] + number) for number in range(1, 12)]
-                check(found[:4] == [0] * 4 and 14 in found, f"RESERVE has no rate: {found}")
-                time.sleep(3)
-                check(fault(other, QUICK[0], QUICK[1] + 100) == 0, "nothing is there again after a while")
+            found = [fault(other, QUICK[0], QUICK[1] + number) for number in range(1, 12)]
+            check(found[:4] == [0] * 4 and 14 in found, f"RESERVE has no rate: {found}")
+            time.sleep(3)
+            check(fault(other, QUICK[0], QUICK[1] + 100) == 0, "nothing is there again after a while")
             other.close()
         beside.took += [0.0] * 9
     print(f"  rate 2, burst 6: six sessions at once, then ERR 14; 20 refusals took {times[-1]:.1f} s, and nobody else waited; lines of RESERVE count too")
@@ -280,7 +273,7 @@ def try_reread(wanted):
         def all_there():
             return all(is_answered(session, number, wanted) for number, session in enumerate(school + guests))
 
-        for old, new in REREAD if proxy.gate else REREAD[:3]:
+        for old, new in REREAD:
             check(old in right, f"nothing to change: {old!r}")
             proxy.file.write_text(right.replace(old, new, 1))
             why = proxy.read_again(is_fit=False)
@@ -296,8 +289,8 @@ def try_reread(wanted):
         later = [told("127.6.0.1", proxy.port, *QUICK) for _ in range(3)]
         check([number for _, number in later] == [0, 0, 14] and all_there(), f"{later}")
         proxy.file.write_text(stage.replaced(right, [("sessions = 8, segments = 8192, nodes = 79992", "sessions = 3, segments = 3072, nodes = 29997")]))
-        if proxy.gate:  # its ten sessions and all that the guests may have would be more than there are places: later again
-            check("place" in proxy.read_again(is_fit=False) and all_there(), "a file for which there are no places yet is taken")
+        # Its ten sessions and all that the guests may have would be more than there are places: later again.
+        check("place" in proxy.read_again(is_fit=False) and all_there(), "a file for which there are no places yet is taken")
         for session, _ in later[:2]:
             session.close()
         stage.until("two have ended", lambda: ("school", "quick", 8) in [row[:3] for row in proxy.held()], 10)
@@ -326,8 +319,8 @@ def try_gate_killed(wanted):
         for turn in range(3):
             sessions = [From("127.6.0.1", "127.0.0.1", proxy.port, *QUICK, timeout=20) for _ in range(8)] + [From(address_of(number), "127.0.0.1", proxy.port, *GREAT, timeout=20) for number in range(12)]
             check(all(is_answered(session, number, wanted) for number, session in enumerate(sessions)), "a wrong value")
-            proxy.budgets.kill()
-            proxy.budgets.wait()
+            proxy.gate.kill()
+            proxy.gate.wait()
             waiting = []
 
             def early(found=waiting):
@@ -352,8 +345,7 @@ def try_gate_killed(wanted):
             check(lost == 20, f"{lost} of 20 sessions were lost")
             waiting[0][0].close()
             is_over(proxy, "the next gate", 10)
-            if proxy.gate:
-                stage.until("the servers have it back", lambda: not any(proxy.counts().values()), 10)
+            stage.until("the servers have it back", lambda: not any(proxy.counts().values()), 10)
     print(f"  killed three times under 20 sessions: all were lost, who came meanwhile was served {took:.1f} s after the next gate's start, and budgets were whole")
 
 
@@ -364,7 +356,6 @@ def try_gone(wanted):
         for supervisor in (proxy.supervisors[0], proxy.supervisors[2]):
             supervisor.terminate()
             supervisor.wait(20)
-        time.sleep(0 if proxy.gate else 5)
         found, refusals = [], []
 
         def deep(number):
@@ -386,7 +377,7 @@ def try_gone(wanted):
         for each in threads:
             each.join()
         check(max(found) < A_SECOND, f"a session of the class whose server is gone is answered after {max(found):.2f} s")
-        check(len(refusals) == 8 and (not proxy.gate or all(refusal == 14 and seconds < 12 for refusal, seconds in refusals)), f"{refusals}")
+        check(len(refusals) == 8 and all(refusal == 14 and seconds < 12 for refusal, seconds in refusals), f"{refusals}")
         for session in seated:
             with contextlib.suppress(OSError):
                 session.close()
@@ -476,11 +467,9 @@ def gate_before(servers, **more):
     with stage.tempfile.TemporaryDirectory() as folder:
         proxy.file, proxy.log = pathlib.Path(folder, "gate.toml"), pathlib.Path(folder, "log")
         proxy.log.touch()
-        if not proxy.gate:
-            proxy.classes = servers.ports[1:]
         proxy.file.write_text(proxy.filed())
         proxy.start_gate()
-        with stage.ended_after(proxy.budgets):
+        with stage.ended_after(proxy.gate):
             subprocess.run([HERE / "ready", str(proxy.inner), "60"], check=True)
             yield proxy
 
@@ -490,22 +479,25 @@ def try_cuts(wanted, sessions=4000):
     count = int(os.environ.get("CUTS", sessions))
     servers = CutServers(5)
     with gate_before(servers, terms=POOL, more=SCHOOL.format(token=DIGEST) + "rate = 10000\nburst = 10000\n") as proxy:
-        begun = time.monotonic()
+        begun, sizes = time.monotonic(), []
         cutters = [subprocess.Popen([sys.executable, HERE / "attacks.py", str(proxy.inner), str(count // CUTTERS), str(seed)], stdout=subprocess.PIPE, text=True) for seed in range(CUTTERS)]
         seen = []
         while any(each.poll() is None for each in cutters):
             seen.append(sum(row[2] for row in proxy.held()))
+            sizes.append(stage.resident(proxy.gate))
             time.sleep(0.2)
         welcomed = sum(int(each.stdout.read()) for each in cutters)
         took = time.monotonic() - begun
         over = is_over(proxy, "sessions that were cut", 30)
+        early, late = max(sizes[: len(sizes) // 10 + 1]), max(sizes[-len(sizes) // 10 :])
+        check(count < 20000 or late < early + 8, f"its memory grows: {early:.0f} MB, {late:.0f} MB in the end")
         check(max(seen) > 0 and welcomed > count // 20, f"{max(seen)} sessions seen at once, {welcomed} welcomed")
         servers.is_kind.set()
         found = [handed(proxy.inner, "127.6.0.1", b"HELLO 1024 9999\nRESERVE 1024 65536\nBYE\n") for _ in range(8)]
         check(found == [b"WELCOME 1024 9999\nRESERVED 1024 65536\nBYE\n"] * 8, f"{found}")
         is_over(proxy, "the last ones", 10)
-        check(proxy.budgets.poll() is None, "the gate has ended")
-    print(f"  {count} sessions in {took:.0f} s that ended at any byte, {welcomed} of them welcomed, {max(seen)} at once: the book was empty {over:.1f} s after them, and serves")
+        check(proxy.gate.poll() is None, "the gate has ended")
+    print(f"  {count} sessions in {took:.0f} s that ended at any byte, {welcomed} of them welcomed, {max(seen)} at once: the book was empty {over:.1f} s after them, and serves; {early:.0f} MB after a tenth of them, {late:.0f} MB in the end")
 
 
 METRIC = re.compile(r'[a-z_:][a-z0-9_:]*(\{([a-z_]+="([^"\\\n]|\\["\\n])*",?)*\})? [-+0-9.eE]+(Inf|NaN)?')
@@ -513,8 +505,6 @@ METRIC = re.compile(r'[a-z_:][a-z0-9_:]*(\{([a-z_]+="([^"\\\n]|\\["\\n])*",?)*\}
 
 def try_metrics(wanted):
     """STATS and /metrics say what each customer and server has; names are escaped, and odd questions keep nobody waiting."""
-    if not stage.gate():
-        return print("  (deploy/budgets has none)")
     with site(1000, terms=POOL, more=SCHOOL.format(token=DIGEST)) as proxy, contextlib.ExitStack() as open_ones:
         check(not proxy.held() and proxy.stats(), f"{proxy.stats()}")
         school = [open_ones.enter_context(From("127.6.0.1", "127.0.0.1", proxy.port, *QUICK)) for _ in range(5)]
@@ -541,8 +531,6 @@ def try_metrics(wanted):
 
 def try_places(wanted):
     """So many connections at once in all, and no more; whoever is there goes on."""
-    if not stage.gate():
-        return print("  (deploy/budgets has no such number)")
     with site(1000, terms=[("connections = 8192 ", "connections = 30 ")]) as proxy, contextlib.ExitStack() as open_ones:
         seated = [open_ones.enter_context(From(address_of(number), "127.0.0.1", proxy.port, *QUICK, timeout=20)) for number in range(20)]
         mute = [open_ones.enter_context(socket.create_connection(("127.0.0.1", proxy.inner), 20, (f"127.9.2.{number + 1}", 0))) for number in range(30)]
@@ -575,8 +563,6 @@ def quietly(address, port):
 
 def try_gate_log(wanted):
     """A gate whose log can't be written serves on."""
-    if not stage.gate():
-        return print("  (deploy/budgets: as the supervisor)")
     for name in ("a full disk", "a closed pipe", "a pipe that nobody reads"):
         reader, writer = os.pipe()
         if name == "a closed pipe":
@@ -590,9 +576,9 @@ def try_gate_log(wanted):
                     os.write(writer, bytes(65536))
             os.set_blocking(writer, True)
         with site(1000) as proxy:
-            proxy.budgets.kill()
-            proxy.budgets.wait()
-            proxy.budgets = subprocess.Popen([proxy.gate, proxy.file], stdout=writer, stderr=writer)
+            proxy.gate.kill()
+            proxy.gate.wait()
+            proxy.gate = subprocess.Popen([stage.gate(), proxy.file], stdout=writer, stderr=writer)
             os.close(writer)
             stage.until(f"it serves: {name}", lambda: stage.is_there(proxy.inner), 20)
             for number in range(30):
@@ -605,8 +591,6 @@ def try_gate_log(wanted):
 
 def try_words_of_gate():
     """--help and --version; refused words and files: status 2; a port that is taken: 1."""
-    if not stage.gate():
-        return print("  (deploy/budgets: as in try_files)")
     program = stage.gate()
     found = {words: subprocess.run([program, *words], capture_output=True, text=True, check=False, timeout=20) for words in (("--help",), ("--version",), (), ("--check",), ("--nothing",), ("a", "b", "c"), ("/does/not/exist",))}
     statuses = [run.returncode for run in found.values()]
@@ -627,17 +611,15 @@ def try_words_of_gate():
 
 def try_guard(wanted):
     """deploy/guard says when the gate serves, reads its file again, and ends a gate that hangs."""
-    if not stage.gate():
-        return print("  (deploy/budgets needs none)")
     with site(1000, terms=POOL, more=SCHOOL.format(token=DIGEST)) as proxy:
-        proxy.budgets.terminate()
-        proxy.budgets.wait()
+        proxy.gate.terminate()
+        proxy.gate.wait()
         place = f"{proxy.folder.name}/notify"
         with socket.socket(socket.AF_UNIX, socket.SOCK_DGRAM) as told_of:
             told_of.bind(place)
             told_of.settimeout(20)
             around = dict(os.environ, NOTIFY_SOCKET=place, WATCHDOG_USEC="2000000")
-            proxy.budgets = subprocess.Popen([HERE / "guard", proxy.gate, proxy.file], env=around)
+            proxy.gate = subprocess.Popen([HERE / "guard", stage.gate(), proxy.file], env=around)
             check(told_of.recv(100) == b"READY=1" and stage.is_there(proxy.inner), "it isn't said when the gate serves")
             check([told_of.recv(100) for _ in range(4)] == [b"WATCHDOG=1"] * 4, "no signs of life")
             ask = [HERE / "guard", "--reload", proxy.file]
@@ -653,21 +635,21 @@ def try_guard(wanted):
                 run = subprocess.run([HERE / "guard", "--metrics", proxy.file], check=False, capture_output=True, text=True)
                 check(run.returncode == 0 and 'customer="school"' in run.stdout, f"{run}")
                 check(is_answered(session, 1, wanted), "a session was lost")
-            gate = stage.children(proxy.budgets)
+            gate = stage.children(proxy.gate)
             begun = time.monotonic()
             os.kill(gate[0], signal.SIGSTOP)
-            check(proxy.budgets.wait(30) == 1 and not pathlib.Path(f"/proc/{gate[0]}").exists(), "a gate that hangs isn't ended")
+            check(proxy.gate.wait(30) == 1 and not pathlib.Path(f"/proc/{gate[0]}").exists(), "a gate that hangs isn't ended")
             took = time.monotonic() - begun
         proxy.file.write_text("nothing = 1\n")
-        check(subprocess.run([HERE / "guard", proxy.gate, proxy.file], check=False, capture_output=True, timeout=20).returncode == 2, "a refused file's status isn't 2")
+        check(subprocess.run([HERE / "guard", stage.gate(), proxy.file], check=False, capture_output=True, timeout=20).returncode == 2, "a refused file's status isn't 2")
         proxy.file.write_text(right)
-        proxy.budgets = subprocess.Popen([HERE / "guard", proxy.gate, proxy.file])
+        proxy.gate = subprocess.Popen([HERE / "guard", stage.gate(), proxy.file])
         stage.until("the next gate serves", lambda: stage.is_there(proxy.inner))
         with From("127.6.0.1", "127.0.0.1", proxy.port, *QUICK) as session:
             check(is_answered(session, 1, wanted), "a wrong value")
-        gate = stage.children(proxy.budgets)
-        proxy.budgets.terminate()
-        check(proxy.budgets.wait(20) == 0 and not pathlib.Path(f"/proc/{gate[0]}").exists(), "SIGTERM doesn't end the gate")
+        gate = stage.children(proxy.gate)
+        proxy.gate.terminate()
+        check(proxy.gate.wait(20) == 0 and not pathlib.Path(f"/proc/{gate[0]}").exists(), "SIGTERM doesn't end the gate")
     print(f"  READY, signs of life; --reload of a wrong file: status 1; a gate that hangs was killed after {took:.0f} s; a refused file: status 2; SIGTERM: 0")
 
 
@@ -737,11 +719,11 @@ def try_again(wanted):
             stream.sendall(header_of("127.9.9.9") + b"HELLO 1 1\n")
             check(stream.recv(100) == b"WELCOME 1 1\n", "no session")
         held[0].sendall(b"BYE\n")
-        check(held[0].recv(100) == b"BYE\n", "no BYE")
         begun = time.monotonic()
+        time.sleep(0.2)  # (the server has heard it, and hasn't ended the session)
         held[2].sendall(header_of("127.9.9.9") + b"HELLO 2 2\n")
         found, took = held[2].recv(100), time.monotonic() - begun
-        check(found == b"WELCOME 2 2\n" and 0.5 < took < 5, f"{found} after {took:.1f} s")
+        check(found == b"WELCOME 2 2\n" and 0.5 < took < 5 and held[0].recv(100) == b"BYE\n", f"{found} after {took:.1f} s")
         for stream in held:
             stream.close()
     print(f"  60 sessions one after another beside another one of the same guest, who may have two: each was welcomed; one whose server was slow to end was waited for, {took:.1f} s")
@@ -754,10 +736,10 @@ def fronted(proxy, folder, made, hosts):
         (paths / f"{name}.pem").write_text(pathlib.Path(f"{path}.pem").read_text())
     (paths / "site.pem").write_text(pathlib.Path(made["authority"]).read_text())
     processes, ports = [], {}
-    front = (HERE / "haproxy-gate-front.cfg").read_text()
+    front = (HERE / "haproxy-front.cfg").read_text()
     for name, (quick, deep) in hosts.items():
         outer = [stage.free_port() for _ in range(3)]
-        text = (HERE / "haproxy-gate-host.cfg").read_text()
+        text = (HERE / "haproxy-host.cfg").read_text()
         changes = [("/etc/haproxy/", f"{folder}/"), ("/run/haproxy/admin.sock", f"{folder}/{name}")]
         changes += [(f"bind :{4701 + at} ", f"bind 127.0.0.1:{outer[at]} ") for at in range(3)]
         changes += [(f"127.0.0.1:{4711 + at}\n", f"127.0.0.1:{port}\n") for at, port in enumerate((quick, quick, deep))]
@@ -775,8 +757,6 @@ def fronted(proxy, folder, made, hosts):
 
 def try_gate_front(wanted):
     """Two hosts behind the gate at the front, by TLS with certificates of both sides: a budget holds over both; a host whose servers hang is left out."""
-    if not stage.gate():
-        return print("  (deploy/budgets: try_front)")
     with contextlib.ExitStack() as open_ones:
         folder = open_ones.enter_context(stage.tempfile.TemporaryDirectory())
         os.chmod(folder, 0o755)

@@ -2,7 +2,7 @@
 
 The program is the one that the variable OTHELLO names, and else the one that `./othello` at the top of the repository
 has built: it is started itself, since the time that `./othello` takes to look at the sources would be added to each start.
-The gate is the program that GATE names; where none is named, deploy/budgets stands in its place, with its own files.
+The gate is the one that GATE names, and else what `./othello --build-gate` has built.
 """
 import contextlib
 import functools
@@ -28,9 +28,7 @@ from review import OTHER, SQUARES, START, can_move, flips, played  # noqa: E402
 OPENING = START + " X"
 NAMES = ("one", "two", "three")  # of the servers
 PORTS = (4711, 4712, 4713)
-ALL = "budgets: that is all\n"
-CLASSES = (4721, 4722)  # HAProxy's ports of the two classes
-BUDGETS = 4720  # where the gate listens for HAProxy
+GATE = 4720  # where the gate listens for HAProxy
 OPERATOR = 4719  # and for its operator
 PEERS = 4723  # HAProxy's port for its reloads
 kept = []  # a lock for each port that this trial was given
@@ -184,6 +182,11 @@ def children(process):
         return sorted(map(int, told.read().split()))
 
 
+def resident(process):
+    """The memory that a process holds, in MB."""
+    return int(re.search(r"VmRSS:\s+(\d+)", pathlib.Path(f"/proc/{process.pid}/status").read_text())[1]) / 1024
+
+
 def replaced(text, changes):
     """A text with these parts changed; each must be there."""
     for old, new in changes:
@@ -193,9 +196,10 @@ def replaced(text, changes):
     return text
 
 
+@functools.cache
 def gate():
-    """The program of the gate; none where deploy/budgets stands in its place."""
-    return os.environ.get("GATE")
+    """The program of the gate, as `program` is that of the servers."""
+    return os.environ.get("GATE") or subprocess.run([TOP / "othello", "--build-gate"], stdout=subprocess.PIPE, text=True, check=True).stdout.strip()
 
 
 def onward(ports):
@@ -209,29 +213,24 @@ def onward(ports):
 
 
 class Proxy:
-    """HAProxy and the gate behind it, with deploy/haproxy-gate.cfg and deploy/gate.toml, at the ports of a trial. (Without a gate:
-    deploy/budgets and HAProxy again, with haproxy.cfg and budgets.toml.)
+    """HAProxy and the gate behind it, with deploy/haproxy.cfg and deploy/gate.toml, at the ports of a trial.
 
     `certificate` is that of TLS, `authority` signs the certificates of customers; `terms` are changes of the gate's file, and
     `more` stands behind it; `changes` are those of HAProxy's. At `beside` are servers of the quick class besides its two. A port that is
     named again stands for the same server: a gate knows a server once, so HAProxy has a port that leads to it."""
 
     def __init__(self, ports, certificate=None, authority=None, terms=(), more="", beside=(), changes=()):
-        self.gate = gate()
         self.port, self.metrics, self.ports, self.beside = free_port(), free_port(), ports, beside
-        self.inner, self.operator, self.classes = free_port(), free_port(), [free_port() for _ in CLASSES]
+        self.inner, self.operator = free_port(), free_port()
         self.tls = f" ssl crt {certificate}" if certificate else ""
         self.tls += f" ca-file {authority} verify optional" if authority else ""
         self.terms, self.more, self.changes, self.places = terms, more, changes, {}
         self.behind = {}  # ports of HAProxy that lead to a server
-        if self.gate:
-            self.ports = [port if port not in ports[:at] else self.leads_to(port) for at, port in enumerate(ports)]
+        self.ports = [port if port not in ports[:at] else self.leads_to(port) for at, port in enumerate(ports)]
 
     def moved(self):
-        """What ports are changed in both files."""
-        if self.gate:
-            return [(f"127.0.0.1:{BUDGETS}", f"127.0.0.1:{self.inner}")]
-        return [(f"127.0.0.1:{old}", f"127.0.0.1:{new}") for old, new in zip(CLASSES, self.classes)] + [(f"127.0.0.1:{BUDGETS}", f"127.0.0.1:{self.inner}")]
+        """What port is changed in both files."""
+        return [(f"127.0.0.1:{GATE}", f"127.0.0.1:{self.inner}")]
 
     def leads_to(self, port):
         """A port of HAProxy that leads to a server."""
@@ -246,18 +245,11 @@ class Proxy:
         moved += [("/run/haproxy/admin.sock", self.control), (f"127.0.0.1:{PEERS}", f"127.0.0.1:{free_port()}"), *self.moved()]
         if os.geteuid() != 0:  # only root may take another user and another root
             moved += [(f"  {line}\n", "") for line in ("user haproxy", "group haproxy", "chroot /var/lib/haproxy")]
-        if self.gate:
-            more = "".join(f"\nlisten to-{at}\n  bind 127.0.0.1:{at}\n  timeout client 1h\n  server it 127.0.0.1:{port}\n" for at, port in self.behind.items())
-            return replaced((HERE / "haproxy-gate.cfg").read_text(), moved) + more
-        moved += [(f"127.0.0.1:{old}\n", f"127.0.0.1:{new}\n") for old, new in zip(PORTS, self.ports)]
-        last = f"  server two 127.0.0.1:{self.ports[1]}\n"
-        more = "".join(f"  server beside{number} 127.0.0.1:{port}\n" for number, port in enumerate(self.beside))
-        return replaced(replaced((HERE / "haproxy.cfg").read_text(), moved), [(last, last + more)])
+        more = "".join(f"\nlisten to-{at}\n  bind 127.0.0.1:{at}\n  timeout client 1h\n  server it 127.0.0.1:{port}\n" for at, port in self.behind.items())
+        return replaced((HERE / "haproxy.cfg").read_text(), moved) + more
 
     def filed(self):
         """The gate's file for this trial."""
-        if not self.gate:
-            return replaced((HERE / "budgets.toml").read_text(), [*self.moved(), *self.terms]) + self.more
         moved = [(f'"127.0.0.1:{old}"', f'"127.0.0.1:{new}"') for old, new in zip(PORTS, self.ports)]
         last = f'"127.0.0.1:{self.ports[1]}"]'
         moved += [(last, "".join([last[:-1], *(f', "127.0.0.1:{port}"' for port in self.beside), "]"])), (f"127.0.0.1:{OPERATOR}", f"127.0.0.1:{self.operator}")]
@@ -282,13 +274,13 @@ class Proxy:
     def start_gate(self):
         """Starts the gate, at first or after its end."""
         with self.log.open("a") as log:
-            self.budgets = subprocess.Popen([self.gate or HERE / "budgets", self.file], stdout=log, stderr=log)
+            self.gate = subprocess.Popen([gate(), self.file], stdout=log, stderr=log)
 
     def is_over(self):
-        return self.process.poll() is not None or self.budgets.poll() is not None
+        return self.process.poll() is not None or self.gate.poll() is not None
 
     def __exit__(self, *_):
-        for process in (self.process, self.budgets):
+        for process in (self.process, self.gate):
             process.terminate()
             process.wait()
         self.folder.cleanup()
@@ -313,61 +305,36 @@ class Proxy:
         """What the gate says of each customer in each class and of each server: rows of words and numbers."""
         return [line.split() for line in self.ask_gate("STATS", (b"\n\n", b"END\n")).splitlines() if line not in ("", "END")]
 
-    def told(self):
-        """What deploy/budgets says of its customers, and of their sessions."""
-        before = self.log.read_text().count(ALL)
-        self.budgets.send_signal(signal.SIGUSR1)
-        until("the budgets say who is there", lambda: self.log.read_text().count(ALL) > before)
-        return self.log.read_text().split(ALL)[before]
-
     def held(self):
-        """Who has something: a row for each customer (the guests of a gate together) and class, with its sessions, segments and nodes."""
-        if self.gate:
-            return [row for row in map(held_in, self.stats()) if row and row[2:] != (0, 0, 0)]
-        return [(name, *numbers) for name, rest in re.findall(r"^budgets: (?:guest )?(\S+): (.*)$", self.told(), re.M) for numbers in amounts(rest)]
+        """Who has something: a row for each customer (all guests together) and class, with its sessions, segments and nodes."""
+        return [row for row in map(held_in, self.stats()) if row and row[2:] != (0, 0, 0)]
 
     def read_again(self, is_fit=True):
         """Lets the gate read its file again. Where the file has a fault it must say so: gives why."""
-        if self.gate:
-            found = self.ask_gate("RELOAD").strip()
-            check((found == "OK") == is_fit and (is_fit or found.startswith("ERR ")), f"RELOAD of what is {'right' if is_fit else 'wrong'}: {found}")
-            return found
-        before = len(self.log.read_text())
-        self.budgets.send_signal(signal.SIGHUP)
-        wish = "the file was read again" if is_fit else "all stays as it is"
-        until("the file is read again", lambda: wish in self.log.read_text()[before:])
-        return self.log.read_text()[before:]
+        found = self.ask_gate("RELOAD").strip()
+        check((found == "OK") == is_fit and (is_fit or found.startswith("ERR ")), f"RELOAD of what is {'right' if is_fit else 'wrong'}: {found}")
+        return found
 
     def opened(self, address, *reserve, **more):
         """A session, of which is known which server it is with."""
         before = onward(self.ports)
         session = From(address, "127.0.0.1", self.port, *reserve, **more)
-        if self.gate:
-            new, end = {}, time.monotonic() + 2
-            while len(new) != 1 and time.monotonic() < end:  # (a supervisor's questions are connections too, for a moment)
-                new = {port: place for port, place in onward(self.ports).items() if port not in before}
-            check(len(new) == 1, f"a session is {len(new)} connections to servers")
-            self.places[source_of(session)] = next(iter(new))
+        new, end = {}, time.monotonic() + 2
+        while len(new) != 1 and time.monotonic() < end:  # (a supervisor's questions are connections too, for a moment)
+            new = {port: place for port, place in onward(self.ports).items() if port not in before}
+        check(len(new) == 1, f"a session is {len(new)} connections to servers")
+        self.places[source_of(session)] = next(iter(new))
         return session
 
     def servers(self):
-        """Which server each session is with, by the address and port that it comes from: of a gate's those that were `opened` here."""
-        if self.gate:
-            there = onward(self.ports)
-            return {source: NAMES[there[port]] for source, port in self.places.items() if port in there}
-        onwards = dict(re.findall(r"^budgets: session (\S+) of .*: \w+ (\S+)$", self.told(), re.M))
-        rows = dict(re.findall(r"src=(\S+) .*? srv=(\w+)", self.ask("show sess")))
-        return {source: rows[port] for source, port in onwards.items() if rows.get(port) in NAMES}
+        """Which server each session is with, by the address and port that it comes from: of those that were `opened` here."""
+        there = onward(self.ports)
+        return {source: NAMES[there[port]] for source, port in self.places.items() if port in there}
 
     def counts(self):
         """How many sessions each server has."""
-        names = [NAMES[place] for place in onward(self.ports).values()] if self.gate else list(self.servers().values())
+        names = [NAMES[place] for place in onward(self.ports).values()]
         return {name: names.count(name) for name in NAMES}
-
-
-def amounts(told):
-    """The classes and amounts in what deploy/budgets says of a customer."""
-    return [(kind, *map(int, numbers)) for kind, *numbers in re.findall(r"(\w+) (\d+) sessions, (\d+) segments, (\d+) nodes", told)]
 
 
 def held_in(row):
@@ -417,7 +384,7 @@ def boot(root, unit, *words, seconds=300):
 DEPTH = 3
 QUICK, GREAT = (64, 2048), (64, 20000)  # what a session reserves: the classes part at 10,000 nodes
 LINES = [f"{DEPTH} {position}" for position in positions(50, 1)]
-ROOM = ("--segments", "65536", "--nodes", "4194304")  # as budgets.toml says of each server
+ROOM = ("--segments", "65536", "--nodes", "4194304")  # as gate.toml says of each server
 QUICK_WORDS, DEEP_WORDS = (*ROOM, "--workers", "2", "--grain", "2"), (*ROOM, "--workers", "4", "--grain", "4")
 
 
@@ -504,15 +471,6 @@ quick = {{ sessions = 8, segments = 8192, nodes = 79992 }}
 """
 LEFT = [("quick = { sessions = 128, segments = 131072, nodes = 1279872 }", "quick = { sessions = 77, segments = 78848, nodes = 769923 }"),
         ("deep = { sessions = 64, segments = 65536, nodes = 4194304 }", "deep = { sessions = 60, segments = 61440, nodes = 3932160 }")]  # fmt: skip
-
-# The front asks each host for a session now and then, from an address of its own.
-FRONT = """
-[[customer]]
-name = "front"
-address = ["127.0.0.1"]
-quick = { sessions = 2, segments = 2, nodes = 2 }
-"""
-LESS = [("sessions = 77, segments = 78848, nodes = 769923", "sessions = 75, segments = 78846, nodes = 769921")]
 
 
 def certificates(folder):

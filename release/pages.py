@@ -25,8 +25,8 @@ COMMANDS = {
     "othello-page": "clients/teacher/page.py",
     "othello-review": "clients/teacher/review.py",
 }
-SERVICES = {"othello-budgets": "deploy/budgets", "othello-drain": "deploy/drain", "othello-ready": "deploy/ready", "othello-reload": "deploy/reload", "othello-supervise": "deploy/supervise"}
-WITH_PAGES = {"othello-start": 1, "othello-budgets": 8, "othello-supervise": 8}
+SERVICES = {"othello-drain": "deploy/drain", "othello-guard": "deploy/guard", "othello-ready": "deploy/ready", "othello-reload": "deploy/reload", "othello-supervise": "deploy/supervise"}
+WITH_PAGES = {"othello-start": 1, "othello-guard": 8, "othello-supervise": 8}
 DESCRIPTION = """
 othello answers, for an Othello position and a depth, the minimax value and the first move that attains it. Every answer
 is proved to be so: the program was built from sources each of whose functions is proved to meet its contract.
@@ -48,7 +48,7 @@ def head_of(path):
 
 def renamed(text):
     """A text with the commands' names as an installed release has them, and the places of its files."""
-    text = text.replace("deploy/budgets.toml", "/etc/othello/budgets.toml").replace("deploy/haproxy", "/usr/share/doc/coluwen/examples/haproxy")
+    text = text.replace("deploy/gate.toml", "/etc/othello/gate.toml").replace("deploy/haproxy", "/usr/share/doc/coluwen/examples/haproxy")
     text = re.sub(r"\n(?=SIG|Status:)", "\n\n", text)
     for name, path in {**COMMANDS, **SERVICES}.items():
         text = re.sub(rf"(?<![\w/]){re.escape(path)}\b", name, text)
@@ -120,7 +120,7 @@ def othello(date, version):
         section("FAULTS", filled("A faulty line is answered by ERR and the number of its first fault."), listed(faults)),
         section("EXIT STATUS", listed([(status, f"{when}. Standard error: {told}") for status, when, told in statuses if status != "125"])),
         section("EXAMPLES", kept(f"$ printf '{EXAMPLE}\\n' | othello solve\n-3 d3\n$ othello-start\n$ printf '{EXAMPLE}\\n' | othello-ask")),
-        section("SEE ALSO", filled("othello-start(1), othello-supervise(8), othello-budgets(8), /usr/share/doc/coluwen/README.md")),
+        section("SEE ALSO", filled("othello-start(1), othello-supervise(8), othello-guard(8), /usr/share/doc/coluwen/README.md")),
     )  # fmt: skip
 
 

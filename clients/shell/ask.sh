@@ -3,7 +3,7 @@
 # usage: clients/shell/ask.sh [OPTIONS] [HOST PORT] DEPTH POSITION [SEGMENTS NODES]      (127.0.0.1 4711)
 #        clients/shell/ask.sh [OPTIONS] [HOST PORT] - [SEGMENTS NODES] < lines
 #        --ahead N: lines that are asked at a time at most (16); --patience S: seconds for which a server that is full is asked again (30);
-#        --silence S: seconds after which one that says nothing is given up (1.5); --token FILE: of a customer of deploy/budgets
+#        --silence S: seconds after which one that says nothing is given up (1.5); --token FILE: of a customer of a site's gate
 # Prints `DONE job value move`, `SPENT job` or `ERR number`, in order, each as soon as it is known; what comes in is asked at once:
 #        (echo "2 $O"; sleep 6) | clients/shell/ask.sh -           # answers at the beginning
 # What to reserve is chosen where it isn't said: a job that is spent is asked again alone, with more. Where a depth can't be had so, standard

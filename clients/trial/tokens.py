@@ -1,4 +1,4 @@
-"""Trials of each client's token, by deploy/budgets where guests have no session: with it a client is served, else not."""
+"""Trials of each client's token, by a gate where guests have no session: with it a client is served, else not."""
 import contextlib
 import hashlib
 import pathlib

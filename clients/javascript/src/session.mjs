@@ -18,7 +18,7 @@ export class Session {
 
   /**
    * `silence`: the seconds that the server may take to what it answers at once, which is all but WAIT; no limit if 0. `secure`: speak
-   * TLS, true or what `tls.connect` takes. `token`: a customer's of deploy/budgets.
+   * TLS, true or what `tls.connect` takes. `token`: a customer's of a site's gate.
    */
   static async open({ host, port, segments, nodes, secure = false, silence = 0, token = "" }) {
     const session = new Session();

@@ -168,7 +168,7 @@ class Client:
     `sessions`: how many `analyse` and its kin use at once. `ahead`: how many lines `answers` asks at a time at most. `patience`: for how
     many seconds a server that is full (ERR 14, 19) is asked again. `timeout`: how many a job may take from when it is asked; then it is
     cancelled. `silence`: after how many a server that can't be reached, or doesn't answer what it answers at once, is given up. `tell`:
-    what is called with a line of text where there is something to wait for. `token`: a customer's of deploy/budgets."""
+    what is called with a line of text where there is something to wait for. `token`: a customer's of a site's gate."""
 
     def __init__(self, host: str = HOST, port: int = PORT, segments: int | None = None, nodes: int | None = None, ahead: int = 16,
                  patience: float = 30, timeout: float | None = None, tls: ssl.SSLContext | None = None, silence: float = SILENCE,

@@ -61,7 +61,7 @@ class Session:
 
     `timeout` is how many seconds `wait` gives a job: after them the job is cancelled. `silence` is how many the server may
     take to answer what it answers at once, which is all but WAIT; after them the session is broken. Without either there is
-    no limit; with a `timeout` alone silence has as many seconds, 1.5 at least. `token` is a customer's of deploy/budgets."""
+    no limit; with a `timeout` alone silence has as many seconds, 1.5 at least. `token` is a customer's of a site's gate."""
 
     def __init__(self, host: str, port: int, segments: int, nodes: int, timeout: float | None = None, tls: ssl.SSLContext | None = None,
                  silence: float | None = None, token: str | None = None):  # fmt: skip

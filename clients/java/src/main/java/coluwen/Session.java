@@ -32,7 +32,7 @@ public final class Session implements AutoCloseable {
     }
   }
 
-  /** Where a server is, and how it is spoken to. {@code token}: of a customer of deploy/budgets, or null. */
+  /** Where a server is, and how it is spoken to. {@code token}: of a customer of a site's gate, or null. */
   public record Place(String host, int port, boolean secure, String token) {}
 
   private final Socket socket;
