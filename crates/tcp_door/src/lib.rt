@@ -8,13 +8,18 @@
 //!
 //! What it is for: each program that takes connections, the server and a site's gate, keeps one. A [`Door`] stands for a listener
 //! and perhaps a spare name of it; it is generic in the listener, so that a test can hand it one whose connections are lost.
-//! Nothing is proved of it but that it is safe: what a listener gives no clause can say. The tests of `tcp_server` play it.
+//! What a listener gives no clause can say; what its errors mean is a definition (`specs/Accepts.antt`): one that concerns a call or
+//! a connection alone is never returned. The tests of `tcp_server` play the rest.
 //!
 //! ```text
 //! let mut door = Door::new(listener);
 //! door.next(rt)?      // Some(stream), or None: one was closed at once, as there was no descriptor for it
 //! ```
 #![tactic(auto)]
+
+ghost use Rattle.std.specs.Prelude.{◌≡◌, IfErr, false};
+ghost use Rattle.std.specs.IoError.{error_kind, raw_os_error};
+ghost use Rattle.tcp_door.specs.Accepts.{is_full, is_passing};
 
 use std::io::{self, ErrorKind};
 use std::net::OpenListener;
@@ -44,7 +49,9 @@ impl<N: OpenListener + Drop> Door<N> {
     /// Waits for the next connection. `None`: one was taken and closed at once, as no descriptor was left to serve it.
     /// A connection that was lost before it could be taken is passed over. `Err`: `accept` failed otherwise, or no
     /// descriptor was left and there was no spare one.
-    pub fn next<R: Wait>(&mut self, rt: &R) -> io::Result<Option<N::Stream>> {
+    pub fn next<R: Wait>(&mut self, rt: &R) -> io::Result<Option<N::Stream>>
+        ensures { IfErr result (λ error. is_passing (error_kind error) ≡ false) }
+    {
         for _ in rt.forever() {
             match self.listener.accept() {
                 Ok((stream, _)) => return Ok(Some(stream)),
@@ -90,11 +97,15 @@ impl<N: OpenListener + Drop> Door<N> {
 }
 
 /// Whether an error of `accept` concerns this one call or connection alone, so that the listener can go on.
-fn is_passing(kind: ErrorKind) -> bool {
+fn is_passing(kind: ErrorKind) -> bool
+    ensures { result ≡ is_passing kind }
+{
     kind == ErrorKind::ConnectionAborted || kind == ErrorKind::Interrupted
 }
 
 /// Whether `accept` found no descriptor left for a connection.
-fn is_full(error: &io::Error) -> bool {
+fn is_full(error: &io::Error) -> bool
+    ensures { result ≡ is_full (raw_os_error error.now) }
+{
     matches!(error.raw_os_error(), Some(PROCESS_IS_FULL | SYSTEM_IS_FULL))
 }
