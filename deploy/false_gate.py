@@ -101,8 +101,10 @@ class Book:
         for name, kind in kinds.items():
             given = [sum(each.get(name, {}).get(word, 0) for each in [*named, guests["together"]]) for word in ("sessions", "segments", "nodes")]
             whole = [len(kind["hosts"]) * amount for amount in (kind.get("places", 64), kind["segments"], kind["nodes"])]
-            if wrong != "takes_any_file" and any(map(lambda give, have: give > have, given, whole)):
-                raise ValueError(f"line 1: the budgets of {name} don't fit")
+            needed = self.needed(name, [*named, guests["together"]])
+            for amounts, why in ((given, "the budgets don't fit"), (needed, "sessions still take places that are given to others")):
+                if wrong != "takes_any_file" and any(map(lambda want, have: want > have, amounts, whole)):
+                    raise ValueError(f"line 1: {name}: {why}")
         terms = [*named, guests["each"], guests["together"]]
         if any(each.get("rate", 1) <= 0 or type(each.get("burst", 1)) is not int or "more" in each for each in terms):
             raise ValueError("line 1: a word is wrong")
@@ -114,6 +116,13 @@ class Book:
             self.nets += [(ipaddress.ip_network(text), each["name"]) for text in each.get("address", [])]
         for name, customer in self.here.items():
             customer.set_terms(self.named.get(name, self.each))
+
+    def needed(self, kind, terms):
+        """What new budgets of a class need, where who has more than its new one keeps it; the guests have no name."""
+        used = {each.name: each.used[kind] for each in self.here.values() if not each.is_guest} | {None: self.pool[kind]}
+        given = {each.get("name"): [each.get(kind, {}).get(word, 0) for word in ("sessions", "segments", "nodes")] for each in terms}
+        both = [map(max, used.get(name, [0] * 3), given.get(name, [0] * 3)) for name in {*used, *given}]
+        return map(sum, zip(*both))
 
     def customer(self, name, is_guest=False):
         if name not in self.here:
