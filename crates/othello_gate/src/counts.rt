@@ -1,4 +1,7 @@
 //! What is counted of each customer in each class.
+ghost use Rattle.std.specs.Prelude.{◌≡◌};
+ghost use Rattle.othello_gate.specs.Rows.{row_of};
+
 use customer_book::{CLASSES, Who};
 use gate_texts::{Buckets, Counts};
 use std::alloc::{AllocError, Global};
@@ -55,7 +58,9 @@ fn sum_of(one: Buckets, other: &Buckets) -> Buckets {
 }
 
 /// The row of a customer: 0 for all guests together.
-pub(crate) fn row_of(who: Who) -> usize {
+pub(crate) fn row_of(who: Who) -> usize
+    ensures { result ≡ row_of who }
+{
     match who {
         Who::Named(number) => (number as usize).saturating_add(1),
         Who::V4(_) => 0,
