@@ -96,6 +96,22 @@ impl Table {
         self.rows.get_mut(row_of(who))?.get_mut(class as usize)
     }
 
+    /// Counts a session that was opened.
+    pub(crate) fn grant(&mut self, who: Who, class: u8) {
+        if let Some(counts) = self.of(who, class) {
+            counts.granted = counts.granted.saturating_add(1);
+        }
+    }
+
+    /// Counts a refusal, by `Cause::number`; 0 for what no book refuses.
+    pub(crate) fn refuse(&mut self, who: Who, class: u8, cause: u8) {
+        if let Some(counts) = self.of(who, class) {
+            if let Some(count) = counts.refused.get_mut(cause as usize) {
+                *count = count.saturating_add(1);
+            }
+        }
+    }
+
     /// Adds what a session has counted.
     pub(crate) fn add(&mut self, who: Who, class: u8, tally: &Tally) {
         if let Some(counts) = self.of(who, class) {
