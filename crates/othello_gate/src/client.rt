@@ -88,14 +88,22 @@ fn is_welcome<R: Wait>(rt: &R, shared: &Shared, who: Who) -> bool {
     register.arrive(who)
 }
 
-/// Serves one connection.
-pub(crate) fn serve_client<R: Net<Listener = TcpListener, Stream = TcpStream> + Clock + Wait>(
-    rt: &R,
+/// A connection whose customer is known, and may have it.
+#[derive(Drop)]
+struct Greeted<'a, R> {
+    client: Peer<Incoming<'a, R>, Outgoing>,
+    who: Who,
+}
+
+/// Reads a connection's header, and makes it one of its customer's. None where its bytes ended before, or its customer has too
+/// many. What this takes of the thread's stack is free again when the session begins: hence no part of its caller.
+#[inline(never)]
+fn take_in<'a, R: Clock + Wait>(
+    rt: &'a R,
     alloc: Global,
     shared: &Shared,
     stream: TcpStream,
-    number: u64,
-) -> Option<()> {
+) -> Option<Greeted<'a, R>> {
     let start = Instant::now(rt).ok()?;
     let peer = Address::of_ip(stream.peer_addr().ok()?.ip());
     let until = start.checked_add(Duration::from_secs(FIRST_LINE));
@@ -108,9 +116,23 @@ pub(crate) fn serve_client<R: Net<Listener = TcpListener, Stream = TcpStream> + 
         let _ = sink.put(FULL);
         return None;
     }
-    let client = Peer::with_bytes(source, sink, rest);
-    let clerk = Clerk::new(rt, shared, known.who);
-    converse(rt, alloc, shared, client, clerk, number);
+    Some(Greeted {
+        client: Peer::with_bytes(source, sink, rest),
+        who: known.who,
+    })
+}
+
+/// Serves one connection.
+pub(crate) fn serve_client<R: Net<Listener = TcpListener, Stream = TcpStream> + Clock + Wait>(
+    rt: &R,
+    alloc: Global,
+    shared: &Shared,
+    stream: TcpStream,
+    number: u64,
+) -> Option<()> {
+    let mut greeted = take_in(rt, alloc, shared, stream)?;
+    let clerk = Clerk::new(rt, shared, greeted.who);
+    converse(rt, alloc, shared, &mut greeted.client, clerk, number);
     Some(())
 }
 
@@ -123,17 +145,17 @@ fn rest_of(bytes: &[u8], used: usize) -> &[u8]
 }
 
 /// Serves the lines of a connection whose customer is known.
+#[inline(never)]
 fn converse<'a, R: Net<Listener = TcpListener, Stream = TcpStream> + Clock + Wait>(
     rt: &'a R,
     alloc: Global,
     shared: &'a Shared,
-    client: Peer<Incoming<'a, R>, Outgoing>,
+    client: &mut Peer<Incoming<'a, R>, Outgoing>,
     clerk: Clerk<'a, R>,
     number: u64,
 ) {
-    let mut client = client;
     let mut servers = Dialer::new(rt, alloc, shared);
-    let (clerk, end) = serve_session(rt, &mut client, clerk, &mut servers, number);
+    let (clerk, end) = serve_session(rt, client, clerk, &mut servers, number);
     clerk.tell();
     let row = clerk.log_of(alloc, number / 2, words_of(end));
     let mut register = shared.lock.lock(rt);
