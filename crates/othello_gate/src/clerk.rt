@@ -1,4 +1,7 @@
 //! A session's way to the book that all sessions share.
+ghost use Rattle.std.specs.Prelude.{IfSome};
+ghost use Rattle.gate_session.specs.Deals.{IsGrantFor};
+
 use crate::counts::Tally;
 use crate::register::Register;
 use crate::shared::Shared;
@@ -9,7 +12,7 @@ use gate_texts::{SessionRow, push_session};
 use protocol::split_at_space;
 use std::alloc::Global;
 use std::cell::Cell;
-use std::sync::{MutexGuard, Wait};
+use std::sync::Wait;
 use std::thread;
 use std::time::{Clock, Duration, Instant};
 
@@ -115,15 +118,6 @@ impl<'a, R: Clock + Wait> Clerk<'a, R> {
         }
     }
 
-    /// Counts a refusal.
-    fn count_refusal(&self, register: &mut Register, who: Who, class: u8, cause: u8) {
-        if let Some(counts) = register.counts.of(who, class) {
-            if let Some(count) = counts.refused.get_mut(cause as usize) {
-                *count = count.saturating_add(1);
-            }
-        }
-    }
-
     /// Makes the connection one of this customer's, if that may have one more.
     fn belong(&self, register: &mut Register, who: Who) -> bool {
         let now = self.account.get();
@@ -148,35 +142,77 @@ impl<'a, R: Clock + Wait> Clerk<'a, R> {
     }
 
     /// Opens a session, for which it waits while another of the customer's is just ending.
-    fn opened(&self, who: Who, session: u64, class: u8, ask: Ask) -> Result<Grant, Refusal> {
+    fn opened(&self, who: Who, session: u64, class: u8, ask: Ask) -> Result<Grant, Refusal>
+        ensures { IsGrantFor who session class result }
+    {
         let start = Instant::now(self.rt).ok();
-        let mut register = self.shared.lock.lock(self.rt);
         for _ in self.rt.forever() {
-            let moment = self.shared.moment(self.rt);
-            match register.book_at(moment).open(who, session, class, ask) {
-                Ok(grant) => {
-                    if let Some(counts) = register.counts.of(who, class) {
-                        counts.granted = counts.granted.saturating_add(1);
-                    }
-                    self.class.set(class);
-                    self.server.set(Some(grant.server()));
-                    self.ask.set(ask);
-                    return Ok(grant);
-                }
-                Err(refusal) => {
-                    let left = self.left_of(start);
-                    if !is_of_budget(refusal.cause)
-                        || !register.is_fading(who)
-                        || left == Duration::from_secs(0)
-                    {
-                        self.count_refusal(&mut *register, who, class, refusal.cause.number());
-                        return Err(refusal);
-                    }
-                    register = self.wait(register, left);
-                }
+            if let Some(answer) = self.asked(who, session, class, ask, start) {
+                return answer;
             }
         }
         unreachable!()
+    }
+
+    /// Asks the book for a session; None where it is to be asked again, since a session of the customer's has just ended.
+    fn asked(
+        &self,
+        who: Who,
+        session: u64,
+        class: u8,
+        ask: Ask,
+        start: Option<Instant>,
+    ) -> Option<Result<Grant, Refusal>>
+        ensures { IfSome result (λ answer. IsGrantFor who session class answer) }
+    {
+        let ended = self.shared.lock.lock(self.rt).ended(who);
+        match self.try_open(who, session, class, ask) {
+            Ok(grant) => Some(Ok(grant)),
+            Err(refusal) => {
+                if is_of_budget(refusal.cause) && self.has_ended(who, ended, self.left_of(start)) {
+                    return None;
+                }
+                self.refuse(who, class, refusal);
+                Some(Err(refusal))
+            }
+        }
+    }
+
+    /// Asks the book for a session once.
+    fn try_open(&self, who: Who, session: u64, class: u8, ask: Ask) -> Result<Grant, Refusal>
+        ensures { IsGrantFor who session class result }
+    {
+        let moment = self.shared.moment(self.rt);
+        let mut register = self.shared.lock.lock(self.rt);
+        let answer = register.book_at(moment).open(who, session, class, ask);
+        if let Ok(grant) = &answer {
+            register.counts.grant(who, class);
+            self.class.set(class);
+            self.server.set(Some(grant.server()));
+            self.ask.set(ask);
+        }
+        answer
+    }
+
+    /// Counts a refusal.
+    fn refuse(&self, who: Who, class: u8, refusal: Refusal) {
+        let mut register = self.shared.lock.lock(self.rt);
+        register.counts.refuse(who, class, refusal.cause.number());
+    }
+
+    /// Whether a session of the customer's ends within this time, of which so many had ended before. False at once where none is
+    /// just ending.
+    fn has_ended(&self, who: Who, ended: u64, most: Duration) -> bool {
+        if most == Duration::from_secs(0) {
+            return false;
+        }
+        let (register, _) = self.shared.freed.wait_timeout_while(
+            self.rt,
+            self.shared.lock.lock(self.rt),
+            most,
+            |register| register.ended(who) == ended && register.is_fading(who),
+        );
+        register.ended(who) != ended
     }
 
     /// What is left of a moment that began then.
@@ -187,15 +223,6 @@ impl<'a, R: Clock + Wait> Clerk<'a, R> {
             ),
             _ => Duration::from_secs(0),
         }
-    }
-
-    /// Waits until a session has ended, or so long.
-    fn wait<'g>(
-        &self,
-        register: MutexGuard<'g, Register>,
-        most: Duration,
-    ) -> MutexGuard<'g, Register> {
-        self.shared.freed.wait_timeout(self.rt, register, most).0
     }
 
     /// Notes how long an answer took.
@@ -249,7 +276,7 @@ impl<R: Clock + Wait> Books for Clerk<'_, R> {
             Some(who) => who,
             None => self.own,
         };
-        self.count_refusal(&mut *register, found, 0, 0);
+        register.counts.refuse(found, 0, 0);
         drop(register);
         let _ = self.say(found);
         None
@@ -273,12 +300,9 @@ impl<R: Clock + Wait> Books for Clerk<'_, R> {
         let mut register = self.shared.lock.lock(self.rt);
         let answer = register.book_at(moment).raise(grant, ask);
         if let Err(refusal) = &answer {
-            self.count_refusal(
-                &mut *register,
-                grant.who(),
-                grant.class(),
-                refusal.cause.number(),
-            );
+            register
+                .counts
+                .refuse(grant.who(), grant.class(), refusal.cause.number());
         }
         drop(register);
         match &answer {

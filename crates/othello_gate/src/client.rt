@@ -1,5 +1,6 @@
 //! One connection, from its first byte to its last.
-ghost use Rattle.std.specs.Prelude.{◌≤◌, length};
+ghost use Rattle.std.specs.Prelude.{◌≡◌, ◌≤◌, length};
+ghost use Rattle.othello_gate.specs.Addresses.{address_of};
 
 use crate::clerk::Clerk;
 use crate::dialing::Dialer;
@@ -34,7 +35,9 @@ struct Known {
 const FULL: &[u8] = b"ERR 14\n";
 
 /// The address that a header tells, or the connection's own.
-fn address_of(origin: &Origin, peer: Address) -> Address {
+fn address_of(origin: &Origin, peer: Address) -> Address
+    ensures { result ≡ address_of origin.now peer }
+{
     match origin {
         Origin::Local => peer,
         Origin::V4(octets, _) => Address::v4(*octets),

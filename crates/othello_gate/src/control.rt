@@ -2,11 +2,10 @@
 use crate::links::{MOST_BYTES, Received};
 use crate::shared::Shared;
 use crate::telling::{metrics_of, stats_of};
+use crate::texts::Texts;
 use std::alloc::{AllocError, Global};
-use std::fs;
 use std::io::{Read, Write};
 use std::net::{TcpListener, TcpStream};
-use std::rt::Files;
 use std::sync::Wait;
 use std::sync::atomic::{AtomicU64, Ordering};
 use std::thread::{self, Scope};
@@ -22,13 +21,13 @@ const A_PAUSE: u64 = 100;
 const MOST_COMMANDERS: u64 = 64;
 
 /// Reads the file again. The text says OK, or why all stays as it is.
-fn reload<R: Files + AllocGlobal + Wait>(
+fn reload<R: Texts + AllocGlobal + Wait>(
     rt: &R,
     shared: &Shared,
     path: &str,
 ) -> Result<String, AllocError> {
     let alloc = rt.alloc();
-    let text = match fs::read_to_string(rt, path) {
+    let text = match rt.text_of(path) {
         Ok(text) => text,
         Err(error) => return format!(in alloc; "ERR {path}: {error}\n"),
     };
@@ -40,7 +39,7 @@ fn reload<R: Files + AllocGlobal + Wait>(
 }
 
 /// The answer to a request; None where it isn't whole yet.
-fn answer<R: Files + AllocGlobal + Wait>(
+fn answer<R: Texts + AllocGlobal + Wait>(
     rt: &R,
     shared: &Shared,
     path: &str,
@@ -65,7 +64,7 @@ fn answer<R: Files + AllocGlobal + Wait>(
 }
 
 /// Answers one connection.
-fn converse<R: Files + AllocGlobal + Wait>(
+fn converse<R: Texts + AllocGlobal + Wait>(
     rt: &R,
     shared: &Shared,
     path: &str,
@@ -103,7 +102,7 @@ fn arrive(commanders: &AtomicU64) -> bool {
 }
 
 /// Answers connections, each in a thread of its own, and few at once: more are closed.
-pub(crate) fn serve_control<'s, E, R: Clock + Files + AllocGlobal + Wait + Sync>(
+pub(crate) fn serve_control<'s, E, R: Clock + Texts + AllocGlobal + Wait + Sync>(
     scope: &'s Scope<'s, E>,
     rt: &'s R,
     shared: &'s Shared,

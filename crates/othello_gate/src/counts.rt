@@ -1,4 +1,7 @@
 //! What is counted of each customer in each class.
+ghost use Rattle.std.specs.Prelude.{◌≡◌};
+ghost use Rattle.othello_gate.specs.Rows.{row_of};
+
 use customer_book::{CLASSES, Who};
 use gate_texts::{Buckets, Counts};
 use std::alloc::{AllocError, Global};
@@ -55,7 +58,9 @@ fn sum_of(one: Buckets, other: &Buckets) -> Buckets {
 }
 
 /// The row of a customer: 0 for all guests together.
-pub(crate) fn row_of(who: Who) -> usize {
+pub(crate) fn row_of(who: Who) -> usize
+    ensures { result ≡ row_of who }
+{
     match who {
         Who::Named(number) => (number as usize).saturating_add(1),
         Who::V4(_) => 0,
@@ -89,6 +94,22 @@ impl Table {
     /// A customer's counts in a class.
     pub(crate) fn of(&mut self, who: Who, class: u8) -> Option<&mut Counts> {
         self.rows.get_mut(row_of(who))?.get_mut(class as usize)
+    }
+
+    /// Counts a session that was opened.
+    pub(crate) fn grant(&mut self, who: Who, class: u8) {
+        if let Some(counts) = self.of(who, class) {
+            counts.granted = counts.granted.saturating_add(1);
+        }
+    }
+
+    /// Counts a refusal, by `Cause::number`; 0 for what no book refuses.
+    pub(crate) fn refuse(&mut self, who: Who, class: u8, cause: u8) {
+        if let Some(counts) = self.of(who, class) {
+            if let Some(count) = counts.refused.get_mut(cause as usize) {
+                *count = count.saturating_add(1);
+            }
+        }
     }
 
     /// Adds what a session has counted.

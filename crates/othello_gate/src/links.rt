@@ -1,5 +1,6 @@
 //! Connections as sources and sinks, with limits in time.
-ghost use Rattle.std.specs.Prelude.{◌≤◌, ◌<◌, length, IfSome};
+ghost use Rattle.std.specs.Prelude.{◌≡◌, ◌≤◌, ◌<◌, ◌-◌, length, take, slice_get, IfSome};
+ghost use Rattle.othello_gate.specs.Lines.{ending, last_by};
 
 use line_io::{ReadFailed, Sink, Source, WriteFailed};
 use std::alloc::{AllocError, Global};
@@ -48,12 +49,33 @@ enum Last {
 }
 
 /// What ends the line of these bytes, the last ones that came.
-fn last_of(bytes: &[u8]) -> Last {
+fn last_of(bytes: &[u8]) -> Last
+    ensures { result ≡ last_by (slice_get bytes.now (length bytes.now - 1)) }
+{
     match bytes.last() {
         None => Last::Nothing,
         Some(b'\n') => Last::Nothing,
         Some(b'\r') => Last::ReturnFeed,
         Some(_) => Last::Feed,
+    }
+}
+
+/// Writes what ends a line over the front of a block, and returns how many bytes that is; 0 where the block has no room.
+fn put_ending(last: Last, block: &mut [u8]) -> usize
+    ensures count { result ≤ length block.new }
+    ensures bytes { 2 ≤ length block.old → take result block.new ≡ ending last }
+{
+    match last {
+        Last::Feed if block.len() >= 2 => {
+            block[0] = LF;
+            1
+        }
+        Last::ReturnFeed if block.len() >= 2 => {
+            block[0] = CR;
+            block[1] = LF;
+            2
+        }
+        _ => 0,
     }
 }
 
@@ -100,24 +122,12 @@ impl<R: Clock> Incoming<'_, R> {
 
     /// Ends a line that is cut off, if there is one.
     fn finish(&mut self, block: &mut [u8]) -> usize
-        ensures { result ≤ length block.new }
+        ensures count { result ≤ length block.new }
+        ensures bytes { 2 ≤ length block.old → take result block.new ≡ ending self.old.last }
     {
         let last = self.last;
-        if last != Last::Nothing {
-            self.last = Last::Nothing;
-        }
-        match (last, block) {
-            (Last::Feed, [first, ..]) => {
-                *first = LF;
-                1
-            }
-            (Last::ReturnFeed, [first, second, ..]) => {
-                *first = CR;
-                *second = LF;
-                2
-            }
-            _ => 0,
-        }
+        self.last = Last::Nothing;
+        put_ending(last, block)
     }
 
     /// Lifts the limit of the first line, if these bytes end it.

@@ -31,6 +31,7 @@ mod servers;
 mod serving;
 mod shared;
 mod telling;
+mod texts;
 
 use std::env;
 use std::process::ExitCode;

@@ -14,7 +14,10 @@ use thiserror::Error;
 struct Tally {
     who: Who,
     connections: u32,
+    /// Sessions that are ending.
     ending: u32,
+    /// Sessions that were ending and have ended.
+    ended: u64,
 }
 
 /// What a file says of amounts, beside the book, which keeps its own.
@@ -151,7 +154,7 @@ impl Register {
     /// The place of a customer's tally.
     fn place_of(&self, who: Who) -> Option<usize> {
         for (place, tally) in self.tallies.iter().enumerate() {
-            if tally.who == who {
+            if tally.who.is(who) {
                 return Some(place);
             }
         }
@@ -167,6 +170,7 @@ impl Register {
             who,
             connections: 0,
             ending: 0,
+            ended: 0,
         };
         self.tallies.push(tally).ok()?;
         self.place_of(who)
@@ -223,6 +227,7 @@ impl Register {
         if let Some(place) = self.place_of(who) {
             if let Some(tally) = self.tallies.get_mut(place) {
                 tally.ending = tally.ending.saturating_sub(1);
+                tally.ended = tally.ended.saturating_add(1);
             }
             self.forget(place);
         }
@@ -230,13 +235,23 @@ impl Register {
 
     /// Whether a session of the customer, or of a guest any guest's, is just ending.
     pub(crate) fn is_fading(&self, who: Who) -> bool {
-        let is_guest = who.is_guest();
         for tally in &self.tallies {
-            if tally.ending > 0 && (tally.who == who || (is_guest && tally.who.is_guest())) {
+            if tally.ending > 0 && shares(who, tally.who) {
                 return true;
             }
         }
         false
+    }
+
+    /// How many sessions of the customer, or of a guest any guest's, have ended that were ending.
+    pub(crate) fn ended(&self, who: Who) -> u64 {
+        let mut sum: u64 = 0;
+        for tally in &self.tallies {
+            if shares(who, tally.who) {
+                sum = sum.saturating_add(tally.ended);
+            }
+        }
+        sum
     }
 
     /// The connections of all guests together, or of the named customer of this number, from 1 on.
@@ -255,4 +270,9 @@ impl Register {
         self.book.moment(moment.min(LAST_MOMENT));
         &mut self.book
     }
+}
+
+/// Whether both have what one of them gives back: one customer, or two guests, who share a pool.
+fn shares(who: Who, other: Who) -> bool {
+    who.is(other) || (who.is_guest() && other.is_guest())
 }

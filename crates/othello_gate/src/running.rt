@@ -3,14 +3,14 @@ ghost use Rattle.std.specs.Prelude.{IsTrue, IfOk};
 ghost use Rattle.customer_book.specs.Plans.{plan_of as seen_plan, sums_fit};
 
 use crate::serving::serve_plan;
+use crate::texts::Texts;
 use site_file::{SitePlan, read_site};
 use std::alloc::Global;
+use std::io;
 use std::net::{Net, TcpListener, TcpStream};
-use std::rt::Files;
 use std::sync::Wait;
 use std::thread::Threads;
 use std::time::Clock;
-use std::{fs, io};
 
 const EXIT_OK: u8 = 0;
 
@@ -52,7 +52,7 @@ where
         + Threads
         + Wait
         + Clock
-        + Files
+        + Texts
         + Print
         + Eprint
         + AllocGlobal
@@ -82,10 +82,10 @@ fn say<R: Print>(rt: &R, text: &str) -> u8 {
 }
 
 /// The plan of a file; Err with the status where it can't be read or is wrong.
-fn read_plan<R: Files + Eprint + AllocGlobal>(rt: &R, path: &str) -> Result<SitePlan, u8>
+fn read_plan<R: Texts + Eprint + AllocGlobal>(rt: &R, path: &str) -> Result<SitePlan, u8>
     ensures { IfOk result (λ plan. IsTrue (sums_fit (seen_plan plan.site))) }
 {
-    let text = match fs::read_to_string(rt, path) {
+    let text = match rt.text_of(path) {
         Ok(text) => text,
         Err(error) => {
             let _ = eprintln!(rt; "othello_gate: {path}: {error}");
@@ -102,7 +102,7 @@ fn read_plan<R: Files + Eprint + AllocGlobal>(rt: &R, path: &str) -> Result<Site
 }
 
 /// Says what a file gives away.
-fn check<R: Files + Print + Eprint + AllocGlobal>(rt: &R, path: &str) -> u8 {
+fn check<R: Texts + Print + Eprint + AllocGlobal>(rt: &R, path: &str) -> u8 {
     let plan = match read_plan(rt, path) {
         Ok(plan) => plan,
         Err(status) => return status,
@@ -120,7 +120,7 @@ where
         + Threads
         + Wait
         + Clock
-        + Files
+        + Texts
         + Print
         + Eprint
         + AllocGlobal

@@ -1,4 +1,7 @@
 //! Which servers are there, and which have failed of late.
+ghost use Rattle.std.specs.Prelude.{◌≡◌, IfSome};
+ghost use Rattle.othello_gate.specs.Servers.{class_at};
+
 use customer_book::Server;
 use std::alloc::{AllocError, Global};
 
@@ -54,7 +57,9 @@ impl KnownServers {
 
     /// The server to be asked at the `asked`th try, from 0, where the book chose this one: the servers of its class in turn from it
     /// on, those that have failed of late after the others.
-    pub(crate) fn choose(&self, server: usize, asked: u32, moment: u64) -> Option<usize> {
+    pub(crate) fn choose(&self, server: usize, asked: u32, moment: u64) -> Option<usize>
+        ensures { IfSome result (λ place. class_at self.now.all.items place ≡ class_at self.now.all.items server) }
+    {
         let class = self.all.get(server)?.class;
         let mut rest = asked.checked_rem(self.in_class_of(server))?;
         for late in [false, true] {

@@ -12,10 +12,10 @@ use crate::listening::take_all;
 use crate::logging::Log;
 use crate::register::Register;
 use crate::shared::Shared;
+use crate::texts::Texts;
 use site_file::SitePlan;
 use std::io;
 use std::net::{Net, SocketAddr, TcpListener, TcpStream};
-use std::rt::Files;
 use std::sync::atomic::AtomicU64;
 use std::sync::{Arc, Condvar, Mutex, Wait};
 use std::thread::{self, Builder, Threads};
@@ -69,7 +69,7 @@ where
         + Threads
         + Wait
         + Clock
-        + Files
+        + Texts
         + Print
         + Eprint
         + AllocGlobal
@@ -94,7 +94,7 @@ where
         + Threads
         + Wait
         + Clock
-        + Files
+        + Texts
         + Print
         + Eprint
         + AllocGlobal
