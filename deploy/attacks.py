@@ -313,6 +313,22 @@ def try_reread(wanted):
     print(f"  {len(REREAD) + 2} wrong files, one that isn't there and one that is no text: nothing changed; more, less and no budget: there at once, no session lost")
 
 
+def try_servers(wanted):
+    """RELOAD to other servers: one that isn't named any more has no new sessions and keeps its old ones; named again it has its share."""
+    few = [("quick = { sessions = 128, segments = 131072, nodes = 1279872 }", "quick = { sessions = 40, segments = 40960, nodes = 399960 }")]
+    with site(1000, terms=few) as proxy, contextlib.ExitStack() as open_ones:
+        right, sessions, seen = proxy.file.read_text(), [], []
+        one = stage.replaced(right, [(f'hosts = ["127.0.0.1:{proxy.ports[0]}", "127.0.0.1:{proxy.ports[1]}"]', f'hosts = ["127.0.0.1:{proxy.ports[0]}"]')])
+        for text in (right, one, right):
+            proxy.file.write_text(text)
+            proxy.read_again()
+            sessions += [open_ones.enter_context(proxy.opened(address_of(len(sessions) + number), *QUICK)) for number in range(10)]
+            check(all(is_answered(session, number, wanted) for number, session in enumerate(sessions)), "a wrong value")
+            seen.append(tuple(proxy.counts().values())[:2])
+        check(seen == [(5, 5), (15, 5), (15, 15)], f"sessions at both servers: {seen}")
+    print("  a server that isn't named any more keeps its 5 sessions and has no new one; named again it has 10 more: no session was lost")
+
+
 def try_gate_killed(wanted):
     """The gate is killed under sessions: they are lost, the servers have back what they reserved, and the next gate serves at once."""
     with site(1000, terms=POOL, more=SCHOOL.format(token=DIGEST)) as proxy:
@@ -810,7 +826,7 @@ ALL = {
     "each attack by 64 addresses, beside others:": [try_attacks],
     "slow first lines, and headers that aren't HAProxy's:": [try_slow, try_headers],
     "guests together, and rates:": [try_pool, try_rates, try_again],
-    "the file is read again:": [try_reread],
+    "the file is read again:": [try_reread, try_servers],
     "the gate or a server is gone:": [try_gate_killed, try_gone],
     "sessions that end at any byte:": [try_cuts],
     "what the gate says:": [try_metrics, try_gate_log, try_words_of_gate, try_guard],

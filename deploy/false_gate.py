@@ -40,6 +40,7 @@ FAULTS = {
     "takes_any_file": "RELOAD takes a file whose sum doesn't fit",
     "forgets_at_reload": "RELOAD begins a new book",
     "drops_at_reload": "RELOAD ends all sessions",
+    "same_servers": "RELOAD goes on with the servers of before",
     "forgets_ahead": "lines that are there when an answer is written are lost",
     "many_connections": "a customer's connections are not counted",
     "no_places": "all connections together are not counted",
@@ -92,7 +93,7 @@ def fits(used, more, limits):
 
 class Book:
     def __init__(self, path):
-        self.path, self.here, self.pool, self.failed, self.at_server = path, {}, collections.defaultdict(lambda: [0, 0, 0]), {}, collections.Counter()
+        self.path, self.kinds, self.here, self.pool, self.failed, self.at_server = path, None, {}, collections.defaultdict(lambda: [0, 0, 0]), {}, collections.Counter()
 
     def read(self):
         told = tomllib.loads(pathlib.Path(self.path).read_text())
@@ -108,6 +109,8 @@ class Book:
         terms = [*named, guests["each"], guests["together"]]
         if any(each.get("rate", 1) <= 0 or type(each.get("burst", 1)) is not int or "more" in each for each in terms):
             raise ValueError("line 1: a word is wrong")
+        if wrong == "same_servers" and self.kinds:
+            kinds = self.kinds
         self.kinds, self.each, self.together = kinds, guests["each"], guests["together"]
         self.named, self.keys, self.nets, self.told = {each["name"]: each for each in named}, {}, [], told
         for each in named:
