@@ -123,10 +123,10 @@ fn take_in<'a, R: Clock + Wait>(
 }
 
 /// Serves one connection.
-pub(crate) fn serve_client<R: Net<Listener = TcpListener, Stream = TcpStream> + Clock + Wait>(
-    rt: &R,
+pub(crate) fn serve_client<'a, R: Net<Listener = TcpListener, Stream = TcpStream> + Clock + Wait>(
+    rt: &'a R,
     alloc: Global,
-    shared: &Shared,
+    shared: &'a Shared,
     stream: TcpStream,
     number: u64,
 ) -> Option<()> {
