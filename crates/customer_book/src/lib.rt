@@ -66,6 +66,3 @@ pub use refusal::{Cause, Refusal};
 pub use reload::ReplanFault;
 pub use site::{CLASSES, Class, Customer, Server, Site};
 pub use who::Who;
-
-#[cfg(test)]
-mod tests;

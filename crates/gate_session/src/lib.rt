@@ -49,6 +49,3 @@ pub use porch::{Nobody, Porch};
 pub use seats::Seat;
 pub use servers::Servers;
 pub use serving::{SessionEnd, serve_session};
-
-#[cfg(test)]
-mod tests;

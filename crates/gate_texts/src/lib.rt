@@ -32,6 +32,3 @@ pub use counts::{AccountRow, Counts, REASONS, Row, ServerRow};
 pub use metrics::push_metrics;
 pub use sessions::{SessionRow, push_session};
 pub use stats::push_stats;
-
-#[cfg(test)]
-mod tests;

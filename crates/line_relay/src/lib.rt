@@ -32,8 +32,6 @@ mod laws;
 mod lines;
 mod relaying;
 pub mod rows;
-#[cfg(test)]
-mod tests;
 mod tokens;
 
 pub use ahead::{Peer, ReadAhead};

@@ -81,32 +81,46 @@ fn server_numbers(
     let mut next = was.len();
     for (server, address) in plan.site.servers.iter().zip(plan.directory.servers.iter()) {
         let class = class_number(classes, server.class as usize);
-        let same = first_server(now, was, class, *address, &numbers);
-        match same {
-            Some(number) => numbers.push(number)?,
-            None => {
-                numbers.push(next)?;
-                next = next.saturating_add(1);
-            }
-        }
+        let same = first_server(&now.servers, was, class, *address, &numbers);
+        numbers.push(same_or_next(same, &mut next))?;
     }
     Ok(numbers)
 }
 
+/// This number, or else the next one that nobody has.
+fn same_or_next(same: Option<usize>, next: &mut usize) -> usize {
+    match same {
+        Some(number) => number,
+        None => {
+            let number = *next;
+            *next = number.saturating_add(1);
+            number
+        }
+    }
+}
+
 /// The first server of this class and address that isn't taken.
 fn first_server(
-    now: &Directory,
+    now: &[SocketAddr],
     was: &[Server],
     class: usize,
     address: SocketAddr,
     taken: &[usize],
 ) -> Option<usize> {
-    for (number, (server, other)) in was.iter().zip(now.servers.iter()).enumerate() {
-        if server.class as usize == class && *other == address && !taken.contains(&number) {
+    for (number, server) in was.iter().enumerate() {
+        if server.class as usize == class
+            && is_at(now, number, address)
+            && !taken.contains(&number)
+        {
             return Some(number);
         }
     }
     None
+}
+
+/// Whether the server of this number has this address.
+fn is_at(servers: &[SocketAddr], number: usize, address: SocketAddr) -> bool {
+    number < servers.len() && servers[number..number + 1].contains(&address)
 }
 
 /// The number of each customer.

@@ -62,14 +62,7 @@ impl Directory {
     pub fn terms(&self, who: Who) -> &Terms
         ensures { result.now ≡ terms_of self.now.customers.items self.now.guest who }
     {
-        match who {
-            Who::Named(number) => match self.customers.get(number as usize) {
-                Some(terms) => terms,
-                None => &self.guest,
-            },
-            Who::V4(_) => &self.guest,
-            Who::V6(_) => &self.guest,
-        }
+        terms_in(&self.customers, &self.guest, who)
     }
 
     /// The least of the customer's classes that takes a session as great as this.
@@ -77,6 +70,20 @@ impl Directory {
         ensures { result ≡ class_for self.now.most (terms_of self.now.customers.items self.now.guest who).classes ask self.now.order.items }
     {
         first_class(&self.most, &self.terms(who).classes, ask, &self.order)
+    }
+}
+
+/// What these customers' terms say of a customer; of a guest, what is said of each.
+fn terms_in<'a>(customers: &'a [Terms], guest: &'a Terms, who: Who) -> &'a Terms
+    ensures { result.now ≡ terms_of customers.now guest.now who }
+{
+    match who {
+        Who::Named(number) => match customers.get(number as usize) {
+            Some(terms) => terms,
+            None => guest,
+        },
+        Who::V4(_) => guest,
+        Who::V6(_) => guest,
     }
 }
 

@@ -53,6 +53,3 @@ pub use keys::{CertificateKey, Keys, NetworkKey, TokenKey};
 pub use plan::{PlanFault, SitePlan};
 pub use reading::MOMENTS;
 pub use sums::Sums;
-
-#[cfg(test)]
-mod tests;

@@ -200,30 +200,40 @@ impl Classes {
     }
 
     fn read_servers(&mut self, section: &Section<'_>, class: u8) -> Result<(), FileFault> {
-        let places = section
-            .count("places", 1, MOST_PLACES)?
-            .unwrap_or(MOST_PLACES);
-        let server = Server {
-            class,
-            places: places as u8,
-            segments: u64::from(section.needed_count("segments", 1, GREATEST)?),
-            nodes: u64::from(section.needed_count("nodes", 1, GREATEST)?),
-        };
+        let server = server_in(section, class)?;
         let first = self.addresses.len();
         for address in &addresses_in(section)? {
-            if self
-                .addresses
-                .iter()
-                .take(first)
-                .any(|other| *other == *address)
-            {
+            if is_among(&self.addresses, first, *address) {
                 return Err(section.fault("address", "another class has a server of this address"));
             }
-            self.servers.push(server)?;
-            self.addresses.push(*address)?;
+            self.push_server(server, *address)?;
         }
         Ok(())
     }
+
+    fn push_server(&mut self, server: Server, address: SocketAddr) -> Result<(), AllocError> {
+        self.servers.push(server)?;
+        self.addresses.push(address)?;
+        Ok(())
+    }
+}
+
+/// Whether an address is among the first ones of a list.
+fn is_among(addresses: &[SocketAddr], first: usize, address: SocketAddr) -> bool {
+    addresses[..first.min(addresses.len())].contains(&address)
+}
+
+/// What a class's table says of each of its servers.
+fn server_in(section: &Section<'_>, class: u8) -> Result<Server, FileFault> {
+    let places = section
+        .count("places", 1, MOST_PLACES)?
+        .unwrap_or(MOST_PLACES);
+    Ok(Server {
+        class,
+        places: places as u8,
+        segments: u64::from(section.needed_count("segments", 1, GREATEST)?),
+        nodes: u64::from(section.needed_count("nodes", 1, GREATEST)?),
+    })
 }
 
 /// The address of each server of a class: its own, or the class's, as often as it has servers.

@@ -1,5 +1,5 @@
 //! Relays over memory.
-use crate::{Judge, Peer, RelayEnd, RelayFault, ServerFault, Verdict, relay_lines};
+use line_relay::{Judge, Peer, RelayEnd, RelayFault, ServerFault, Verdict, relay_lines};
 use line_io::{FromReader, FromWriter, Line, LineCutter, ReadFailed, Sink, Source, WriteFailed};
 use std::alloc::Global;
 use std::sync::Wait;

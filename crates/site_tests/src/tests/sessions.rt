@@ -1,5 +1,5 @@
 //! Sessions over memory: what a client is told, what servers are sent, and that the book has all back.
-use crate::{Books, Note, Servers, SessionEnd, serve_session};
+use gate_session::{Books, Note, Servers, SessionEnd, serve_session};
 use customer_book::{
     Amount, Ask, Book, CLASSES, Class, Customer, Grant, Part, Rate, Refusal, Server, Site, Who,
 };

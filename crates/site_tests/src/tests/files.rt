@@ -1,5 +1,5 @@
 //! Texts of files, each wrong in one line, and what is said of them; what stands in a plan; and a file that is read again.
-use super::*;
+use site_file::{Address, Directory, read_site, read_site_again};
 use customer_book::{Amount, Ask, Who};
 use std::alloc::{AllocError, Global};
 use std::process::Abort;

@@ -1,5 +1,5 @@
 //! Texts, compared with the format's own description (Prometheus, "Exposition formats", version 0.0.4).
-use super::*;
+use gate_texts::{AccountRow, Counts, Row, ServerRow, SessionRow, push_metrics, push_session, push_stats};
 use customer_book::Amount;
 use std::alloc::{AllocError, Global};
 use std::net::SocketAddr;

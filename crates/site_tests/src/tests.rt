@@ -1,0 +1,5 @@
+mod books;
+mod files;
+mod relays;
+mod sessions;
+mod texts;
