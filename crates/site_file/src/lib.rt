@@ -18,8 +18,8 @@
 //!   great, and a word that isn't known are refused with their line.
 //! - The definitions speak of the plan and not of the text, so no way of reading can let a fault through.
 //! - Networks of both versions are kept apart: `::/0` has no address of IPv4.
-//! - What the file's first reader (`deploy/budgets`) took and this doesn't: names of hosts in addresses, masks of networks, fractions
-//!   of a rate, a burst above 65,535, and other words than budgets in `guests.together`. No address needs a resolver.
+//! - Not taken, as no address is to need a resolver and no number a rounding: names of hosts in addresses, masks of networks, fractions
+//!   of a rate, a burst above 65,535, and other words than budgets in `guests.together`.
 //! - A session's moments are microseconds ([`MOMENTS`]); a rate of so many a second is one in so many moments, rounded up.
 //!
 //! ```text
