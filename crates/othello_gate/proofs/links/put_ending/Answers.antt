@@ -1,4 +1,4 @@
-use Rattle.std.proofs.Common.{◌≡◌, sym, ap, ◌∙◌}
+use Rattle.std.proofs.Common.{sym, ap, ◌∙◌}
 use Rattle.othello_gate.specs.Lines.{ending}
 use Rattle.othello_gate.proofs.LineLemmas.{take-one, take-two}
 use Rattle.othello_gate.proofs.links.put_ending.Goals as goal
