@@ -15,3 +15,4 @@
 #![tactic(auto)]
 
 pub mod books;
+pub mod relays;
