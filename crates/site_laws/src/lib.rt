@@ -15,4 +15,6 @@
 #![tactic(auto)]
 
 pub mod books;
+pub mod gates;
+pub mod headers;
 pub mod relays;
