@@ -1,16 +1,19 @@
 //! What the definitions of `gate_session` give, for all values.
-ghost use Rattle.std.specs.Prelude.{Bool, List, None, Option, Some, false, true, ℕ, ◌≡◌};
-ghost use Rattle.customer_book.specs.Runs.{Name};
+ghost use Rattle.std.specs.Prelude.{Bool, List, None, Option, Some, [], false, if◌then◌else◌, true, ℕ, ◌==◌, ◌∷◌, ◌≡◌};
+ghost use Rattle.customer_book.specs.Runs.{Name, open_after};
 ghost use Rattle.customer_book.specs.declared.amount.Ask.{Ask};
 ghost use Rattle.customer_book.specs.declared.event.Event.TheVariants.{Raises, Says};
+ghost use Rattle.customer_book.specs.declared.event.Event.{Event};
 ghost use Rattle.customer_book.specs.declared.refusal.Refusal.{Refusal};
+ghost use Rattle.customer_book.specs.declared.who.Who.{Who};
 ghost use Rattle.gate_rules.specs.Answers.{said_in};
 ghost use Rattle.gate_rules.specs.Seated.{Parting, Passing, Raising, seated_line};
-ghost use Rattle.gate_session.specs.Deals.{Booked, Classed, names_open};
-ghost use Rattle.gate_session.specs.Judging.{Asks, AsksIf, Goes, Heard, Holds, HoldsIf, Judged, JudgedAs, Moves, Raised, RaisedIf, Stays, Stuck, way_of};
+ghost use Rattle.gate_session.specs.Deals.{Booked, Classed, Deal, Named, answers_in, events_in, names_after, names_open};
+ghost use Rattle.gate_session.specs.Judging.{Asks, AsksIf, Goes, Heard, Holds, HoldsIf, Judged, JudgedAs, Moves, Raised, RaisedIf, Stays, Stuck, way_of, way_out};
 ghost use Rattle.gate_session.specs.Pairing.{Dealt};
 ghost use Rattle.gate_session.specs.Seats.{ask_of, greater_of, heard, is_raise, same_ask};
 ghost use Rattle.gate_session.specs.declared.judging.Seated.{Seated};
+ghost use Rattle.gate_session.specs.declared.seats.Seat.{Seat};
 ghost use Rattle.line_io.specs.Leads.{Leads};
 ghost use Rattle.line_io.specs.Lines.{LineText};
 ghost use Rattle.line_relay.specs.declared.judging.Verdict.TheVariants.{Cut, End, Refuse};
@@ -19,8 +22,28 @@ ghost use Rattle.tenant_quota.specs.Quota.{Quota};
 
 use gate_session::Books;
 
-/// Of `gate_session`, Judging: what `HoldsIf`, `Holds`, `RaisedIf`, `Raised`, `Goes`, `AsksIf`, `Asks`, `JudgedAs`, `Judged` and `Heard` give.
+/// Of `gate_session`, Deals: what `names_after`, `names_open`, `events_in` and `answers_in` give.
+pub fn deals()
+    ensures names_after_booked { (names : List Name) (event : Event) (answer : Option Refusal) → names_after names (Booked event answer) ≡ open_after names event answer }
+    ensures names_after_named { (names : List Name) (token : Option (List ℕ)) (who : Option Who) → names_after names (Named token who) ≡ names }
+    ensures names_after_classed { (names : List Name) (who : Who) (ask : Ask) (class : Option ℕ) → names_after names (Classed who ask class) ≡ names }
+    ensures names_open_none { (names : List Name) → names_open names [] ≡ names }
+    ensures names_open_more { (names : List Name) (deal : Deal) (deals : List Deal) → names_open names (deal ∷ deals) ≡ names_open (names_after names deal) deals }
+    ensures events_in_none { events_in [] ≡ [] }
+    ensures events_in_booked { (event : Event) (answer : Option Refusal) (deals : List Deal) → events_in (Booked event answer ∷ deals) ≡ event ∷ events_in deals }
+    ensures events_in_named { (token : Option (List ℕ)) (who : Option Who) (deals : List Deal) → events_in (Named token who ∷ deals) ≡ events_in deals }
+    ensures events_in_classed { (who : Who) (ask : Ask) (class : Option ℕ) (deals : List Deal) → events_in (Classed who ask class ∷ deals) ≡ events_in deals }
+    ensures answers_in_none { answers_in [] ≡ [] }
+    ensures answers_in_booked { (event : Event) (answer : Option Refusal) (deals : List Deal) → answers_in (Booked event answer ∷ deals) ≡ answer ∷ answers_in deals }
+    ensures answers_in_named { (token : Option (List ℕ)) (who : Option Who) (deals : List Deal) → answers_in (Named token who ∷ deals) ≡ answers_in deals }
+    ensures answers_in_classed { (who : Who) (ask : Ask) (class : Option ℕ) (deals : List Deal) → answers_in (Classed who ask class ∷ deals) ≡ answers_in deals }
+{}
+
+/// Of `gate_session`, Judging: what `way_out`, `way_of`, `HoldsIf`, `Holds`, `RaisedIf`, `Raised`, `Goes`, `AsksIf`, `Asks`, `JudgedAs`, `Judged` and `Heard` give.
 pub fn judging<B: Books>()
+    ensures way_out { (has_jobs : Bool) → way_out has_jobs ≡ (if has_jobs then Stuck else Moves) }
+    ensures way_of_none { (seat : Seat) → way_of seat None ≡ Stuck }
+    ensures way_of_some { (seat : Seat) (class : ℕ) → way_of seat (Some class) ≡ (if class == seat.grant.class then Stays else way_out seat.has_jobs) }
     ensures holds_if_true { (from : Seated B) (ask : Ask) (ok : Bool) (to : Seated B) → HoldsIf B.deals true from ask ok to → (ok ≡ true) × (to ≡ from) }
     ensures holds_if_false_true { (from : Seated B) (ask : Ask) (to : Seated B) → HoldsIf B.deals false from ask true to → B.deals from.books (Booked (Raises from.seat.grant.who from.seat.grant.session ask) None) to.books × (to.seat ≡ record from.seat { held = ask }) }
     ensures holds_if_false_false { (from : Seated B) (ask : Ask) (to : Seated B) → HoldsIf B.deals false from ask false to → (refusal : Refusal) × B.deals from.books (Booked (Raises from.seat.grant.who from.seat.grant.session ask) (Some refusal)) to.books × (to.seat ≡ from.seat) }

@@ -1,43 +1,75 @@
 //! What the definitions of `line_relay` give, for all values.
-ghost use Rattle.std.specs.List.{concat};
-ghost use Rattle.std.specs.Prelude.{All, Bool, Err, List, Ok, Result, [], false, length, map, true, ℕ, ◌++◌, ◌∷◌, ◌≡◌};
+ghost use Rattle.std.specs.List.{concat, list_any};
+ghost use Rattle.std.specs.Prelude.{All, Bool, Err, List, None, Ok, Option, Result, Some, [], codes, false, if◌then◌else◌, length, map, take, true, ℕ, ◌++◌, ◌-◌, ◌==◌, ◌∷◌, ◌≡◌};
+ghost use Rattle.std.specs.Str.{bytes_eq};
 ghost use Rattle.std.specs.Str.Lines.{strip_carriage_return};
 ghost use Rattle.line_io.specs.Leads.{Leads};
-ghost use Rattle.line_io.specs.Lines.{LineText, line_text, lines_of, up_to_last_end};
+ghost use Rattle.line_io.specs.Lines.{LineText, TooLong, Whole, line_text, lines_of, up_to_last_end};
 ghost use Rattle.line_io.specs.Streams.{Ended, Failed, Gave, ReadAnswer, Took};
 ghost use Rattle.line_io.specs.Writes.{IsWritten, with_newline, written_texts};
 ghost use Rattle.line_io.specs.declared.faults.ReadFailed.{ReadFailed};
 ghost use Rattle.line_io.specs.declared.faults.WriteFailed.{WriteFailed};
 ghost use Rattle.line_relay.specs.Asks.{AnswerRead, Asked};
-ghost use Rattle.line_relay.specs.Passed.{IsRead, PassedOn, sent_texts, told_texts};
+ghost use Rattle.line_relay.specs.Passed.{IsRead, PassedOn, deed_of, sent_first, sent_texts, told_first, told_texts};
 ghost use Rattle.line_relay.specs.Relays.{Answered, EndsAt, EndsBefore, Handled, IsRelayEnd, Relayed, Replied, Turn, TurnDone, Unanswered};
 ghost use Rattle.line_relay.specs.Takes.{ByteTaken, CutShort, EndedTaken, LineRead, LineTaken, Stops, TakesFirst, has_end};
+ghost use Rattle.line_relay.specs.Tokens.{last_word, less_token, token_after, token_by, token_of, without_token, word_after, word_after_two};
 ghost use Rattle.line_relay.specs.Verdicts.{Answers, Ends, Sends, deed_for};
 ghost use Rattle.line_relay.specs.declared.ahead.Peer.{Peer};
 ghost use Rattle.line_relay.specs.declared.faults.RelayFault.TheVariants.{Read, Server, Write};
 ghost use Rattle.line_relay.specs.declared.faults.RelayFault.{RelayFault};
 ghost use Rattle.line_relay.specs.declared.faults.ServerFault.TheVariants.{Ended as server_ended, LongAnswer, Read as server_read, Write as server_write};
 ghost use Rattle.line_relay.specs.declared.faults.ServerFault.{ServerFault};
+ghost use Rattle.line_relay.specs.declared.judging.Verdict.TheVariants.{Cut, End, Pass, Refuse};
 ghost use Rattle.line_relay.specs.declared.judging.Verdict.{Verdict};
 ghost use Rattle.line_relay.specs.declared.relaying.RelayEnd.TheVariants.{Input as by_input, Line as by_line};
 ghost use Rattle.line_relay.specs.declared.relaying.RelayEnd.{RelayEnd};
 ghost use Rattle.protocol.specs.Texts.{error_text};
+ghost use Rattle.protocol.specs.Words.{split_at_space};
 
 use line_io::{Sink, Source};
 use line_relay::Judge;
 
-/// Of `line_relay`, Takes: what `TakesFirst`, `ByteTaken`, `Stops`, `EndedTaken`, `CutShort`, `LineTaken` and `LineRead` give.
+/// Of `line_relay`, Takes: what `TakesFirst`, `ByteTaken`, `Stops`, `has_end`, `EndedTaken`, `CutShort`, `LineTaken` and `LineRead` give.
 pub fn takes<S: Source>()
     ensures takes_first_none { (source : S) (byte : ℕ) (source' : S) (ahead' : List ℕ) → TakesFirst S.gives source [] byte source' ahead' → S.gives source (Gave (byte ∷ ahead')) source' }
     ensures takes_first_more { (source : S) (b : ℕ) (bs : List ℕ) (byte : ℕ) (source' : S) (ahead' : List ℕ) → TakesFirst S.gives source (b ∷ bs) byte source' ahead' → (source' ≡ source) × (byte ≡ b) × (ahead' ≡ bs) }
     ensures byte_taken { (from : S × List ℕ) (byte : ℕ) (to : S × List ℕ) → ByteTaken S.gives from byte to → TakesFirst S.gives from.0 from.1 byte to.0 to.1 }
     ensures stops { (from : S × List ℕ) (answer : ReadAnswer) (to : S × List ℕ) → Stops S.gives from answer to → (from.1 ≡ []) × (to.1 ≡ []) × S.gives from.0 answer to.0 }
+    ensures has_end { (bytes : List ℕ) → has_end bytes ≡ list_any (λ b. b == 10) bytes }
     ensures ended_taken { (from : S × List ℕ) (bytes : List ℕ) (to : S × List ℕ) → EndedTaken S.gives from bytes to → (has_end bytes ≡ false) × Leads (ByteTaken S.gives) from (bytes ++ 10 ∷ []) to }
     ensures cut_short { (from : S × List ℕ) (answer : ReadAnswer) (to : S × List ℕ) → CutShort S.gives from answer to → (bytes : List ℕ) × (mid : S × List ℕ) × (has_end bytes ≡ false) × Leads (ByteTaken S.gives) from bytes mid × Stops S.gives mid answer to }
     ensures line_taken { (from : S × List ℕ) (line : LineText) (to : S × List ℕ) → LineTaken S.gives from line to → (bytes : List ℕ) × EndedTaken S.gives from bytes to × (line ≡ line_text (strip_carriage_return bytes)) }
     ensures line_read_ok_true { (from : S × List ℕ) (line : LineText) (to : S × List ℕ) → LineRead S.gives from line (Ok true) to → LineTaken S.gives from line to }
     ensures line_read_ok_false { (from : S × List ℕ) (line : LineText) (to : S × List ℕ) → LineRead S.gives from line (Ok false) to → CutShort S.gives from Ended to }
     ensures line_read_err { (from : S × List ℕ) (line : LineText) (fault : ReadFailed) (to : S × List ℕ) → LineRead S.gives from line (Err fault) to → CutShort S.gives from Failed to }
+{}
+
+/// Of `line_relay`, Tokens: what `last_word`, `word_after`, `word_after_two`, `token_after`, `token_by`, `token_of`, `less_token` and `without_token` give.
+pub fn tokens()
+    ensures last_word_none { (word : List ℕ) → last_word word None ≡ Some word }
+    ensures last_word_some { (word : List ℕ) (words : List ℕ × List ℕ) → last_word word (Some words) ≡ None }
+    ensures word_after_none { word_after None ≡ None }
+    ensures word_after_some { (words : List ℕ × List ℕ) → word_after (Some words) ≡ last_word words.1 (split_at_space words.1) }
+    ensures word_after_two_none { word_after_two None ≡ None }
+    ensures word_after_two_some { (words : List ℕ × List ℕ) → word_after_two (Some words) ≡ word_after (split_at_space words.1) }
+    ensures token_after { (rest : List ℕ) → token_after rest ≡ word_after_two (split_at_space rest) }
+    ensures token_by_none { token_by None ≡ None }
+    ensures token_by_some { (words : List ℕ × List ℕ) → token_by (Some words) ≡ (if bytes_eq words.0 (codes "HELLO") then token_after words.1 else None) }
+    ensures token_of { (line : List ℕ) → token_of line ≡ token_by (split_at_space line) }
+    ensures less_token_none { (line : List ℕ) → less_token line None ≡ line }
+    ensures less_token_some { (line token : List ℕ) → less_token line (Some token) ≡ take (length line - length token - 1) line }
+    ensures without_token { (line : List ℕ) → without_token line ≡ less_token line (token_of line) }
+{}
+
+/// Of `line_relay`, Verdicts: what `deed_for` gives.
+pub fn verdicts()
+    ensures deed_for_pass_whole { (bytes : List ℕ) → deed_for Pass (Whole bytes) ≡ Sends bytes }
+    ensures deed_for_pass_too_long { deed_for Pass TooLong ≡ Answers 22 }
+    ensures deed_for_cut_whole { (bytes : List ℕ) → deed_for Cut (Whole bytes) ≡ Sends (without_token bytes) }
+    ensures deed_for_cut_too_long { deed_for Cut TooLong ≡ Answers 22 }
+    ensures deed_for_refuse { (number : ℕ) (line : LineText) → deed_for (Refuse number) line ≡ Answers number }
+    ensures deed_for_end { (line : LineText) → deed_for End line ≡ Ends }
 {}
 
 /// Of `line_relay`, Asks: what `AnswerRead` and `Asked` give.
@@ -84,8 +116,20 @@ pub fn relays<C: Source, K: Sink, S: Source, T: Sink, J: Judge>()
     ensures relayed_ending { (from : Peer C K × Peer S T × J) (r : Result RelayEnd RelayFault) (line : LineText) (to : Peer C K × Peer S T × J) (is : Relayed C.gives K.takes S.gives T.takes J.judges J.hears from r line to) → IsRelayEnd C.gives K.takes S.gives T.takes J.judges J.hears r line is.mid to }
 {}
 
-/// Of `line_relay`, Passed: what `PassedOn` and `IsRead` give.
+/// Of `line_relay`, Passed: what `deed_of`, `sent_first`, `sent_texts`, `told_first`, `told_texts`, `PassedOn` and `IsRead` give.
 pub fn passed<C: Source, K: Sink, S: Source, T: Sink, J: Judge>()
+    ensures deed_of { (turn : Turn) → deed_of turn ≡ deed_for turn.verdict turn.line }
+    ensures sent_first_sends { (text : List ℕ) (more : List (List ℕ)) → sent_first (Sends text) more ≡ text ∷ more }
+    ensures sent_first_answers { (number : ℕ) (more : List (List ℕ)) → sent_first (Answers number) more ≡ more }
+    ensures sent_first_ends { (more : List (List ℕ)) → sent_first Ends more ≡ more }
+    ensures sent_texts_none { sent_texts [] ≡ [] }
+    ensures sent_texts_more { (t : Turn) (ts : List Turn) → sent_texts (t ∷ ts) ≡ sent_first (deed_of t) (sent_texts ts) }
+    ensures told_first_sends_none { (text : List ℕ) (more : List (List ℕ) → List (List ℕ)) → told_first (Sends text) [] more ≡ [] }
+    ensures told_first_sends_more { (text a : List ℕ) (rest : List (List ℕ)) (more : List (List ℕ) → List (List ℕ)) → told_first (Sends text) (a ∷ rest) more ≡ a ∷ more rest }
+    ensures told_first_answers { (number : ℕ) (answers : List (List ℕ)) (more : List (List ℕ) → List (List ℕ)) → told_first (Answers number) answers more ≡ error_text number ∷ more answers }
+    ensures told_first_ends { (answers : List (List ℕ)) (more : List (List ℕ) → List (List ℕ)) → told_first Ends answers more ≡ more answers }
+    ensures told_texts_none { (answers : List (List ℕ)) → told_texts [] answers ≡ [] }
+    ensures told_texts_more { (t : Turn) (ts : List Turn) (answers : List (List ℕ)) → told_texts (t ∷ ts) answers ≡ told_first (deed_of t) answers (λ rest. told_texts ts rest) }
     ensures passed_on_taken { (from : Peer C K × Peer S T × J) (turns : List Turn) (to : Peer C K × Peer S T × J) (is : PassedOn C.gives K.takes S.gives T.takes from turns to) → Leads (ByteTaken C.gives) (from.0.source, from.0.ahead) is.used (to.0.source, to.0.ahead) }
     ensures passed_on_whole { (from : Peer C K × Peer S T × J) (turns : List Turn) (to : Peer C K × Peer S T × J) (is : PassedOn C.gives K.takes S.gives T.takes from turns to) → up_to_last_end is.used ≡ is.used }
     ensures passed_on_lines { (from : Peer C K × Peer S T × J) (turns : List Turn) (to : Peer C K × Peer S T × J) (is : PassedOn C.gives K.takes S.gives T.takes from turns to) → lines_of is.used ≡ map (λ (t : Turn). t.line) turns }

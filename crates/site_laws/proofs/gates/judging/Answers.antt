@@ -1,7 +1,11 @@
+use Rattle.std.proofs.Common.{refl}
 use Rattle.site_laws.proofs.gates.judging.Goals as goal
 
 pub returns : goal.returns
 returns g c = record {
+  way_out = λ has_jobs. refl;
+  way_of_none = λ seat. refl;
+  way_of_some = λ seat class. refl;
   holds_if_true = λ from ask ok to is. is;
   holds_if_false_true = λ from ask to is. is;
   holds_if_false_false = λ from ask to is. is;

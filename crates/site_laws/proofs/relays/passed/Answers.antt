@@ -1,7 +1,20 @@
+use Rattle.std.proofs.Common.{refl}
 use Rattle.site_laws.proofs.relays.passed.Goals as goal
 
 pub returns : goal.returns
 returns g c = record {
+  deed_of = λ turn. refl;
+  sent_first_sends = λ text more. refl;
+  sent_first_answers = λ number more. refl;
+  sent_first_ends = λ more. refl;
+  sent_texts_none = refl;
+  sent_texts_more = λ t ts. refl;
+  told_first_sends_none = λ text more. refl;
+  told_first_sends_more = λ text a rest more. refl;
+  told_first_answers = λ number answers more. refl;
+  told_first_ends = λ answers more. refl;
+  told_texts_none = λ answers. refl;
+  told_texts_more = λ t ts answers. refl;
   passed_on_taken = λ from turns to is. is.taken;
   passed_on_whole = λ from turns to is. is.whole;
   passed_on_lines = λ from turns to is. is.lines;

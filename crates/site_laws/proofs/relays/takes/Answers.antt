@@ -1,3 +1,4 @@
+use Rattle.std.proofs.Common.{refl}
 use Rattle.site_laws.proofs.relays.takes.Goals as goal
 
 pub returns : goal.returns
@@ -6,6 +7,7 @@ returns g c = record {
   takes_first_more = λ source b bs byte source' ahead' is. is;
   byte_taken = λ from byte to is. is;
   stops = λ from answer to is. is;
+  has_end = λ bytes. refl;
   ended_taken = λ from bytes to is. is;
   cut_short = λ from answer to is. is;
   line_taken = λ from line to is. is;
