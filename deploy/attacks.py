@@ -7,6 +7,7 @@ import os
 import pathlib
 import random
 import re
+import resource
 import signal
 import socket
 import ssl
@@ -625,6 +626,21 @@ def try_words_of_gate():
     print("  --help and --version: status 0; refused words and files: 2; a port that is taken: 1; --check of the delivered file: 0")
 
 
+def try_deaf():
+    """A gate that can take no more connections ends with status 1 and says why, so that its unit starts the next one."""
+    with stage.tempfile.TemporaryDirectory() as folder:
+        proxy, file = stage.Proxy([stage.free_port() for _ in stage.NAMES]), pathlib.Path(folder, "gate.toml")
+        file.write_text(proxy.filed())
+        with stage.ended_after(subprocess.Popen([stage.gate(), file], stdout=subprocess.DEVNULL, stderr=subprocess.PIPE, text=True)) as process, process.stderr:
+            stage.until("it listens", lambda: stage.is_there(proxy.inner) and stage.is_there(proxy.operator), 20)
+            resource.prlimit(process.pid, resource.RLIMIT_NOFILE, (3, 3))
+            with contextlib.suppress(OSError), socket.create_connection(("127.0.0.1", proxy.inner), 5):
+                stage.until("it has ended", lambda: process.poll() is not None, 10)
+            said = process.stderr.read().strip()
+            check(process.returncode == 1 and said, f"status {process.returncode}: {said}")
+    print(f"  a gate without a descriptor for its listener ends at once with status 1: {said.splitlines()[-1]}")
+
+
 def try_guard(wanted):
     """deploy/guard says when the gate serves, reads its file again, and ends a gate that hangs."""
     with site(1000, terms=POOL, more=SCHOOL.format(token=DIGEST)) as proxy:
@@ -829,7 +845,7 @@ ALL = {
     "the file is read again:": [try_reread, try_servers],
     "the gate or a server is gone:": [try_gate_killed, try_gone],
     "sessions that end at any byte:": [try_cuts],
-    "what the gate says:": [try_metrics, try_gate_log, try_words_of_gate, try_guard],
+    "what the gate says:": [try_metrics, try_gate_log, try_words_of_gate, try_deaf, try_guard],
     "connections in all, lines in order, silence:": [try_places, try_pipelined, try_silent],
     "two hosts behind a front:": [try_gate_front],
 }

@@ -49,6 +49,7 @@ FAULTS = {
     "cuts_early": "a session that is silent for 5 seconds is closed",
     "waits_for_log": "a session waits until its line of the log is written",
     "long_lines_pass": "a line that is too long is sent to the server in part",
+    "stays_deaf": "a gate that can take no more connections lives on",
 }
 A_FIRST_LINE, A_STANDSTILL, A_SILENCE, AN_ANSWER, PATIENCE = 10.0, 60.0, 3600.0, 2.0, 10.0
 LONGEST, SIGNATURE, NAME = 128, b"\r\n\r\n\0\r\nQUIT\n", 0x05
@@ -502,7 +503,13 @@ def main():
     threading.Thread(target=control, args=(listeners[1],), daemon=True).start()
     say("listening")
     while True:
-        stream, peer = listeners[0].accept()
+        try:
+            stream, peer = listeners[0].accept()
+        except OSError as fault:
+            if wrong != "stays_deaf":
+                os.write(2, f"{fault}\n".encode())
+                os._exit(1)
+            continue
         stream.setsockopt(socket.IPPROTO_TCP, socket.TCP_NODELAY, 1)
         session = Session(stream, peer)
         with lock:

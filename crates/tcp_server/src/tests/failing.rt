@@ -2,7 +2,6 @@
 ghost use Rattle.std.specs.Prelude.{◌≡◌};
 
 use super::serve_through;
-use crate::door::Door;
 use crate::{ServeFault, ServerConfig};
 use sched_rules::{Config, Worker};
 use std::alloc::Global;
@@ -16,6 +15,7 @@ use std::test::Fail;
 use std::thread::Threads;
 use steal_pool::desk::{Desk, Hall, Hands, PARTS};
 use steal_pool::{BeginFault, Open, PoolFault};
+use tcp_door::Door;
 
 /// A listener whose first tries to take a connection fail so.
 #[derive(Drop)]
