@@ -1,0 +1,20 @@
+//! What each part of the definitions of a site's gate gives, for all values.
+//!
+//! The same as `definition_laws`, for the crates that a gate stands on: `customer_book`, `line_relay`, `gate_session`
+//! and `proxy_header`. A function here is about one file of `specs/` of such a crate, and has a clause for each field of
+//! its records and for each case of its definitions by cases. So a field or a case that is left out, made trivial or given
+//! a premise is refused here. The proofs only project. `bench/definitions run` takes parts out and says what refuses.
+//!
+//! A clause is named for its definition, and behind that for the field or the case. A definition over streams, a judge or
+//! a book is asked for any source, sink, judge or book.
+//!
+//! ```text
+//! // a customer that may open a session has enough left of its budget
+//! has_left_own: HasLeft plan who class ask mine theirs → IsWithin (plus (of_one ask) mine) (budget_of plan who class)
+//! ```
+#![tactic(auto)]
+
+pub mod books;
+pub mod gates;
+pub mod headers;
+pub mod relays;
