@@ -1,12 +1,12 @@
 //! What the definitions of `tenant_quota` give, for all values.
-ghost use Rattle.std.specs.Prelude.{IsSomeAnd, List, None, Some, length, option_map, ℕ, ◌*◌, ◌+◌, ◌-◌, ◌<◌, ◌≡◌, ◌≢◌, ◌≤◌, ◌⊎◌};
+ghost use Rattle.std.specs.Prelude.{IsSomeAnd, List, None, Some, length, option_map, ℕ, ◌*◌, ◌+◌, ◌-◌, ◌<◌, ◌∷◌, ◌≡◌, ◌≢◌, ◌≤◌, ◌⊎◌};
 ghost use Rattle.number_index.specs.Places.{AreRising};
 ghost use Rattle.tenant_quota.specs.Accounts.{AllEntries, IsRising, IsWithinReserve, account_of, charged_segments, fresh, left_in, owner_of, raised_to, reserved_nodes, reserved_segments};
 ghost use Rattle.tenant_quota.specs.Quota.{IsAbove, IsNotAbove, IsWithinLimits, Quota};
 ghost use Rattle.tenant_quota.specs.Reservations.{Admits, CanRaise, ChangesOnly, HasChargedAtLeast, HasLeft, HasRoom, HasRoomFor, HasStepLeft, IsBeyond, IsFull, IsLower, IsOutOfSteps, IsShort, IsSoundBook, IsTooMuch, KeepsOthers, Raises, Releases, Reservations, admitted, changed, left_of, released, reserve_of, unreserved_of};
 ghost use Rattle.tenant_quota.specs.declared.account.Account.{Account};
 
-/// Of `tenant_quota`, Accounts: what `left_in`, `IsWithinReserve` and `IsRising` give.
+/// Of `tenant_quota`, Accounts: what `left_in`, `IsWithinReserve`, `AllEntries` and `IsRising` give.
 pub fn accounts()
     ensures left_in { (a : Account) → left_in a ≡ (record { segments = a.reserve.segments - a.charged; nodes = a.reserve.nodes - a.opened; steps = 16 * a.reserve.nodes - a.ticks }) }
     ensures is_within_reserve_some_segments { (a : Account) (is : IsWithinReserve a) → 1 ≤ a.reserve.segments }
@@ -16,6 +16,7 @@ pub fn accounts()
     ensures is_within_reserve_charged_within { (a : Account) (is : IsWithinReserve a) → a.charged ≤ a.reserve.segments }
     ensures is_within_reserve_opened_within { (a : Account) (is : IsWithinReserve a) → a.opened ≤ a.reserve.nodes }
     ensures is_within_reserve_ticks_within { (a : Account) (is : IsWithinReserve a) → a.ticks ≤ 16 * a.reserve.nodes }
+    ensures all_entries { (e : ℕ × Account) (es : List (ℕ × Account)) → AllEntries (λ it. IsWithinReserve it.1) (e ∷ es) → IsWithinReserve e.1 × AllEntries (λ it. IsWithinReserve it.1) es }
     ensures is_rising { (es : List (ℕ × Account)) → IsRising es → AreRising owner_of es }
 {}
 

@@ -1,6 +1,6 @@
 //! What the definitions of `session` give, for all values.
 ghost use Rattle.std.specs.List.{concat};
-ghost use Rattle.std.specs.Prelude.{Contains, Err, List, None, Ok, Result, Some, [], false, if◌then◌else◌, length, map, ℕ, ◌++◌, ◌+◌, ◌-◌, ◌==◌, ◌∷◌, ◌≡◌, ◌⊎◌};
+ghost use Rattle.std.specs.Prelude.{Bool, Contains, Err, List, None, Ok, Result, Some, [], false, true, if◌then◌else◌, length, map, ℕ, ◌++◌, ◌+◌, ◌-◌, ◌==◌, ◌∷◌, ◌≡◌, ◌⊎◌};
 ghost use Rattle.line_io.specs.Leads.{IsPrefixOf, Leads};
 ghost use Rattle.line_io.specs.Lines.{LineText, lines_of};
 ghost use Rattle.line_io.specs.Runs.{bytes_due, write_result};
@@ -14,12 +14,16 @@ ghost use Rattle.othello_board.specs.declared.cells.Cell.{Cell};
 ghost use Rattle.othello_eval.specs.Minimax.{best_choice, minimax};
 ghost use Rattle.othello_eval.specs.Tables.{IsTable};
 ghost use Rattle.position_text.specs.declared.positions.Side.{Side};
+ghost use Rattle.protocol.specs.Faults.{fault_number};
+ghost use Rattle.protocol.specs.Texts.{error_text};
+ghost use Rattle.protocol.specs.declared.faults.ProtocolFault.{ProtocolFault};
 ghost use Rattle.session.specs.Asks.{Asked, IsAnalysisOf, IsAsk, IsRefusedWhere, IsReplyTo, IsToldOf, KeepsAsks, RefusedBy, SaysTrue, ShowsFound, asked_at, asks_after, with_ask};
 ghost use Rattle.session.specs.Calls.{Alive, Ask, AskLive, AskQuota, Call, Cancel, Ended, Get, Gone, Hello, Job, Leave, OfficeReply, Refused, Reserve, Reserved, Rest, Told, Wait, Welcome};
 ghost use Rattle.session.specs.DoneLines.{EachDoneIsTrue, IsTrueDone, IsTrueTable, ReplyHolds, StandingHolds, TableHolds, TableReplyHolds, TrueSession, TurnHolds, asks_of_lines, asks_then};
 ghost use Rattle.session.specs.Forms.{is_bye};
-ghost use Rattle.session.specs.Sessions.{Called, IsAnsweredOf, IsWrittenOf, Session, calls_for, session_lines, talk_result, texts_for};
-ghost use Rattle.session.specs.Turns.{LineTurn, Made, Tabulated, calls_in, turn_text, turns};
+ghost use Rattle.session.specs.Requests.{Ends, Fault, Makes, Tabulates};
+ghost use Rattle.session.specs.Sessions.{Called, IsAnsweredOf, IsWrittenOf, LeavesIf, Session, Turned, calls_for, session_lines, talk_result, texts_for};
+ghost use Rattle.session.specs.Turns.{LineTurn, Made, Tabulated, calls_in, reply_text, seated_after, table_text, turn_text, turns};
 ghost use Rattle.session.specs.declared.faults.End.{End};
 ghost use Rattle.session.specs.declared.faults.End.TheVariants.{Bye, EndOfInput};
 ghost use Rattle.session.specs.declared.faults.SessionFault.{SessionFault};
@@ -94,12 +98,18 @@ pub fn done_lines<S: Source, K: Sink>()
     ensures true_session_dones { (source : S) (sink : K) (source' : S) (sink' : K) (r : Result End SessionFault) (is : TrueSession S.gives K.takes source sink source' sink' r) → EachDoneIsTrue [] is.session.answered (turns false is.session.answered is.session.replies) }
 {}
 
-/// Of `session`, Sessions: what `session_lines`, `calls_for`, `texts_for`, `Called`, `talk_result`, `IsAnsweredOf`, `IsWrittenOf` and `Session` give.
+/// Of `session`, Sessions: what `session_lines`, `calls_for`, `texts_for`, `Called`, `LeavesIf`, `Turned`, `talk_result`, `IsAnsweredOf`, `IsWrittenOf` and `Session` give.
 pub fn sessions<O: Office, S: Source, K: Sink>()
     ensures session_lines { (bytes : List ℕ) → session_lines bytes ≡ upto is_bye (lines_of bytes) }
     ensures calls_for { (lines : List LineText) (replies : List OfficeReply) → calls_for lines replies ≡ calls_in false (turns false lines replies) }
     ensures texts_for { (lines : List LineText) (replies : List OfficeReply) → texts_for lines replies ≡ map turn_text (turns false lines replies) }
     ensures called { (from : O) (made : Call × OfficeReply) (to : O) → Called O.does from made to → O.does from made.0 made.1 to }
+    ensures leaves_if_true { (from to : O) → LeavesIf O.does true from to → O.does from Leave Gone to }
+    ensures leaves_if_false { (from to : O) → LeavesIf O.does false from to → from ≡ to }
+    ensures turned_fault { (fault : ProtocolFault) (from : O) (seated : Bool) (text : List ℕ) (to : O) (later : Bool) → Turned O.does (Fault fault) from seated text to later → (from ≡ to) × (later ≡ seated) × (text ≡ error_text (fault_number fault)) }
+    ensures turned_makes { (call : Call) (from : O) (seated : Bool) (text : List ℕ) (to : O) (later : Bool) → Turned O.does (Makes call) from seated text to later → (reply : OfficeReply) × O.does from call reply to × (later ≡ seated_after seated reply) × (text ≡ reply_text reply) }
+    ensures turned_tabulates { (job : ℕ) (from : O) (seated : Bool) (text : List ℕ) (to : O) (later : Bool) → Turned O.does (Tabulates job) from seated text to later → (reply : OfficeReply) × O.does from (Get job) reply to × (later ≡ seated_after seated reply) × (text ≡ table_text reply) }
+    ensures turned_ends { (from : O) (seated : Bool) (text : List ℕ) (to : O) (later : Bool) → Turned O.does Ends from seated text to later → LeavesIf O.does seated from to × (later ≡ false) × (text ≡ reply_text Gone) }
     ensures talk_result_ok_bye { talk_result (Ok Bye) ≡ Ok by_line }
     ensures talk_result_ok_end_of_input { talk_result (Ok EndOfInput) ≡ Ok by_input }
     ensures talk_result_err_read { talk_result (Err Read) ≡ Err read_fault }

@@ -11,5 +11,6 @@ returns c = record {
   is_within_reserve_charged_within = λ a is. is.charged_within;
   is_within_reserve_opened_within = λ a is. is.opened_within;
   is_within_reserve_ticks_within = λ a is. is.ticks_within;
+  all_entries = λ e es is. is;
   is_rising = λ es is. is;
 }
