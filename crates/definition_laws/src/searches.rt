@@ -1,14 +1,14 @@
 //! What the definitions of `jamboree_rules` give, for all values.
 ghost use Rattle.std.specs.Prelude.{List, [], bit_and, length, map, neg_ℤ, pos, slice_index, true, ℕ, ℤ, ◌+ℤ◌, ◌-◌, ◌<ℤ◌, ◌<◌, ◌∷◌, ◌≡◌, ◌≢◌, ◌≤ℤ◌, ◌≤◌, ◌⊎◌};
 ghost use Rattle.jamboree_rules.specs.Entries.{HasKind, IsOfKind, IsTrueRest, score_at};
-ghost use Rattle.jamboree_rules.specs.Fits.{AreChildren, AreFitting, Fits, IsAgain, IsChildOf, IsDoneFrame, IsFirst, IsFound, IsKeptRoot, IsMarked, IsRoot, IsSearching, IsSearchingFrame, IsTabled, IsTest};
+ghost use Rattle.jamboree_rules.specs.Fits.{AreChildren, AreFitting, Fits, IsAgain, IsChildOf, IsDoneFrame, IsFirst, IsFound, IsInRole, IsKeptRoot, IsMarked, IsRoot, IsSearching, IsSearchingFrame, IsTabled, IsTest, how_many};
 ghost use Rattle.jamboree_rules.specs.Frames.{Frame, board, choice_at, code_at, coded, floor, greatest, least, phase_computing, phase_done, phase_first, phase_new, phase_tests, rest_at, role_again, role_first_child, role_root, role_test, status_not_spawned, status_runs, status_runs_again, status_settled, value, value_at};
 ghost use Rattle.jamboree_rules.specs.Leaves.{IsLeaf};
 ghost use Rattle.jamboree_rules.specs.Places.{frame_of, is_formed, kind_in, kind_number, score_in};
 ghost use Rattle.jamboree_rules.specs.Sound.{HasGoal, HaveGoals, IsFirstBest, IsSettled, IsSound};
 ghost use Rattle.leaf_search.specs.Bounds.{IsBound};
 ghost use Rattle.othello_eval.specs.Minimax.{best_choice};
-ghost use Rattle.othello_eval.specs.Tables.{Says};
+ghost use Rattle.othello_eval.specs.Tables.{Says, entered};
 ghost use Rattle.othello_eval.specs.declared.bound.BoundKind.{BoundKind};
 ghost use Rattle.othello_eval.specs.declared.bound.BoundKind.TheVariants.{Exact};
 ghost use Rattle.othello_moves.specs.Choices.{after, choices, plies};
@@ -45,6 +45,7 @@ pub fn fits()
     ensures is_child_of_inside { (f c : Frame) (is : IsChildOf f c) → c.number < length f.statuses }
     ensures is_child_of_shallower { (f c : Frame) (is : IsChildOf f c) → c.depth ≡ f.depth - plies (choice_at f c.number) }
     ensures is_child_of_known { (f c : Frame) (is : IsChildOf f c) → c.phase ≢ phase_new → board c ≡ after (board f) (choice_at f c.number) }
+    ensures is_child_of_in_role { (f c : Frame) (is : IsChildOf f c) → IsInRole f c }
     ensures are_children_more { (f c : Frame) (cs : List Frame) → AreChildren f (c ∷ cs) → IsChildOf f c × AreChildren f cs }
     ensures is_tabled_places { (v : ℕ → ℤ) (statuses rests : List ℕ) (is : IsTabled v statuses rests) → length rests ≡ length statuses }
     ensures is_tabled_holds { (v : ℕ → ℤ) (statuses rests : List ℕ) (is : IsTabled v statuses rests) → (k : ℕ) → IsTrueRest (slice_index rests k) (v k) }
@@ -76,6 +77,10 @@ pub fn fits()
     ensures fits_idle { (f : Frame) (children : List Frame) (mark : Mark) (is : Fits f children mark) → f.phase ≢ phase_first → f.phase ≢ phase_tests → children ≡ [] }
     ensures fits_searching { (f : Frame) (children : List Frame) (mark : Mark) (is : Fits f children mark) → (f.phase ≡ phase_first) ⊎ (f.phase ≡ phase_tests) → IsSearchingFrame f }
     ensures fits_done { (f : Frame) (children : List Frame) (mark : Mark) (is : Fits f children mark) → f.phase ≡ phase_done → IsDoneFrame f }
+    ensures fits_table { (f : Frame) (children : List Frame) (mark : Mark) (is : Fits f children mark) → IsTabled (value_at f) f.statuses f.rests }
+    ensures fits_whole { (f : Frame) (children : List Frame) (mark : Mark) (is : Fits f children mark) → f.role ≡ role_root → f.phase ≢ phase_new → length f.statuses ≡ length (entered f.depth (board f)) }
+    ensures fits_kin { (f : Frame) (children : List Frame) (mark : Mark) (is : Fits f children mark) → AreChildren f children }
+    ensures fits_once { (f : Frame) (children : List Frame) (mark : Mark) (is : Fits f children mark) → (i : ℕ) → how_many i children ≤ 1 }
     ensures are_fitting_formed { (words : List ℕ) (children : List (List ℕ)) (mark : Mark) (is : AreFitting words children mark) → is_formed words ≡ true }
     ensures are_fitting_frame { (words : List ℕ) (children : List (List ℕ)) (mark : Mark) (is : AreFitting words children mark) → Fits (frame_of words) (map frame_of children) mark }
     ensures is_root_own_is { (origin own : List ℕ) (is : IsRoot origin own) → (frame_of own).own ≡ (frame_of origin).own }
