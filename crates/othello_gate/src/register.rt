@@ -4,7 +4,7 @@ ghost use Rattle.customer_book.specs.Plans.{plan_of, sums_fit};
 
 use crate::counts::{Table, row_of};
 use crate::servers::KnownServers;
-use customer_book::{Amount, Book, CLASSES, LAST_MOMENT, ReplanFault, Server, Site, Who};
+use customer_book::{Amount, Book, CLASSES, Customer, LAST_MOMENT, ReplanFault, Server, Site, Who};
 use site_file::{Directory, FileFault, SitePlan, read_site_again};
 use std::alloc::{AllocError, Global};
 use thiserror::Error;
@@ -34,20 +34,32 @@ pub(crate) struct Amounts {
 impl Amounts {
     /// Those of a plan.
     fn of(alloc: Global, site: &Site) -> Result<Amounts, AllocError> {
-        let mut named = Vec::new(alloc);
-        for customer in &site.customers {
-            named.push(customer.budgets)?;
-        }
-        let mut servers = Vec::new(alloc);
-        for server in &site.servers {
-            servers.push(*server)?;
-        }
+        let named = budgets_in(alloc, site.customers.as_slice())?;
+        let servers = copies_of(alloc, site.servers.as_slice())?;
         Ok(Amounts {
             named,
             pool: site.pool,
             servers,
         })
     }
+}
+
+/// The budgets of these customers.
+fn budgets_in(alloc: Global, customers: &[Customer]) -> Result<Vec<[Amount; CLASSES]>, AllocError> {
+    let mut budgets = Vec::new(alloc);
+    for customer in customers {
+        budgets.push(customer.budgets)?;
+    }
+    Ok(budgets)
+}
+
+/// The same servers.
+fn copies_of(alloc: Global, servers: &[Server]) -> Result<Vec<Server>, AllocError> {
+    let mut copies = Vec::new(alloc);
+    for server in servers {
+        copies.push(*server)?;
+    }
+    Ok(copies)
 }
 
 /// What all sessions share.

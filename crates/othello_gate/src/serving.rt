@@ -39,26 +39,42 @@ where
     R: Net<Listener = TcpListener, Stream = TcpStream> + Clock + AllocGlobal,
     requires { IsTrue (sums_fit (plan_of plan.site)) }
 {
-    let alloc = rt.alloc();
+    let path = String::from_str(rt.alloc(), path)?;
     let listener = TcpListener::bind(rt, plan.directory.listen)?;
-    let control = match plan.directory.control {
-        Some(address) => Some(TcpListener::bind(rt, address)?),
-        None => None,
-    };
     let address = listener.local_addr()?;
-    let start = Some(Instant::now(rt)?);
-    let shared = Shared {
-        lock: Mutex::new(Register::new(alloc, plan)?),
-        freed: Condvar::new(),
-        log: Log::new(alloc),
-        start,
-    };
+    let control = control_of(rt, plan.directory.control)?;
+    let shared = shared_of(rt, plan)?;
     Ok(Gate {
         shared,
-        path: String::from_str(alloc, path)?,
+        path,
         listener,
         address,
         control,
+    })
+}
+
+/// The listener of the control socket, if there is one.
+fn control_of<R>(rt: &R, address: Option<SocketAddr>) -> io::Result<Option<TcpListener>>
+where
+    R: Net<Listener = TcpListener, Stream = TcpStream>,
+{
+    match address {
+        Some(address) => Ok(Some(TcpListener::bind(rt, address)?)),
+        None => Ok(None),
+    }
+}
+
+/// What the threads share, where nobody is there.
+fn shared_of<R: Clock + AllocGlobal>(rt: &R, plan: SitePlan) -> io::Result<Shared>
+    requires { IsTrue (sums_fit (plan_of plan.site)) }
+{
+    let start = Some(Instant::now(rt)?);
+    let register = Register::new(rt.alloc(), plan)?;
+    Ok(Shared {
+        lock: Mutex::new(register),
+        freed: Condvar::new(),
+        log: Log::new(rt.alloc()),
+        start,
     })
 }
 
