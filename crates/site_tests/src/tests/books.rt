@@ -1,5 +1,8 @@
 //! Small books at work: what is tried here is that calls succeed where they may, which no clause of memory can say.
-use customer_book::{Amount, Ask, Book, CLASSES, Cause, Class, Customer, Grant, Rate, Refusal, ReplanFault, Server, Site, Who};
+use customer_book::{
+    Amount, Ask, Book, CLASSES, Cause, Class, Customer, Grant, Rate, Refusal, ReplanFault, Server,
+    Site, Who,
+};
 use std::alloc::{AllocError, Global};
 use std::process::Abort;
 

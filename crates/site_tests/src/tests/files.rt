@@ -1,6 +1,6 @@
 //! Texts of files, each wrong in one line, and what is said of them; what stands in a plan; and a file that is read again.
-use site_file::{Address, Directory, read_site, read_site_again};
 use customer_book::{Amount, Ask, Who};
+use site_file::{Address, Directory, read_site, read_site_again};
 use std::alloc::{AllocError, Global};
 use std::process::Abort;
 use std::test::Fail;

@@ -1,6 +1,6 @@
 //! Relays over memory.
-use line_relay::{Judge, Peer, RelayEnd, RelayFault, ServerFault, Verdict, relay_lines};
 use line_io::{FromReader, FromWriter, Line, LineCutter, ReadFailed, Sink, Source, WriteFailed};
+use line_relay::{Judge, Peer, RelayEnd, RelayFault, ServerFault, Verdict, relay_lines};
 use std::alloc::Global;
 use std::sync::Wait;
 

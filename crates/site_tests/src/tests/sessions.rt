@@ -1,8 +1,8 @@
 //! Sessions over memory: what a client is told, what servers are sent, and that the book has all back.
-use gate_session::{Books, Note, Servers, SessionEnd, serve_session};
 use customer_book::{
     Amount, Ask, Book, CLASSES, Class, Customer, Grant, Part, Rate, Refusal, Server, Site, Who,
 };
+use gate_session::{Books, Note, Servers, SessionEnd, serve_session};
 use line_io::{FromReader, FromWriter};
 use line_relay::Peer;
 use std::alloc::{AllocError, Global};

@@ -1,6 +1,8 @@
 //! Texts, compared with the format's own description (Prometheus, "Exposition formats", version 0.0.4).
-use gate_texts::{AccountRow, Counts, Row, ServerRow, SessionRow, push_metrics, push_session, push_stats};
 use customer_book::Amount;
+use gate_texts::{
+    AccountRow, Counts, Row, ServerRow, SessionRow, push_metrics, push_session, push_stats,
+};
 use std::alloc::{AllocError, Global};
 use std::net::SocketAddr;
 use std::test::Fail;
