@@ -180,8 +180,9 @@ impl Sink for Outgoing {
     ghost takes = { λ _ _ _. Unit {0} };
 
     fn put(&mut self, bytes: &[u8]) -> Result<usize, WriteFailed> {
+        // (one that takes a part alone has waited for its whole minute)
         match (&*self.stream).write(bytes) {
-            Ok(count) if count > 0 => Ok(count),
+            Ok(count) if count > 0 && count == bytes.len() => Ok(count),
             _ => Err(WriteFailed),
         }
     }
