@@ -6,12 +6,12 @@ use Rattle.sched_rules.specs.declared.step.DidOf.{DidOf}
 use Rattle.task_deques.specs.jamboree_rules.declared.leaf.Leaf.{Leaf}
 use Rattle.task_deques.specs.jamboree_rules.declared.leaf.LeafAnswer.{LeafAnswer}
 use Rattle.task_deques.specs.jamboree_rules.Leaves.{leaf_of_answer}
-use Rattle.task_deques.specs.Seats.{with_pushed}
+use Rattle.task_deques.specs.Seats.{with_pushed, with_taken}
 use Rattle.task_deques.specs.Deals.{WorkerSeats}
 use Rattle.task_deques.specs.pool_rules.declared.task.Task.{Task}
-use Rattle.task_deques.specs.pool_rules.declared.turn.Action.TheVariants.{Bring}
+use Rattle.task_deques.specs.pool_rules.declared.turn.Action.TheVariants.{Bring, Get}
 use Rattle.task_deques.specs.pool_rules.declared.turn.Holding.{Holding}
-use Rattle.task_deques.specs.pool_rules.declared.turn.Holding.TheVariants.{Next}
+use Rattle.task_deques.specs.pool_rules.declared.turn.Holding.TheVariants.{Nothing, Next}
 use Rattle.task_deques.specs.pool_rules.Turns.{turn_after}
 
 -- a badge's share after an answer: one more where the step was taken
@@ -36,6 +36,16 @@ pub record IsTurn (worker : ℕ) (held next : Holding) (before after : ℕ) (sea
   pub holds : next ≡ (turn_after worker held answer).holding
   pub share : after ≡ share_after before answer
   pub task : IsPushedOf (turn_after worker held answer).task seats pushed
+
+-- a worker's seats once its own has taken this task
+abbrev pub IsTakenFromOwn : Task → WorkerSeats → WorkerSeats → Type 0
+IsTakenFromOwn task before after = after ≡ record before { own = with_taken task before.own }
+
+-- what a worker holds next under the same lock: what it held, and its seats haven't changed; or, where it was without a frame,
+-- a task that its own seat has taken
+abbrev pub GoesOn : Holding → Holding → WorkerSeats → WorkerSeats → Type 0
+GoesOn held next before after =
+    ((next ≡ held) × (after ≡ before)) ⊎ ((task : Task) × (held ≡ Nothing) × (next ≡ Next (Get task)) × IsTakenFromOwn task before after)
 
 -- a worker holds an answer to this frame, which it brings to the hall next, and which was computed from just this leaf
 abbrev pub BringsAnswerTo : FrameId → Leaf → Holding → Type 0

@@ -3,10 +3,16 @@ use sched_rules::Worker;
 use task_deques::pool_rules::Task;
 
 /// Hooks that workers call while they work, to watch them or to hold them up. The calls are made outside all locks, so
-/// one that waits holds up only its own worker.
+/// one that waits holds up only its own worker; but for `before` where the gate says that it is brief.
 pub trait Gate {
     /// Called when a worker has found a task, before it asks the hall for the task's frame. The hall may refuse that.
     fn before(&self, worker: Worker, task: &Task);
+
+    /// Whether `before` returns at once, so that a worker may call it while it has the desk locked, and go on with its
+    /// newest task under the same lock. It may not unless a gate says otherwise.
+    fn is_brief(&self) -> bool {
+        false
+    }
 
     /// Called at the start of a computation, before its search. `number` is that of the computation among those of the
     /// pool, from 1 on; it doesn't rise beyond 2^64 - 1.
@@ -23,6 +29,10 @@ pub struct Open;
 
 impl Gate for Open {
     fn before(&self, _worker: Worker, _task: &Task) {}
+
+    fn is_brief(&self) -> bool {
+        true
+    }
 
     fn inside(&self, _worker: Worker, _number: u64) {}
 }

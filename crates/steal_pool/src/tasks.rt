@@ -1,7 +1,7 @@
 //! The tasks of a worker, and what all workers of a pool share.
 ghost use Rattle.std.specs.Prelude.{◌≡◌, IfNone, IfSome};
 ghost use Rattle.task_deques.specs.Deals.{posts, worker_seats, IsTaken};
-ghost use Rattle.steal_pool.specs.Works.{IsPushed};
+ghost use Rattle.steal_pool.specs.Works.{IsPushed, IsTakenFromOwn};
 
 use sched_rules::Worker;
 use std::sync::{Mutex, Wait};
@@ -51,6 +51,15 @@ impl Tasks<'_> {
             Ok(()) => {}
             Err(_handed_back) => {}
         }
+    }
+
+    /// Takes the newest task of the worker's own deque. `None` where it has none.
+    pub(crate) fn take_own(&mut self) -> Option<Task>
+        ensures taken { IfSome result (λ task. IsTakenFromOwn task (worker_seats self.old.ends) (worker_seats self.new.ends)) }
+        ensures unchanged { IfNone result (worker_seats self.new.ends ≡ worker_seats self.old.ends) }
+        ensures posts { posts self.new.ends ≡ posts self.old.ends }
+    {
+        self.ends.take_own()
     }
 
     /// Takes the newest task of the worker's own deque, else the oldest of another's, trying them in the order of their

@@ -8,7 +8,7 @@
 ghost use Rattle.std.specs.Prelude.{◌≡◌, ◌+◌, ◌≤◌, Some};
 ghost use Rattle.task_deques.specs.pool_rules.Turns.{offered};
 ghost use Rattle.task_deques.specs.Deals.{posts, worker_seats};
-ghost use Rattle.steal_pool.specs.Works.{IsTurn, BringsAnswerTo};
+ghost use Rattle.steal_pool.specs.Works.{IsTurn, BringsAnswerTo, GoesOn};
 
 use crate::gate::Gate;
 use crate::tasks::Tasks;
@@ -84,20 +84,21 @@ fn work_off<L: Hands, G: Gate, R: Wait>(
             Holding::Computing(frame, leaf) => {
                 computed(worker, tasks.begin(rt), gate, frame, leaf)
             }
-            held => steps(rt, desk, worker, badge, tasks, held),
+            held => steps(rt, desk, worker, badge, tasks, gate, held),
         };
     }
 }
 
 /// Takes up to 32 steps of the worker that follow each other under one lock, pushes the tasks of the frames that they
 /// make ready, and returns what the worker holds then. It stops earlier where there is a leaf to compute, or the worker
-/// is without a frame.
-fn steps<L: Hands, R: Wait>(
+/// is without a frame and doesn't go on with a task of its own.
+fn steps<L: Hands, G: Gate, R: Wait>(
     rt: &R,
     desk: &Desk<L>,
     worker: Worker,
     badge: &mut Badge<L>,
     tasks: &mut Tasks<'_>,
+    gate: &G,
     holding: Holding,
 ) -> Holding
     ensures ends { posts tasks.new.ends ≡ posts tasks.old.ends }
@@ -110,9 +111,33 @@ fn steps<L: Hands, R: Wait>(
             break;
         };
         holding = offered(rt, &mut held, worker, badge, tasks, holding, &step);
+        holding = gone_on(worker, tasks, gate, holding);
     }
     held.release();
     holding
+}
+
+/// What a worker that has the desk locked holds next: where it is without a frame, and the gate is brief, the newest task
+/// of its own deque, if there is one. So the lock isn't let go and taken again between a frame and the next.
+fn gone_on<G: Gate>(
+    worker: Worker,
+    tasks: &mut Tasks<'_>,
+    gate: &G,
+    holding: Holding,
+) -> Holding
+    ensures ends { posts tasks.new.ends ≡ posts tasks.old.ends }
+    ensures next { GoesOn holding result (worker_seats tasks.old.ends) (worker_seats tasks.new.ends) }
+{
+    match holding {
+        Holding::Nothing if gate.is_brief() => match tasks.take_own() {
+            Some(task) => {
+                gate.before(worker, &task);
+                Holding::Next(Action::Get(task))
+            }
+            None => Holding::Nothing,
+        },
+        held => held,
+    }
 }
 
 /// Computes a leaf, and returns what the worker holds then: the answer, to be brought to the hall. `number` is the

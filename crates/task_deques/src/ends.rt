@@ -1,6 +1,6 @@
 //! A worker's ends of all deques of a pool.
 ghost use Rattle.std.specs.Prelude.{◌≡◌, ◌<◌, ◌≤◌, vec_len, OnOk, IfErr, OnErr, IfNone, IfSome};
-ghost use Rattle.task_deques.specs.Seats.{with_pushed};
+ghost use Rattle.task_deques.specs.Seats.{with_pushed, with_taken};
 ghost use Rattle.task_deques.specs.Deals.{thief_seats, IsStolen};
 
 use crate::owner::Owner;
@@ -32,6 +32,16 @@ impl<A: Allocator> DequeEnds<A> {
         self.own.push(task)
     }
 
+    /// Takes the newest task of the worker's own deque. `None` doesn't prove that the deque is empty.
+    pub fn take_own(&mut self) -> Option<Task>
+        ensures taken { IfSome result (λ task. worker_seats self.new ≡ record (worker_seats self.old) { own = with_taken task (worker_seats self.old).own }) }
+        ensures unchanged { IfNone result (worker_seats self.new ≡ worker_seats self.old) }
+        ensures posts { posts self.new ≡ posts self.old }
+        ensures room { worker_room self.new ≡ worker_room self.old }
+    {
+        self.own.pop()
+    }
+
     /// Takes the newest task of the worker's own deque, else the oldest of another's, trying them in the order of their
     /// numbers after its own. `worker` is this worker. `None` doesn't prove that the deques are empty.
     pub fn take(&mut self, worker: Worker) -> Option<Task>
@@ -40,7 +50,7 @@ impl<A: Allocator> DequeEnds<A> {
         ensures posts { posts self.new ≡ posts self.old }
         ensures room { worker_room self.new ≡ worker_room self.old }
     {
-        if let Some(task) = self.own.pop() {
+        if let Some(task) = self.take_own() {
             return Some(task);
         }
         let place = usize::from(worker.number());
