@@ -7,10 +7,12 @@
 //! the desk. With a frame it does turn after turn (`pool_rules`): each turn is one step, offered to the hall under its
 //! lock by [`desk::Held::offer`] and by nothing else (steps that follow each other under one lock), or one computation
 //! outside all locks. A frame that becomes ready by its step is pushed on the worker's deque; where there is no room it
-//! stays ready in the hall, where it is found again.
+//! stays ready in the hall, where it is found again. A worker that is without a frame while it has the lock goes on with the
+//! newest task of its own deque under the same lock, up to 32 steps in all.
 //!
 //! What is proved of a worker is that each of its turns is the table's, that no task but that of its
-//! turn is pushed (`specs/Works.antt`), that it offers workers' steps alone, that it brings an answer that
+//! turn is pushed (`specs/Works.antt`), that between turns under one lock it takes at most its own newest task, that it offers
+//! workers' steps alone, that it brings an answer that
 //! was computed from just the leaf it was given, that its badge counts the steps that were taken, and
 //! that its ends of the deques come back at the same deques. Of a pool it is that there is a deque for
 //! each worker, that what was pushed is what was taken and what is left, on each deque and of all

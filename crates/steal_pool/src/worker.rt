@@ -119,12 +119,7 @@ fn steps<L: Hands, G: Gate, R: Wait>(
 
 /// What a worker that has the desk locked holds next: where it is without a frame, and the gate is brief, the newest task
 /// of its own deque, if there is one. So the lock isn't let go and taken again between a frame and the next.
-fn gone_on<G: Gate>(
-    worker: Worker,
-    tasks: &mut Tasks<'_>,
-    gate: &G,
-    holding: Holding,
-) -> Holding
+fn gone_on<G: Gate>(worker: Worker, tasks: &mut Tasks<'_>, gate: &G, holding: Holding) -> Holding
     ensures ends { posts tasks.new.ends ≡ posts tasks.old.ends }
     ensures next { GoesOn holding result (worker_seats tasks.old.ends) (worker_seats tasks.new.ends) }
 {

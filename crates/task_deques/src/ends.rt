@@ -50,7 +50,7 @@ impl<A: Allocator> DequeEnds<A> {
         ensures posts { posts self.new ≡ posts self.old }
         ensures room { worker_room self.new ≡ worker_room self.old }
     {
-        if let Some(task) = self.take_own() {
+        if let Some(task) = self.own.pop() {
             return Some(task);
         }
         let place = usize::from(worker.number());
