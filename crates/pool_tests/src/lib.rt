@@ -13,5 +13,7 @@
 //! ```
 #![tactic(auto)]
 
+pub mod rows;
+
 #[cfg(test)]
 mod tests;
