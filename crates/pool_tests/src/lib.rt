@@ -14,6 +14,5 @@
 #![tactic(auto)]
 
 pub mod rows;
-
 #[cfg(test)]
 mod tests;

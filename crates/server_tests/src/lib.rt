@@ -13,6 +13,5 @@
 #![tactic(auto)]
 
 pub mod rows;
-
 #[cfg(test)]
 mod tests;
