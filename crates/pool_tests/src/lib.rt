@@ -13,5 +13,6 @@
 //! ```
 #![tactic(auto)]
 
+pub mod rows;
 #[cfg(test)]
 mod tests;

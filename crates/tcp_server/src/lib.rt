@@ -23,8 +23,7 @@
 //! Why it is so:
 //!
 //! - What a server is given is one struct (`ServerConfig`: its `Sessions` and a `PoolConfig`), with the stacks'
-//!   sizes, for tests of threads that can't be had; `serve_beside` takes the pool as a closure, for those of a
-//!   pool that can't begin. `Announce` goes in by value and comes back: a `&mut` captured by a scope's closure
+//!   sizes, for tests of threads that can't be had, and of a pool that can't begin. `Announce` goes in by value and comes back: a `&mut` captured by a scope's closure
 //!   has no value after it. A failed announcement is `BeginFault::Unsaid`.
 //! - A listener keeps a spare descriptor (`Door`): an `accept` without a descriptor fails at once and leaves
 //!   the connection in the queue for ever. The door gives up its spare to take the connection, which is served
@@ -46,6 +45,3 @@ mod server;
 
 pub use faults::ServeFault;
 pub use server::{ServerConfig, Sessions, serve, serve_announced};
-
-#[cfg(test)]
-mod tests;

@@ -126,7 +126,7 @@ fn ended_as<A: Drop, L: Hands>(
 /// is returned when all sessions have ended. If it couldn't run it closes the desk and returns an error; no more
 /// connections are taken then. The other errors are `Listener`, which is returned in place of the pool's result, and
 /// `NoThread` where the thread that takes the connections can't be had; then the desk is closed and `pool` isn't run.
-pub(crate) fn serve_beside<
+fn serve_beside<
     L: Hands + Send + Sync,
     R: Net + Threads + Wait + Sync,
     T: Drop,

@@ -1,7 +1,0 @@
-use Rattle.tcp_server.proofs.tests.a_beginning_that_cannot_be_said_ends_the_server.Given as goal
-
-abbrev pub ghosts-unserved-L-Ledger : goal.ghosts-unserved-L-Ledger
-ghosts-unserved-L-Ledger g a = record { name = a.blank.name; parts = a.blank.parts }
-
-abbrev pub ghosts-unserved-L-Hands : goal.ghosts-unserved-L-Hands
-ghosts-unserved-L-Hands g a = record { all = a.blank.parts }
