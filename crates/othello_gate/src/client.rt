@@ -11,7 +11,7 @@ use gate_session::{SessionEnd, serve_session};
 use line_io::Sink;
 use line_relay::Peer;
 use proxy_header::{Origin, field_of, read_header};
-use site_file::Address;
+use site_plan::Address;
 use std::alloc::Global;
 use std::net::{Net, TcpListener, TcpStream};
 use std::sync::Wait;
