@@ -3,8 +3,8 @@ ghost use Rattle.std.specs.Prelude.{IsTrue};
 ghost use Rattle.customer_book.specs.Plans.{plan_of, sums_fit};
 
 use crate::counts::{Table, row_of};
-use crate::servers::KnownServers;
 use customer_book::{Amount, Book, CLASSES, Customer, LAST_MOMENT, ReplanFault, Server, Site, Who};
+use gate_session::KnownServers;
 use site_file::{FileFault, read_site_again};
 use site_plan::{Directory, SitePlan};
 use std::alloc::{AllocError, Global};

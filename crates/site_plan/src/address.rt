@@ -9,7 +9,7 @@ use customer_book::Who;
 use std::net::IpAddr;
 
 /// Where a connection comes from.
-#[derive(Clone, Copy, Debug, PartialEq, Eq)]
+#[derive(Clone, Copy)]
 pub enum Address {
     /// An address of IPv4, as a number.
     V4(u32),
@@ -67,7 +67,7 @@ impl Address {
 }
 
 /// A network: the addresses whose first bits are those of this one.
-#[derive(Clone, Copy, Debug, PartialEq, Eq)]
+#[derive(Clone, Copy)]
 pub enum Network {
     /// A network of IPv4: an address, and how many of its bits count, 0 to 32.
     V4(u32, u8),

@@ -9,7 +9,7 @@ use customer_book::{Ask, CLASSES, Class, Who};
 use std::net::SocketAddr;
 
 /// What the file says of a customer beside its budgets.
-#[derive(Debug, Drop)]
+#[derive(Drop)]
 pub struct Terms {
     /// Its name.
     pub name: String,
@@ -20,7 +20,7 @@ pub struct Terms {
 }
 
 /// What a gate looks up in the file.
-#[derive(Debug, Drop)]
+#[derive(Drop)]
 pub struct Directory {
     /// Where connections come from the proxy.
     pub listen: SocketAddr,

@@ -7,7 +7,7 @@ use customer_book::Who;
 use sha2::{Digest, Sha256};
 
 /// A token of a customer, by its SHA-256 digest.
-#[derive(Clone, Copy, Debug)]
+#[derive(Clone, Copy)]
 pub struct TokenKey {
     /// The digest.
     pub digest: [u8; 32],
@@ -16,7 +16,7 @@ pub struct TokenKey {
 }
 
 /// A name that a customer's certificates bear.
-#[derive(Debug, Drop)]
+#[derive(Drop)]
 pub struct CertificateKey {
     /// The name.
     pub name: String,
@@ -25,7 +25,7 @@ pub struct CertificateKey {
 }
 
 /// A network from which a customer comes.
-#[derive(Clone, Copy, Debug)]
+#[derive(Clone, Copy)]
 pub struct NetworkKey {
     /// The network.
     pub network: Network,
@@ -34,7 +34,7 @@ pub struct NetworkKey {
 }
 
 /// All keys of a file.
-#[derive(Debug, Drop)]
+#[derive(Drop)]
 pub struct Keys {
     /// The tokens.
     pub tokens: Vec<TokenKey>,

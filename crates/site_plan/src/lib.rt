@@ -8,7 +8,8 @@
 //! What is promised of a plan that [`SitePlan::checked`] gives back is a definition of the plan itself (`fault_of` of
 //! `specs/Checks.antt`): its sums fit, each server has 1 to 64 places, no class lets a session have more than a server gives one, all
 //! rates are above 0, each customer has a key, and no key stands twice. Who a connection is, is `who_of` of `specs/Keys.antt`;
-//! which class a session gets is `class_for` of `specs/Plans.antt`. [`rows`] tries these definitions.
+//! which class a session gets is `class_for` of `specs/Plans.antt`. [`accepted_plans_are_fit`] says what no fault means, and [`rows`] tries the
+//! definitions.
 //!
 //! Why it is so:
 //!
@@ -27,6 +28,7 @@
 mod address;
 mod directory;
 mod keys;
+mod laws;
 mod names;
 mod plan;
 pub mod rows;
@@ -35,5 +37,6 @@ mod sums;
 pub use address::{Address, Network};
 pub use directory::{Directory, Terms};
 pub use keys::{CertificateKey, Keys, NetworkKey, TokenKey};
+pub use laws::accepted_plans_are_fit;
 pub use plan::{FaultyPlan, PlanFault, SitePlan};
 pub use sums::{Sums, amount_text};

@@ -11,7 +11,7 @@ use crate::keys::{
 use customer_book::{Class, Customer, Rate, Server, Site};
 
 /// What a file says: the plan of a [`customer_book::Book`], and what a gate looks up.
-#[derive(Debug, Drop)]
+#[derive(Drop)]
 pub struct SitePlan {
     /// The classes, the servers and the budgets.
     pub site: Site,
@@ -20,7 +20,7 @@ pub struct SitePlan {
 }
 
 /// What can't stand in a plan.
-#[derive(Clone, Copy, Debug, PartialEq, Eq)]
+#[derive(Clone, Copy)]
 pub enum PlanFault {
     /// A session may have more segments or nodes in a class than any server gives one.
     Limits,

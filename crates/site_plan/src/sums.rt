@@ -4,7 +4,7 @@ use customer_book::{Amount, CLASSES};
 use std::alloc::{AllocError, Global};
 
 /// A class: what the file gives away in it, and what its servers have.
-#[derive(Clone, Copy, Debug, PartialEq, Eq)]
+#[derive(Clone, Copy)]
 pub struct Sums {
     /// The budgets of the named customers and of all guests together.
     pub given: Amount,

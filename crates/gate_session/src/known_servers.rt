@@ -1,9 +1,9 @@
-//! Which servers are there, and which have failed of late.
-ghost use Rattle.std.specs.Prelude.{◌≡◌, IfSome};
-ghost use Rattle.othello_gate.specs.Servers.{class_at};
+//! Which servers of a site are there, and which have failed of late.
+ghost use Rattle.std.specs.Prelude.{◌≡◌, slice_get, IfSome};
 
 use customer_book::Server;
 use std::alloc::{AllocError, Global};
+use std::marker::Model;
 
 /// Microseconds for which a server that has failed is asked last.
 const A_WHILE: u64 = 5_000_000;
@@ -16,15 +16,24 @@ struct Known {
     shunned: u64,
 }
 
-/// The servers of a file.
+/// The servers of a site, in the order of its file.
 #[derive(Drop)]
-pub(crate) struct KnownServers {
+pub struct KnownServers {
     all: Vec<Known>,
+}
+
+// Clauses see the classes of the servers.
+impl Model for KnownServers {
+    ghost use Rattle.std.specs.Prelude.{ℕ, List, map};
+
+    ghost Value = { List ℕ };
+
+    ghost view = { λ servers. map (λ known. known.class) servers.all.items };
 }
 
 impl KnownServers {
     /// These servers, of which none has failed.
-    pub(crate) fn new(alloc: Global, servers: &[Server]) -> Result<KnownServers, AllocError> {
+    pub fn new(alloc: Global, servers: &[Server]) -> Result<KnownServers, AllocError> {
         let mut all = Vec::new(alloc);
         for server in servers {
             all.push(Known {
@@ -35,15 +44,15 @@ impl KnownServers {
         Ok(KnownServers { all })
     }
 
-    /// A server has failed at this moment.
-    pub(crate) fn fail(&mut self, server: usize, moment: u64) {
+    /// A server has failed at this moment, in microseconds.
+    pub fn fail(&mut self, server: usize, moment: u64) {
         if let Some(known) = self.all.get_mut(server) {
             known.shunned = moment.saturating_add(A_WHILE);
         }
     }
 
     /// How many servers the class of this one has.
-    pub(crate) fn in_class_of(&self, server: usize) -> u32 {
+    pub fn in_class_of(&self, server: usize) -> u32 {
         let Some(chosen) = self.all.get(server) else {
             return 0;
         };
@@ -57,8 +66,9 @@ impl KnownServers {
 
     /// The server to be asked at the `asked`th try, from 0, where the book chose this one: the servers of its class in turn from it
     /// on, those that have failed of late after the others.
-    pub(crate) fn choose(&self, server: usize, asked: u32, moment: u64) -> Option<usize>
-        ensures { IfSome result (λ place. class_at self.now.all.items place ≡ class_at self.now.all.items server) }
+    #[tactic(auto, using(crate::proofs::KnownLemmas::class_at))]
+    pub fn choose(&self, server: usize, asked: u32, moment: u64) -> Option<usize>
+        ensures { IfSome result (λ place. slice_get self.now place ≡ slice_get self.now server) }
     {
         let class = self.all.get(server)?.class;
         let mut rest = asked.checked_rem(self.in_class_of(server))?;
