@@ -14,6 +14,7 @@
 //! an event of the book with its answer, whose a session is, or a class (`specs/Deals.antt`). A whole session is told by the list of
 //! its deals (`Dealt` of `specs/Pairing.antt`): after them no session is open that wasn't before, however it ended. As
 //! a `Grant` can neither be copied nor dropped, no body can lose one.
+//! [`KnownServers`] is the list of the servers' classes: the server that is asked in the place of a grant's is of the same class.
 //!
 //! Why it is so:
 //!

@@ -159,7 +159,7 @@ fn converse<'a, R: Net<Listener = TcpListener, Stream = TcpStream> + Clock + Wai
     clerk.tell();
     let row = clerk.log_of(alloc, number / 2, words_of(end));
     let mut register = shared.lock.lock(rt);
-    register.depart(clerk.account());
+    register.tallies.depart(clerk.account());
     drop(register);
     if let Some(row) = row {
         shared.log.say(rt, row.as_str());

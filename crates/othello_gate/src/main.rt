@@ -29,6 +29,7 @@ mod register;
 mod running;
 mod serving;
 mod shared;
+mod tallies;
 mod telling;
 mod texts;
 
