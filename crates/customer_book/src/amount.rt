@@ -14,7 +14,7 @@ pub struct Amount {
 }
 
 /// What one session reserves.
-#[derive(Clone, Copy, Debug, PartialEq, Eq)]
+#[derive(Clone, Copy)]
 pub struct Ask {
     /// Segments of 16 words.
     pub segments: u32,

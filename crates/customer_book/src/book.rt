@@ -23,7 +23,6 @@ pub const LAST_MOMENT: u64 = 1 << 62;
 
 /// The leave for one session at a server. It can't be copied or dropped: what ends a session gives it back to the book
 /// ([`Book::close`]).
-#[derive(Debug)]
 pub struct Grant {
     who: Who,
     session: u64,
@@ -71,7 +70,7 @@ impl Grant {
 }
 
 /// The book of customers: what the file says, who said how much of late, and the grants that are out.
-#[derive(Debug, Drop)]
+#[derive(Drop)]
 pub struct Book {
     site: Site,
     moment: u64,

@@ -2,7 +2,7 @@ use crate::amount::Ask;
 use crate::who::Who;
 
 /// What happens to a book. Each is a call of [`crate::Book`]; the laws speak of lists of them.
-#[derive(Clone, Copy, Debug, PartialEq, Eq)]
+#[derive(Clone, Copy)]
 pub enum Event {
     /// A customer wants a session of this number in a class, which reserves so much: [`crate::Book::open`].
     Opens(Who, u64, u8, Ask),

@@ -8,7 +8,7 @@ use crate::rates::Account;
 use crate::who::Who;
 
 /// A guest that has said something of late, with its account.
-#[derive(Clone, Copy, Debug, PartialEq, Eq)]
+#[derive(Clone, Copy)]
 pub struct Guest {
     /// Its address.
     pub who: Who,

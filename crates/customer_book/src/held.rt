@@ -8,7 +8,7 @@ use crate::site::Server;
 use crate::who::Who;
 
 /// What the book keeps of a grant that is out.
-#[derive(Clone, Copy, Debug, PartialEq, Eq)]
+#[derive(Clone, Copy)]
 pub struct Held {
     /// Whose it is.
     pub who: Who,
@@ -23,7 +23,7 @@ pub struct Held {
 }
 
 /// Some of the grants that are out.
-#[derive(Clone, Copy, Debug, PartialEq, Eq)]
+#[derive(Clone, Copy)]
 pub enum Part {
     /// Those of a customer in a class.
     Own(Who, u8),

@@ -67,7 +67,7 @@ impl Rate {
 }
 
 /// From when on an account's buckets are full.
-#[derive(Clone, Copy, Debug, PartialEq, Eq)]
+#[derive(Clone, Copy)]
 pub struct Account {
     /// That of its lines.
     pub lines: u64,

@@ -1,28 +1,19 @@
-use thiserror::Error;
-
 /// Why the book refuses an event.
-#[derive(Clone, Copy, Debug, PartialEq, Eq, Error)]
+#[derive(Clone, Copy, Debug, PartialEq, Eq)]
 pub enum Cause {
     /// The customer sends lines faster than its rate allows.
-    #[error("too many lines")]
     Fast = 1,
     /// A session of this number is there already.
-    #[error("the session is there already")]
     Twice,
     /// There is no such class, or it takes no session as great as this.
-    #[error("too great for the class")]
     Great,
     /// The customer's own budget in the class doesn't allow it.
-    #[error("beyond the customer's budget")]
     Budget,
     /// What all guests together may have doesn't allow it, or too many of them are known.
-    #[error("beyond what all guests may have")]
     Pool,
     /// There is no such session.
-    #[error("no such session")]
     Gone,
     /// A raise is to fewer segments or nodes than the session has, or to no more of either.
-    #[error("no more is reserved than before")]
     Lower,
 }
 
@@ -39,7 +30,7 @@ impl Cause {
 }
 
 /// A refusal: why, and how many moments its answer is to wait, so that who is refused too often learns it slowly.
-#[derive(Clone, Copy, Debug, PartialEq, Eq)]
+#[derive(Clone, Copy, Debug)]
 pub struct Refusal {
     /// Why.
     pub cause: Cause,

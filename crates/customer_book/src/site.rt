@@ -15,7 +15,7 @@ pub const CLASSES: usize = 8;
 const MOST_PLACES: u64 = 1_048_576;
 
 /// What one session may reserve in a class of servers.
-#[derive(Clone, Copy, Debug, PartialEq, Eq)]
+#[derive(Clone, Copy)]
 pub struct Class {
     /// The most segments of one session.
     pub most_segments: u32,
@@ -65,7 +65,7 @@ impl Customer {
 }
 
 /// What the file says.
-#[derive(Debug, Drop)]
+#[derive(Drop)]
 pub struct Site {
     /// The classes of servers, the least first. One whose amounts are 0 takes no session.
     pub classes: [Class; CLASSES],

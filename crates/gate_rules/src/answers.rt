@@ -5,7 +5,7 @@ ghost use Rattle.gate_rules.specs.Answers.{said_in, said_by};
 use protocol::{split_at_space, word_number};
 
 /// What an answer of a server says, as far as it concerns a gate.
-#[derive(Clone, Copy, Debug, PartialEq, Eq)]
+#[derive(Clone, Copy)]
 pub enum Said {
     /// WELCOME: the session has its tenant now.
     Welcome,

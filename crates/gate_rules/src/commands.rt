@@ -8,7 +8,7 @@ use protocol::{split_at_space, word_number};
 use tenant_quota::Reserve;
 
 /// The command of a line, as far as it concerns a gate. `None` stands for an argument that should be a number and is none.
-#[derive(Clone, Copy, Debug, PartialEq, Eq)]
+#[derive(Clone, Copy)]
 pub enum Command {
     /// HELLO: segments and nodes to reserve.
     Hello(Option<u32>, Option<u32>),

@@ -3,3 +3,4 @@ mod SeatLemmas
 mod AdmitLemmas
 mod GreetLemmas
 mod LawLemmas
+pub mod KnownLemmas

@@ -46,7 +46,7 @@ pub(crate) fn write_bye(text: &mut RelayText)
 }
 
 /// What a server's answer to HELLO comes to.
-#[derive(Clone, Copy, Debug, PartialEq, Eq)]
+#[derive(Clone, Copy)]
 pub enum Outcome {
     /// It is a WELCOME.
     Welcoming,

@@ -13,7 +13,6 @@ use line_relay::{Judge, Verdict};
 pub(crate) const FULL: u8 = 14;
 
 /// A session with its seat, and the book.
-#[derive(Debug)]
 pub struct Seated<B> {
     /// The book.
     pub books: B,

@@ -14,6 +14,7 @@
 //! an event of the book with its answer, whose a session is, or a class (`specs/Deals.antt`). A whole session is told by the list of
 //! its deals (`Dealt` of `specs/Pairing.antt`): after them no session is open that wasn't before, however it ended. As
 //! a `Grant` can neither be copied nor dropped, no body can lose one.
+//! [`KnownServers`] is the list of the servers' classes: the server that is asked in the place of a grant's is of the same class.
 //!
 //! Why it is so:
 //!
@@ -34,6 +35,7 @@ mod books;
 mod entering;
 mod greeting;
 mod judging;
+mod known_servers;
 mod laws;
 mod moving;
 mod porch;
@@ -44,6 +46,7 @@ mod serving;
 pub use books::{Books, Note};
 pub use entering::Entered;
 pub use judging::Seated;
+pub use known_servers::KnownServers;
 pub use laws::{deals_are_the_books_events, no_token_is_sent, seated_lines_pass};
 pub use porch::{Nobody, Porch};
 pub use seats::Seat;

@@ -7,7 +7,6 @@ use gate_rules::Said;
 use tenant_quota::Reserve;
 
 /// What a session has that a server has welcomed: the leave for it, and what it reserves.
-#[derive(Debug)]
 pub struct Seat {
     /// The leave for it.
     pub grant: Grant,

@@ -10,7 +10,7 @@ use crate::tokens::without_token;
 use line_io::Line;
 
 /// How a line is judged.
-#[derive(Clone, Copy, Debug, PartialEq, Eq)]
+#[derive(Clone, Copy)]
 pub enum Verdict {
     /// The server is sent the line, and the client is told the server's answer.
     Pass,

@@ -1,4 +1,3 @@
 pub mod Addresses
 pub mod Lines
 pub mod Rows
-pub mod Servers

@@ -127,7 +127,7 @@ impl<'a, R: Clock + Wait> Clerk<'a, R> {
         if !register.arrive(who) {
             return false;
         }
-        register.depart(now);
+        register.tallies.depart(now);
         self.account.set(who);
         true
     }
@@ -165,7 +165,7 @@ impl<'a, R: Clock + Wait> Clerk<'a, R> {
     ) -> Option<Result<Grant, Refusal>>
         ensures { IfSome result (λ answer. IsGrantFor who session class answer) }
     {
-        let ended = self.shared.lock.lock(self.rt).ended(who);
+        let ended = self.shared.lock.lock(self.rt).tallies.ended(who);
         match self.try_open(who, session, class, ask) {
             Ok(grant) => Some(Ok(grant)),
             Err(refusal) => {
@@ -210,9 +210,9 @@ impl<'a, R: Clock + Wait> Clerk<'a, R> {
             self.rt,
             self.shared.lock.lock(self.rt),
             most,
-            |register| register.ended(who) == ended && register.is_fading(who),
+            |register| register.tallies.ended(who) == ended && register.tallies.is_fading(who),
         );
-        register.ended(who) != ended
+        register.tallies.ended(who) != ended
     }
 
     /// What is left of a moment that began then.
@@ -329,7 +329,7 @@ impl<R: Clock + Wait> Books for Clerk<'_, R> {
         let mut register = self.shared.lock.lock(self.rt);
         register.book.close(grant);
         if self.is_fading.replace(false) {
-            register.faded(who);
+            register.tallies.faded(who);
         }
         drop(register);
         self.shared.freed.notify_all();
@@ -338,7 +338,7 @@ impl<R: Clock + Wait> Books for Clerk<'_, R> {
     fn fade(&self, grant: &Grant) {
         let mut register = self.shared.lock.lock(self.rt);
         if !self.is_fading.replace(true) {
-            register.fade(grant.who());
+            register.tallies.fade(grant.who());
         }
     }
 

@@ -11,7 +11,7 @@ use gate_session::{SessionEnd, serve_session};
 use line_io::Sink;
 use line_relay::Peer;
 use proxy_header::{Origin, field_of, read_header};
-use site_file::Address;
+use site_plan::Address;
 use std::alloc::Global;
 use std::net::{Net, TcpListener, TcpStream};
 use std::sync::Wait;
@@ -159,7 +159,7 @@ fn converse<'a, R: Net<Listener = TcpListener, Stream = TcpStream> + Clock + Wai
     clerk.tell();
     let row = clerk.log_of(alloc, number / 2, words_of(end));
     let mut register = shared.lock.lock(rt);
-    register.depart(clerk.account());
+    register.tallies.depart(clerk.account());
     drop(register);
     if let Some(row) = row {
         shared.log.say(rt, row.as_str());

@@ -80,10 +80,8 @@ impl Table {
 
     /// Rows for so many named customers.
     pub(crate) fn widen(&mut self, customers: usize) -> Result<(), AllocError> {
-        for _ in self.rows.len()..customers.saturating_add(1) {
-            self.rows.push([Counts::NONE; CLASSES])?;
-        }
-        Ok(())
+        let count = self.rows.len().max(customers.saturating_add(1));
+        self.rows.resize(count, [Counts::NONE; CLASSES])
     }
 
     /// All counts of the guests, or of the named customer of this number.

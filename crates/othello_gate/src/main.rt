@@ -1,7 +1,7 @@
 //! `othello_gate FILE`: stands between HAProxy and the servers of a site, and gives each customer its share.
 //!
 //! What a session does is the work of `gate_session`, whose contracts say it; whose a connection is and what everybody may have is
-//! that of `site_file`; who has what that of `customer_book`. Here is what no clause can say: threads, sockets, limits in time, the
+//! that of `site_plan`; who has what that of `customer_book`. Here is what no clause can say: threads, sockets, limits in time, the
 //! lock around the book, the control socket and the log. A [`register::Register`] is what all threads share under one lock: the
 //! book, the file's directory, the connections and the counts; no call under the lock reads or writes anything else.
 //!
@@ -27,9 +27,9 @@ mod listening;
 mod logging;
 mod register;
 mod running;
-mod servers;
 mod serving;
 mod shared;
+mod tallies;
 mod telling;
 mod texts;
 

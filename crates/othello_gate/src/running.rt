@@ -4,7 +4,8 @@ ghost use Rattle.customer_book.specs.Plans.{plan_of as seen_plan, sums_fit};
 
 use crate::serving::serve_plan;
 use crate::texts::Texts;
-use site_file::{SitePlan, read_site};
+use site_file::read_site;
+use site_plan::SitePlan;
 use std::alloc::Global;
 use std::io;
 use std::net::{Net, TcpListener, TcpStream};

@@ -13,7 +13,7 @@ use crate::logging::Log;
 use crate::register::Register;
 use crate::shared::Shared;
 use crate::texts::Texts;
-use site_file::SitePlan;
+use site_plan::SitePlan;
 use std::io;
 use std::net::{Net, SocketAddr, TcpListener, TcpStream};
 use std::sync::atomic::AtomicU64;

@@ -114,7 +114,7 @@ fn push_customer<'a>(
     row: usize,
     customer: &'a str,
 ) -> Result<(), AllocError> {
-    let connections = register.connections_in(row);
+    let connections = register.tallies.connections_in(row);
     all.accounts.push(AccountRow {
         customer,
         connections,

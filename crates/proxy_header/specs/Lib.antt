@@ -1,5 +1,4 @@
 pub mod Headers
 pub mod Texts
 pub mod Fields
-pub mod Guests
 pub mod Views

@@ -23,7 +23,7 @@ const V4_BYTES: usize = 12;
 const V6_BYTES: usize = 36;
 
 /// Where a connection comes from.
-#[derive(Clone, Copy, Debug, PartialEq, Eq)]
+#[derive(Clone, Copy)]
 pub enum Origin {
     /// No address is told: the proxy speaks for itself, or it doesn't know.
     Local,

@@ -5,8 +5,7 @@
 //! bytes, the version and command, the family, two bytes of length, and as many bytes as that says: two addresses, two ports and
 //! fields. One of version 1 is a line of words (`specs/Texts.antt`), whose addresses are what std's `parse_ascii` reads.
 //! An [`Origin`] is an address with its port, or that none is told: the proxy speaks for itself (the command LOCAL) or doesn't
-//! know. A field of the header is found by its type ([`field_of`]); a proxy can hand on a certificate's name in one. A guest is
-//! known by a [`GuestKey`]: an IPv4 address, or the first 64 bits of an IPv6 address, as one network has the others.
+//! know. A field of the header is found by its type ([`field_of`]); a proxy can hand on a certificate's name in one.
 //!
 //! Why it is so:
 //!
@@ -23,12 +22,10 @@
 
 mod faults;
 mod fields;
-mod guests;
 mod headers;
 pub mod rows;
 mod texts;
 
 pub use faults::HeaderFault;
 pub use fields::field_of;
-pub use guests::{GuestKey, guest_key};
 pub use headers::{Header, Origin, read_header};

@@ -1,11 +1,9 @@
-//! The definitions of headers, fields and guests, tried on worked bytes: each contract is computed from the definitions alone.
+//! The definitions of headers and fields, tried on worked bytes: each contract is computed from the definitions alone.
 ghost use Rattle.std.specs.Prelude.{◌≡◌, true, false, [], ◌∷◌, ◌++◌, replicate, take, codes, Some, None, Ok, Err};
 ghost use Rattle.proxy_header.specs.Fields.{field_of};
-ghost use Rattle.proxy_header.specs.Guests.{guest_key};
 ghost use Rattle.proxy_header.specs.Headers.{signature, local_header, reading};
 ghost use Rattle.proxy_header.specs.Texts.{Told, Unknown, text_reading, IsReading};
 ghost use Rattle.proxy_header.specs.declared.faults.HeaderFault.TheVariants.{NoHeader, Version, Command, LongHeader, Family, ShortAddress, WrongText};
-ghost use Rattle.proxy_header.specs.declared.guests.GuestKey.TheVariants.{V4 as v4_guest, V6 as v6_guest};
 ghost use Rattle.proxy_header.specs.declared.headers.Origin.TheVariants.{Local, V4, V6};
 
 /// Headers that are whole, and how many bytes they have: the `H` of a HELLO behind the first isn't one of them.
@@ -47,15 +45,6 @@ pub fn fields_are_found()
     ensures none { field_of 6 (4 ∷ 0 ∷ 0 ∷ 5 ∷ 0 ∷ 2 ∷ 97 ∷ 98 ∷ []) ≡ None }
     ensures cut_short { field_of 5 (5 ∷ 0 ∷ 3 ∷ 97 ∷ 98 ∷ []) ≡ None }
     ensures no_size { field_of 5 (5 ∷ 0 ∷ []) ≡ None }
-{}
-
-/// An IPv4 address is one guest in both of its forms, and a network of IPv6 is one guest.
-pub fn guests_are_told_apart()
-    ensures local { guest_key Local ≡ None }
-    ensures over_ipv4 { guest_key (V4 (10 ∷ 0 ∷ 0 ∷ 1 ∷ []) 50000) ≡ Some (v4_guest (10 ∷ 0 ∷ 0 ∷ 1 ∷ [])) }
-    ensures mapped { guest_key (V6 (replicate 10 0 ++ 255 ∷ 255 ∷ 10 ∷ 0 ∷ 0 ∷ 1 ∷ []) 1) ≡ Some (v4_guest (10 ∷ 0 ∷ 0 ∷ 1 ∷ [])) }
-    ensures network { guest_key (V6 (32 ∷ 1 ∷ 0 ∷ 0 ∷ 0 ∷ 0 ∷ 0 ∷ 5 ∷ replicate 8 1) 1) ≡ guest_key (V6 (32 ∷ 1 ∷ 0 ∷ 0 ∷ 0 ∷ 0 ∷ 0 ∷ 5 ∷ replicate 8 2) 2) }
-    ensures first_64_bits { guest_key (V6 (32 ∷ 1 ∷ 0 ∷ 0 ∷ 0 ∷ 0 ∷ 0 ∷ 5 ∷ replicate 8 1) 1) ≡ Some (v6_guest (32 ∷ 1 ∷ 0 ∷ 0 ∷ 0 ∷ 0 ∷ 0 ∷ 5 ∷ [])) }
 {}
 
 /// Headers of version 1.

@@ -1,9 +1,7 @@
 //! A file that is read again: who and what was there before keeps its number.
-use crate::directory::{Directory, Terms};
 use crate::faults::FileFault;
-use crate::keys::{CertificateKey, Keys, NetworkKey, TokenKey};
-use crate::plan::SitePlan;
 use customer_book::{Amount, CLASSES, Class, Customer, Server, Site};
+use site_plan::{CertificateKey, Directory, Keys, NetworkKey, SitePlan, Terms, TokenKey};
 use std::alloc::{AllocError, Global};
 use std::net::SocketAddr;
 

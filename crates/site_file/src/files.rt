@@ -1,16 +1,14 @@
 //! A file's text as a plan that can be used.
 ghost use Rattle.std.specs.Prelude.{◌≡◌, IfOk, None, true};
 ghost use Rattle.customer_book.specs.Plans.{plan_of, sums_fit};
-ghost use Rattle.site_file.specs.Checks.{fault_of};
+ghost use Rattle.site_plan.specs.Checks.{fault_of};
 
 use crate::again::numbered;
-use crate::directory::Directory;
 use crate::faults::{FileFault, line_of};
-use crate::plan::{PlanFault, SitePlan};
 use crate::reading::plan_in;
 use crate::section::Section;
-use crate::sums::amount_text;
 use customer_book::Server;
+use site_plan::{Directory, PlanFault, SitePlan, amount_text};
 use std::alloc::{AllocError, Global};
 
 /// Reads a file, and checks it whole. An error says the line and what is wrong there.
@@ -23,9 +21,9 @@ pub fn read_site(alloc: Global, text: &str) -> Result<SitePlan, FileFault>
         Err(fault) => return Err(FileFault::of_toml(alloc, text, &fault)),
     };
     let plan = plan_in(Section::whole(alloc, text, &table))?;
-    match plan.fault() {
-        Some(fault) => Err(told(alloc, text, &plan, fault)),
-        None => within(alloc, text, plan),
+    match plan.checked() {
+        Ok(plan) => within(alloc, text, plan),
+        Err(faulty) => Err(told(alloc, text, &faulty.plan, faulty.fault)),
     }
 }
 

@@ -1,7 +1,7 @@
 //! Digests and networks, read from their texts.
 ghost use Rattle.std.specs.Prelude.{◌<◌, IfSome};
 
-use crate::address::{Address, Network};
+use site_plan::{Address, Network};
 use std::net::{Ipv4Addr, Ipv6Addr};
 
 /// The digest that 64 hexadecimal digits write.

@@ -1,10 +1,8 @@
 //! The text of a file as a plan.
-use crate::directory::{Directory, Terms};
 use crate::faults::FileFault;
-use crate::keys::{CertificateKey, Keys, NetworkKey, TokenKey};
-use crate::plan::SitePlan;
 use crate::section::Section;
 use customer_book::{Amount, CLASSES, Class, Customer, Rate, Server, Site};
+use site_plan::{CertificateKey, Directory, Keys, NetworkKey, SitePlan, Terms, TokenKey};
 use std::alloc::{AllocError, Global};
 use std::net::SocketAddr;
 

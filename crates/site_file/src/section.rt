@@ -1,10 +1,10 @@
 //! A table of the file, whose words are taken by their types.
 ghost use Rattle.std.specs.Prelude.{◌≡◌, ◌≤◌, IfOk, IfSome};
-ghost use Rattle.site_file.specs.Plans.{count_of};
+ghost use Rattle.site_file.specs.Counts.{count_of};
 
-use crate::address::Network;
 use crate::faults::{FileFault, line_of};
 use crate::parsing::{digest_of, network_of};
+use site_plan::Network;
 use std::alloc::{AllocError, Global};
 use std::net::SocketAddr;
 use toml::{Table, Value};
