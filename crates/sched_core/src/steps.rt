@@ -13,9 +13,10 @@ pub(crate) type StepAnswer<P> = Result<Did<P>, Refusal>;
 
 impl<P: Procedure, A: Allocator> Engine<P, A> {
     /// Does one step: what it did, or its refusal. `fitting` says that all frames are known to fit (the procedure's
-    /// invariant holds of them); the result is the same without.
+    /// invariant holds of them); the result is the same without. `CALLER` only tells instances of the
+    /// commonest steps apart, so that the compiler can inline each where it is called (`Core::step_as`).
     #[inline(always)]
-    pub(crate) fn step(&mut self, step: &Step<P>, fitting: bool) -> StepAnswer<P>
+    pub(crate) fn step<const CALLER: u8>(&mut self, step: &Step<P>, fitting: bool) -> StepAnswer<P>
     where
         A: Clone,
         requires { IsKeptFitting (P.fits self.old.procedure) (P.rooted self.old.procedure) fitting self.old.store }
@@ -26,11 +27,13 @@ impl<P: Procedure, A: Allocator> Engine<P, A> {
             StepOf::Admit(number, reserve) => self.admit(*number, *reserve),
             StepOf::AdmitMore(number, reserve) => self.admit_more(*number, *reserve),
             StepOf::Submit(number, words, size) => self.submit(*number, words.as_slice(), *size),
-            StepOf::Take(worker, name) => self.take(*worker, *name),
+            StepOf::Take(worker, name) => self.take::<CALLER>(*worker, *name),
             StepOf::Steal(worker, from, name) => self.steal(*worker, *from, *name),
-            StepOf::Advance(worker, name) => self.advance(*worker, *name, fitting),
-            StepOf::Answer(worker, name, answer) => self.answer(*worker, *name, answer, fitting),
-            StepOf::Inlet(worker, name) => self.inlet(*worker, *name, fitting),
+            StepOf::Advance(worker, name) => self.advance::<CALLER>(*worker, *name, fitting),
+            StepOf::Answer(worker, name, answer) => {
+                self.answer::<CALLER>(*worker, *name, answer, fitting)
+            }
+            StepOf::Inlet(worker, name) => self.inlet::<CALLER>(*worker, *name, fitting),
             StepOf::Finish(worker, name) => self.finish(*worker, *name),
             StepOf::Spend(name) => self.spend(*name),
             StepOf::Cancel(number, job) => self.cancel(*number, *job),
@@ -49,11 +52,11 @@ impl<P: Procedure, A: Allocator> Engine<P, A> {
             StepOf::Submit(number, words, size) => {
                 self.may_submit(*number, words.as_slice(), *size).err()
             }
-            StepOf::Take(worker, name) => self.may_take(*worker, *name).err(),
+            StepOf::Take(worker, name) => self.may_take::<0>(*worker, *name).err(),
             StepOf::Steal(worker, from, name) => self.may_steal(*worker, *from, *name).err(),
             StepOf::Advance(worker, name) => self.may_advance(*worker, *name).err(),
             StepOf::Answer(worker, name, answer) => self
-                .accepted(*worker, *name, answer, false)
+                .accepted::<0>(*worker, *name, answer, false)
                 .err(),
             StepOf::Inlet(worker, name) => self.may_inlet(*worker, *name).err(),
             StepOf::Finish(worker, name) => self.may_finish(*worker, *name).err(),
