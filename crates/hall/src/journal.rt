@@ -79,6 +79,7 @@ impl<A: Allocator> Journal<A> {
     }
 
     /// Adds a step of its tenant, other than an AdmitMore, in a place that is reserved: it takes no memory.
+    #[inline(always)]
     pub(crate) fn write(&mut self, step: &Step<Jamboree>)
         requires { IsWritable step.now self.old }
         ensures { self.new ≡ record self.old { steps = self.old.steps ++ step.now ∷ [] } }
@@ -152,6 +153,7 @@ impl<A: Allocator> Numbered for Journal<A> {
 }
 
 /// Adds a step, other than an AdmitMore, to the journal of its tenant, which has one with a free place.
+#[inline(always)]
 pub(crate) fn write<A: Allocator>(
     index: &TenantIndex,
     journals: &mut Vec<Journal<A>, A>,

@@ -20,6 +20,7 @@ use std::alloc::{AllocError, Allocator};
 /// Offers one step to a core of searches. It gives what the step did, or why it is refused, and then nothing
 /// changes. Only an admission takes memory. Where a taken Submit asks for a search, the core's jobs stay
 /// searches.
+#[inline(always)]
 pub fn step_search<A: Allocator + Clone>(
     core: &mut Core<Jamboree, A>,
     step: &Step<Jamboree>,
@@ -36,7 +37,8 @@ pub fn step_search<A: Allocator + Clone>(
     // Where the core's jobs are searches, only a Submit can be refused with BadAct.
     ensures bad_act { (origins : ℕ → List (List ℕ)) → CoreSearches origins core.old.shared → submits step.now ≡ [] → result ≢ Err BadAct }
 {
-    core.step(step)
+    // In line, for `lone_search`, which knows the kind of each of its steps.
+    core.step_as::<1>(step)
 }
 
 /// Offers a list of steps to a core of searches, one after the other, and appends one answer for each. The vector

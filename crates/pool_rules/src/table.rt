@@ -1,5 +1,5 @@
 //! The table of the worker's turn, row by row.
-ghost use Rattle.std.specs.Prelude.{◌≡◌, Ok, Err};
+ghost use Rattle.std.specs.Prelude.{◌≡◌, Ok, Err, Some};
 ghost use Rattle.pool_rules.specs.declared.turn.Holding.TheVariants.{Next, GivingUp};
 ghost use Rattle.pool_rules.specs.Turns.{held_after, readied, task_at, is_short, turn, turn_after};
 
@@ -20,20 +20,48 @@ pub(crate) fn without_task(holding: Holding) -> Turn
     }
 }
 
+/// The turn after which a worker holds this, and that made this frame ready, whose home the worker is.
+#[inline(always)]
+fn with_task(holding: Holding, worker: Worker, frame: FrameId) -> Turn
+    ensures { result ≡ record { holding = holding; task = task_at worker (Some frame) } }
+{
+    Turn {
+        holding,
+        task: Some(Task {
+            frame,
+            home: worker.number(),
+        }),
+    }
+}
+
 /// The turn of a worker after the answer to its action's step, which was taken or refused.
 #[inline(always)]
 pub(crate) fn done(worker: Worker, action: Action, answer: Result<DidOf<Leaf>, Refusal>) -> Turn
     ensures { result ≡ turn_after worker (Next action) answer }
 {
     match answer {
-        Ok(did) => Turn {
-            holding: held_after(action.frame(), did),
-            task: readied(did).map(|frame| Task {
-                frame,
-                home: worker.number(),
-            }),
-        },
+        Ok(did) => after(worker, action.frame(), did),
         Err(refusal) => without_task(refused(action, refusal)),
+    }
+}
+
+/// The turn of a worker after a step on this frame did this: what it holds, and the task of the frame that became
+/// ready by the step, a child that was opened or a parent that was woken. It is one `match`, as what the step did would
+/// be copied for another.
+#[inline(always)]
+fn after(worker: Worker, frame: FrameId, did: DidOf<Leaf>) -> Turn
+    ensures { result ≡ record { holding = held_after frame did; task = task_at worker (readied did) } }
+{
+    match did {
+        DidOf::Took | DidOf::Went | DidOf::Grew | DidOf::Answered => {
+            without_task(Holding::Next(Action::Run(frame)))
+        }
+        DidOf::Spawned(child) => with_task(Holding::Next(Action::Run(frame)), worker, child),
+        DidOf::Computing(leaf) => without_task(Holding::Computing(frame, leaf)),
+        DidOf::Returned(false) => without_task(Holding::Next(Action::TakeIn(frame))),
+        DidOf::Returned(true) => without_task(Holding::Next(Action::Finish(frame))),
+        DidOf::TakenIn(Some(parent), _) => with_task(Holding::Nothing, worker, parent),
+        _ => without_task(Holding::Nothing),
     }
 }
 
@@ -60,34 +88,5 @@ pub(crate) fn spent(action: Action, answer: Result<DidOf<Leaf>, Refusal>) -> Hol
     match answer {
         Err(Refusal::NotSpent) => Holding::Next(action),
         _ => Holding::Nothing,
-    }
-}
-
-/// What a worker holds after a step on this frame did this.
-#[inline(always)]
-fn held_after(frame: FrameId, did: DidOf<Leaf>) -> Holding
-    ensures { result ≡ held_after frame did }
-{
-    match did {
-        DidOf::Took | DidOf::Went | DidOf::Grew | DidOf::Spawned(_) | DidOf::Answered => {
-            Holding::Next(Action::Run(frame))
-        }
-        DidOf::Computing(leaf) => Holding::Computing(frame, leaf),
-        DidOf::Returned(false) => Holding::Next(Action::TakeIn(frame)),
-        DidOf::Returned(true) => Holding::Next(Action::Finish(frame)),
-        _ => Holding::Nothing,
-    }
-}
-
-/// The frame that became ready by what a step did: a child that was opened, or a parent that was woken; None
-/// where there is none.
-#[inline(always)]
-fn readied(did: DidOf<Leaf>) -> Option<FrameId>
-    ensures { result ≡ readied did }
-{
-    match did {
-        DidOf::Spawned(child) => Some(child),
-        DidOf::TakenIn(woken, _) => woken,
-        _ => None,
     }
 }
