@@ -1,23 +1,48 @@
-//! An allocator that counts the calls of another.
+//! An allocator that counts the calls of another, and can refuse one.
+
+ghost use Rattle.std.specs.Prelude.{◌≡◌, IfSome};
 
 use std::alloc::{AllocError, Allocator};
 use std::cell::Cell;
 
-/// An allocator that passes each call on to another one, and counts it.
-pub struct Counted<B: Allocator> {
+/// An allocator that passes each call on to another one, and counts it. It can be told to refuse a growth.
+#[derive(Drop)]
+pub struct Counted<B> {
     /// The allocator that does the calls.
     inner: B,
     /// How many calls there were, modulo 2^64.
     calls: Cell<u64>,
+    /// Which of the next growths is refused, 1 for the next; 0 for none.
+    refused: Cell<u64>,
+}
+
+impl<B> Counted<B> {
+    /// Counts a growth, and returns the allocator that it is passed on to; `None` where it is the one that is refused.
+    fn asked(&self) -> Option<&B>
+        ensures { IfSome result (λ inner. inner.now ≡ self.now.inner) }
+    {
+        tick(&self.calls);
+        if is_refused(&self.refused) {
+            None
+        } else {
+            Some(&self.inner)
+        }
+    }
 }
 
 impl<B: Allocator> Counted<B> {
-    /// Passes calls on to `inner`; none is counted yet.
+    /// Passes calls on to `inner`; none is counted yet, and none is refused.
     pub fn new(inner: B) -> Counted<B> {
         Counted {
             inner,
             calls: Cell::new(0),
+            refused: Cell::new(0),
         }
+    }
+
+    /// Refuses the growth of this number, counted from the next on: 1 for the next, 0 for none. Only that one is refused.
+    pub fn refuse(&self, number: u64) {
+        self.refused.set(number);
     }
 
     /// How often memory was asked for or given back, modulo 2^64.
@@ -26,23 +51,26 @@ impl<B: Allocator> Counted<B> {
     }
 }
 
-impl<B: Allocator> Drop for Counted<B> {
-    fn drop(self) {
-        let Self { inner: _, calls: _ } = self;
-    }
-}
-
 /// Counts one call more.
 fn tick(calls: &Cell<u64>) {
     calls.set(calls.get().wrapping_add(1));
+}
+
+/// Whether this growth is the one that is refused. Each growth before it brings it nearer.
+fn is_refused(refused: &Cell<u64>) -> bool {
+    let number = refused.get();
+    refused.set(number.saturating_sub(1));
+    number == 1
 }
 
 unsafe impl<B: Allocator> Allocator for Counted<B> {
     ghost dealloc_token = { λ heap ty ptr. B.dealloc_token heap.inner ty ptr };
 
     fn allocate(&self, size: usize, align: usize) -> Result<*mut u8, AllocError> {
-        tick(&self.calls);
-        self.inner.allocate(size, align)
+        match self.asked() {
+            Some(inner) => inner.allocate(size, align),
+            None => Err(AllocError),
+        }
     }
 
     unsafe fn deallocate(&self, ptr: *mut u8, size: usize, align: usize) {

@@ -1,4 +1,5 @@
-//! An allocator that counts the calls of another, for tests that something takes no memory.
+//! An allocator that counts the calls of another, for tests that something takes no memory, and that refuses a growth where it
+//! is told to, for tests of what is left then.
 //!
 //! That no memory is taken can't be said by a clause: an allocation that is given back at once leaves
 //! nothing to be seen. A [`Counted`] stands for the allocator that it was made of, passes each call on,

@@ -3,9 +3,9 @@
 //! A scene of such a text is played on a new core, by the procedure and of the totals that its head names. Its rows are steps
 //! with their answers, `Advance 2 1.3 -> Spawned 1.5`, and looks with what is seen, `left 1 = 7 3 119` ([`play_steps`] has
 //! all forms). Each step is asked for by `refusal` before it is taken by `step`, and both must say the same; no step but an
-//! admission and a Leave may call the allocator. At the end the whole list is played again by one `run` on a new core, and
-//! the steps of each tenant that were taken once more on a core of its own: each is answered as before, and each tenant reads
-//! the same (the headline, tried).
+//! admission and a Leave may call the allocator. A head may name a growth that is refused. At the end the whole list is
+//! played again by one `run` on a new core, and the steps of each tenant that were taken once more on a core of its own:
+//! each is answered as before, and each tenant reads the same (the headline, tried).
 //!
 //! The procedures are the toys of `sched_toys`, `Jamboree`, and one more for lists that are drawn from a seed, [`Reader`],
 //! whose frames do what their words say, so that a list of steps meets every act there is: it grows, opens children, waits,

@@ -14,11 +14,12 @@ use sched_toys::{Chain, Fan, Spin};
 use std::alloc::{AllocError, Allocator, Global};
 use text_rows::{Place, Row, Scene, Tally, option};
 
-/// A core, by its totals and its procedure's grain.
+/// A core, by its totals and its procedure's grain, and which of its growths is refused (0: none).
 #[derive(Clone, Copy)]
 struct Setting {
     config: Config,
     grain: u64,
+    refuses: u64,
 }
 
 /// What a head asks for; None where a number is missing or not within its limits.
@@ -28,10 +29,12 @@ fn read_setting(head: &str) -> Option<Setting> {
     Some(Setting {
         config: Config::new(segments, nodes)?,
         grain: option(head, "grain").unwrap_or(0),
+        refuses: option(head, "refuses").unwrap_or(0),
     })
 }
 
-/// Plays a scene. Its head is `core PROCEDURE segments S nodes N`, with `grain G` for Jamboree (0 where it isn't named).
+/// Plays a scene. Its head is `core PROCEDURE segments S nodes N`, with `grain G` for Jamboree (0 where it isn't named). Where it
+/// has `refuses K`, the K-th growth after the core was made is refused.
 pub fn play_steps(
     alloc: Global,
     file: &str,
@@ -90,6 +93,7 @@ where
     };
     let counted = Counted::new(alloc);
     let mut core = made(&counted, setting.config, procedure)?;
+    counted.refuse(setting.refuses);
     play_in(alloc, &counted, &mut core, setting, place, rows, tally)
 }
 

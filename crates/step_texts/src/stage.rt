@@ -36,7 +36,8 @@ impl<A: Drop> Played<A> {
     }
 }
 
-/// Takes a step, and returns its answer as a text. Where `refusal`, asked before, said something else, the text says so.
+/// Takes a step, and returns its answer as a text. Where `refusal`, asked before, said something else, the text says so, but
+/// not of a refusal for want of memory, which nobody can foretell.
 pub fn tell<P: Procedure, A: Allocator + Clone>(
     alloc: Global,
     core: &mut Core<P, A>,
@@ -49,10 +50,15 @@ where
     let answer = do_step(core, step);
     let mut text = String::new(alloc);
     draw_answer(&mut text, &answer)?;
-    if foretold != answer.err() {
+    if foretold != answer.err() && !is_wanting(text.as_str()) {
         write!(text, ", but foretold was {foretold:?}")?;
     }
     Ok(text)
+}
+
+/// Whether a step was refused for want of memory.
+fn is_wanting(told: &str) -> bool {
+    told.ends_with(" OutOfMemory")
 }
 
 /// Takes a step on a core whose allocator is counted, and returns its answer as a text. Where the allocator was called by
@@ -74,7 +80,8 @@ where
     Ok(text)
 }
 
-/// Plays a row on a core: a step `STEP -> ANSWER`, which is noted, or a look `LOOK = WHAT IS SEEN`.
+/// Plays a row on a core: a step `STEP -> ANSWER`, which is noted unless memory was wanting, as it isn't where the steps are
+/// played again; or a look `LOOK = WHAT IS SEEN`.
 pub fn play_row<P: Procedure, A: Allocator + Clone>(
     alloc: Global,
     counted: &Counted<Global>,
@@ -94,6 +101,9 @@ where
         };
         let told = tell_counted(alloc, counted, core, &step)?;
         tally.compare(place, due, told.as_str())?;
+        if is_wanting(told.as_str()) {
+            return Ok(());
+        }
         return played.note(row.line, step, told);
     }
     match row.text.split_once(" = ") {

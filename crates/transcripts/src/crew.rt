@@ -10,13 +10,13 @@ ghost use Rattle.hall.specs.Journals.{is_worker_step};
 use desk::{Badge, Desk, Hands, Jamboree, LeafAnswer, Step, StepAnswer, Worker};
 use frame_tree::FrameId;
 use pool_rules::{Action, Holding, Task};
-use std::alloc::Global;
+use std::alloc::{Allocator, Global};
 use std::sync::Wait;
 
 /// The one worker of a desk.
-pub struct Crew<'a, L: Hands, R: Wait> {
+pub struct Crew<'a, L: Hands, R: Wait, A: Allocator> {
     rt: &'a R,
-    desk: &'a Desk<L>,
+    desk: &'a Desk<L, A>,
     badge: Badge<L>,
     worker: Worker,
     holding: Holding,
@@ -27,7 +27,7 @@ pub struct Crew<'a, L: Hands, R: Wait> {
     pub is_closed: bool,
 }
 
-impl<L: Hands, R: Wait> Drop for Crew<'_, L, R> {
+impl<L: Hands, R: Wait, A: Allocator> Drop for Crew<'_, L, R, A> {
     fn drop(self) {
         let Crew {
             rt: _rt,
@@ -42,14 +42,14 @@ impl<L: Hands, R: Wait> Drop for Crew<'_, L, R> {
     }
 }
 
-impl<'a, L: Hands, R: Wait> Crew<'a, L, R> {
+impl<'a, L: Hands, R: Wait, A: Allocator + Clone> Crew<'a, L, R, A> {
     /// The worker of this number, with a badge of a desk at which no tenant was yet. None where the desk gives no badge.
     pub fn new(
         alloc: Global,
         rt: &'a R,
-        desk: &'a Desk<L>,
+        desk: &'a Desk<L, A>,
         worker: Worker,
-    ) -> Option<Crew<'a, L, R>> {
+    ) -> Option<Crew<'a, L, R, A>> {
         let badge = desk.badge(rt)?;
         Some(Crew {
             rt,

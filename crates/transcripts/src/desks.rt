@@ -1,14 +1,15 @@
 //! Scenes of sessions.
 //!
 //! The head is `desk segments S nodes N`, with `grain G` (0 where it isn't named), `worker W` (1) and `pieces P`, the most bytes that
-//! a session's reader gives at once (4,096).
+//! a session's reader gives at once (4,096). Where it has `refuses K`, the K-th growth after the desk was made is refused.
 ghost use Rattle.std.specs.Prelude.{◌≡◌, ◌≤◌};
 
 use crate::crew::Crew;
 use crate::guests::House;
 use crate::sessions::Stage;
+use counted_alloc::Counted;
 use desk::{Config, Desk, Hall, Hands, PARTS, Worker};
-use std::alloc::{AllocError, Global};
+use std::alloc::{AllocError, Allocator, Global};
 use std::marker::Brand;
 use std::sync::Wait;
 use std::sync::ledger::Blank;
@@ -21,6 +22,7 @@ struct Setting {
     grain: u8,
     worker: Worker,
     pieces: usize,
+    refuses: u64,
     ghost fine: { grain ≤ 6 },
 }
 
@@ -39,6 +41,7 @@ fn read_setting(head: &str) -> Option<Setting> {
         grain,
         worker: Worker::new(worker)?,
         pieces,
+        refuses: option(head, "refuses").unwrap_or(0),
     })
 }
 
@@ -61,8 +64,10 @@ pub fn play_sessions<R: Wait>(
             scene.head.text,
         );
     };
-    let hall = Hall::new(alloc, setting.config, setting.grain)?;
-    play_at::<Brand, R>(
+    let counted = Counted::new(alloc);
+    let hall = Hall::new(&counted, setting.config, setting.grain)?;
+    counted.refuse(setting.refuses);
+    play_at::<Brand, R, &Counted<Global>>(
         rt,
         alloc,
         Blank::new(PARTS),
@@ -75,11 +80,11 @@ pub fn play_sessions<R: Wait>(
 }
 
 /// Plays rows at a desk with this hall.
-fn play_at<L: Hands, R: Wait>(
+fn play_at<L: Hands, R: Wait, A: Allocator + Clone>(
     rt: &R,
     alloc: Global,
     blank: Blank,
-    hall: Hall,
+    hall: Hall<A>,
     setting: Setting,
     place: Place<'_>,
     rows: &[Row<'_>],
@@ -88,15 +93,15 @@ fn play_at<L: Hands, R: Wait>(
     requires name { blank.name ≡ L.name }
     requires parts { (blank.parts ≡ L.parts) × (L.all ≡ L.parts) × (L.all ≡ 13835058055282163712) }
 {
-    let desk: Desk<L> = Desk::new(hall, blank);
+    let desk: Desk<L, A> = Desk::new(hall, blank);
     play_rows(rt, alloc, &desk, setting, place, rows, tally)
 }
 
 /// Plays rows at a desk.
-fn play_rows<L: Hands, R: Wait>(
+fn play_rows<L: Hands, R: Wait, A: Allocator + Clone>(
     rt: &R,
     alloc: Global,
-    desk: &Desk<L>,
+    desk: &Desk<L, A>,
     setting: Setting,
     place: Place<'_>,
     rows: &[Row<'_>],

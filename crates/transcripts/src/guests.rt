@@ -11,7 +11,7 @@ use desk::{Desk, Hands, Refusal};
 use desk_office::DeskOffice;
 use line_io::FromWriter;
 use session::{End, Live, Office, Question, Standing, serve_lines};
-use std::alloc::Global;
+use std::alloc::{Allocator, Global};
 use std::sync::Wait;
 use tenant_quota::{Left, Reserve};
 
@@ -26,15 +26,15 @@ pub const GOES_ON: &[u8] = b"HELLO 1 1\n";
 pub const WENT_ON: &[u8] = b"WELCOME 1 1\n";
 
 /// A session.
-pub struct Guest<'t, 'a, L: Hands, R: Wait> {
+pub struct Guest<'t, 'a, L: Hands, R: Wait, A: Allocator + Clone> {
     /// The name that its rows bear.
     pub name: &'t str,
-    office: DeskOffice<'a, L, R>,
+    office: DeskOffice<'a, L, R, A>,
     /// The number of its tenant; None where none is there.
     tenant: Option<u64>,
 }
 
-impl<L: Hands, R: Wait> Drop for Guest<'_, '_, L, R> {
+impl<L: Hands, R: Wait, A: Allocator + Clone> Drop for Guest<'_, '_, L, R, A> {
     fn drop(self) {
         let Guest {
             name: _name,
@@ -45,9 +45,9 @@ impl<L: Hands, R: Wait> Drop for Guest<'_, '_, L, R> {
     }
 }
 
-impl<'t, 'a, L: Hands, R: Wait> Guest<'t, 'a, L, R> {
+impl<'t, 'a, L: Hands, R: Wait, A: Allocator + Clone> Guest<'t, 'a, L, R, A> {
     /// A session without a tenant.
-    pub fn new(name: &'t str, rt: &'a R, desk: &'a Desk<L>) -> Guest<'t, 'a, L, R> {
+    pub fn new(name: &'t str, rt: &'a R, desk: &'a Desk<L, A>) -> Guest<'t, 'a, L, R, A> {
         Guest {
             name,
             office: DeskOffice::new(rt, desk),
@@ -63,11 +63,11 @@ impl<'t, 'a, L: Hands, R: Wait> Guest<'t, 'a, L, R> {
 
 /// The sessions at a desk so far, and the worker. It is the office of the part of a session that is served: it passes each
 /// call on to the tenant's office at the desk, and at `wait` the worker runs all jobs first.
-pub struct House<'t, 'a, L: Hands, R: Wait> {
+pub struct House<'t, 'a, L: Hands, R: Wait, A: Allocator + Clone> {
     /// The worker.
-    pub crew: Crew<'a, L, R>,
+    pub crew: Crew<'a, L, R, A>,
     /// The sessions.
-    pub guests: Vec<Guest<'t, 'a, L, R>>,
+    pub guests: Vec<Guest<'t, 'a, L, R, A>>,
     /// The place of the session that is served.
     at: usize,
     /// Whether its next HELLO is the player's own.
@@ -76,7 +76,7 @@ pub struct House<'t, 'a, L: Hands, R: Wait> {
     stays: bool,
 }
 
-impl<L: Hands, R: Wait> Drop for House<'_, '_, L, R> {
+impl<L: Hands, R: Wait, A: Allocator + Clone> Drop for House<'_, '_, L, R, A> {
     fn drop(self) {
         let House {
             crew: _crew,
@@ -88,9 +88,9 @@ impl<L: Hands, R: Wait> Drop for House<'_, '_, L, R> {
     }
 }
 
-impl<'t, 'a, L: Hands, R: Wait> House<'t, 'a, L, R> {
+impl<'t, 'a, L: Hands, R: Wait, A: Allocator + Clone> House<'t, 'a, L, R, A> {
     /// No session yet.
-    pub fn new(alloc: Global, crew: Crew<'a, L, R>) -> House<'t, 'a, L, R> {
+    pub fn new(alloc: Global, crew: Crew<'a, L, R, A>) -> House<'t, 'a, L, R, A> {
         House {
             crew,
             guests: Vec::new(alloc),
@@ -153,7 +153,7 @@ impl<'t, 'a, L: Hands, R: Wait> House<'t, 'a, L, R> {
     }
 }
 
-impl<L: Hands, R: Wait> Office for House<'_, '_, L, R> {
+impl<L: Hands, R: Wait, A: Allocator + Clone> Office for House<'_, '_, L, R, A> {
     ghost does = { λ _ _ _ _. Unit {0} };
 
     ghost ready = { L.all == L.parts };
@@ -241,8 +241,8 @@ impl<L: Hands, R: Wait> Office for House<'_, '_, L, R> {
 }
 
 /// Waits for a job, but not where it is pending at a desk that is open.
-fn wait_at<L: Hands, R: Wait>(
-    guest: &mut Guest<'_, '_, L, R>,
+fn wait_at<L: Hands, R: Wait, A: Allocator + Clone>(
+    guest: &mut Guest<'_, '_, L, R, A>,
     job: u64,
     is_closed: bool,
 ) -> Result<Standing, Refusal> {

@@ -9,23 +9,23 @@ use crate::compared::compare_lines;
 use crate::guests::{GOES_ON, Guest, House, WENT_ON};
 use crate::pieces::Pieces;
 use desk::{Desk, Hands};
-use std::alloc::{AllocError, Global};
+use std::alloc::{AllocError, Allocator, Global};
 use std::sync::Wait;
 use text_rows::{Ending, Place, Row, Said, Tally, option, push_line, read_said};
 
 /// A desk with its worker, and the sessions at it so far.
-pub struct Stage<'t, 'a, L: Hands, R: Wait> {
+pub struct Stage<'t, 'a, L: Hands, R: Wait, A: Allocator + Clone> {
     pub rt: &'a R,
     pub alloc: Global,
-    pub desk: &'a Desk<L>,
-    pub house: House<'t, 'a, L, R>,
+    pub desk: &'a Desk<L, A>,
+    pub house: House<'t, 'a, L, R, A>,
     /// The name of the text's file.
     pub file: &'t str,
     /// The most bytes that a session's reader gives at once.
     pub pieces: usize,
 }
 
-impl<L: Hands, R: Wait> Drop for Stage<'_, '_, L, R> {
+impl<L: Hands, R: Wait, A: Allocator + Clone> Drop for Stage<'_, '_, L, R, A> {
     fn drop(self) {
         let Stage {
             rt: _rt,
@@ -98,7 +98,7 @@ impl<'t> Part<'t> {
     }
 }
 
-impl<'t, 'a, L: Hands, R: Wait> Stage<'t, 'a, L, R> {
+impl<'t, 'a, L: Hands, R: Wait, A: Allocator + Clone> Stage<'t, 'a, L, R, A> {
     /// Plays all rows.
     pub fn play(&mut self, rows: &[Row<'t>], tally: &mut Tally) -> Result<(), AllocError>
         requires { L.all ≡ L.parts }
