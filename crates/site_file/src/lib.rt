@@ -20,7 +20,7 @@
 //! ```text
 //! let plan = read_site(alloc, text)?;                 // or: line 12: `rate` is to be a whole number from 1 to 1000000
 //! let SitePlan { site, directory } = plan;
-//! let again = read_site_again(alloc, other_text, &directory, book.servers())?;
+//! let again = read_site_again(alloc, text, &directory, book.servers())?;
 //! ```
 #![tactic(auto)]
 

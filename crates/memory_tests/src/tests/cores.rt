@@ -61,7 +61,10 @@ fn a_run_without_memory_for_its_answers(rt: HostRuntime) {
         nodes: 16,
         steps: 256,
     };
-    assert_eq!(rt; run_once(&counted, &mut core, reserve), (true, 1, Some(left)));
+    assert_eq!(rt;
+        run_once(&counted, &mut core, reserve),
+        (true, 1, Some(left))
+    );
 }
 
 /// Segments of a core, from the least to the most.
