@@ -67,7 +67,7 @@ impl Scenario for Untouched<'_> {
 }
 
 /// How many tasks one worker takes from its deque, and of how many a gate is told that is brief or isn't.
-fn announced<R: Threads + Wait + Sync>(
+fn told_and_taken<R: Threads + Wait + Sync>(
     rt: &R,
     alloc: Global,
     is_brief: bool,
@@ -89,7 +89,9 @@ fn announced<R: Threads + Wait + Sync>(
 #[test]
 fn each_task_is_announced(rt: HostRuntime) -> Result<(), Fail> {
     for is_brief in [false, true] {
-        let told = announced(&rt, rt.alloc(), is_brief).ok_or("no pool, or not as it should be")?;
+        let told = told_and_taken(&rt, rt.alloc(), is_brief).ok_or(
+            "no pool, or not as it should be",
+        )?;
         assert_eq!(rt; told, (8, 9));
     }
     Ok(())
