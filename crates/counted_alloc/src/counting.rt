@@ -6,7 +6,6 @@ use std::alloc::{AllocError, Allocator};
 use std::cell::Cell;
 
 /// An allocator that passes each call on to another one, and counts it. It can be told to refuse a growth.
-#[derive(Drop)]
 pub struct Counted<B> {
     /// The allocator that does the calls.
     inner: B,
@@ -48,6 +47,16 @@ impl<B: Allocator> Counted<B> {
     /// How often memory was asked for or given back, modulo 2^64.
     pub fn calls(&self) -> u64 {
         self.calls.get()
+    }
+}
+
+impl<B: Drop> Drop for Counted<B> {
+    fn drop(self) {
+        let Self {
+            inner: _,
+            calls: _,
+            refused: _,
+        } = self;
     }
 }
 
