@@ -4,7 +4,7 @@ ghost use Rattle.std.specs.Prelude.{◌≡◌};
 use super::seats::{is_found, opening, seat};
 use super::{Scenario, Table, well};
 use crate::{Gate, Task};
-use desk::{Desk, Hands, Seat};
+use desk::{Desk, DeskLedger, Seat};
 use othello_board::Board;
 use position_text::{Position, Side};
 use sched_rules::Worker;
@@ -17,7 +17,7 @@ use std::{io, thread};
 const SHORT: u64 = 8;
 
 /// How often it is tried.
-const TRIES: u32 = 200;
+const TRIES: u32 = 20;
 
 /// The first computation is a long search. What its worker has used of a processor before it, and what the process had
 /// used when the last of the short ones was over, is kept in nanoseconds. It stays there until they are, within a limit.
@@ -114,12 +114,13 @@ impl<C: Clock + CpuClock> Gate for Long<'_, C> {
     }
 }
 
-/// A position with many moves for both, Black to move.
-fn middle() -> Position {
+/// A position whose first leaf at grain 6 is a long search, Black to move: some 3.1 million positions, a quarter of a
+/// second of a processor. So the short ones are asked in time on a busy machine too.
+fn wide() -> Position {
     Position {
         board: Board {
-            own: 0x0000_1028_3418_0000,
-            opp: 0x0000_0814_0826_1400,
+            own: 0x9860_044a_8024_5600,
+            opp: 0x209e_0020_5e4a_0804,
         },
         side: Side::Black,
     }
@@ -132,12 +133,12 @@ struct Beside<'g, 'c, C> {
 }
 
 impl<C: Clock + CpuClock> Scenario for Beside<'_, '_, C> {
-    fn play<L: Hands, R: Wait>(&self, rt: &R, desk: &Desk<L>) -> bool {
+    fn play<L: DeskLedger, R: Wait>(&self, rt: &R, desk: &Desk<L>) -> bool {
         let (Some(mut long), Some(mut short)) = (seat(rt, desk, 64, 512), seat(rt, desk, 64, 64))
         else {
             return false;
         };
-        let asked = desk.ask(rt, &mut long, &middle(), 7) == Ok(1);
+        let asked = desk.ask(rt, &mut long, &wide(), 7) == Ok(1);
         let began = self.gate.begins();
         let all = ask_short(rt, desk, &mut short);
         let are_over = self.gate.are_over();
@@ -149,7 +150,7 @@ impl<C: Clock + CpuClock> Scenario for Beside<'_, '_, C> {
 }
 
 /// Asks for all short searches.
-fn ask_short<L: Hands, R: Wait>(rt: &R, desk: &Desk<L>, seat: &mut Seat<L>) -> bool {
+fn ask_short<L: DeskLedger, R: Wait>(rt: &R, desk: &Desk<L>, seat: &mut Seat<L>) -> bool {
     for job in 0..SHORT {
         if desk.ask(rt, seat, &opening(), 0) != Ok(job + 1) {
             return false;
